@@ -1,0 +1,52 @@
+-- What a reader answers over a slice is what the whole text says.
+use Rattle.std.proofs.Common.{◌≡◌, ℕ, List, ◌++◌, Option, Some, None, Result, Ok, Err, Bool, true, false, refl, ap, ◌∙◌, append-nil, inl, inr}
+use Rattle.std.specs.Io.KnownBytes.{IsAtEnd}
+use Rattle.tx_text.specs.declared.frame.FrameFault.{FrameFault}
+use Rattle.tx_text.specs.declared.frame.Kind.{Kind}
+use Rattle.tx_text.specs.declared.frame.Kind.TheVariants.{Frame, Word}
+use Rattle.tx_text.specs.Told.{Ending, AtEnd, Moves}
+use Rattle.tx_text.specs.Frame.{EndsAs, Stands, Stopped, is_read}
+use Rattle.tx_text.specs.Said.{Answered, StoppedBy, RefusedBy, is_no_room, FaultsBy, AnswersAs}
+
+-- the bytes that were read, and those that are left
+record Parted (text read : List ℕ) (new : Option (List ℕ)) : Type 0 where
+  pub rest : List ℕ
+  pub whole : text ≡ read ++ rest
+  pub left : new ≡ Some rest
+
+parted : (text read : List ℕ) (new : Option (List ℕ)) → Moves (Some text) new read → Parted text read new
+parted text read None h = absurd (cc)
+parted text read (Some rest) h = record { rest = rest; whole = cc; left = refl }
+
+some_is : (x y : List ℕ) → ◌≡◌ {A = Option (List ℕ)} (Some x) (Some y) → x ≡ y
+some_is x y h = cc
+
+all_read : (text read : List ℕ) (new : Option (List ℕ)) → Moves (Some text) new read → IsAtEnd new → text ≡ read
+all_read text read None h end = absurd (cc)
+all_read text read (Some rest) h end = some_is text (read ++ rest) h ∙ ap (λ l. read ++ l) end ∙ append-nil read
+
+module _ {X : Type 0} (text : List ℕ) (new : Option (List ℕ)) (F : Ending → List ℕ → X) (x : X) where
+  at_end : EndsAs (Some text) new F AtEnd x × IsAtEnd new → F AtEnd text ≡ x
+  at_end (r, end) = ap (F AtEnd) (all_read text r.read new r.moves end) ∙ r.gives
+
+  stands : Stands (Some text) new F x → F AtEnd text ≡ x
+  stands (inl r) = let p = parted text r.read new r.moves in ap (F AtEnd) p.whole ∙ r.gives AtEnd p.rest
+  stands (inr r) = at_end r
+
+  stopped : (broken : Type 0) (t : Bool) → (broken → ⊥) → Stopped (Some text) new F broken t x → F AtEnd text ≡ x
+  stopped broken true none r = absurd (none r.1)
+  stopped broken false none r = stands r
+
+module _ {S W : Type 0} (memory : W → Bool) (text : List ℕ) (new : Option (List ℕ)) (F : Ending → List ℕ → Result S (ℕ × Kind W)) (broken : Type 0) (none : broken → ⊥) where
+  of_frame : (b : Bool) (n : ℕ) (k : FrameFault) → StoppedBy (Some text) new F broken b n k → FaultsBy (F AtEnd text) b n (Frame k)
+  of_frame true n k r = tt
+  of_frame false n k r = stopped text new F (Err (n, Frame k)) broken (is_read k) none r
+
+  of_word : (b : Bool) (n : ℕ) (w : W) → RefusedBy (Some text) new F b n w → FaultsBy (F AtEnd text) b n (Word w)
+  of_word true n w r = tt
+  of_word false n w r = stands text new F (Err (n, Word w)) r
+
+  pub slice_answered : (r : Result S (ℕ × Kind W)) → Answered memory (Some text) new F broken r → AnswersAs memory (F AtEnd text) r
+  slice_answered (Ok s) a = at_end text new F (Ok s) a
+  slice_answered (Err (n, Frame k)) a = of_frame (is_no_room k) n k a
+  slice_answered (Err (n, Word w)) a = of_word (memory w) n w a

@@ -1,0 +1,8 @@
+-- A short text in a longer array: the bytes after it are 0.
+use Rattle.std.specs.Prelude.{◌≡◌, ℕ, ◌-◌, ◌≤◌, ◌++◌, List, length, take, replicate}
+
+-- The first bytes are the text, and zeros stand behind it.
+pub record IsPadded (room len : ℕ) (bytes : List ℕ) : Type 0 where
+  pub fits : len ≤ room
+  pub short : length (take len bytes) ≡ len
+  pub padded : bytes ≡ take len bytes ++ replicate (room - len) 0

@@ -1,0 +1,80 @@
+-- What a text says, line by line, and what its reader answers.
+use Rattle.std.specs.Prelude.{◌≡◌, ℕ, Bool, true, false, List, Option, Result, Ok, Err}
+use Rattle.std.specs.Io.KnownBytes.{IsAtEnd}
+use Rattle.tx_text.specs.declared.text_fault.TextFault.TheVariants.{NoMemory as TextNoMemory}
+use Rattle.tx_text.specs.declared.line_fault.LineFault.TheVariants.{Text}
+use Rattle.tx_text.specs.declared.frame.FrameFault.{FrameFault}
+use Rattle.tx_text.specs.declared.frame.FrameFault.TheVariants.{Line}
+use Rattle.tx_text.specs.declared.frame.Kind.{Kind}
+use Rattle.tx_text.specs.declared.frame.FaultAt.{FaultAt}
+use Rattle.tx_text.specs.declared.frame.Kind.TheVariants.{Frame, Word}
+use Rattle.tx_text.specs.Told.{Ending, AtEnd}
+use Rattle.tx_text.specs.Frame.{Framed, Done, Stop, Headed, Has, EndsAs, Stands, Stopped, is_read}
+
+module _ {S W : Type 0} (declare : ℕ → S → List (List ℕ) → Result S W) where
+  -- A line declared what leads on, or is faulty.
+  abbrev pub step_on : ℕ → Result S W → (S → Result S (ℕ × Kind W)) → Result S (ℕ × Kind W)
+  step_on n (Ok s) k = k s
+  step_on n (Err x) k = Err (n, Word x)
+
+  -- what a text says from a state on, under a header of this version: each line declares what it does after those before it
+  unfoldable pub said : ℕ → S → Framed → Result S (ℕ × Kind W)
+  said v s Done = Ok s
+  said v s (Stop n x) = Err (n, Frame x)
+  said v s (Headed w t) = said w s t
+  said v s (Has n ws t) = step_on n (declare v s ws) (λ r. said v r t)
+
+-- what declaring did, where memory tells the want of it
+abbrev pub DeclaredBy : {S W : Type 0} → Result S W → Bool → W → Type 0
+DeclaredBy r true x = Unit {0}
+DeclaredBy r false x = r ≡ Err x
+
+-- Declaring a line did what it declares, or told its fault, or memory was wanting.
+abbrev pub Declared : {S W U : Type 0} → (W → Bool) → Result S W → S → Result U W → Type 0
+Declared memory r new (Ok x) = r ≡ Ok new
+Declared memory r new (Err x) = DeclaredBy r (memory x) x
+
+-- what the reader answers
+abbrev pub RefusedBy : {S W : Type 0} → Option (List ℕ) → Option (List ℕ) → (Ending → List ℕ → Result S (ℕ × Kind W)) → Bool → ℕ → W → Type 0
+RefusedBy old new F true n x = Unit {0}
+RefusedBy old new F false n x = Stands old new F (Err (n, Word x))
+
+-- no memory for the reader itself
+abbrev pub is_no_room : FrameFault → Bool
+is_no_room (Line (Text TextNoMemory)) = true
+is_no_room k = false
+
+-- A fault of the frame is the one that the text has, unless the reader had no memory.
+abbrev pub StoppedBy : {S W : Type 0} → Option (List ℕ) → Option (List ℕ) → (Ending → List ℕ → Result S (ℕ × Kind W)) → Type 0 → Bool → ℕ → FrameFault → Type 0
+StoppedBy old new F broken true n k = Unit {0}
+StoppedBy old new F broken false n k = Stopped old new F broken (is_read k) (Err (n, Frame k))
+
+-- A fault is the one that the text has, unless memory was wanting.
+abbrev pub Refused : {S W : Type 0} → (W → Bool) → Option (List ℕ) → Option (List ℕ) → (Ending → List ℕ → Result S (ℕ × Kind W)) → Type 0 → ℕ → Kind W → Type 0
+Refused memory old new F broken n (Frame k) = StoppedBy old new F broken (is_no_room k) n k
+Refused memory old new F broken n (Word x) = RefusedBy old new F (memory x) n x
+
+-- An Ok is what the whole text says, at the source's end; a fault is the one that the text has.
+abbrev pub Answered : {S W : Type 0} → (W → Bool) → Option (List ℕ) → Option (List ℕ) → (Ending → List ℕ → Result S (ℕ × Kind W)) → Type 0 → Result S (ℕ × Kind W) → Type 0
+Answered memory old new F broken (Ok s) = EndsAs old new F AtEnd (Ok s) × IsAtEnd new
+Answered memory old new F broken (Err x) = Refused memory old new F broken x.0 x.1
+
+-- A fault is the one that the text has, unless memory was wanting.
+abbrev pub FaultsBy : {S W : Type 0} → Result S (ℕ × Kind W) → Bool → ℕ → Kind W → Type 0
+FaultsBy x true n k = Unit {0}
+FaultsBy x false n k = x ≡ Err (n, k)
+
+-- The same of a fault of the frame, and of one of the words of a line.
+abbrev pub FaultsAs : {S W : Type 0} → (W → Bool) → Result S (ℕ × Kind W) → ℕ → Kind W → Type 0
+FaultsAs memory x n (Frame k) = FaultsBy x (is_no_room k) n (Frame k)
+FaultsAs memory x n (Word w) = FaultsBy x (memory w) n (Word w)
+
+-- A reader answers what the whole text says, unless memory was wanting.
+abbrev pub AnswersAs : {S W : Type 0} → (W → Bool) → Result S (ℕ × Kind W) → Result S (ℕ × Kind W) → Type 0
+AnswersAs memory x (Ok s) = x ≡ Ok s
+AnswersAs memory x (Err f) = FaultsAs memory x f.0 f.1
+
+-- an answer, by the line and the kind of its fault
+abbrev pub told_fault : {S W : Type 0} → Result S (FaultAt W) → Result S (ℕ × Kind W)
+told_fault (Ok s) = Ok s
+told_fault (Err x) = Err (x.line, x.kind)

@@ -1,0 +1,216 @@
+// Lines that come in pieces.
+ghost use Rattle.std.specs.Prelude.{◌≡◌, ◌+◌, ◌-◌, ◌^◌, ◌<◌, ◌≤◌, ◌++◌, IfOk, IfErr, IfNone, IsSome, [], length, vec_len, vec_capacity};
+ghost use Rattle.tx_text.specs.Feed.{feed_gives, feed_leaves, begun_fault, begun_more, ended, faulted, line_fault, finish_gives, finish_leaves, finished};
+ghost use Rattle.tx_text.specs.TextLine.{line_of};
+
+use crate::line::TextLine;
+use crate::line_bytes::{bytes_fault, lf_or_len, without_cr};
+use crate::text_fault::TextFault;
+use std::alloc::{Allocator, Global};
+use std::marker::Model;
+
+/// What a call of `feed` took, and whether it completed a line.
+#[derive(Clone, Copy, Debug, PartialEq, Eq)]
+pub struct Fed {
+    pub taken: usize,
+    pub line: bool,
+}
+
+/// Cuts a text that comes in pieces into lines.
+#[derive(Drop)]
+pub struct LineFeeder<A: Allocator = Global> {
+    held: Vec<u8, A>,
+    number: u64,
+    start: usize,
+    line_start: usize,
+    complete: bool,
+    finished: bool,
+    fault: Option<TextFault>,
+}
+
+impl<A: Allocator> Model for LineFeeder<A> {
+    ghost use Rattle.tx_text.specs.Feed.{Feed};
+
+    ghost Value = { Feed };
+
+    ghost use Rattle.tx_text.specs.Feeder.{feed_of, IsFeeder};
+
+    ghost view = { feed_of };
+
+    ghost invariant = { IsFeeder };
+}
+
+impl<A: Allocator> LineFeeder<A> {
+    /// Reserves the buffer of a line. No other call takes memory.
+    pub fn new(alloc: A) -> Result<LineFeeder<A>, TextFault>
+        ensures ok { IfOk result (λ f. f ≡ record { number = 0; start = 0; begun = []; line = None; fault = None }) }
+        ensures err { IfErr result (λ e. e ≡ TextFault.NoMemory) }
+    {
+        let Ok(held) = Vec::with_capacity(alloc, 513) else {
+            return Err(TextFault::NoMemory);
+        };
+        Ok(LineFeeder {
+            held,
+            number: 0,
+            start: 0,
+            line_start: 0,
+            complete: false,
+            finished: false,
+            fault: None,
+        })
+    }
+
+    /// Lets the completed line go.
+    fn begin(&mut self)
+        ensures { self.new ≡ record self.old { line = None } }
+    {
+        if self.complete {
+            self.held.clear();
+            self.complete = false;
+        }
+    }
+
+    fn fail(&mut self, fault: TextFault)
+        ensures { self.new ≡ faulted self.old fault }
+    {
+        self.held.clear();
+        self.complete = false;
+        self.fault = Some(fault);
+    }
+
+    /// Takes the bytes of a piece up to and with the first LF.
+    pub fn feed(&mut self, piece: &[u8]) -> Result<Fed, TextFault>
+        requires { self.old.start + length self.old.begun + length piece.now < 2 ^ 64 - 1 }
+        ensures gives { result ≡ feed_gives self.old piece.now }
+        ensures leaves { self.new ≡ feed_leaves self.old piece.now }
+        ensures counted { self.new.start + length self.new.begun ≤ self.old.start + length self.old.begun + length piece.now }
+        ensures fits { IfOk result (λ fed. (fed.taken ≤ length piece.now)
+            × (self.new.start + length self.new.begun ≤ self.old.start + length self.old.begun + fed.taken)) }
+    {
+        if let Some(fault) = self.fault {
+            return Err(fault);
+        }
+        self.begin();
+        let place = lf_or_len(piece);
+        let line = place < piece.len();
+        let (front, _) = piece.split_at(place);
+        if let Some(fault) = self.add(front, line) {
+            self.fail(fault);
+            return Err(fault);
+        }
+        if line {
+            self.complete_line();
+            return Ok(Fed {
+                taken: place + 1,
+                line,
+            });
+        }
+        Ok(Fed { taken: place, line })
+    }
+
+    /// Adds bytes to the line that has begun, and tells what is wrong with it then.
+    fn add(&mut self, front: &[u8], line: bool) -> Option<TextFault>
+        requires begun { self.old.line ≡ None }
+        requires fed { self.old.start + length self.old.begun + length front.now < 2 ^ 64 - 1 }
+        ensures gives { result ≡ line_fault line (self.old.begun ++ front.now) }
+        ensures held { IfNone result (self.new ≡ begun_more self.old front.now) }
+        ensures others { faulted self.new TextFault.BadByte ≡ faulted self.old TextFault.BadByte }
+    {
+        if let Some(fault) = hold(&mut self.held, front) {
+            return Some(fault);
+        }
+        if line {
+            bytes_fault(without_cr(&self.held))
+        } else {
+            None
+        }
+    }
+
+    /// The text came to its end: tells whether an unfinished line stands, and completes it.
+    pub fn finish(&mut self) -> Result<bool, TextFault>
+        ensures gives { result ≡ finish_gives self.old }
+        ensures leaves { self.new ≡ finish_leaves self.old }
+    {
+        if let Some(fault) = self.fault {
+            return Err(fault);
+        }
+        self.begin();
+        if self.held.is_empty() {
+            return Ok(false);
+        }
+        if let Some(fault) = bytes_fault(&self.held) {
+            self.fail(fault);
+            return Err(fault);
+        }
+        self.complete_rest();
+        Ok(true)
+    }
+
+    /// The line that the last call of `feed` or `finish` completed.
+    pub fn line(&self) -> TextLine<'_>
+        requires { IsSome self.now.line }
+        ensures line { self.now.line ≡ Some (line_of result) }
+        ensures small { result.number < 2 ^ 64 - 1 }
+    {
+        let held = self.held.as_slice();
+        TextLine {
+            number: self.number,
+            start: self.line_start,
+            text: if self.finished {
+                without_cr(held)
+            } else {
+                held
+            },
+            finished: self.finished,
+        }
+    }
+
+    /// Completes the line that has begun, at the end of the text.
+    fn complete_rest(&mut self)
+        requires begun { self.old.line ≡ None }
+        requires some { 0 < length self.old.begun }
+        ensures { self.new ≡ finished self.old }
+    {
+        self.complete = true;
+        self.finished = false;
+        self.number += 1;
+        self.line_start = self.start;
+        self.start += self.held.len();
+    }
+
+    /// Completes the line that has begun, at an LF.
+    fn complete_line(&mut self)
+        requires begun { self.old.line ≡ None }
+        requires fed { self.old.start + length self.old.begun + 1 < 2 ^ 64 - 1 }
+        ensures { self.new ≡ ended self.old [] }
+    {
+        self.complete = true;
+        self.finished = true;
+        self.number += 1;
+        self.line_start = self.start;
+        self.start += self.held.len() + 1;
+    }
+}
+
+/// Adds bytes to a line that has begun, unless it is too long then, whatever bytes follow.
+#[tactic(auto, unfolding(crate::specs::Feed::begun_fault))]
+fn hold<A: Allocator>(held: &mut Vec<u8, A>, front: &[u8]) -> Option<TextFault>
+    requires room { 513 ≤ vec_capacity held.old }
+    requires short { vec_len held.old ≤ 513 }
+    ensures room { 513 ≤ vec_capacity held.new }
+    ensures short { vec_len held.new ≤ 513 }
+    ensures grown { vec_len held.new ≤ vec_len held.old + length front.now }
+    ensures gives { result ≡ begun_fault (held.old.items ++ front.now) }
+    ensures held { IfNone result (held.new.items ≡ held.old.items ++ front.now) }
+{
+    if front.len() > 513 - held.len() {
+        return Some(TextFault::LineTooLong);
+    }
+    if held.extend_from_slice(front).is_err() {
+        unreachable!();
+    }
+    if without_cr(held).len() > 512 {
+        return Some(TextFault::LineTooLong);
+    }
+    None
+}

@@ -1,0 +1,62 @@
+// Texts of figures.
+ghost use Rattle.std.specs.Prelude.{◌≡◌, ◌≤◌, true, length};
+ghost use Rattle.std.specs.List.{list_all};
+ghost use Rattle.tx_text.specs.Words.{figures_of, are_figures, is_figure};
+
+use crate::short::Short;
+use std::marker::Model;
+
+/// A text of 1 to 12 figures, as a caller keys it: a destination code (ITU-T F.69) and a national number.
+#[derive(Clone, Copy, Debug, PartialEq, Eq, Hash)]
+pub struct Figures {
+    text: Short<12>,
+}
+
+impl Model for Figures {
+    ghost use Rattle.std.specs.Prelude.{ℕ, List, ◌≤◌, length};
+
+    ghost Value = { List ℕ };
+
+    ghost view = { λ n. n.text };
+
+    ghost inverse = { λ d. record { text = d } };
+}
+
+impl Figures {
+    pub fn read(text: &[u8]) -> Option<Figures>
+        ensures { result ≡ figures_of text.now }
+    {
+        if !text.is_empty() && text.len() <= 12 && all_figures(text) {
+            let text = Short::new(text);
+            Some(Figures { text })
+        } else {
+            None
+        }
+    }
+
+    pub fn bytes(&self) -> &[u8]
+        ensures { result.now ≡ self.now }
+    {
+        self.text.bytes()
+    }
+}
+
+pub(crate) fn is_figure(byte: u8) -> bool
+    ensures { result ≡ is_figure byte }
+{
+    b'0' <= byte && byte <= b'9'
+}
+
+fn all_figures(text: &[u8]) -> bool
+    ensures { result ≡ list_all is_figure text.now }
+{
+    text.iter().all(|byte| is_figure(*byte))
+}
+
+/// Whether the text has so many figures, and nothing else.
+pub fn are_figures(text: &[u8], least: usize, most: usize) -> bool
+    ensures gives { result ≡ are_figures least most text.now }
+    ensures short { result ≡ true → length text.now ≤ most }
+{
+    text.len() >= least && text.len() <= most && all_figures(text)
+}

@@ -1,0 +1,172 @@
+// The frame of a text: its header, its lines and its END.
+ghost use Rattle.std.specs.Prelude.{◌≡◌};
+ghost use Rattle.tx_text.specs.Words.{words_of};
+ghost use Rattle.tx_text.specs.Frame.{is_end, header_of, looked, closing, last_fault};
+ghost use Rattle.tx_text.specs.Framing.{end_as};
+
+use crate::line_fault::LineFault;
+use crate::line_words::Words;
+use crate::split::words;
+
+/// What is wrong with the form of a text.
+#[derive(Clone, Copy, Debug, PartialEq, Eq)]
+pub enum FormFault {
+    NoHeader,
+    NoEnd,
+    AfterEnd,
+}
+
+/// What is wrong with a text beside the words of its lines.
+#[derive(Clone, Copy, Debug, PartialEq, Eq)]
+pub enum FrameFault {
+    Line(LineFault),
+    Form(FormFault),
+}
+
+/// What is wrong with a text: its frame, or the words of a line.
+#[derive(Clone, Copy, Debug, PartialEq, Eq)]
+pub enum Kind<W> {
+    Frame(FrameFault),
+    Word(W),
+}
+
+/// A fault of a text, with its line.
+#[derive(Clone, Copy, Debug, PartialEq, Eq)]
+pub struct FaultAt<W> {
+    pub line: u64,
+    pub kind: Kind<W>,
+}
+
+/// Which part of a text is read.
+#[derive(Clone, Copy, Debug, PartialEq, Eq)]
+pub enum Phase {
+    Start,
+    Body,
+    Ended,
+}
+
+/// A fault of the frame, with its line.
+#[derive(Clone, Copy, Debug, PartialEq, Eq)]
+pub struct Stop {
+    pub line: u64,
+    pub fault: FrameFault,
+}
+
+/// What a call that goes on in a text came to.
+#[derive(Clone, Copy, Debug, PartialEq, Eq)]
+pub enum Step {
+    /// The header of this version.
+    Header(u8),
+    /// A line for the reader.
+    Line,
+    /// The end of a whole text.
+    End,
+}
+
+/// What a finished line is in the frame.
+#[derive(Clone, Copy, Debug, PartialEq, Eq)]
+pub(crate) enum LineForm {
+    Blank,
+    Header(u8),
+    Plain,
+    End,
+    Bad(FormFault),
+}
+
+fn is_end(words: Words<'_>) -> bool
+    ensures { result ≡ is_end words.entry }
+{
+    let mut words = words;
+    match words.next() {
+        None => false,
+        Some(first) => first == b"END".as_slice() && words.next().is_none(),
+    }
+}
+
+fn header(key: &[u8], most: u8, words: Words<'_>) -> Option<u8>
+    ensures { result ≡ header_of key.now most words.entry }
+{
+    let mut words = words;
+    let first = words.next()?;
+    let second = words.next()?;
+    if words.next().is_some() || first != key {
+        return None;
+    }
+    if second == b"1".as_slice() {
+        return Some(1);
+    }
+    if most >= 2 && second == b"2".as_slice() {
+        return Some(2);
+    }
+    None
+}
+
+/// What a finished line is.
+pub(crate) fn look(key: &[u8], most: u8, phase: Phase, line: &[u8]) -> LineForm
+    ensures { result ≡ looked (header_of key.now most) phase (words_of line.now) }
+{
+    let mut all = words(line);
+    if all.next().is_none() {
+        return LineForm::Blank;
+    }
+    match phase {
+        Phase::Start => match header(key, most, words(line)) {
+            Some(version) => LineForm::Header(version),
+            None => LineForm::Bad(FormFault::NoHeader),
+        },
+        Phase::Body => {
+            if is_end(words(line)) {
+                LineForm::End
+            } else {
+                LineForm::Plain
+            }
+        }
+        Phase::Ended => LineForm::Bad(FormFault::AfterEnd),
+    }
+}
+
+/// What is wrong where the text ends.
+pub(crate) fn closing(phase: Phase) -> Option<FormFault>
+    ensures { result ≡ closing phase }
+{
+    match phase {
+        Phase::Start => Some(FormFault::NoHeader),
+        Phase::Body => Some(FormFault::NoEnd),
+        Phase::Ended => None,
+    }
+}
+
+/// What is wrong where the text ends with this unfinished line.
+pub(crate) fn last_fault(phase: Phase, line: &[u8]) -> Option<FormFault>
+    ensures { result ≡ last_fault phase (words_of line.now) }
+{
+    let mut all = words(line);
+    if all.next().is_none() {
+        return closing(phase);
+    }
+    let end = is_end(words(line));
+    match phase {
+        Phase::Start => {
+            if end {
+                Some(FormFault::NoHeader)
+            } else {
+                Some(FormFault::NoEnd)
+            }
+        }
+        Phase::Body => { if end { None } else { Some(FormFault::NoEnd) } }
+        Phase::Ended => Some(FormFault::AfterEnd),
+    }
+}
+
+/// What to answer where the text ends.
+pub(crate) fn end_as(number: u64, fault: Option<FormFault>) -> Result<Step, Stop>
+    ensures { result ≡ end_as number fault }
+{
+    match fault {
+        None => Ok(Step::End),
+        Some(fault) => Err(Stop {
+            line: number,
+            fault: FrameFault::Form(fault),
+        }),
+    }
+}

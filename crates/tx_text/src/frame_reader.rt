@@ -1,0 +1,122 @@
+// The lines that the frame of a text leaves to its reader.
+ghost use Rattle.std.specs.Prelude.{◌≡◌, ◌⊎◌, ◌<◌, true, IfOk, IfErr, IsSome, None, [], ℕ};
+ghost use Rattle.tx_text.specs.Calls.{Went, CallsAtMost, Broken};
+ghost use Rattle.tx_text.specs.Told.{reading_start, slice_start, reading_size};
+ghost use Rattle.tx_text.specs.Framing.{to_come, GoesOn, number_of_line, words_of_line};
+
+use crate::frame::{FrameFault, LineForm, Phase, Step, Stop, closing, end_as, last_fault, look};
+use crate::line_words::Words;
+use crate::reader::TextReader;
+use crate::source::Source;
+use crate::split::words;
+use crate::text_fault::TextFault;
+use std::alloc::{Allocator, Global};
+
+/// Reads a text from a source, and keeps its frame.
+#[derive(Drop)]
+pub struct FrameReader<'k, A: Allocator = Global> {
+    key: &'k [u8],
+    most: u8,
+    reader: TextReader<A>,
+    phase: Phase,
+    number: u64,
+}
+
+impl<'k, A: Allocator> FrameReader<'k, A> {
+    /// A reader of texts from a source, whose header has this key, of versions up to the given one.
+    pub fn new(alloc: A, key: &'k [u8], most: u8) -> Result<FrameReader<'k, A>, TextFault>
+        ensures fields { IfOk result (λ r. (r.key.now ≡ key.now) × (r.most ≡ most) × (r.reader ≡ reading_start) × (r.phase ≡ Phase.Start) × (r.number ≡ 1)) }
+        ensures err { IfErr result (λ e. e ≡ TextFault.NoMemory) }
+    {
+        let reader = TextReader::new(alloc)?;
+        Ok(FrameReader::of_reader(reader, key, most))
+    }
+
+    /// The same for texts that stand in memory, whose end it always meets.
+    pub fn for_slice(alloc: A, key: &'k [u8], most: u8) -> Result<FrameReader<'k, A>, TextFault>
+        ensures fields { IfOk result (λ r. (r.key.now ≡ key.now) × (r.most ≡ most) × (r.reader ≡ slice_start) × (r.phase ≡ Phase.Start) × (r.number ≡ 1)) }
+        ensures err { IfErr result (λ e. e ≡ TextFault.NoMemory) }
+    {
+        let reader = TextReader::for_slice(alloc)?;
+        Ok(FrameReader::of_reader(reader, key, most))
+    }
+
+    fn of_reader(reader: TextReader<A>, key: &'k [u8], most: u8) -> FrameReader<'k, A>
+        ensures key { result.key.now ≡ key.now }
+        ensures most { result.most ≡ most }
+        ensures reader { result.reader ≡ reader }
+        ensures phase { result.phase ≡ Phase.Start }
+        ensures number { result.number ≡ 1 }
+    {
+        FrameReader {
+            key,
+            most,
+            reader,
+            phase: Phase::Start,
+            number: 1,
+        }
+    }
+
+    /// Goes on to the header, to the next line or to the end.
+    pub fn advance<R: Source>(&mut self, source: &mut R) -> Result<Step, Stop>
+        requires { self.old.reader.feed.fault ≡ None }
+        ensures fault { IfOk result (λ _. self.new.reader.feed.fault ≡ None) }
+        ensures gives { GoesOn (R.rest source.old) (R.rest source.new) (to_come self.old) (to_come self.new)
+            self.new.reader.feed.line (Broken R.called (R.failed source.new) self.old.reader.left source.old source.new) result }
+        ensures line { result ≡ Ok Step.Line → IsSome self.new.reader.feed.line }
+        ensures went { IfOk result (λ s. (s ≡ Step.End) ⊎ Went R.called self.old.reader.left self.new.reader.left source.old source.new) }
+        ensures calls { CallsAtMost R.called self.old.reader.left source.old source.new }
+        ensures falls { IfOk result (λ s. (s ≡ Step.End) ⊎ (reading_size self.new.reader < reading_size self.old.reader)) }
+    {
+        'lines: loop {
+            match self.reader.advance(source) {
+                Err(fault) => {
+                    return Err(Stop {
+                        line: self.number,
+                        fault: FrameFault::Line(fault),
+                    });
+                }
+                Ok(false) => return end_as(self.number, closing(self.phase)),
+                Ok(true) => {}
+            }
+            let line = self.reader.line();
+            let number = line.number;
+            if !line.finished {
+                return end_as(number, last_fault(self.phase, line.text));
+            }
+            let seen = look(self.key, self.most, self.phase, line.text);
+            self.number = number + 1;
+            match seen {
+                LineForm::Blank => {}
+                LineForm::End => self.phase = Phase::Ended,
+                LineForm::Header(version) => {
+                    self.phase = Phase::Body;
+                    return Ok(Step::Header(version));
+                }
+                LineForm::Plain => return Ok(Step::Line),
+                LineForm::Bad(fault) => {
+                    return Err(Stop {
+                        line: number,
+                        fault: FrameFault::Form(fault),
+                    });
+                }
+            }
+        }
+    }
+
+    /// The number of the line that stands.
+    pub fn number(&self) -> u64
+        requires { IsSome self.now.reader.feed.line }
+        ensures { result ≡ number_of_line self.now.reader.feed.line }
+    {
+        self.reader.line().number
+    }
+
+    /// The words of the line that stands.
+    pub fn words(&self) -> Words<'_>
+        requires { IsSome self.now.reader.feed.line }
+        ensures { result ≡ words_of_line self.now.reader.feed.line }
+    {
+        words(self.reader.line().text)
+    }
+}

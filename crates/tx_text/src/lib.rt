@@ -1,0 +1,55 @@
+//! The texts of the product: their bytes, lines and words.
+//!
+//! A text comes from a `Source` in pieces, or stands in a slice. `LineFeeder` cuts pieces into lines, `TextReader`
+//! reads the lines of a source, and `FrameReader` keeps the header, END and the numbers of lines. Texts go to a
+//! `Sink` by `write_bytes` and `write_parts`.
+#![tactic(auto)]
+
+mod feeder;
+mod figures;
+mod frame;
+mod frame_reader;
+mod from_read;
+mod line;
+mod line_bytes;
+mod line_fault;
+mod line_words;
+mod lines;
+mod memory_sink;
+mod memory_source;
+mod name;
+mod no_memory;
+mod numeral;
+mod reader;
+mod short;
+mod sink;
+mod slice_source;
+mod source;
+mod split;
+mod text_fault;
+mod to_write;
+
+pub use feeder::{Fed, LineFeeder};
+pub use figures::{Figures, are_figures};
+pub use frame::{FaultAt, FormFault, FrameFault, Kind, Phase, Step, Stop};
+pub use frame_reader::FrameReader;
+pub use from_read::FromRead;
+pub use line::TextLine;
+pub use line_fault::LineFault;
+pub use line_words::Words;
+pub use lines::Lines;
+pub use memory_sink::MemorySink;
+pub use memory_source::MemorySource;
+pub use name::{Name, is_name};
+pub use no_memory::NoMemory;
+pub use numeral::number;
+pub use reader::TextReader;
+pub use sink::{Sink, WriteFault, write_bytes, write_parts};
+pub use slice_source::{SliceSource, slices_are_read_whole};
+pub use source::{ReadFault, Source};
+pub use split::words;
+pub use text_fault::TextFault;
+pub use to_write::ToWrite;
+
+#[cfg(test)]
+mod tests;

@@ -1,0 +1,56 @@
+// The bytes of a line.
+ghost use Rattle.std.specs.Prelude.{◌≡◌, ◌≤◌, length};
+ghost use Rattle.std.specs.List.{list_all, position_or_len};
+ghost use Rattle.tx_text.specs.Text.{without_cr, bytes_fault, is_text_byte, is_lf};
+
+use crate::text_fault::TextFault;
+use memchr::memchr;
+
+/// The line without a CR at its end.
+#[tactic(auto, unfolding(crate::specs::Text::without_cr))]
+pub(crate) fn without_cr(line: &[u8]) -> &[u8]
+    ensures { result.now ≡ without_cr line.now }
+{
+    let len = line.len();
+    if len > 0 && line[len - 1] == b'\r' {
+        line.split_at(len - 1).0
+    } else {
+        line
+    }
+}
+
+fn is_text_byte(byte: u8) -> bool
+    ensures { result ≡ is_text_byte byte }
+{
+    byte == b'\t' || (b' ' <= byte && byte <= b'~')
+}
+
+fn is_text(line: &[u8]) -> bool
+    ensures { result ≡ list_all is_text_byte line.now }
+{
+    line.iter().all(|byte| is_text_byte(*byte))
+}
+
+#[tactic(auto, unfolding(crate::specs::Text::bytes_fault))]
+pub(crate) fn bytes_fault(line: &[u8]) -> Option<TextFault>
+    ensures { result ≡ bytes_fault line.now }
+{
+    if line.len() > 512 {
+        return Some(TextFault::LineTooLong);
+    }
+    if is_text(line) {
+        return None;
+    }
+    Some(TextFault::BadByte)
+}
+
+/// Where the first LF stands, or the length.
+pub(crate) fn lf_or_len(piece: &[u8]) -> usize
+    ensures within { result ≤ length piece.now }
+    ensures place { result ≡ position_or_len is_lf piece.now }
+{
+    match memchr(b'\n', piece) {
+        Some(place) => place,
+        None => piece.len(),
+    }
+}

@@ -1,0 +1,97 @@
+// The words of a line, and what a word spells.
+ghost use Rattle.std.specs.Prelude.{◌≡◌, ◌≤◌, ◌∷◌, [], length, MatchOption};
+ghost use Rattle.std.specs.List.{prefix_len};
+ghost use Rattle.std.specs.Iterator.{YieldsFirstBy, item_count};
+ghost use Rattle.tx_text.specs.Words.{words_of, is_blank, is_word_byte};
+
+use std::marker::Model;
+
+fn is_blank(byte: u8) -> bool
+    ensures { result ≡ is_blank byte }
+{
+    byte == b' ' || byte == b'\t'
+}
+
+/// How many blanks stand at the front.
+fn count_blanks(text: &[u8]) -> usize
+    ensures within { result ≤ length text.now }
+    ensures count { result ≡ prefix_len is_blank text.now }
+{
+    for (i, byte) in text.iter().enumerate() {
+        if !is_blank(*byte) {
+            return i;
+        }
+    }
+    text.len()
+}
+
+/// The words of a line: what is left to give.
+#[derive(Drop)]
+pub struct Words<'a> {
+    rest: &'a [u8],
+}
+
+impl<'a> Model for Words<'a> {
+    ghost use Rattle.std.specs.Prelude.{ℕ, List};
+    ghost use Rattle.tx_text.specs.Words.{words_of};
+
+    ghost Value = { List (List ℕ) };
+
+    ghost view = { λ w. words_of w.rest.now };
+}
+
+impl<'a> Words<'a> {
+    pub(crate) fn new(line: &'a [u8]) -> Words<'a>
+        ensures { result ≡ words_of line.now }
+    {
+        Words { rest: line }
+    }
+
+    /// The same words once more.
+    pub fn again(&self) -> Words<'a>
+        ensures { result ≡ self.now }
+    {
+        Words { rest: self.rest }
+    }
+}
+
+impl<'a> Iterator for Words<'a> {
+    type Item = &'a [u8];
+
+    ghost next_gives = { YieldsFirstBy (λ x. x.now) (λ s. s) };
+
+    ghost remaining = { item_count (λ s. s) };
+
+    fn next(&mut self) -> Option<&'a [u8]> {
+        let (word, rest) = first_word(self.rest)?;
+        self.rest = rest;
+        Some(word)
+    }
+}
+
+/// How long the word at the front is.
+fn word_len(text: &[u8]) -> usize
+    ensures within { result ≤ length text.now }
+    ensures count { result ≡ prefix_len is_word_byte text.now }
+{
+    for (i, byte) in text.iter().enumerate() {
+        if is_blank(*byte) || *byte == b'#' {
+            return i;
+        }
+    }
+    text.len()
+}
+
+/// The first word, and what stands behind it.
+fn first_word(text: &[u8]) -> Option<(&[u8], &[u8])>
+    ensures { MatchOption result (words_of text.now ≡ [])
+        (λ x. words_of text.now ≡ x.0.now ∷ words_of x.1.now) }
+{
+    let (_, from) = text.split_at(count_blanks(text));
+    let (word, rest) = from.split_at(word_len(from));
+    if word.is_empty() {
+        None
+    } else {
+        Some((word, rest))
+    }
+}

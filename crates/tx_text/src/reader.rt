@@ -1,0 +1,175 @@
+// Lines of a text that comes from a source.
+ghost use Rattle.std.specs.Prelude.{◌≡◌, ◌+◌, ◌-◌, ◌^◌, ◌<◌, ◌≤◌, ◌⊎◌, [], length, take, drop, true, false, IfOk, IfErr, IfSome, OnErr, Ok, Err, IsSome, Some, None};
+ghost use Rattle.std.specs.Io.KnownBytes.{prepend_known, IsAtEnd};
+ghost use Rattle.tx_text.specs.Calls.{slice_calls, Gives, Went, Calls, CallsAtMost, Broken};
+ghost use Rattle.tx_text.specs.Feed.{feed_gives, finish_gives, finish_leaves};
+ghost use Rattle.tx_text.specs.TextLine.{line_of};
+ghost use Rattle.tx_text.specs.Told.{Advances, IsFeed, reading_place, reading_start, slice_start, reading_of_calls, reading_size, fed_on, lined, ended_as};
+
+use crate::feeder::LineFeeder;
+use crate::line::TextLine;
+use crate::line_fault::LineFault;
+use crate::source::Source;
+use crate::text_fault::TextFault;
+use std::alloc::{Allocator, Global};
+use std::marker::Model;
+
+/// How many calls a text may take that comes from a source.
+const SOURCE_CALLS: u64 = 4_294_967_295;
+
+/// How many calls a text may take that stands in memory: it has fewer than 2^63 bytes, and each call takes 4,096 of them.
+const SLICE_CALLS: u64 = 2_251_799_813_685_249;
+
+/// Reads a text from a source, line by line.
+#[derive(Drop)]
+pub struct TextReader<A: Allocator = Global> {
+    feeder: LineFeeder<A>,
+    piece: [u8; 4096],
+    from: usize,
+    to: usize,
+    left: u64,
+}
+
+impl<A: Allocator> Model for TextReader<A> {
+    ghost use Rattle.tx_text.specs.Told.{Reading};
+
+    ghost Value = { Reading };
+
+    ghost use Rattle.tx_text.specs.Reader.{reading_of, IsReader};
+
+    ghost view = { reading_of };
+
+    ghost invariant = { IsReader };
+}
+
+impl<A: Allocator> TextReader<A> {
+    /// A reader of a text that comes from a source, in at most 4,294,967,295 calls.
+    pub fn new(alloc: A) -> Result<TextReader<A>, TextFault>
+        ensures ok { IfOk result (λ r. r ≡ reading_start) }
+        ensures err { IfErr result (λ e. e ≡ TextFault.NoMemory) }
+    {
+        TextReader::of_calls(alloc, SOURCE_CALLS)
+    }
+
+    /// A reader of a text that stands in memory: it may call as often as any slice is long.
+    pub fn for_slice(alloc: A) -> Result<TextReader<A>, TextFault>
+        ensures ok { IfOk result (λ r. r ≡ slice_start) }
+        ensures err { IfErr result (λ e. e ≡ TextFault.NoMemory) }
+    {
+        TextReader::of_calls(alloc, SLICE_CALLS)
+    }
+
+    /// A reader that has read nothing yet, and may call so often.
+    fn of_calls(alloc: A, left: u64) -> Result<TextReader<A>, TextFault>
+        requires { left ≤ slice_calls }
+        ensures ok { IfOk result (λ r. r ≡ reading_of_calls left) }
+        ensures err { IfErr result (λ e. e ≡ TextFault.NoMemory) }
+    {
+        let feeder = LineFeeder::new(alloc)?;
+        Ok(TextReader {
+            feeder,
+            piece: [0; 4096],
+            from: 0,
+            to: 0,
+            left,
+        })
+    }
+
+    /// Feeds the bytes that were read, and tells whether that completed a line.
+    fn feed(&mut self) -> Result<bool, LineFault>
+        ensures known { IsFeed self.old.feed }
+        ensures known_after { IsFeed self.new.feed }
+        ensures gives { result ≡ lined (feed_gives self.old.feed self.old.piece) }
+        ensures leaves { self.new ≡ fed_on self.old }
+    {
+        match self.feeder.feed(part(&self.piece, self.from, self.to)) {
+            Ok(fed) => {
+                self.from += fed.taken;
+                Ok(fed.line)
+            }
+            Err(fault) => Err(LineFault::Text(fault)),
+        }
+    }
+
+    /// Goes on to the next line of the source's text, and tells whether there is one.
+    pub fn advance<R: Source>(&mut self, source: &mut R) -> Result<bool, LineFault>
+        requires { self.old.feed.fault ≡ None }
+        ensures fault { IfOk result (λ _. self.new.feed.fault ≡ None) }
+        ensures gives { Advances (R.rest source.old) (R.rest source.new) (reading_place self.old) (reading_place self.new)
+            self.new.feed.line (Broken R.called (R.failed source.new) self.old.left source.old source.new) result }
+        ensures went { result ≡ Ok true → IfSome self.new.feed.line (λ l. l.finished ≡ true → Went R.called self.old.left self.new.left source.old source.new) }
+        ensures calls { CallsAtMost R.called self.old.left source.old source.new }
+        ensures falls { IfOk result (λ b. b ≡ true → reading_size self.new < reading_size self.old) }
+    {
+        'pieces: loop {
+            match self.feed() {
+                Err(fault) => return Err(fault),
+                Ok(true) => return Ok(true),
+                Ok(false) => {}
+            }
+            if self.left == 0 {
+                return Err(LineFault::Read);
+            }
+            match self.fill(source) {
+                Err(fault) => return Err(fault),
+                Ok(true) => {}
+                Ok(false) => return self.finish(),
+            }
+        }
+    }
+
+    /// The text came to its end.
+    fn finish(&mut self) -> Result<bool, LineFault>
+        requires { self.old.piece ≡ [] }
+        ensures gives { result ≡ ended_as (finish_gives self.old.feed) }
+        ensures leaves { self.new ≡ record self.old { feed = finish_leaves self.old.feed } }
+    {
+        match self.feeder.finish() {
+            Ok(line) => Ok(line),
+            Err(fault) => Err(LineFault::Text(fault)),
+        }
+    }
+
+    /// The line that the last call of `advance` gave.
+    pub fn line(&self) -> TextLine<'_>
+        requires { IsSome self.now.feed.line }
+        ensures line { self.now.feed.line ≡ Some (line_of result) }
+        ensures small { result.number < 2 ^ 64 - 1 }
+    {
+        self.feeder.line()
+    }
+
+    /// Reads the next piece, and tells whether it has any byte.
+    fn fill<R: Source>(&mut self, source: &mut R) -> Result<bool, LineFault>
+        requires fed { self.old.piece ≡ [] }
+        requires left { 0 < self.old.left }
+        ensures feed { self.new.feed ≡ self.old.feed }
+        ensures left { self.new.left + 1 ≡ self.old.left }
+        ensures short { length self.new.piece ≤ 4096 }
+        ensures bytes { R.rest source.old ≡ prepend_known self.new.piece (R.rest source.new) }
+        ensures end { result ≡ Ok false → (self.new.piece ≡ []) × IsAtEnd (R.rest source.new) }
+        ensures gave { result ≡ Ok true → Gives R.called source.old source.new }
+        ensures call { Calls R.called source.old source.new }
+        ensures err { IfErr result (λ e. (e ≡ LineFault.Read) × (self.new.piece ≡ []) × (R.failed source.new ≡ true)) }
+    {
+        self.left -= 1;
+        self.from = 0;
+        self.to = 0;
+        match source.read(&mut self.piece) {
+            Ok(n) => {
+                self.to = n;
+                Ok(n > 0)
+            }
+            Err(_) => Err(LineFault::Read),
+        }
+    }
+}
+
+/// The bytes from one place up to another.
+fn part(piece: &[u8], from: usize, to: usize) -> &[u8]
+    requires order { from ≤ to }
+    requires within { to ≤ length piece.now }
+    ensures { result.now ≡ take (to - from) (drop from piece.now) }
+{
+    &piece[from..to]
+}

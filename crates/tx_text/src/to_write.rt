@@ -1,0 +1,46 @@
+// std's writers as sinks, whose bytes are not told.
+ghost use Rattle.std.specs.Prelude.{◌≡◌, false};
+
+use crate::sink::{Sink, WriteFault};
+use std::io::Write;
+
+/// A writer. An error is a failure, and so is a call that takes nothing; a failure stays one.
+#[derive(Drop)]
+pub struct ToWrite<W> {
+    writer: W,
+    failed: bool,
+}
+
+impl<W: Write> ToWrite<W> {
+    pub fn new(writer: W) -> ToWrite<W>
+        ensures writer { result.writer ≡ writer }
+        ensures failed { result.failed ≡ false }
+    {
+        ToWrite {
+            writer,
+            failed: false,
+        }
+    }
+}
+
+impl<W: Write> Sink for ToWrite<W> {
+    ghost use Rattle.std.specs.Prelude.{None};
+
+    ghost taken = { λ _. None };
+
+    ghost failed = { λ s. s.failed };
+
+    ghost called = { λ _ _ _ _. Unit {0} };
+
+    fn write(&mut self, bytes: &[u8]) -> Result<usize, WriteFault> {
+        if !self.failed {
+            if let Ok(n) = self.writer.write(bytes) {
+                if n > 0 {
+                    return Ok(n);
+                }
+            }
+        }
+        self.failed = true;
+        Err(WriteFault)
+    }
+}
