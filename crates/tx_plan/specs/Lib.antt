@@ -1,0 +1,10 @@
+pub mod Plan
+pub mod Lines
+pub mod Codes
+pub mod Routes
+pub mod Circuits
+pub mod Rules
+pub mod Declaring
+pub mod Certified
+pub mod Orders
+pub mod Tables

@@ -1,0 +1,171 @@
+// What makes a plan, one declaration after another.
+ghost use Rattle.std.specs.Prelude.{◌≡◌};
+ghost use Rattle.tx_plan.specs.Plan.{no_plan};
+ghost use Rattle.tx_plan.specs.Declaring.{Declares, first_true, exchange_refusals, with_exchange, code_refusals, with_code, lines_refusals, with_lines, group_refusals, with_group, route_refusals, with_route, bar_refusals, with_bar};
+
+use crate::bars::Bars;
+use crate::codes::Codes;
+use crate::direction::Direction;
+use crate::entries::{
+    bar_entry, code_entry, exchange_entry, group_entry, range_entry, route_entry,
+};
+use crate::exchanges::Exchanges;
+use crate::groups::Groups;
+use crate::plan::Plan;
+use crate::ranges::Ranges;
+use crate::refusal::PlanRefusal;
+use crate::routes::Routes;
+use std::alloc::{Allocator, Global};
+use std::marker::Model;
+use tx_text::Words;
+
+/// A plan in the making. What it declared so far obeys the rules of a plan.
+///
+/// Each declaration appends one entry to one list, or changes nothing and tells the first refusal in the order of `PlanRefusal`. Names are declared before use.
+#[derive(Drop)]
+pub struct PlanBuilder<A: Allocator = Global> {
+    plan: Plan<A>,
+}
+
+impl<A: Allocator> Model for PlanBuilder<A> {
+    ghost use Rattle.tx_plan.specs.Plan.{Plan};
+
+    ghost Value = { Plan };
+
+    ghost view = { λ b. b.plan };
+}
+
+impl<A: Allocator + Copy> PlanBuilder<A> {
+    /// Nothing declared. Takes no memory.
+    pub fn new(alloc: A) -> Self
+        ensures { result ≡ no_plan }
+    {
+        PlanBuilder {
+            plan: Plan {
+                exchanges: Exchanges::new(alloc),
+                codes: Codes::new(alloc),
+                ranges: Ranges::new(alloc),
+                groups: Groups::new(alloc),
+                routes: Routes::new(alloc),
+                bars: Bars::new(alloc),
+            },
+        }
+    }
+}
+
+impl<A: Allocator> PlanBuilder<A> {
+    /// Declares an exchange.
+    pub fn exchange(&mut self, name: &[u8]) -> Result<(), PlanRefusal>
+        ensures { Declares (first_true (exchange_refusals self.old name.now)) self.old (with_exchange self.old name.now) self.new result }
+    {
+        let plan = &mut self.plan;
+        let entry = match exchange_entry(plan, name) {
+            Ok(entry) => entry,
+            Err(refusal) => return Err(refusal),
+        };
+        match plan.exchanges.add(entry) {
+            Ok(()) => {}
+            Err(_) => return Err(PlanRefusal::NoMemory),
+        }
+        Ok(())
+    }
+
+    /// Declares a code of two or three figures with its home.
+    pub fn code(&mut self, code: &[u8], home: &[u8]) -> Result<(), PlanRefusal>
+        ensures { Declares (first_true (code_refusals self.old code.now home.now)) self.old (with_code self.old code.now home.now) self.new result }
+    {
+        let plan = &mut self.plan;
+        let (figures, home) = match code_entry(plan, code, home) {
+            Ok(entry) => entry,
+            Err(refusal) => return Err(refusal),
+        };
+        match plan.codes.add(figures, home) {
+            Ok(()) => {}
+            Err(_) => return Err(PlanRefusal::NoMemory),
+        }
+        Ok(())
+    }
+
+    /// Declares the national numbers of a code from low to high, both in it.
+    pub fn lines(&mut self, code: &[u8], low: &[u8], high: &[u8]) -> Result<(), PlanRefusal>
+        ensures { Declares (first_true (lines_refusals self.old code.now low.now high.now)) self.old (with_lines self.old code.now low.now high.now) self.new result }
+    {
+        let plan = &mut self.plan;
+        let range = match range_entry(plan, code, low, high) {
+            Ok(entry) => entry,
+            Err(refusal) => return Err(refusal),
+        };
+        match plan.ranges.add(range) {
+            Ok(()) => {}
+            Err(_) => return Err(PlanRefusal::NoMemory),
+        }
+        Ok(())
+    }
+
+    /// Declares a group of 1 to 240 circuits from exchange a to exchange b.
+    pub fn group(
+        &mut self,
+        name: &[u8],
+        a: &[u8],
+        b: &[u8],
+        direction: Direction,
+        count: u32,
+    ) -> Result<(), PlanRefusal>
+        ensures { Declares (first_true (group_refusals self.old name.now a.now b.now count)) self.old (with_group self.old name.now a.now b.now direction count) self.new result }
+    {
+        let plan = &mut self.plan;
+        let (key, row) = match group_entry(plan, name, a, b, direction, count) {
+            Ok(entry) => entry,
+            Err(refusal) => return Err(refusal),
+        };
+        match plan.groups.add(key, row) {
+            Ok(()) => {}
+            Err(_) => return Err(PlanRefusal::NoMemory),
+        }
+        Ok(())
+    }
+
+    /// Declares the groups that an exchange tries for a code, in order.
+    pub fn route(
+        &mut self,
+        exchange: &[u8],
+        code: &[u8],
+        groups: Words<'_>,
+    ) -> Result<(), PlanRefusal>
+        ensures { Declares (first_true (route_refusals self.old exchange.now code.now groups.entry)) self.old (with_route self.old exchange.now code.now groups.entry) self.new result }
+    {
+        let plan = &mut self.plan;
+        let (pair, list) = match route_entry(plan, exchange, code, groups) {
+            Ok(entry) => entry,
+            Err(refusal) => return Err(refusal),
+        };
+        match plan.routes.add(pair, list) {
+            Ok(()) => {}
+            Err(_) => return Err(PlanRefusal::NoMemory),
+        }
+        Ok(())
+    }
+
+    /// Bars calls that start at an exchange for a code.
+    pub fn bar(&mut self, exchange: &[u8], code: &[u8]) -> Result<(), PlanRefusal>
+        ensures { Declares (first_true (bar_refusals self.old exchange.now code.now)) self.old (with_bar self.old exchange.now code.now) self.new result }
+    {
+        let plan = &mut self.plan;
+        let pair = match bar_entry(plan, exchange, code) {
+            Ok(entry) => entry,
+            Err(refusal) => return Err(refusal),
+        };
+        match plan.bars.add(pair) {
+            Ok(()) => {}
+            Err(_) => return Err(PlanRefusal::NoMemory),
+        }
+        Ok(())
+    }
+
+    /// The plan that was made. Takes no memory.
+    pub fn finish(self) -> Plan<A>
+        ensures { result ≡ self }
+    {
+        self.plan
+    }
+}

@@ -1,0 +1,384 @@
+// What a declaration adds to a plan, or why it is refused.
+ghost use Rattle.std.specs.Prelude.{◌≡◌, ◌≤◌, Some, None, is_some, true, false, not, map, ◌||◌, ◌&&◌, nat_le, IfNone, IfSome, IfOk, IfErr, OnOk, length};
+ghost use Rattle.std.specs.List.{list_any};
+ghost use Rattle.tx_text.specs.Words.{is_name};
+ghost use Rattle.tx_plan.specs.Plan.{exchange_named, code_named, group_named};
+ghost use Rattle.tx_plan.specs.Routes.{is_barred};
+ghost use Rattle.tx_plan.specs.Declaring.{first_true, exchange_refusals, code_refusals, lines_refusals, group_refusals, route_refusals, route_plan_refusals, route_group_refusals, bar_refusals, has_exchange, has_code, has_group, has_route, pair_named, is_not_outgoing, is_ordered, exchange_at, code_at, group_at};
+
+use crate::direction::Direction;
+use crate::group_list::GroupList;
+use crate::group_row::GroupRow;
+use crate::group_words::{are_many, none_twice, route_words};
+use crate::ids::{CodeId, ExchangeId, GroupId};
+use crate::national::National;
+use crate::pair::Pair;
+use crate::plan::Plan;
+use crate::range::LineRange;
+use crate::ranges::at_most;
+use crate::refusal::PlanRefusal;
+use crate::short::Short;
+use std::alloc::Allocator;
+use tx_text::{Words, are_figures, is_name};
+
+/// The exchange of a name, and whether it was declared.
+#[tactic(auto, using(crate::proofs::Lists::found_any))]
+fn exchange_of<A: Allocator>(plan: &Plan<A>, name: &[u8]) -> Option<ExchangeId>
+    ensures place { result ≡ exchange_named plan.now name.now }
+    ensures found { is_some result ≡ has_exchange plan.now name.now }
+{
+    plan.exchange_named(name)
+}
+
+/// The code of these figures, and whether it was declared.
+#[tactic(auto, using(crate::proofs::Lists::found_any))]
+fn code_of<A: Allocator>(plan: &Plan<A>, figures: &[u8]) -> Option<CodeId>
+    ensures place { result ≡ code_named plan.now figures.now }
+    ensures found { is_some result ≡ has_code plan.now figures.now }
+{
+    plan.code_named(figures)
+}
+
+/// The group of a name, and whether it was declared.
+#[tactic(auto, using(crate::proofs::Lists::found_any))]
+fn group_of<A: Allocator>(plan: &Plan<A>, name: &[u8]) -> Option<GroupId>
+    ensures place { result ≡ group_named plan.now name.now }
+    ensures found { is_some result ≡ has_group plan.now name.now }
+{
+    plan.group_named(name)
+}
+
+/// The name of a new exchange, or why it is refused.
+pub(crate) fn exchange_entry<A: Allocator>(
+    plan: &Plan<A>,
+    name: &[u8],
+) -> Result<Short<8>, PlanRefusal>
+    ensures err { IfErr result (λ e. first_true (exchange_refusals plan.now name.now) ≡ Some e) }
+    ensures ok { OnOk result (first_true (exchange_refusals plan.now name.now) ≡ None) }
+    ensures entry { IfOk result (λ e. e ≡ name.now) }
+    ensures fresh { OnOk result (has_exchange plan.now name.now ≡ false) }
+{
+    if !is_name(name) {
+        return Err(PlanRefusal::BadName);
+    }
+    if exchange_of(plan, name).is_some() {
+        return Err(PlanRefusal::Duplicate);
+    }
+    if plan.exchanges() >= 256 {
+        return Err(PlanRefusal::TooMany);
+    }
+    Ok(Short::of(name))
+}
+
+/// The figures and the home of a new code, or why it is refused.
+pub(crate) fn code_entry<A: Allocator>(
+    plan: &Plan<A>,
+    code: &[u8],
+    home: &[u8],
+) -> Result<(Short<3>, ExchangeId), PlanRefusal>
+    ensures err { IfErr result (λ e. first_true (code_refusals plan.now code.now home.now) ≡ Some e) }
+    ensures ok { OnOk result (first_true (code_refusals plan.now code.now home.now) ≡ None) }
+    ensures entry { IfOk result (λ e. e ≡ (code.now, exchange_at plan.now home.now)) }
+    ensures fresh { OnOk result (has_code plan.now code.now ≡ false) }
+{
+    if !is_name(home) {
+        return Err(PlanRefusal::BadName);
+    }
+    if !are_figures(code, 2, 3) {
+        return Err(PlanRefusal::BadCode);
+    }
+    if code_of(plan, code).is_some() {
+        return Err(PlanRefusal::Duplicate);
+    }
+    let Some(home) = exchange_of(plan, home) else {
+        return Err(PlanRefusal::Unknown);
+    };
+    if plan.codes() >= 1100 {
+        return Err(PlanRefusal::TooMany);
+    }
+    Ok((Short::of(code), home))
+}
+
+/// Whether low and high have one width, and low is not above high.
+fn is_ordered(low: &[u8], high: &[u8]) -> bool
+    ensures { result ≡ is_ordered low.now high.now }
+{
+    low.len() == high.len() && at_most(low, high)
+}
+
+/// A new range, or why it is refused.
+pub(crate) fn range_entry<A: Allocator>(
+    plan: &Plan<A>,
+    code: &[u8],
+    low: &[u8],
+    high: &[u8],
+) -> Result<LineRange, PlanRefusal>
+    ensures err { IfErr result (λ e. first_true (lines_refusals plan.now code.now low.now high.now) ≡ Some e) }
+    ensures ok { OnOk result (first_true (lines_refusals plan.now code.now low.now high.now) ≡ None) }
+    ensures entry { IfOk result (λ e. e ≡ record { code = code_at plan.now code.now; low = low.now; high = high.now }) }
+{
+    if !are_figures(code, 2, 3) {
+        return Err(PlanRefusal::BadCode);
+    }
+    let Some(least) = National::read(low) else {
+        return Err(PlanRefusal::BadNumber);
+    };
+    let Some(greatest) = National::read(high) else {
+        return Err(PlanRefusal::BadNumber);
+    };
+    let Some(place) = code_of(plan, code) else {
+        return Err(PlanRefusal::Unknown);
+    };
+    if !is_ordered(low, high) {
+        return Err(PlanRefusal::RangeOrder);
+    }
+    if plan.overlaps(place, low, high) {
+        return Err(PlanRefusal::Overlap);
+    }
+    if plan.ranges() >= 4096 {
+        return Err(PlanRefusal::TooMany);
+    }
+    Ok(LineRange {
+        code: place,
+        low: least,
+        high: greatest,
+    })
+}
+
+/// Whether each is a name.
+fn are_names(name: &[u8], a: &[u8], b: &[u8]) -> bool
+    ensures gives { not result ≡ (not (is_name name.now) || (not (is_name a.now) || not (is_name b.now))) }
+    ensures short { result ≡ true → length name.now ≤ 8 }
+{
+    is_name(name) && is_name(a) && is_name(b)
+}
+
+/// Whether a group may have so many circuits.
+fn is_count(count: u32) -> bool
+    ensures { result ≡ (nat_le 1 count && nat_le count 240) }
+{
+    count >= 1 && count <= 240
+}
+
+/// The exchanges of two names.
+fn ends_named<A: Allocator>(plan: &Plan<A>, a: &[u8], b: &[u8]) -> Option<(ExchangeId, ExchangeId)>
+    ensures found { is_some result ≡ not (not (has_exchange plan.now a.now) || not (has_exchange plan.now b.now)) }
+    ensures ends { IfSome result (λ e. e ≡ (exchange_at plan.now a.now, exchange_at plan.now b.now)) }
+{
+    let Some(first) = exchange_of(plan, a) else {
+        return None;
+    };
+    let Some(second) = exchange_of(plan, b) else {
+        return None;
+    };
+    Some((first, second))
+}
+
+/// The name of a new group and its row, or why it is refused.
+pub(crate) fn group_entry<A: Allocator>(
+    plan: &Plan<A>,
+    name: &[u8],
+    a: &[u8],
+    b: &[u8],
+    direction: Direction,
+    count: u32,
+) -> Result<(Short<8>, GroupRow), PlanRefusal>
+    ensures err { IfErr result (λ e. first_true (group_refusals plan.now name.now a.now b.now count) ≡ Some e) }
+    ensures ok { OnOk result (first_true (group_refusals plan.now name.now a.now b.now count) ≡ None) }
+    ensures entry { IfOk result (λ e. e ≡ (name.now, record { a = exchange_at plan.now a.now; b = exchange_at plan.now b.now; direction = direction; count = count })) }
+    ensures fresh { OnOk result (has_group plan.now name.now ≡ false) }
+{
+    if !are_names(name, a, b) {
+        return Err(PlanRefusal::BadName);
+    }
+    if !is_count(count) {
+        return Err(PlanRefusal::BadNumber);
+    }
+    if group_of(plan, name).is_some() {
+        return Err(PlanRefusal::Duplicate);
+    }
+    let (first, second) = match ends_named(plan, a, b) {
+        Some(ends) => ends,
+        None => return Err(PlanRefusal::Unknown),
+    };
+    if a == b {
+        return Err(PlanRefusal::SameEnds);
+    }
+    if plan.groups() >= 4096 {
+        return Err(PlanRefusal::TooMany);
+    }
+    let row = GroupRow {
+        a: first,
+        b: second,
+        direction,
+        count,
+    };
+    Ok((Short::of(name), row))
+}
+
+/// The exchange and the code of two words.
+fn pair_of<A: Allocator>(plan: &Plan<A>, exchange: &[u8], code: &[u8]) -> Option<Pair>
+    ensures pair { result ≡ pair_named plan.now exchange.now code.now }
+    ensures named { IfSome result (λ x. x ≡ record { exchange = exchange_at plan.now exchange.now; code = code_at plan.now code.now }) }
+{
+    let exchange = plan.exchange_named(exchange);
+    let code = plan.code_named(code);
+    match exchange {
+        None => None,
+        Some(exchange) => match code {
+            None => None,
+            Some(code) => Some(Pair { exchange, code }),
+        },
+    }
+}
+
+/// A new bar, or why it is refused.
+pub(crate) fn bar_entry<A: Allocator>(
+    plan: &Plan<A>,
+    exchange: &[u8],
+    code: &[u8],
+) -> Result<Pair, PlanRefusal>
+    ensures err { IfErr result (λ e. first_true (bar_refusals plan.now exchange.now code.now) ≡ Some e) }
+    ensures ok { OnOk result (first_true (bar_refusals plan.now exchange.now code.now) ≡ None) }
+    ensures entry { IfOk result (λ e. e ≡ record { exchange = exchange_at plan.now exchange.now; code = code_at plan.now code.now }) }
+    ensures fresh { IfOk result (λ e. is_barred plan.now e.exchange e.code ≡ false) }
+{
+    if !is_name(exchange) {
+        return Err(PlanRefusal::BadName);
+    }
+    if !are_figures(code, 2, 3) {
+        return Err(PlanRefusal::BadCode);
+    }
+    let pair = match pair_of(plan, exchange, code) {
+        Some(pair) => pair,
+        None => return Err(PlanRefusal::Unknown),
+    };
+    if plan.is_barred(pair.exchange, pair.code) {
+        return Err(PlanRefusal::Duplicate);
+    }
+    if plan.home(pair.code) == pair.exchange {
+        return Err(PlanRefusal::BarAtHome);
+    }
+    Ok(pair)
+}
+
+/// Whether one of the names is of no group.
+fn any_unknown<A: Allocator>(plan: &Plan<A>, words: Words<'_>) -> bool
+    ensures { result ≡ list_any (λ g. not (has_group plan.now g)) words.entry }
+{
+    let mut rest = words;
+    'words: loop {
+        match rest.next() {
+            None => return false,
+            Some(word) => {
+                if group_of(plan, word).is_none() {
+                    return true;
+                }
+            }
+        }
+    }
+}
+
+/// Whether the exchange may not seize one of the groups.
+fn any_not_outgoing<A: Allocator>(plan: &Plan<A>, pair: &Pair, words: Words<'_>) -> bool
+    ensures { result ≡ list_any (is_not_outgoing plan.now (Some pair.now)) words.entry }
+{
+    let mut rest = words;
+    'words: loop {
+        match rest.next() {
+            None => return false,
+            Some(word) => {
+                if let Some(group) = plan.group_named(word) {
+                    if !plan.may_seize(group, pair.exchange) {
+                        return true;
+                    }
+                }
+            }
+        }
+    }
+}
+
+/// The groups of these names.
+fn list_of<A: Allocator>(plan: &Plan<A>, words: Words<'_>) -> GroupList
+    requires { length words ≤ 16 }
+    ensures { result ≡ map (group_at plan.now) words.entry }
+{
+    let mut rest = words;
+    let mut list = GroupList::new();
+    'words: loop {
+        match rest.next() {
+            None => return list,
+            Some(word) => {
+                let group = plan.group_named(word).unwrap_or(GroupId::at(0));
+                list.push(group);
+            }
+        }
+    }
+}
+
+/// Why the groups are refused to a declared pair, all of them being declared.
+fn route_groups<A: Allocator>(
+    plan: &Plan<A>,
+    pair: &Pair,
+    groups: &Words<'_>,
+) -> Option<PlanRefusal>
+    ensures gives { result ≡ first_true (route_group_refusals plan.now (Some pair.now) groups.now) }
+    ensures few { IfNone result (length groups.now ≤ 16) }
+{
+    if any_not_outgoing(plan, pair, groups.again()) {
+        return Some(PlanRefusal::NotOutgoing);
+    }
+    if !none_twice(groups.again()) {
+        return Some(PlanRefusal::RepeatedGroup);
+    }
+    if plan.home(pair.code) == pair.exchange {
+        return Some(PlanRefusal::RouteAtHome);
+    }
+    if are_many(groups.again()) {
+        return Some(PlanRefusal::TooMany);
+    }
+    None
+}
+
+/// Why a route is refused to a declared pair.
+fn route_row<A: Allocator>(plan: &Plan<A>, pair: &Pair, groups: &Words<'_>) -> Option<PlanRefusal>
+    ensures gives { result ≡ first_true (route_plan_refusals plan.now (Some pair.now) groups.now) }
+    ensures few { IfNone result (length groups.now ≤ 16) }
+    ensures fresh { IfNone result (has_route plan.now pair.now.exchange pair.now.code ≡ false) }
+{
+    if plan.has_route(pair) {
+        return Some(PlanRefusal::Duplicate);
+    }
+    if any_unknown(plan, groups.again()) {
+        return Some(PlanRefusal::Unknown);
+    }
+    route_groups(plan, pair, groups)
+}
+
+/// The pair and the groups of a new route, or why it is refused.
+pub(crate) fn route_entry<A: Allocator>(
+    plan: &Plan<A>,
+    exchange: &[u8],
+    code: &[u8],
+    groups: Words<'_>,
+) -> Result<(Pair, GroupList), PlanRefusal>
+    ensures err { IfErr result (λ e. first_true (route_refusals plan.now exchange.now code.now groups.entry) ≡ Some e) }
+    ensures ok { OnOk result (first_true (route_refusals plan.now exchange.now code.now groups.entry) ≡ None) }
+    ensures entry { IfOk result (λ e. e ≡ (record { exchange = exchange_at plan.now exchange.now; code = code_at plan.now code.now }, map (group_at plan.now) groups.entry)) }
+    ensures fresh { IfOk result (λ e. has_route plan.now e.0.exchange e.0.code ≡ false) }
+{
+    match route_words(exchange, code, &groups) {
+        Some(refusal) => return Err(refusal),
+        None => {}
+    }
+    let pair = match pair_of(plan, exchange, code) {
+        Some(pair) => pair,
+        None => return Err(PlanRefusal::Unknown),
+    };
+    match route_row(plan, &pair, &groups) {
+        Some(refusal) => return Err(refusal),
+        None => {}
+    }
+    let list = list_of(plan, groups);
+    Ok((pair, list))
+}

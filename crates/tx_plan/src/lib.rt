@@ -1,0 +1,39 @@
+// A route plan: what it declares, who makes it, and who reads it.
+#![tactic(auto)]
+
+mod bars;
+mod builder;
+mod circuit;
+mod codes;
+mod direction;
+mod entries;
+mod exchanges;
+mod group_list;
+mod group_row;
+mod group_words;
+mod groups;
+mod ids;
+mod keys;
+mod line;
+mod national;
+mod pair;
+mod plan;
+mod range;
+mod ranges;
+mod refusal;
+mod routes;
+mod rows;
+mod short;
+#[cfg(test)]
+mod tests;
+
+pub use builder::PlanBuilder;
+pub use circuit::Circuit;
+pub use direction::Direction;
+pub use ids::{CodeId, ExchangeId, GroupId};
+pub use line::Line;
+pub use national::National;
+pub use pair::Pair;
+pub use plan::Plan;
+pub use range::LineRange;
+pub use refusal::PlanRefusal;

@@ -1,0 +1,45 @@
+// Subscribers' lines.
+use crate::ids::CodeId;
+use crate::national::National;
+use std::hash::{Hash, Hasher};
+
+/// A subscriber's line: a destination code and the national number after it (ITU-T F.69).
+#[derive(Clone, Copy, Debug)]
+pub struct Line {
+    pub code: CodeId,
+    pub national: National,
+}
+
+impl PartialEq for Line {
+    ghost use Rattle.std.specs.Cmp.{partial_equiv_from_equiv};
+    ghost use Rattle.tx_plan.specs.Orders.{same_line};
+    ghost use Rattle.tx_plan.specs.Orders.{same_line_equiv};
+
+    ghost eq = { same_line };
+
+    ghost laws = { partial_equiv_from_equiv same_line_equiv };
+
+    fn eq(&self, other: &Line) -> bool {
+        self.code == other.code && self.national.bytes() == other.national.bytes()
+    }
+}
+
+impl Eq for Line {
+    ghost use Rattle.tx_plan.specs.Orders.{same_line_equiv};
+
+    ghost laws = { same_line_equiv };
+}
+
+impl Hash for Line {
+    ghost use Rattle.std.specs.Prelude.{[], ◌∷◌};
+    ghost use Rattle.std.proofs.Common.{ap};
+    ghost use Rattle.tx_plan.specs.Orders.{same_line-is};
+
+    ghost hash_input = { λ l. l.national ∷ [] };
+
+    ghost respects_eq = { λ x y h. ap (λ l. l.national ∷ []) (same_line-is x y h) };
+
+    fn hash<H: Hasher>(&self, state: &mut H) {
+        state.write(self.national.bytes());
+    }
+}

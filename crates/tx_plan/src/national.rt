@@ -1,0 +1,44 @@
+// National numbers.
+ghost use Rattle.std.specs.Prelude.{◌≡◌, ◌≤◌, length, if◌then◌else◌, Some, None};
+ghost use Rattle.tx_plan.specs.Rules.{is_national};
+
+use crate::short::Short;
+use std::marker::Model;
+use tx_text::are_figures;
+
+/// A national number: 1 to 9 figures, leading zeros count.
+#[derive(Clone, Copy, Debug)]
+pub struct National {
+    figures: Short<9>,
+}
+
+impl Model for National {
+    ghost use Rattle.std.specs.Prelude.{ℕ, List};
+
+    ghost Value = { List ℕ };
+
+    ghost view = { λ n. n.figures };
+
+    ghost inverse = { λ t. record { figures = t } };
+}
+
+impl National {
+    /// The number that the text spells, if it is 1 to 9 figures.
+    pub fn read(text: &[u8]) -> Option<National>
+        ensures { result ≡ (if is_national text.now then Some text.now else None) }
+    {
+        if !are_figures(text, 1, 9) {
+            return None;
+        }
+        let figures = Short::of(text);
+        Some(National { figures })
+    }
+
+    /// Its figures.
+    pub fn bytes(&self) -> &[u8]
+        ensures value { result.now ≡ self.now }
+        ensures width { length result.now ≤ 9 }
+    {
+        self.figures.bytes()
+    }
+}

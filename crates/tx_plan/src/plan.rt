@@ -1,0 +1,354 @@
+// A route plan and its readers.
+ghost use Rattle.std.specs.Prelude.{◌≡◌, ◌≤◌, if◌then◌else◌, nat_lt, Some, None, length, slice_get, [], ◌∷◌};
+ghost use Rattle.std.specs.Option.{option_map};
+ghost use Rattle.tx_plan.specs.Plan.{exchange_named, code_named, group_named, exchange_name, figures_of, group_name, home_of};
+ghost use Rattle.tx_plan.specs.Lines.{is_line_at};
+ghost use Rattle.tx_plan.specs.Routes.{route_list, is_barred, is_origin, is_origin_for};
+ghost use Rattle.tx_plan.specs.Circuits.{direction_of, count_of, ends_of, other_end, may_seize};
+ghost use Rattle.tx_plan.specs.Rules.{IsPlan};
+ghost use Rattle.tx_plan.specs.Declaring.{has_route, overlaps};
+
+use crate::bars::Bars;
+use crate::codes::Codes;
+use crate::direction::Direction;
+use crate::exchanges::Exchanges;
+use crate::groups::Groups;
+use crate::ids::{CodeId, ExchangeId, GroupId};
+use crate::line::Line;
+use crate::national::National;
+use crate::pair::Pair;
+use crate::range::LineRange;
+use crate::ranges::Ranges;
+use crate::routes::Routes;
+use std::alloc::{Allocator, Global};
+use std::marker::Model;
+use tx_text::{are_figures, is_name};
+
+/// A route plan: exchanges, codes, ranges, groups, routes and bars, each in order of declaration. It obeys the rules of a plan.
+///
+/// Readers by id answer a foreign id with a default, and none takes memory.
+#[derive(Drop)]
+pub struct Plan<A: Allocator = Global> {
+    pub(crate) exchanges: Exchanges<A>,
+    pub(crate) codes: Codes<A>,
+    pub(crate) ranges: Ranges<A>,
+    pub(crate) groups: Groups<A>,
+    pub(crate) routes: Routes<A>,
+    pub(crate) bars: Bars<A>,
+}
+
+impl<A: Allocator> Model for Plan<A> {
+    ghost use Rattle.tx_plan.specs.Plan.{Plan};
+    ghost use Rattle.tx_plan.specs.Rules.{IsPlan};
+
+    ghost Value = { Plan };
+
+    ghost view = { λ p. record { exchanges = p.exchanges; codes = p.codes; ranges = p.ranges; groups = p.groups; routes = p.routes; bars = p.bars } };
+
+    ghost invariant = { λ p. IsPlan (record { exchanges = p.exchanges; codes = p.codes; ranges = p.ranges; groups = p.groups; routes = p.routes; bars = p.bars }) };
+}
+
+/// Counts, and entries by their places.
+impl<A: Allocator> Plan<A> {
+    /// Its lists obey the rules. Does nothing: its callers' proofs name it.
+    pub fn rules(&self)
+        ensures { IsPlan self.now }
+    {
+        let _ = &self.exchanges;
+    }
+
+    /// How many exchanges.
+    pub fn exchanges(&self) -> usize
+        ensures { result ≡ length self.now.exchanges }
+    {
+        self.exchanges.len()
+    }
+
+    /// How many codes.
+    pub fn codes(&self) -> usize
+        ensures { result ≡ length self.now.codes }
+    {
+        self.codes.len()
+    }
+
+    /// How many ranges.
+    pub fn ranges(&self) -> usize
+        ensures { result ≡ length self.now.ranges }
+    {
+        self.ranges.len()
+    }
+
+    /// How many groups.
+    pub fn groups(&self) -> usize
+        ensures { result ≡ length self.now.groups }
+    {
+        self.groups.len()
+    }
+
+    /// How many routes.
+    pub fn routes(&self) -> usize
+        ensures { result ≡ length self.now.routes }
+    {
+        self.routes.len()
+    }
+
+    /// How many bars.
+    pub fn bars(&self) -> usize
+        ensures { result ≡ length self.now.bars }
+    {
+        self.bars.len()
+    }
+
+    /// The exchange at a place, from 0.
+    pub fn exchange_at(&self, place: usize) -> Option<ExchangeId>
+        ensures { result ≡ (if nat_lt place (length self.now.exchanges) then Some place else None) }
+    {
+        if place < self.exchanges.len() {
+            Some(ExchangeId::of(place))
+        } else {
+            None
+        }
+    }
+
+    /// The code at a place, from 0.
+    pub fn code_at(&self, place: usize) -> Option<CodeId>
+        ensures { result ≡ (if nat_lt place (length self.now.codes) then Some place else None) }
+    {
+        if place < self.codes.len() {
+            Some(CodeId::of(place))
+        } else {
+            None
+        }
+    }
+
+    /// The group at a place, from 0.
+    pub fn group_at(&self, place: usize) -> Option<GroupId>
+        ensures { result ≡ (if nat_lt place (length self.now.groups) then Some place else None) }
+    {
+        if place < self.groups.len() {
+            Some(GroupId::of(place))
+        } else {
+            None
+        }
+    }
+
+    /// The range at a place, from 0.
+    pub fn range_at(&self, place: usize) -> Option<LineRange>
+        ensures { result ≡ slice_get self.now.ranges place }
+    {
+        self.ranges.at(place).copied()
+    }
+
+    /// The exchange and the code of the route at a place, from 0. `list` has its groups.
+    pub fn route_at(&self, place: usize) -> Option<(ExchangeId, CodeId)>
+        ensures { result ≡ option_map (λ r. (r.exchange, r.code)) (slice_get self.now.routes place) }
+    {
+        match self.routes.pair_at(place) {
+            Some(pair) => Some((pair.exchange, pair.code)),
+            None => None,
+        }
+    }
+
+    /// The exchange and the code of the bar at a place, from 0.
+    pub fn bar_at(&self, place: usize) -> Option<(ExchangeId, CodeId)>
+        ensures { result ≡ option_map (λ b. (b.exchange, b.code)) (slice_get self.now.bars place) }
+    {
+        match self.bars.at(place) {
+            Some(pair) => Some((pair.exchange, pair.code)),
+            None => None,
+        }
+    }
+}
+
+/// Names, and what they name.
+impl<A: Allocator> Plan<A> {
+    /// The exchange of a name.
+    pub fn exchange_named(&self, name: &[u8]) -> Option<ExchangeId>
+        ensures { result ≡ exchange_named self.now name.now }
+    {
+        self.rules();
+        if !is_name(name) {
+            return None;
+        }
+        match self.exchanges.find(name) {
+            Some(place) => Some(ExchangeId::of(place)),
+            None => None,
+        }
+    }
+
+    /// The code of these figures.
+    pub fn code_named(&self, figures: &[u8]) -> Option<CodeId>
+        ensures { result ≡ code_named self.now figures.now }
+    {
+        self.rules();
+        if !are_figures(figures, 2, 3) {
+            return None;
+        }
+        match self.codes.find(figures) {
+            Some(place) => Some(CodeId::of(place)),
+            None => None,
+        }
+    }
+
+    /// The group of a name.
+    pub fn group_named(&self, name: &[u8]) -> Option<GroupId>
+        ensures { result ≡ group_named self.now name.now }
+    {
+        self.rules();
+        if !is_name(name) {
+            return None;
+        }
+        match self.groups.find(name) {
+            Some(place) => Some(GroupId::of(place)),
+            None => None,
+        }
+    }
+
+    /// The name of an exchange, or nothing.
+    pub fn exchange_name(&self, exchange: ExchangeId) -> &[u8]
+        ensures { result.now ≡ exchange_name self.now exchange }
+    {
+        self.exchanges.name(exchange.index())
+    }
+
+    /// The figures of a code, or nothing.
+    pub fn code_figures(&self, code: CodeId) -> &[u8]
+        ensures { result.now ≡ figures_of self.now code }
+    {
+        self.codes.figures(code.index())
+    }
+
+    /// The name of a group, or nothing.
+    pub fn group_name(&self, group: GroupId) -> &[u8]
+        ensures { result.now ≡ group_name self.now group }
+    {
+        self.groups.name(group.index())
+    }
+}
+
+/// Lines, origins and routes.
+impl<A: Allocator> Plan<A> {
+    /// The home of a code, or the first exchange.
+    pub fn home(&self, code: CodeId) -> ExchangeId
+        ensures { result ≡ home_of self.now code }
+    {
+        self.codes.home(code.index())
+    }
+
+    /// The line of a code and a national number, if that lies in a range of the code (ITU-T F.69).
+    pub fn line_at(&self, code: CodeId, national: &[u8]) -> Option<Line>
+        ensures { result ≡ (if is_line_at self.now code national.now then Some (record { code = code; national = national.now }) else None) }
+    {
+        let national = National::read(national)?;
+        if self.ranges.has(code, national.bytes()) {
+            Some(Line { code, national })
+        } else {
+            None
+        }
+    }
+
+    /// The groups that the exchange tries for the code, in order; none where no route is declared.
+    pub fn list(&self, exchange: ExchangeId, code: CodeId) -> &[GroupId]
+        ensures { result.now ≡ route_list self.now exchange code }
+    {
+        self.routes.list(&Pair { exchange, code })
+    }
+
+    /// Whether a route is declared for the pair.
+    pub(crate) fn has_route(&self, pair: &Pair) -> bool
+        ensures { result ≡ has_route self.now pair.now.exchange pair.now.code }
+    {
+        self.routes.has(pair)
+    }
+
+    /// Whether a range of the code shares a number with those from low to high, of one width.
+    pub(crate) fn overlaps(&self, code: CodeId, low: &[u8], high: &[u8]) -> bool
+        ensures { result ≡ overlaps self.now (Some code) low.now high.now }
+    {
+        self.ranges.overlaps(code, low, high)
+    }
+
+    /// Whether calls that start at the exchange for the code are not admitted.
+    pub fn is_barred(&self, exchange: ExchangeId, code: CodeId) -> bool
+        ensures { result ≡ is_barred self.now exchange code }
+    {
+        self.bars.has(&Pair { exchange, code })
+    }
+
+    /// Whether calls may start at the exchange: it is the home of a code that has a range.
+    pub fn is_origin(&self, exchange: ExchangeId) -> bool
+        ensures { result ≡ is_origin self.now exchange }
+    {
+        self.ranges
+            .as_slice()
+            .iter()
+            .any(|range| self.codes.home(range.code.index()) == exchange)
+    }
+
+    /// Whether calls for the code may start at the exchange.
+    pub fn is_origin_for(&self, exchange: ExchangeId, code: CodeId) -> bool
+        ensures { result ≡ is_origin_for self.now exchange code }
+    {
+        self.is_origin(exchange) && !self.is_barred(exchange, code)
+    }
+}
+
+/// Groups of circuits.
+impl<A: Allocator> Plan<A> {
+    /// From which ends the group may be seized, or `OneWay`.
+    pub fn direction(&self, group: GroupId) -> Direction
+        ensures { result ≡ direction_of self.now group }
+    {
+        match self.groups.at(group.index()) {
+            Some(row) => row.direction,
+            None => Direction::OneWay,
+        }
+    }
+
+    /// How many circuits the group has, 1 to 240, or 0.
+    pub fn group_count(&self, group: GroupId) -> u32
+        ensures value { result ≡ count_of self.now group }
+        ensures few { result ≤ 240 }
+    {
+        match self.groups.at(group.index()) {
+            Some(row) => row.count,
+            None => 0,
+        }
+    }
+
+    /// The ends of the group, the first one first, or the first exchange twice.
+    pub fn ends(&self, group: GroupId) -> (ExchangeId, ExchangeId)
+        ensures { result ≡ ends_of self.now group }
+    {
+        match self.groups.at(group.index()) {
+            Some(row) => (row.a, row.b),
+            None => (ExchangeId::at(0), ExchangeId::at(0)),
+        }
+    }
+
+    /// The exchange across the group, if the exchange is an end of it.
+    pub fn other_end(&self, group: GroupId, exchange: ExchangeId) -> Option<ExchangeId>
+        ensures { result ≡ other_end self.now group exchange }
+    {
+        let row = self.groups.at(group.index())?;
+        if row.a == exchange {
+            Some(row.b)
+        } else if row.b == exchange {
+            Some(row.a)
+        } else {
+            None
+        }
+    }
+
+    /// Whether the exchange may seize the group: its first end may, and of a both-way group the other end too.
+    pub fn may_seize(&self, group: GroupId, exchange: ExchangeId) -> bool
+        ensures { result ≡ may_seize self.now group exchange }
+    {
+        match self.groups.at(group.index()) {
+            Some(row) => {
+                row.a == exchange || (row.direction == Direction::BothWay && row.b == exchange)
+            }
+            None => false,
+        }
+    }
+}

@@ -1,0 +1,36 @@
+// Why a declaration is refused.
+
+/// Why a declaration of a plan is refused. Of several reasons the first in this order is given, save that want of memory comes last.
+#[derive(Clone, Copy, Debug, PartialEq, Eq)]
+pub enum PlanRefusal {
+    /// P4: a route without groups.
+    WrongCount,
+    /// P5: a word in the place of an exchange or a group is no name.
+    BadName,
+    /// P6: a word in the place of a code is not two or three figures.
+    BadCode,
+    /// P7: an end of a range is not 1 to 9 figures, or a count is not 1 to 240.
+    BadNumber,
+    /// P8: declared before.
+    Duplicate,
+    /// P9: an exchange, a code or a group that was not declared.
+    Unknown,
+    /// P10: the ends of a range differ in width, or the low one is above the high one.
+    RangeOrder,
+    /// P11: the range shares a number with one of the same code and width.
+    Overlap,
+    /// P12: both ends of a group are one exchange.
+    SameEnds,
+    /// P13: the exchange may not seize a group of its list.
+    NotOutgoing,
+    /// P14: a group stands twice in a list.
+    RepeatedGroup,
+    /// P15: a route at the code's home.
+    RouteAtHome,
+    /// P16: the 257th exchange, the 4,097th range or group, or the 17th group of a list.
+    TooMany,
+    /// P22: a bar at the code's home.
+    BarAtHome,
+    /// P21: no memory was left.
+    NoMemory,
+}
