@@ -1,0 +1,13 @@
+pub mod Lists
+pub mod Uses
+pub mod Invariant
+pub mod Changes
+pub mod Steps
+pub mod Moves
+pub mod Ranks
+pub mod Safe
+pub mod Excuses
+pub mod Sound
+pub mod Counts
+pub mod Appending
+pub mod RunOn

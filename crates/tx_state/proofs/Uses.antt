@@ -1,0 +1,160 @@
+-- What the tests of the machine say of calls, circuits and lines.
+use Rattle.std.proofs.Common.{◌≡◌, ◌≢◌, ℕ, ◌==◌, Bool, true, false, not, ◌||◌, List, [], ◌∷◌, ◌++◌, ◌⊎◌, inl, inr, map, Option, Some, None, refl, sym, ap, ◌∙◌, eqb-true, eq-eqb}
+use Rattle.std.proofs.lemmas.Bool.{false≢true, or_parts, and_parts, and_from, not-true, both_ways}
+use Rattle.std.specs.Prelude.{if◌then◌else◌, find, slice_get, is_some, option_and_then}
+use Rattle.std.specs.Option.{option_map_or}
+use Rattle.std.specs.List.{list_any}
+use Rattle.std.specs.FinSet as set
+use Rattle.tx_plan.specs.Orders.{same_circuit, same_line, same_line-itself}
+use Rattle.tx_plan.proofs.Named.{same_circuit-is, same_circuit-itself}
+use Rattle.tx_plan.specs.Plan.{Plan, Group}
+use Rattle.tx_plan.specs.Circuits.{far_end, other_end, circuits_at, order_at}
+use Rattle.tx_plan.specs.declared.circuit.Circuit.{Circuit}
+use Rattle.tx_plan.specs.declared.line.Line.{Line}
+use Rattle.tx_state.specs.declared.hop.Hop.{Hop}
+use Rattle.tx_state.specs.Call.{Phase, Standing, Calling, Connected, Call, last_exchange, place_of, lines_called}
+use Rattle.tx_state.specs.State.{State}
+use Rattle.tx_state.specs.InUse.{circuits_carried, carries, is_calling_on, seizes, seizes_from, is_free_at, is_down, first_free, first_in}
+use Rattle.tx_state.specs.Lines.{is_connected_to, takes_part, lines_of}
+use Rattle.tx_state.specs.Members.{NoneTwice, Mem}
+use Rattle.tx_state.specs.Passed.{Joins}
+use Rattle.tx_state.proofs.Lists.{none_any, find_mem, mem_map}
+
+pub not_carried : (c : Call) (x : Circuit) → carries c x ≡ false → Mem (circuits_carried c) x → ⊥
+not_carried c x n m =
+    let r = mem_map (λ (h : Hop). h.circuit) c.hops x m in
+    let no = none_any (λ (h : Hop). same_circuit h.circuit x) c.hops r.0 n r.1 in
+    both_ways _ no (ap (λ y. same_circuit y x) r.2 ∙ same_circuit-itself x)
+
+pub calling_on : (phase : Phase) (x : Circuit) → is_calling_on phase x ≡ true → phase ≡ Calling x
+calling_on Standing x h = absurd (false≢true h)
+calling_on (Calling y) x h = ap Calling (same_circuit-is y x h)
+calling_on (Connected l) x h = absurd (false≢true h)
+
+pub not_seizing : (c : Call) (x : Circuit) → seizes c x ≡ false → c.phase ≡ Calling x → ⊥
+not_seizing c x n e = both_ways _ n (ap (λ phase. is_calling_on phase x) e ∙ same_circuit-itself x)
+
+pub not_taking : (c : Call) (l : Line) → takes_part c l ≡ false → Mem (lines_of c) l → ⊥
+not_taking c l n (inl e) = both_ways _ (or_parts (same_line c.line l) (is_connected_to c.phase l) n).0 (ap (λ m. same_line m l) e ∙ same_line-itself l)
+not_taking c l n (inr m) = connected c.phase (or_parts (same_line c.line l) (is_connected_to c.phase l) n).1 m
+  where
+    connected : (phase : Phase) → is_connected_to phase l ≡ false → Mem (lines_called phase) l → ⊥
+    connected Standing n m = m
+    connected (Calling x) n m = m
+    connected (Connected k) n (inl e) = both_ways _ n (ap (λ m. same_line m l) e ∙ same_line-itself l)
+    connected (Connected k) n (inr m) = m
+
+-- a circuit that an exchange sees as free
+pub record IsFree (p : Plan) (s : State) (place : ℕ) (x : Circuit) : Type 0 where
+  pub carried : (c : Call) → Mem s.calls c → Mem (circuits_carried c) x → ⊥
+  pub releasing : set.contains s.releasing x ≡ true → ⊥
+  pub seized : (c : Call) → Mem s.calls c → c.phase ≡ Calling x → place_of p c ≡ place → ⊥
+
+pub is_free : (p : Plan) (s : State) (place : ℕ) (x : Circuit) → is_free_at p s place x ≡ true → IsFree p s place x
+is_free p s place x h =
+    let a = and_parts (not (list_any (λ c. carries c x) s.calls)) _ h in
+    let b = and_parts (not (set.contains s.releasing x)) _ a.1 in
+    let d = and_parts (not (set.contains s.out x)) _ b.1 in
+    record {
+      carried = λ c m. not_carried c x (none_any (λ c. carries c x) s.calls c (not-true _ a.0) m);
+      releasing = both_ways _ (not-true _ b.0);
+      seized = λ c m e at. both_ways _ (none_any (λ c. seizes_from p c x place) s.calls c (not-true _ d.1) m)
+          (and_from _ _ (ap (λ phase. is_calling_on phase x) e ∙ same_circuit-itself x) (eq-eqb _ _ at));
+    }
+
+pub first_in-is : (look : ℕ → Option Circuit) (gs : List ℕ) (x : Circuit) → first_in look gs ≡ Some x → (g : ℕ) × Mem gs g × (look g ≡ Some x)
+first_in-is look [] x h = cc
+first_in-is look (g ∷ gs) x h =
+    elim (is_some (look g)) as (λ b. (if b then look g else first_in look gs) ≡ Some x → (g' : ℕ) × Mem (g ∷ gs) g' × (look g' ≡ Some x)) [
+      | true ↦ λ e. (g, inl refl, e)
+      | false ↦ λ e. let r = first_in-is look gs x e in (r.0, inr r.1, r.2)
+    ] h
+
+pub first_in-none : (look : ℕ → Option Circuit) (gs : List ℕ) (g : ℕ) → first_in look gs ≡ None → Mem gs g → look g ≡ None
+first_in-none look [] g h m = elim m [ ]
+first_in-none look (y ∷ gs) g h m = at (look y) refl h m (first_in-none look gs g)
+  where
+    at : (o : Option Circuit) → look y ≡ o → (if is_some o then o else first_in look gs) ≡ None → Mem (y ∷ gs) g → (first_in look gs ≡ None → Mem gs g → look g ≡ None) → look g ≡ None
+    at None e h (inl q) rest = ap look (sym q) ∙ e
+    at None e h (inr m) rest = rest h m
+    at (Some x) e h m rest = cc
+
+pub group_at : (p : Plan) (g place : ℕ) (x : Circuit) → Mem (circuits_at p g place) x → x.group ≡ g
+group_at p g place x m = at (slice_get p.groups g) m
+  where
+    at : (o : Option Group) → Mem (option_map_or (λ (r : Group). map (λ n. record { group = g; number = n }) (order_at r place)) o []) x → x.group ≡ g
+    at None m = elim m [ ]
+    at (Some r) m = let q = mem_map (λ n. record { group = g; number = n }) (order_at r place) x m in ap (λ (y : Circuit). y.group) (sym q.2)
+
+pub chosen : (p : Plan) (s : State) (place g : ℕ) (x : Circuit) → first_free p s place g ≡ Some x → (x.group ≡ g) × IsFree p s place x
+chosen p s place g x h =
+    elim (is_down s g) as (λ b. (if b then None else find (is_free_at p s place) (circuits_at p g place)) ≡ Some x → (x.group ≡ g) × IsFree p s place x) [
+      | true ↦ λ e. let bad : ⊥ = cc in absurd bad
+      | false ↦ λ e. let r = find_mem (is_free_at p s place) (circuits_at p g place) x e in (group_at p g place x r.0, is_free p s place x r.1)
+    ] h
+
+-- ends of a group
+pub an_end : (r : Group) (x y : ℕ) → far_end r x ≡ Some y → (r.a ≡ x) ⊎ (r.b ≡ x)
+an_end r x y h =
+    elim (r.a == x) as (λ b. (r.a == x) ≡ b → (if b then Some r.b else if r.b == x then Some r.a else None) ≡ Some y → (r.a ≡ x) ⊎ (r.b ≡ x)) [
+      | true ↦ λ t e. inl (eqb-true _ _ t)
+      | false ↦ λ _ e. elim (r.b == x) as (λ b. (r.b == x) ≡ b → (if b then Some r.a else None) ≡ Some y → (r.a ≡ x) ⊎ (r.b ≡ x)) [ true ↦ λ t _. inr (eqb-true _ _ t) | false ↦ λ _ e. let bad : ⊥ = cc in absurd bad ] refl e
+    ] refl h
+
+-- from one end a group leads to the other
+pub two_ends : (p : Plan) (g x y a b : ℕ) → other_end p g x ≡ Some a → other_end p g y ≡ Some b → (x ≡ y → ⊥) → y ≡ a
+two_ends p g x y a b hx hy ne = at (slice_get p.groups g) hx hy
+  where
+    at : (o : Option Group) → option_and_then (λ r. far_end r x) o ≡ Some a → option_and_then (λ r. far_end r y) o ≡ Some b → y ≡ a
+    at None hx hy = let bad : ⊥ = cc in absurd bad
+    at (Some r) hx hy =
+        elim (r.a == x) as (λ t. (r.a == x) ≡ t → (if t then Some r.b else if r.b == x then Some r.a else None) ≡ Some a → y ≡ a) [
+          | true ↦ λ t e. elim (an_end r y b hy) [ inl f ↦ absurd (ne (sym (eqb-true _ _ t) ∙ f)) | inr f ↦ let g : r.b ≡ a = cc in sym f ∙ g ]
+          | false ↦ λ t e. elim (r.b == x) as (λ u. (r.b == x) ≡ u → (if u then Some r.a else None) ≡ Some a → y ≡ a) [
+            | true ↦ λ u e. elim (an_end r y b hy) [ inl f ↦ let g : r.a ≡ a = cc in sym f ∙ g | inr f ↦ absurd (ne (sym (eqb-true _ _ u) ∙ f)) ]
+            | false ↦ λ u e. let bad : ⊥ = cc in absurd bad
+          ] refl e
+        ] refl hx
+
+-- a group has two ends
+pub no_third_end : (p : Plan) (g x y z a b c : ℕ) → other_end p g x ≡ Some a → other_end p g y ≡ Some b → other_end p g z ≡ Some c → x ≢ y → x ≢ z → y ≢ z → ⊥
+no_third_end p g x y z a b c hx hy hz xy xz yz = at (slice_get p.groups g) hx hy hz
+  where
+    two : {m n : ℕ} (r : Group) → (r.a ≡ m) ⊎ (r.b ≡ m) → (r.a ≡ n) ⊎ (r.b ≡ n) → m ≢ n → ((r.a ≡ m) × (r.b ≡ n)) ⊎ ((r.b ≡ m) × (r.a ≡ n))
+    two r (inl e) (inl f) ne = absurd (ne (sym e ∙ f))
+    two r (inl e) (inr f) ne = inl (e, f)
+    two r (inr e) (inl f) ne = inr (e, f)
+    two r (inr e) (inr f) ne = absurd (ne (sym e ∙ f))
+
+    at : (o : Option Group) → option_and_then (λ r. far_end r x) o ≡ Some a → option_and_then (λ r. far_end r y) o ≡ Some b → option_and_then (λ r. far_end r z) o ≡ Some c → ⊥
+    at None hx hy hz = cc
+    at (Some r) hx hy hz =
+        let ex = an_end r x a hx in let ey = an_end r y b hy in let ez = an_end r z c hz in
+        elim (two r ex ey xy) [
+          | inl e ↦ elim ez [ inl f ↦ xz (sym e.0 ∙ f) | inr f ↦ yz (sym e.1 ∙ f) ]
+          | inr e ↦ elim ez [ inl f ↦ yz (sym e.1 ∙ f) | inr f ↦ xz (sym e.0 ∙ f) ]
+        ]
+
+-- paths
+pub last_more : (x : ℕ) (hops : List Hop) (h : Hop) → last_exchange x (hops ++ h ∷ []) ≡ h.far
+last_more x [] h = refl
+last_more x (k ∷ hops) h = last_more k.far hops h
+
+pub joins_more : (p : Plan) (x : ℕ) (hops : List Hop) (h : Hop) → Joins p x hops → other_end p h.circuit.group (last_exchange x hops) ≡ Some h.far → Joins p x (hops ++ h ∷ [])
+joins_more p x [] h j e = (e, tt)
+joins_more p x (k ∷ hops) h j e = (j.0, joins_more p k.far hops h j.1 e)
+
+pub map_push : {A B : Type 0} (f : A → B) (xs : List A) (x : A) → map f (xs ++ x ∷ []) ≡ map f xs ++ f x ∷ []
+map_push f [] x = refl
+map_push f (y ∷ xs) x = ap (λ l. f y ∷ l) (map_push f xs x)
+
+pub any_push : {A : Type 0} (t : A → Bool) (xs : List A) (x : A) → list_any t xs ≡ false → t x ≡ false → list_any t (xs ++ x ∷ []) ≡ false
+any_push t [] x n h = or_no h
+  where
+    or_no : {b : Bool} → b ≡ false → (b || false) ≡ false
+    or_no {b} e = ap (λ c. c || false) e
+any_push t (y ∷ xs) x n h = let r = or_parts (t y) (list_any t xs) n in ap (λ b. b || list_any t (xs ++ x ∷ [])) r.0 ∙ any_push t xs x r.1 h
+
+pub none_twice_push : {A : Type 0} (same : A → A → Bool) (xs : List A) (x : A) → NoneTwice same xs → ((y : A) → Mem xs y → same y x ≡ false) → NoneTwice same (xs ++ x ∷ [])
+none_twice_push same [] x n h = (refl, tt)
+none_twice_push same (y ∷ xs) x n h = (any_push (same y) xs x n.0 (h y (inl refl)), none_twice_push same xs x n.1 (λ z m. h z (inr m)))

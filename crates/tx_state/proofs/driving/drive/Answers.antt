@@ -1,0 +1,14 @@
+use Rattle.std.proofs.Common.{◌∙◌, arith}
+use Rattle.tx_state.proofs.RunOn.{driven_more}
+use Rattle.tx_state.proofs.driving.drive.Goals as goal
+
+pub loop-at-preserved : goal.loop-at-preserved
+loop-at-preserved g c =
+    let v = c.loop-at.invariant in
+    let a = c.in_ok-reply.ensures in
+    let r = driven_more _ _ _ _ _ c.args.events.now c.loop-at.at c.index-events-at.result _ _ _ _ c.loop-at-test.true c.index-events-at.is v.1 v.2 v.3 a.step c.put.ensures.items in
+    let before = v.4 in
+    let l = c.loop-at-test.true in
+    let len = c.put.ensures.len in
+    let room = c.put.ensures.capacity in
+    (omega arith, a.plan ∙ v.1, r.0, r.1, omega arith)

@@ -1,0 +1,32 @@
+// Lists of events, applied in turn.
+ghost use Rattle.std.specs.Prelude.{◌≡◌, ◌++◌, OnOk, OnErr};
+ghost use Rattle.tx_state.specs.Runs.{replies as replies_to, state_after};
+ghost use Rattle.tx_state.specs.Driven.{StopsAfter};
+
+use crate::event::Event;
+use crate::network::Network;
+use crate::reply::Reply;
+use crate::room::put;
+use std::alloc::Allocator;
+use tx_text::NoMemory;
+
+/// Applies the events in turn, and appends the replies. Where no memory is left, the replies of the events applied so far were appended, and the
+/// network stands after these.
+pub fn drive<N: Network, B: Allocator>(
+    net: &mut N,
+    events: &[Event],
+    replies: &mut Vec<Reply, B>,
+) -> Result<(), NoMemory>
+    ensures plan { N.plan net.new ≡ N.plan net.old }
+    ensures ok { OnOk result ((replies.new.items ≡ replies.old.items ++ replies_to (N.plan net.old) (N.state net.old) events.now) × (N.state net.new ≡ state_after (N.plan net.old) (N.state net.old) events.now)) }
+    ensures err { OnErr result (StopsAfter (N.plan net.old) (N.state net.old) events.now replies.old.items (N.state net.new) replies.new.items) }
+{
+    replies.reserve(events.len())?;
+    let mut at = 0;
+    while at < events.len() {
+        let reply = net.apply(events[at])?;
+        put(replies, reply);
+        at += 1;
+    }
+    Ok(())
+}

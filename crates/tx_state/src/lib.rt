@@ -1,0 +1,35 @@
+// The network of exchanges: its events, its replies, its state and the step, and what is promised of every run.
+#![tactic(auto)]
+
+mod cause;
+mod driving;
+mod event;
+mod headline;
+mod hop;
+mod network;
+mod party;
+mod path;
+mod phase;
+mod refusal;
+mod reply;
+mod room;
+mod service;
+mod ticket;
+
+pub use cause::Cause;
+pub use driving::drive;
+pub use event::Event;
+pub use headline::{
+    certified_is_sound, every_nc_is_excused, hops_join_and_carry_once, lines_take_part_once,
+    ranks_fall, routes_are_bounded, tickets_are_appended,
+};
+pub use hop::Hop;
+pub use network::Network;
+pub use party::Party;
+pub use path::Path;
+pub use phase::Phase;
+pub use refusal::Refusal;
+pub use reply::Reply;
+pub use room::put;
+pub use service::Service;
+pub use ticket::Ticket;

@@ -1,0 +1,54 @@
+// Why events are refused.
+ghost use Rattle.std.specs.Prelude.{◌≡◌};
+ghost use Rattle.tx_state.specs.Refusals.{refusal_number};
+
+/// Why an event is refused. Of several that apply, the one of the least number is answered.
+#[derive(Clone, Copy, Debug, PartialEq, Eq)]
+pub enum Refusal {
+    /// M1: no open call has the number.
+    UnknownCall,
+    /// M2: the call to be routed does not stand.
+    NotStanding,
+    /// M3: the call to be confirmed has seized no circuit.
+    NotCalling,
+    /// M4: the call that the called party clears is not connected.
+    NotConnected,
+    /// M5: the plan has no such line.
+    UnknownLine,
+    /// M6: the calling line is engaged.
+    LineEngaged,
+    /// M7: the calling line is out of order.
+    LineOutOfOrder,
+    /// M8: it is so already.
+    AlreadySo,
+    /// M9: it is not so.
+    NotSo,
+    /// M10: the circuit is not to be released.
+    NotReleasing,
+    /// M11: the plan has no such circuit or group.
+    UnknownCircuit,
+    /// M12: all call numbers were given, or all events were counted.
+    Exhausted,
+}
+
+impl Refusal {
+    /// Its number, from 1 to 12: that of its code M1 to M12.
+    pub fn number(self) -> u8
+        ensures { result ≡ refusal_number self }
+    {
+        match self {
+            Refusal::UnknownCall => 1,
+            Refusal::NotStanding => 2,
+            Refusal::NotCalling => 3,
+            Refusal::NotConnected => 4,
+            Refusal::UnknownLine => 5,
+            Refusal::LineEngaged => 6,
+            Refusal::LineOutOfOrder => 7,
+            Refusal::AlreadySo => 8,
+            Refusal::NotSo => 9,
+            Refusal::NotReleasing => 10,
+            Refusal::UnknownCircuit => 11,
+            Refusal::Exhausted => 12,
+        }
+    }
+}
