@@ -1,0 +1,7 @@
+pub mod Views
+pub mod Sweeps
+pub mod Texts
+pub mod Sweeping
+pub mod Longest
+pub mod Giving
+pub mod LineSets

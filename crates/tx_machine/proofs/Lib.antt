@@ -1,0 +1,4 @@
+pub mod Holding
+pub mod Whole
+pub mod Choosing
+pub mod Routed

@@ -1,0 +1,198 @@
+-- What the fields keep, as they change.
+use Rattle.std.proofs.Common.{◌≡◌, ℕ, zero, suc, ◌+◌, ◌<◌, ◌≤◌, ◌==◌, true, false, not, ◌&&◌, ◌||◌, List, [], ◌∷◌, ◌++◌, inl, inr, map, length, refl, ap, sym, ◌∙◌, subst, arith, eqb-true, vec_len, vec_capacity, Some, None, Option, Result, Ok, Err}
+use Rattle.std.specs.Prelude.{filter, Vec, OnErr, nat_le, slice_get, if◌then◌else◌}
+use Rattle.std.specs.Vec.{with_items}
+use Rattle.std.specs.Option.{option_map_or}
+use Rattle.std.specs.List.{flat_map}
+use Rattle.std.proofs.lemmas.List.{with_items_is}
+use Rattle.std.proofs.lemmas.Bool.{false≢true, and_parts}
+use Rattle.tx_plan.specs.Plan.{Plan, Group}
+use Rattle.tx_plan.specs.Rules.{IsPlan, IsGroup}
+use Rattle.tx_plan.specs.Circuits.{is_circuit}
+use Rattle.tx_plan.specs.declared.circuit.Circuit.{Circuit}
+use Rattle.tx_plan.specs.declared.line.Line.{Line}
+use Rattle.tx_state.specs.declared.phase.Phase.{Phase}
+use Rattle.tx_state.specs.declared.phase.Phase.TheVariants.{Standing, Calling, Connected}
+use Rattle.tx_state.specs.declared.hop.Hop.{Hop}
+use Rattle.tx_state.specs.Ended.{Ended}
+use Rattle.tx_state.specs.Call.{Call, is_numbered, is_calling, circuit_called, call_of}
+use Rattle.tx_state.specs.Confirming.{thrown_back}
+use Rattle.tx_state.specs.Step.{keyed_call}
+use Rattle.tx_state.specs.InUse.{circuits_used, circuits_carried, seizes}
+use Rattle.tx_state.specs.Routing.{set_call}
+use Rattle.tx_state.specs.Ending.{given_up}
+use Rattle.tx_state.specs.Members.{Mem}
+use Rattle.tx_state.proofs.Lists.{mem_append, mem_left, mem_right, mem_filter, find_mem, at_place}
+use Rattle.tx_state.proofs.Uses.{map_push}
+use Rattle.tx_marks.specs.Marks.{Circuits, Groups, HasMark}
+use Rattle.tx_lists.specs.Seen.{call_seen, changed, thrown_at, HasRoom, IsReady}
+use Rattle.tx_lists.specs.GivenUp.{ends_by, is_given, AreMarked}
+use Rattle.tx_machine.specs.Whole.{AreHeld, IsWhole}
+use Rattle.tx_lists.specs.declared.open_call.OpenCall.{OpenCall}
+use Rattle.tx_lists.specs.declared.change.Change.{Change}
+use Rattle.tx_lists.specs.declared.change.Change.TheVariants.{To, Carry, ThrowBack}
+use Rattle.tx_lists.specs.declared.ends.Ends.{Ends}
+use Rattle.tx_lists.proofs.Views.{any_filter, filter_map_seen}
+use Rattle.tx_machine.proofs.Holding.{held_filter, held_set, held_more, held_map, calling_ready}
+
+pub circuit_marked : (p : Plan) → IsPlan p → (x : Circuit) → is_circuit p x ≡ true → HasMark (length p.groups) x
+circuit_marked p ok x h = at (slice_get p.groups x.group) refl h
+  where
+    within : {A : Type 0} (xs : List A) (i : ℕ) (y : A) → slice_get xs i ≡ Some y → i < length xs
+    within [] i y e = let bad : ⊥ = cc in absurd bad
+    within (z ∷ zs) zero y e = omega arith
+    within (z ∷ zs) (suc i) y e = let r = within zs i y e in omega arith
+
+    le : {a b : ℕ} → nat_le a b ≡ true → a ≤ b
+    le {a} {b} e = grind arith
+
+    at : (o : Option Group) → slice_get p.groups x.group ≡ o → option_map_or (λ r. nat_le 1 x.number && nat_le x.number r.count) o false ≡ true → HasMark (length p.groups) x
+    at None e h = absurd (false≢true h)
+    at (Some r) e h =
+        let t = and_parts (nat_le 1 x.number) (nat_le x.number r.count) h in
+        let few = (at_place (IsGroup p) p.groups ok.groups x.group r e).few in
+        let last = le t.1 in
+        record { group = within p.groups x.group r e; first = le t.0; last = omega arith }
+
+changed_number : (change : Change) (c : Call) → (changed change c).number ≡ c.number
+changed_number (To phase) c = refl
+changed_number (Carry h) c = refl
+changed_number ThrowBack c = refl
+
+module _ (groups numbers n : ℕ) (cs : List Call) (h : AreHeld groups numbers cs) where
+  pub marks_to : (phase : Phase) → ((x : Circuit) → phase ≡ Calling x → HasMark groups x) → (c : Call) → Mem cs c → c.number ≡ n → AreMarked groups (circuits_used (changed (To phase) c))
+  marks_to phase new c m e x i = elim (mem_append (circuits_carried c) (circuit_called phase) x i) [ inl o ↦ h.marked c m x (mem_left (circuits_carried c) (circuit_called c.phase) x o) | inr q ↦ new x (called phase q) ]
+    where
+      called : (phase : Phase) → Mem (circuit_called phase) x → phase ≡ Calling x
+      called Standing m = absurd m
+      called (Connected l) m = absurd m
+      called (Calling y) (inl e) = ap Calling e
+      called (Calling y) (inr m) = absurd m
+
+  pub marks_back : (c : Call) → Mem cs c → c.number ≡ n → AreMarked groups (circuits_used (changed ThrowBack c))
+  marks_back c m e x i = elim (mem_append (circuits_carried c) [] x i) [ inl o ↦ h.marked c m x (mem_left (circuits_carried c) (circuit_called c.phase) x o) | inr q ↦ absurd q ]
+
+  pub marks_carry : (hop : Hop) (k : Call) → Mem cs k → k.number ≡ n → k.phase ≡ Calling hop.circuit → (c : Call) → Mem cs c → c.number ≡ n → AreMarked groups (circuits_used (changed (Carry hop) c))
+  marks_carry hop k mk ek pk c m e x i =
+      let same = h.one k c mk m (ek ∙ sym e) in
+      let p : c.phase ≡ Calling hop.circuit = ap (λ (z : Call). z.phase) (sym same) ∙ pk in
+      elim (mem_append (map (λ (h : Hop). h.circuit) (c.hops ++ hop ∷ [])) [] x i) [
+        | inl o ↦ elim (mem_append (circuits_carried c) (hop.circuit ∷ []) x (subst (λ l. Mem l x) (map_push (λ (h : Hop). h.circuit) c.hops hop) o)) [
+          | inl a ↦ h.marked c m x (mem_left (circuits_carried c) (circuit_called c.phase) x a)
+          | inr b ↦ h.marked c m x (mem_right (circuits_carried c) (circuit_called c.phase) x (subst (λ ph. Mem (circuit_called ph) x) (sym p) b))
+        ]
+        | inr q ↦ absurd q
+      ]
+
+module _ {A : Type 0} (p : Plan) (calls : Vec (OpenCall A) A) (tickets : Vec Ended A) (failed blocked : Groups) (releasing out : Circuits) (numbers : ℕ) (w : IsWhole p calls tickets failed blocked releasing out numbers) where
+  -- other calls
+  pub whole_calls : (calls' : Vec (OpenCall A) A) → vec_len calls' ≡ vec_len calls → AreHeld (length p.groups) numbers (map call_seen calls'.items) → ((c : OpenCall A) → Mem calls'.items c → HasRoom c) → IsWhole p calls' tickets failed blocked releasing out numbers
+  whole_calls calls' len held hops = record {
+    rules = w.rules;
+    room = (let r = w.room in omega arith);
+    held = held;
+    hops = hops;
+    failed_all = w.failed_all;
+    blocked_all = w.blocked_all;
+    releasing_all = w.releasing_all;
+    out_all = w.out_all;
+  }
+
+  -- calls in place of these, as they are seen
+  pub whole_same : (now new : List (OpenCall A)) → now ≡ calls.items → length now ≡ vec_len calls → map call_seen new ≡ map call_seen now → length new ≡ length now → (((c : OpenCall A) → Mem now c → HasRoom c) → (c : OpenCall A) → Mem new c → HasRoom c) → IsWhole p (with_items calls new) tickets failed blocked releasing out numbers
+  whole_same now new e len seen same room =
+      let items = with_items_is calls new (same ∙ len) in
+      whole_calls (with_items calls new) refl
+      (subst (AreHeld (length p.groups) numbers) (ap (map call_seen) (sym e) ∙ sym seen ∙ ap (map call_seen) (sym items)) w.held)
+      (λ c m. room (subst (λ l. (c : OpenCall A) → Mem l c → HasRoom c) (sym e) w.hops) c (subst (λ l. Mem l c) items m))
+
+  pub whole_changed : (n : ℕ) (change : Change) (now new : List (OpenCall A)) → now ≡ calls.items → length now ≡ vec_len calls → map call_seen new ≡ set_call n (changed change) (map call_seen now) → length new ≡ length now → (((c : OpenCall A) → Mem now c → HasRoom c) → (c : OpenCall A) → Mem new c → HasRoom c) → ((c : Call) → Mem (map call_seen calls.items) c → c.number ≡ n → AreMarked (length p.groups) (circuits_used (changed change c))) → IsWhole p (with_items calls new) tickets failed blocked releasing out numbers
+  whole_changed n change now new e len seen same room marked =
+      let items = with_items_is calls new (same ∙ len) in
+      whole_calls (with_items calls new) refl
+      (subst (AreHeld (length p.groups) numbers) (ap (λ l. set_call n (changed change) (map call_seen l)) (sym e) ∙ sym seen ∙ ap (map call_seen) (sym items)) (held_set (length p.groups) numbers (map call_seen calls.items) w.held n (changed change) (changed_number change) marked))
+      (λ c m. room (subst (λ l. (c : OpenCall A) → Mem l c → HasRoom c) (sym e) w.hops) c (subst (λ l. Mem l c) items m))
+
+  -- the calls of a number of which one seizes a circuit have room
+  pub whole_ready : (now : List (OpenCall A)) → now ≡ calls.items → (n : ℕ) (k : Call) (x : Circuit) → call_of n (map call_seen calls.items) ≡ Some k → k.phase ≡ Calling x → (c : OpenCall A) → Mem now c → IsReady n c
+  whole_ready now e n k x f q c m =
+      let r = find_mem (λ (c : Call). c.number == n) (map call_seen calls.items) k f in
+      calling_ready (length p.groups) numbers n calls.items w.held w.hops k x r.0 (eqb-true k.number n r.1) q c (subst (λ l. Mem l c) e m)
+
+  -- other releasing circuits
+  pub whole_releasing : (releasing' : Circuits) → releasing'.groups ≡ releasing.groups → IsWhole p calls tickets failed blocked releasing' out numbers
+  whole_releasing releasing' e = record { rules = w.rules; room = w.room; held = w.held; hops = w.hops; failed_all = w.failed_all; blocked_all = w.blocked_all; releasing_all = e ∙ w.releasing_all; out_all = w.out_all }
+
+  pub whole_ended : (ends : Ends) (calls' : Vec (OpenCall A) A) (tickets' : Vec Ended A) (releasing' : Circuits) → calls'.items ≡ filter (λ c. not (ends_by ends (call_seen c))) calls.items → vec_len tickets' + vec_len calls' ≤ vec_capacity tickets' → releasing'.groups ≡ releasing.groups → IsWhole p calls' tickets' failed blocked releasing' out numbers
+  whole_ended ends calls' tickets' releasing' kept room e = record {
+    rules = w.rules;
+    room = room;
+    held = subst (AreHeld (length p.groups) numbers) (sym (filter_map_seen (λ c. not (ends_by ends c)) call_seen calls.items) ∙ ap (map call_seen) (sym kept)) (held_filter (length p.groups) numbers (map call_seen calls.items) w.held (λ c. not (ends_by ends c)));
+    hops = λ c m. w.hops c (mem_filter (λ c. not (ends_by ends (call_seen c))) calls.items c (subst (λ l. Mem l c) kept m)).0;
+    failed_all = w.failed_all;
+    blocked_all = w.blocked_all;
+    releasing_all = e ∙ w.releasing_all;
+    out_all = w.out_all;
+  }
+
+thrown_number : (a b : ℕ) (k : Call) → (thrown_at a b k).number ≡ k.number
+thrown_number a b k = elim (is_numbered a k || is_numbered b k) as (λ t. (if t then thrown_back k else k).number ≡ k.number) [ true ↦ refl | false ↦ refl ]
+
+thrown_marked : (groups numbers a b : ℕ) (cs : List Call) → AreHeld groups numbers cs → (k : Call) → Mem cs k → AreMarked groups (circuits_used (thrown_at a b k))
+thrown_marked groups numbers a b cs h k m = elim (is_numbered a k || is_numbered b k) as (λ t. AreMarked groups (circuits_used (if t then thrown_back k else k))) [
+  | true ↦ marks_back groups numbers k.number cs h k m refl
+  | false ↦ h.marked k m
+]
+
+-- two calls are thrown back, and another circuit is releasing
+pub whole_thrown : {A : Type 0} (p : Plan) (calls : Vec (OpenCall A) A) (tickets : Vec Ended A) (failed blocked : Groups) (releasing out : Circuits) (numbers : ℕ) → IsWhole p calls tickets failed blocked releasing out numbers → (a b : ℕ) (now new : List (OpenCall A)) → now ≡ calls.items → length now ≡ vec_len calls → map call_seen new ≡ map (thrown_at a b) (map call_seen now) → length new ≡ length now → (((c : OpenCall A) → Mem now c → HasRoom c) → (c : OpenCall A) → Mem new c → HasRoom c) → IsWhole p (with_items calls new) tickets failed blocked releasing out numbers
+whole_thrown {A} p calls tickets failed blocked releasing out numbers w a b now new e len seen same room =
+    let items = with_items_is calls new (same ∙ len) in
+    whole_calls p calls tickets failed blocked releasing out numbers w (with_items calls new) refl
+    (subst (AreHeld (length p.groups) numbers) (ap (λ l. map (thrown_at a b) (map call_seen l)) (sym e) ∙ sym seen ∙ ap (map call_seen) (sym items)) (held_map (length p.groups) numbers (map call_seen calls.items) w.held (thrown_at a b) (thrown_number a b) (thrown_marked (length p.groups) numbers a b (map call_seen calls.items) w.held)))
+    (λ c m. room (subst (λ l. (c : OpenCall A) → Mem l c → HasRoom c) (sym e) w.hops) c (subst (λ l. Mem l c) items m))
+
+pub seen_same : {A : Type 0} (calls : Vec (OpenCall A) A) (now new : List (OpenCall A)) → now ≡ calls.items → length now ≡ vec_len calls → map call_seen new ≡ map call_seen now → length new ≡ length now → map call_seen (with_items calls new).items ≡ map call_seen calls.items
+seen_same calls now new e len seen same = ap (map call_seen) (with_items_is calls new (same ∙ len)) ∙ seen ∙ ap (map call_seen) e
+
+pub err_with : {T E : Type 0} (r : Result T E) (P : Type 0) → P → OnErr r P
+err_with (Ok x) P h = tt
+err_with (Err x) P h = h
+
+module _ {A : Type 0} (p : Plan) (calls : Vec (OpenCall A) A) (tickets : Vec Ended A) (failed blocked : Groups) (releasing out : Circuits) (numbers : ℕ) (w : IsWhole p calls tickets failed blocked releasing out numbers) where
+  -- more room
+  pub whole_room : (calls' : Vec (OpenCall A) A) (tickets' : Vec Ended A) → calls'.items ≡ calls.items → vec_len tickets' + vec_len calls' ≤ vec_capacity tickets' → IsWhole p calls' tickets' failed blocked releasing out numbers
+  whole_room calls' tickets' e room = record {
+    rules = w.rules;
+    room = room;
+    held = subst (λ l. AreHeld (length p.groups) numbers (map call_seen l)) (sym e) w.held;
+    hops = subst (λ l. (c : OpenCall A) → Mem l c → HasRoom c) (sym e) w.hops;
+    failed_all = w.failed_all;
+    blocked_all = w.blocked_all;
+    releasing_all = w.releasing_all;
+    out_all = w.out_all;
+  }
+
+  -- other circuits out
+  pub whole_out : (out' : Circuits) → out'.groups ≡ out.groups → IsWhole p calls tickets failed blocked releasing out' numbers
+  whole_out out' e = record { rules = w.rules; room = w.room; held = w.held; hops = w.hops; failed_all = w.failed_all; blocked_all = w.blocked_all; releasing_all = w.releasing_all; out_all = e ∙ w.out_all }
+
+  -- one more call
+  pub whole_more : (calls' : Vec (OpenCall A) A) (tickets' : Vec Ended A) (c : OpenCall A) (line : Line) (keyed : List ℕ) (event : ℕ) → calls'.items ≡ calls.items ++ c ∷ [] → call_seen c ≡ keyed_call (numbers + 1) line keyed event → vec_len tickets' + vec_len calls' ≤ vec_capacity tickets' → IsWhole p calls' tickets' failed blocked releasing out (numbers + 1)
+  whole_more calls' tickets' c line keyed event e is room = record {
+    rules = w.rules;
+    room = room;
+    held = subst (AreHeld (length p.groups) (numbers + 1)) (ap (λ k. map call_seen calls.items ++ k ∷ []) (sym is) ∙ sym (map_push call_seen calls.items c) ∙ ap (map call_seen) (sym e)) (held_more (length p.groups) numbers (map call_seen calls.items) w.held line keyed event);
+    hops = λ d m. elim (mem_append calls.items (c ∷ []) d (subst (λ l. Mem l d) e m)) [
+      | inl o ↦ w.hops d o
+      | inr q ↦ elim q [ inl f ↦ subst HasRoom f (λ t. absurd (false≢true (sym (ap (λ (z : Call). is_calling z.phase) is) ∙ t))) | inr b ↦ absurd b ]
+    ];
+    failed_all = w.failed_all;
+    blocked_all = w.blocked_all;
+    releasing_all = w.releasing_all;
+    out_all = w.out_all;
+  }
+
+-- what is given up, in the words of the machine
+pub given_same : (ends : Ends) (calls : List Call) → filter (is_given ends calls) (flat_map circuits_used (filter (ends_by ends) calls)) ≡ given_up (filter (ends_by ends) calls) (filter (λ c. not (ends_by ends c)) calls)
+given_same ends calls = λ i. filter (λ x. not (any_filter (λ c. not (ends_by ends c)) (λ c. seizes c x) calls i)) (flat_map circuits_used (filter (ends_by ends) calls))

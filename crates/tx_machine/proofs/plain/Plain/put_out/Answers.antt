@@ -1,0 +1,15 @@
+use Rattle.std.proofs.Common.{◌≡◌, ap, sym, subst, true}
+use Rattle.tx_state.specs.State.{Net}
+use Rattle.tx_marks.specs.Marks.{Circuits, HasMark}
+use Rattle.tx_plan.specs.Circuits.{is_circuit}
+use Rattle.tx_machine.proofs.Whole.{circuit_marked, whole_out}
+use Rattle.tx_machine.proofs.plain.Plain.put_out.Goals as goal
+
+pub set-requires : goal.set-requires
+set-requires g c =
+    let w = c.self.invariant in
+    let x = c.args.circuit.now in
+    subst (λ n. HasMark n x) (sym w.out_all) (circuit_marked c.self.inside.plan.now w.rules x (subst (λ (n : Net). is_circuit n.plan x ≡ true) (sym c.self.view_is) c.requires.circuit))
+
+pub invariant_of-self : goal.invariant_of-self
+invariant_of-self g c = whole_out c.self.inside.plan.now c.self.inside.calls c.self.inside.tickets c.self.inside.failed c.self.inside.blocked c.self.inside.releasing c.self.inside.out c.self.inside.numbers c.self.invariant c.set.new.self (ap (λ (v : Circuits). v.groups) c.set.ensures)

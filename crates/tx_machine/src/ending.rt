@@ -1,0 +1,86 @@
+// Ending calls.
+ghost use Rattle.tx_state.specs.declared.party.Party.TheVariants.{Caller, Called};
+ghost use Rattle.std.specs.Prelude.{◌≡◌, ◌<◌, ◌+◌, ◌-◌, ◌^◌, not, filter, length, ◌==◌};
+ghost use Rattle.tx_state.specs.Step.{step, accepted, counted};
+ghost use Rattle.tx_state.specs.InUse.{uses_group};
+ghost use Rattle.tx_state.specs.Ending.{end_calls};
+ghost use Rattle.std.specs.FinSet as set;
+ghost use Rattle.tx_lists.specs.GivenUp.{ends_by};
+ghost use Rattle.tx_state.specs.declared.event.Event.TheVariants.{Fail, Clear};
+
+use crate::plain::Plain;
+use std::alloc::Allocator;
+use tx_lists::{Ends, count_ending, end_calls};
+use tx_plan::GroupId;
+use tx_state::{Cause, Party, Reply};
+
+impl<'p, A: Allocator + Copy> Plain<'p, A> {
+    /// A call is cleared.
+    pub(crate) fn clear(&mut self, number: u32, party: Party) -> Reply
+        requires { self.old.state.events < 2 ^ 64 - 1 }
+        ensures step { counted (accepted self.old.plan self.old.state (Clear number party)) ≡ (result, self.new.state) }
+        ensures plan { self.new.plan ≡ self.old.plan }
+    {
+        let cause = match party {
+            Party::Caller => Cause::ClearedByCaller,
+            Party::Called => Cause::ClearedByCalled,
+        };
+        self.end(&Ends::Numbered(number), cause);
+        self.count();
+        Reply::Cleared
+    }
+
+    /// A group fails.
+    pub(crate) fn fail(&mut self, group: GroupId) -> Reply
+        requires events { self.old.state.events < 2 ^ 64 - 1 }
+        requires group { group < length self.old.plan.groups }
+        ensures step { counted (accepted self.old.plan self.old.state (Fail group)) ≡ (result, self.new.state) }
+        ensures plan { self.new.plan ≡ self.old.plan }
+    {
+        let lost = self.count_on(group);
+        self.end(&Ends::OnGroup(group), Cause::Lost);
+        self.drop_group(group);
+        self.count();
+        Reply::Lost(lost)
+    }
+
+    /// How many calls are on the group.
+    pub(crate) fn count_on(&self, group: GroupId) -> u64
+        ensures { result ≡ length (filter (uses_group group) self.now.state.calls) }
+    {
+        count_ending(self.calls.as_slice(), &Ends::OnGroup(group)) as u64
+    }
+
+    /// A group is failed, and none of its circuits is to be released.
+    pub(crate) fn drop_group(&mut self, group: GroupId)
+        requires group { group < length self.old.plan.groups }
+        ensures { self.new ≡ record self.old { state = record self.old.state { failed = set.insert self.old.state.failed group; releasing = set.retain self.old.state.releasing (λ x. not (x.group == group)) } } }
+    {
+        self.failed.set(group);
+        self.releasing.clear_group(group);
+    }
+
+    /// Ends calls, with one cause.
+    pub(crate) fn end(&mut self, ends: &Ends, cause: Cause)
+        requires { self.old.state.events < 2 ^ 64 - 1 }
+        ensures { self.new ≡ record self.old { state = end_calls self.old.plan cause (ends_by ends.now) self.old.state } }
+    {
+        end_calls(
+            self.plan,
+            &mut self.calls,
+            &mut self.tickets,
+            &mut self.releasing,
+            ends,
+            cause,
+            self.events + 1,
+        );
+    }
+
+    /// One more event.
+    pub(crate) fn count(&mut self)
+        requires { self.old.state.events < 2 ^ 64 - 1 }
+        ensures { self.new ≡ record self.old { state = record self.old.state { events = self.old.state.events + 1 } } }
+    {
+        self.events += 1;
+    }
+}

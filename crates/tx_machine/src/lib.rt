@@ -1,0 +1,20 @@
+// The plain network, over the state and the step of a network.
+#![tactic(auto)]
+
+mod confirm;
+mod ending;
+mod looking;
+mod meeting;
+mod plain;
+mod refusals;
+mod route;
+mod routing;
+mod setting;
+mod truth;
+
+pub use plain::Plain;
+pub use tx_state::{
+    Cause, Event, Hop, Network, Party, Path, Phase, Refusal, Reply, Service, Ticket,
+    certified_is_sound, drive, every_nc_is_excused, hops_join_and_carry_once, lines_take_part_once,
+    ranks_fall, routes_are_bounded, tickets_are_appended,
+};

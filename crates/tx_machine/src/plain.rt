@@ -1,0 +1,181 @@
+// A network over lists.
+ghost use Rattle.std.specs.Prelude.{◌≡◌, ◌<◌, ◌+◌, ◌-◌, IfOk, OnErr, Some, None, length, slice_get, true};
+ghost use Rattle.tx_state.specs.Step.{step, takes_memory, accepted, counted};
+ghost use Rattle.tx_state.specs.State.{ticket_taken, opening};
+ghost use Rattle.tx_state.specs.Refusals.{refusal};
+
+use std::alloc::{Allocator, Global};
+use std::marker::Model;
+use tx_lists::OpenCall;
+use tx_marks::{CircuitMarks, GroupMarks};
+use tx_plan::{Line, Plan};
+use tx_state::{Event, Network, Refusal, Reply, Ticket};
+use tx_text::NoMemory;
+
+/// The plain network: it keeps the lists of the definitions, and filters them. Marks of groups and circuits have their room from the start.
+#[derive(Drop)]
+pub struct Plain<'p, A: Allocator = Global> {
+    pub(crate) plan: &'p Plan<A>,
+    pub(crate) alloc: A,
+    pub(crate) calls: Vec<OpenCall<A>, A>,
+    pub(crate) failed: GroupMarks<A>,
+    pub(crate) blocked: GroupMarks<A>,
+    pub(crate) releasing: CircuitMarks<A>,
+    pub(crate) out: CircuitMarks<A>,
+    pub(crate) faulty: Vec<Line, A>,
+    pub(crate) away: Vec<Line, A>,
+    pub(crate) numbers: u32,
+    pub(crate) events: u64,
+    pub(crate) tickets: Vec<Ticket<A>, A>,
+}
+
+impl<'p, A: Allocator> Model for Plain<'p, A> {
+    ghost use Rattle.tx_state.specs.State.{Net};
+
+    ghost Value = { Net };
+
+    ghost use Rattle.std.specs.FinSet as set;
+    ghost use Rattle.std.specs.Ordering.{nat_cmp};
+    ghost use Rattle.std.specs.Coded.{coded_ℕ, codes};
+    ghost use Rattle.tx_plan.specs.Orders.{coded_circuit, coded_line, circuit_cmp, line_cmp};
+
+    ghost coded = { Prim.hlevel (codes, set.code {R = nat_cmp} coded_ℕ, set.code {R = circuit_cmp} coded_circuit, set.code {R = line_cmp} coded_line) };
+
+    ghost use Rattle.tx_machine.specs.Whole.{net_of, IsWhole};
+
+    ghost view = { λ n. net_of n.plan.now n.calls.items n.failed n.blocked n.releasing n.out n.faulty.items n.away.items n.numbers n.events n.tickets.items };
+
+    ghost invariant = { λ n. IsWhole n.plan.now n.calls n.tickets n.failed n.blocked n.releasing n.out n.numbers };
+}
+
+impl<'p, A: Allocator + Copy> Plain<'p, A> {
+    /// The network before its first event.
+    pub fn new(alloc: A, plan: &'p Plan<A>) -> Result<Self, NoMemory>
+        ensures { IfOk result (λ n. n ≡ record { plan = plan.now; state = opening 0 0 }) }
+    {
+        Plain::starting_at(alloc, plan, 0, 0)
+    }
+
+    /// The opening state with so many numbers given and so many events accepted.
+    pub fn starting_at(
+        alloc: A,
+        plan: &'p Plan<A>,
+        numbers: u32,
+        events: u64,
+    ) -> Result<Self, NoMemory>
+        ensures { IfOk result (λ n. n ≡ record { plan = plan.now; state = opening numbers events }) }
+    {
+        plan.rules();
+        let groups = plan.groups();
+        let failed = GroupMarks::new(alloc, groups)?;
+        let blocked = GroupMarks::new(alloc, groups)?;
+        let releasing = CircuitMarks::new(alloc, groups)?;
+        let out = CircuitMarks::new(alloc, groups)?;
+        Ok(Plain {
+            plan,
+            alloc,
+            calls: Vec::new(alloc),
+            failed,
+            blocked,
+            releasing,
+            out,
+            faulty: Vec::new(alloc),
+            away: Vec::new(alloc),
+            numbers,
+            events,
+            tickets: Vec::new(alloc),
+        })
+    }
+
+    /// One event.
+    fn apply_one(&mut self, event: &Event) -> Result<Reply, NoMemory>
+        ensures plan { self.new.plan ≡ self.old.plan }
+        ensures step { IfOk result (λ reply. step self.old.plan self.old.state event.now ≡ (reply, self.new.state)) }
+        ensures err { OnErr result (self.new ≡ self.old) }
+        ensures memory { OnErr result ((takes_memory event.now ≡ true) × (refusal self.old.plan self.old.state event.now ≡ None)) }
+    {
+        let refusal = self.refusal(event);
+        match refusal {
+            Some(refusal) => Ok(Reply::Refused(refusal)),
+            None => self.accept(event),
+        }
+    }
+
+    /// One event that no refusal meets.
+    fn accept(&mut self, event: &Event) -> Result<Reply, NoMemory>
+        requires open { refusal self.old.plan self.old.state event.now ≡ None }
+        ensures plan { self.new.plan ≡ self.old.plan }
+        ensures ok { IfOk result (λ reply. counted (accepted self.old.plan self.old.state event.now) ≡ (reply, self.new.state)) }
+        ensures err { OnErr result (self.new ≡ self.old) }
+        ensures memory { OnErr result (takes_memory event.now ≡ true) }
+    {
+        match event {
+            Event::Key { line, keyed } => self.key(*line, *keyed),
+            Event::Route(number) => self.route(*number),
+            Event::Confirm(number) => Ok(self.confirm(*number)),
+            Event::Clear { call, party } => Ok(self.clear(*call, *party)),
+            Event::Released(circuit) => Ok(self.release(circuit)),
+            Event::Fail(group) => Ok(self.fail(*group)),
+            Event::Restore(group) => Ok(self.restore(*group)),
+            Event::Block(group) => Ok(self.block(*group)),
+            Event::Unblock(group) => Ok(self.unblock(*group)),
+            Event::CircuitOut(circuit) => Ok(self.put_out(circuit)),
+            Event::CircuitIn(circuit) => Ok(self.put_in(circuit)),
+            Event::LineFault(line) => self.line_fault(*line),
+            Event::LineMend(line) => Ok(self.line_mend(line)),
+            Event::LineAway(line) => self.line_away(*line),
+            Event::LineBack(line) => Ok(self.line_back(line)),
+        }
+    }
+
+    /// The oldest ticket.
+    fn first_ticket(&mut self) -> Option<Ticket<A>>
+        ensures plan { self.new.plan ≡ self.old.plan }
+        ensures first { result ≡ slice_get self.old.state.tickets 0 }
+        ensures rest { self.new.state ≡ ticket_taken self.old.state }
+    {
+        if self.tickets.is_empty() {
+            None
+        } else {
+            Some(self.tickets.remove(0))
+        }
+    }
+
+    /// How many calls are open.
+    fn count_open(&self) -> u64
+        ensures { result ≡ length self.now.state.calls }
+    {
+        self.calls.len() as u64
+    }
+
+    /// How many events were accepted.
+    fn count_events(&self) -> u64
+        ensures { result ≡ self.now.state.events }
+    {
+        self.events
+    }
+}
+
+impl<'p, A: Allocator + Copy> Network for Plain<'p, A> {
+    type A = A;
+
+    ghost plan = { λ n. n.plan };
+
+    ghost state = { λ n. n.state };
+
+    fn apply(&mut self, event: Event) -> Result<Reply, NoMemory> {
+        self.apply_one(&event)
+    }
+
+    fn next_ticket(&mut self) -> Option<Ticket<A>> {
+        self.first_ticket()
+    }
+
+    fn open_calls(&self) -> u64 {
+        self.count_open()
+    }
+
+    fn events(&self) -> u64 {
+        self.count_events()
+    }
+}

@@ -1,0 +1,176 @@
+// Routing a call.
+ghost use Rattle.tx_machine.specs.declared.routing.Routing.TheVariants.{Answer, Connect, Seize};
+ghost use Rattle.std.specs.Prelude.{◌≡◌, ◌<◌, ◌+◌, ◌-◌, ◌^◌, IfOk, OnErr, OnOk, Some, None, is_some, ◌==◌, true};
+ghost use Rattle.tx_state.specs.Step.{step, accepted, counted};
+ghost use Rattle.tx_state.specs.Call.{is_first, call_of};
+ghost use Rattle.tx_state.specs.Routing.{at_line, at_trunk, line_of, routed, set_call, in_phase};
+ghost use Rattle.tx_state.specs.InUse.{choice};
+ghost use Rattle.tx_state.specs.Lines.{line_answer, is_engaged};
+ghost use Rattle.tx_plan.specs.Circuits.{is_circuit};
+ghost use Rattle.tx_lists.specs.Seen.{call_seen};
+ghost use Rattle.tx_machine.specs.Decided.{routing_done, IsPlanned};
+ghost use Rattle.tx_state.specs.declared.event.Event.TheVariants.{Route};
+ghost use Rattle.tx_state.specs.declared.phase.Phase.TheVariants.{Calling};
+
+use crate::plain::Plain;
+use crate::routing::Routing;
+use crate::truth::both;
+use std::alloc::Allocator;
+use tx_lists::{
+    Change, Ends, OpenCall, call_of, change_numbered, code_of, place_of, reserve_hop, rest_after,
+};
+use tx_plan::{Circuit, CodeId, ExchangeId, Line};
+use tx_state::{Cause, Hop, Phase, Reply, Service};
+use tx_text::NoMemory;
+
+impl<'p, A: Allocator + Copy> Plain<'p, A> {
+    /// What the line decides at its home.
+    pub(crate) fn ask_line(&self, code: CodeId, national: &[u8]) -> Routing
+        ensures done { (c : _) → at_line self.now.plan self.now.state c (record { code = code; national = national.now }) (line_answer self.now.plan self.now.state (record { code = code; national = national.now })) ≡ routing_done self.now.plan self.now.state c.number result }
+        ensures planned { IsPlanned self.now.plan result }
+    {
+        let plan = self.plan;
+        match plan.line_at(code, national) {
+            None => Routing::Answer(Service::Np),
+            Some(line) => {
+                if self.is_faulty(&line) {
+                    Routing::Answer(Service::Der)
+                } else if self.is_away(&line) {
+                    Routing::Answer(Service::Abs)
+                } else if self.is_engaged(&line) {
+                    Routing::Answer(Service::Occ)
+                } else {
+                    Routing::Connect(line)
+                }
+            }
+        }
+    }
+
+    /// What the home of the code decides.
+    pub(crate) fn ask_home(&self, code: CodeId, call: &OpenCall<A>) -> Routing
+        ensures done { (c : _) → at_line self.now.plan self.now.state c (line_of self.now.plan code call.now.keyed) (line_answer self.now.plan self.now.state (line_of self.now.plan code call.now.keyed)) ≡ routing_done self.now.plan self.now.state c.number result }
+        ensures planned { IsPlanned self.now.plan result }
+    {
+        let plan = self.plan;
+        let rest = rest_after(plan.code_figures(code), call.keyed.bytes());
+        self.ask_line(code, rest)
+    }
+
+    /// What an exchange on the way decides.
+    #[tactic(auto, using(crate::proofs::Choosing::chosen_circuit))]
+    pub(crate) fn ask_trunk(&self, place: ExchangeId, code: CodeId) -> Routing
+        ensures done { (c : _) → at_trunk self.now.plan self.now.state c (choice self.now.plan self.now.state place code) ≡ routing_done self.now.plan self.now.state c.number result }
+        ensures planned { IsPlanned self.now.plan result }
+    {
+        match self.choice(place, code) {
+            None => Routing::Answer(Service::Nc),
+            Some(circuit) => Routing::Seize(circuit),
+        }
+    }
+
+    /// What is done with the call.
+    pub(crate) fn decide(&self, call: &OpenCall<A>) -> Routing
+        ensures done { routed self.now.plan self.now.state (call_seen call.now) ≡ routing_done self.now.plan self.now.state call.now.number result }
+        ensures planned { IsPlanned self.now.plan result }
+    {
+        let plan = self.plan;
+        let keyed = call.keyed.bytes();
+        match code_of(plan, keyed) {
+            None => Routing::Answer(Service::Np),
+            Some(code) => {
+                let place = place_of(plan, call);
+                let barred = both(is_first(&call.hops), plan.is_barred(place, code));
+                let home = plan.home(code);
+                if barred {
+                    Routing::Answer(Service::Na)
+                } else if home == place {
+                    self.ask_home(code, call)
+                } else {
+                    self.ask_trunk(place, code)
+                }
+            }
+        }
+    }
+
+    /// What is done with the call of the number.
+    pub(crate) fn routing_of(&self, number: u32) -> Routing
+        requires { is_some (call_of number self.now.state.calls) ≡ true }
+        ensures done { accepted self.now.plan self.now.state (Route number) ≡ routing_done self.now.plan self.now.state number result }
+        ensures planned { IsPlanned self.now.plan result }
+    {
+        match call_of(self.calls.as_slice(), number) {
+            None => unreachable!(),
+            Some(call) => self.decide(call),
+        }
+    }
+
+    /// A call is routed.
+    pub(crate) fn route(&mut self, number: u32) -> Result<Reply, NoMemory>
+        requires events { self.old.state.events < 2 ^ 64 - 1 }
+        requires open { is_some (call_of number self.old.state.calls) ≡ true }
+        ensures plan { self.new.plan ≡ self.old.plan }
+        ensures ok { IfOk result (λ reply. counted (accepted self.old.plan self.old.state (Route number)) ≡ (reply, self.new.state)) }
+        ensures err { OnErr result (self.new ≡ self.old) }
+    {
+        let routing = self.routing_of(number);
+        match &routing {
+            Routing::Answer(service) => Ok(self.answer(number, *service)),
+            Routing::Connect(line) => self.connect(number, line),
+            Routing::Seize(circuit) => self.seize(number, circuit),
+        }
+    }
+
+    /// A call is answered, and ends.
+    pub(crate) fn answer(&mut self, number: u32, service: Service) -> Reply
+        requires { self.old.state.events < 2 ^ 64 - 1 }
+        ensures step { counted (routing_done self.old.plan self.old.state number (Answer service)) ≡ (result, self.new.state) }
+        ensures plan { self.new.plan ≡ self.old.plan }
+    {
+        self.end(&Ends::Numbered(number), Cause::Service(service));
+        self.count();
+        Reply::Answered(service)
+    }
+
+    /// A call is connected.
+    pub(crate) fn connect(&mut self, number: u32, line: &Line) -> Result<Reply, NoMemory>
+        requires { self.old.state.events < 2 ^ 64 - 1 }
+        ensures plan { self.new.plan ≡ self.old.plan }
+        ensures ok { IfOk result (λ reply. counted (routing_done self.old.plan self.old.state number (Connect line.now)) ≡ (reply, self.new.state)) }
+        ensures err { OnErr result (self.new ≡ self.old) }
+    {
+        self.to_phase(number, Phase::Connected(*line))?;
+        self.count();
+        Ok(Reply::Connected(*line))
+    }
+
+    /// A call seizes a circuit.
+    pub(crate) fn seize(&mut self, number: u32, circuit: &Circuit) -> Result<Reply, NoMemory>
+        requires events { self.old.state.events < 2 ^ 64 - 1 }
+        requires circuit { is_circuit self.old.plan circuit.now ≡ true }
+        ensures plan { self.new.plan ≡ self.old.plan }
+        ensures ok { IfOk result (λ reply. counted (routing_done self.old.plan self.old.state number (Seize circuit.now)) ≡ (reply, self.new.state)) }
+        ensures err { OnErr result (self.new ≡ self.old) }
+    {
+        self.to_phase(number, Phase::Calling(*circuit))?;
+        self.count();
+        Ok(Reply::Seized(*circuit))
+    }
+
+    /// A call goes to another phase.
+    pub(crate) fn to_phase(&mut self, number: u32, phase: Phase) -> Result<(), NoMemory>
+        requires { (x : _) → phase ≡ Calling x → is_circuit self.old.plan x ≡ true }
+        ensures ok { OnOk result (self.new ≡ record self.old { state = record self.old.state { calls = set_call number (in_phase phase) self.old.state.calls } }) }
+        ensures err { OnErr result (self.new ≡ self.old) }
+    {
+        reserve_hop(self.calls.as_mut_slice(), number)?;
+        change_numbered(self.calls.as_mut_slice(), number, &Change::To(phase));
+        Ok(())
+    }
+}
+
+/// Whether there is no hop.
+fn is_first(hops: &[Hop]) -> bool
+    ensures { result ≡ is_first hops.now }
+{
+    hops.is_empty()
+}

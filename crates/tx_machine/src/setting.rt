@@ -1,0 +1,163 @@
+// Events that change one thing.
+ghost use Rattle.std.specs.Prelude.{◌≡◌, ◌<◌, ◌+◌, ◌-◌, ◌^◌, IfOk, OnErr, length, true, false};
+ghost use Rattle.tx_state.specs.Step.{step, accepted, counted};
+ghost use Rattle.tx_plan.specs.Circuits.{is_circuit};
+ghost use Rattle.tx_state.specs.declared.event.Event.TheVariants.{Key, LineFault, LineAway, LineMend, LineBack, Released, CircuitOut, CircuitIn, Block, Unblock, Restore};
+
+use crate::plain::Plain;
+use std::alloc::Allocator;
+use tx_lists::{OpenCall, take_line};
+use tx_plan::{Circuit, GroupId, Line};
+use tx_state::{Phase, Reply, put};
+use tx_text::{Figures, NoMemory};
+
+impl<'p, A: Allocator + Copy> Plain<'p, A> {
+    /// A new call.
+    pub(crate) fn key(&mut self, line: Line, keyed: Figures) -> Result<Reply, NoMemory>
+        requires numbers { self.old.state.numbers < 2 ^ 32 - 1 }
+        requires events { self.old.state.events < 2 ^ 64 - 1 }
+        ensures plan { self.new.plan ≡ self.old.plan }
+        ensures ok { IfOk result (λ reply. counted (accepted self.old.plan self.old.state (Key line keyed)) ≡ (reply, self.new.state)) }
+        ensures err { OnErr result (self.new ≡ self.old) }
+    {
+        self.calls.reserve(1)?;
+        let open = self.calls.len();
+        self.tickets.reserve(open + 1)?;
+        let number = self.numbers + 1;
+        let call = OpenCall {
+            number,
+            line,
+            keyed,
+            keyed_at: self.events + 1,
+            hops: Vec::new(self.alloc),
+            phase: Phase::Standing,
+            collided: false,
+        };
+        put(&mut self.calls, call);
+        self.numbers = number;
+        self.events += 1;
+        Ok(Reply::Keyed(number))
+    }
+
+    /// A circuit is released.
+    pub(crate) fn release(&mut self, circuit: &Circuit) -> Reply
+        requires events { self.old.state.events < 2 ^ 64 - 1 }
+        requires circuit { is_circuit self.old.plan circuit.now ≡ true }
+        ensures step { counted (accepted self.old.plan self.old.state (Released circuit.now)) ≡ (result, self.new.state) }
+        ensures plan { self.new.plan ≡ self.old.plan }
+    {
+        self.releasing.clear(circuit);
+        self.events += 1;
+        Reply::Done
+    }
+
+    /// A circuit is put out of service.
+    pub(crate) fn put_out(&mut self, circuit: &Circuit) -> Reply
+        requires events { self.old.state.events < 2 ^ 64 - 1 }
+        requires circuit { is_circuit self.old.plan circuit.now ≡ true }
+        ensures step { counted (accepted self.old.plan self.old.state (CircuitOut circuit.now)) ≡ (result, self.new.state) }
+        ensures plan { self.new.plan ≡ self.old.plan }
+    {
+        self.out.set(circuit);
+        self.events += 1;
+        Reply::Done
+    }
+
+    /// A circuit is put in service.
+    pub(crate) fn put_in(&mut self, circuit: &Circuit) -> Reply
+        requires events { self.old.state.events < 2 ^ 64 - 1 }
+        requires circuit { is_circuit self.old.plan circuit.now ≡ true }
+        ensures step { counted (accepted self.old.plan self.old.state (CircuitIn circuit.now)) ≡ (result, self.new.state) }
+        ensures plan { self.new.plan ≡ self.old.plan }
+    {
+        self.out.clear(circuit);
+        self.events += 1;
+        Reply::Done
+    }
+
+    /// A group is blocked.
+    pub(crate) fn block(&mut self, group: GroupId) -> Reply
+        requires events { self.old.state.events < 2 ^ 64 - 1 }
+        requires group { group < length self.old.plan.groups }
+        ensures step { counted (accepted self.old.plan self.old.state (Block group)) ≡ (result, self.new.state) }
+        ensures plan { self.new.plan ≡ self.old.plan }
+    {
+        self.blocked.set(group);
+        self.events += 1;
+        Reply::Done
+    }
+
+    /// A group is unblocked.
+    pub(crate) fn unblock(&mut self, group: GroupId) -> Reply
+        requires events { self.old.state.events < 2 ^ 64 - 1 }
+        requires group { group < length self.old.plan.groups }
+        ensures step { counted (accepted self.old.plan self.old.state (Unblock group)) ≡ (result, self.new.state) }
+        ensures plan { self.new.plan ≡ self.old.plan }
+    {
+        self.blocked.clear(group);
+        self.events += 1;
+        Reply::Done
+    }
+
+    /// A group is restored.
+    pub(crate) fn restore(&mut self, group: GroupId) -> Reply
+        requires events { self.old.state.events < 2 ^ 64 - 1 }
+        requires group { group < length self.old.plan.groups }
+        ensures step { counted (accepted self.old.plan self.old.state (Restore group)) ≡ (result, self.new.state) }
+        ensures plan { self.new.plan ≡ self.old.plan }
+    {
+        self.failed.clear(group);
+        self.events += 1;
+        Reply::Done
+    }
+
+    /// A line goes out of order.
+    #[tactic(auto, using(tx_plan::proofs::Named::line_put))]
+    pub(crate) fn line_fault(&mut self, line: Line) -> Result<Reply, NoMemory>
+        requires events { self.old.state.events < 2 ^ 64 - 1 }
+        ensures plan { self.new.plan ≡ self.old.plan }
+        ensures ok { IfOk result (λ reply. counted (accepted self.old.plan self.old.state (LineFault line)) ≡ (reply, self.new.state)) }
+        ensures err { OnErr result (self.new ≡ self.old) }
+    {
+        self.faulty.push(line)?;
+        self.events += 1;
+        Ok(Reply::Done)
+    }
+
+    /// A line goes away.
+    #[tactic(auto, using(tx_plan::proofs::Named::line_put))]
+    pub(crate) fn line_away(&mut self, line: Line) -> Result<Reply, NoMemory>
+        requires events { self.old.state.events < 2 ^ 64 - 1 }
+        ensures plan { self.new.plan ≡ self.old.plan }
+        ensures ok { IfOk result (λ reply. counted (accepted self.old.plan self.old.state (LineAway line)) ≡ (reply, self.new.state)) }
+        ensures err { OnErr result (self.new ≡ self.old) }
+    {
+        self.away.push(line)?;
+        self.events += 1;
+        Ok(Reply::Done)
+    }
+
+    /// A line is mended.
+    #[tactic(auto, using(tx_lists::proofs::LineSets::lines_without))]
+    pub(crate) fn line_mend(&mut self, line: &Line) -> Reply
+        requires events { self.old.state.events < 2 ^ 64 - 1 }
+        ensures step { counted (accepted self.old.plan self.old.state (LineMend line.now)) ≡ (result, self.new.state) }
+        ensures plan { self.new.plan ≡ self.old.plan }
+    {
+        take_line(&mut self.faulty, line);
+        self.events += 1;
+        Reply::Done
+    }
+
+    /// A line is back.
+    #[tactic(auto, using(tx_lists::proofs::LineSets::lines_without))]
+    pub(crate) fn line_back(&mut self, line: &Line) -> Reply
+        requires events { self.old.state.events < 2 ^ 64 - 1 }
+        ensures step { counted (accepted self.old.plan self.old.state (LineBack line.now)) ≡ (result, self.new.state) }
+        ensures plan { self.new.plan ≡ self.old.plan }
+    {
+        take_line(&mut self.away, line);
+        self.events += 1;
+        Reply::Done
+    }
+}
