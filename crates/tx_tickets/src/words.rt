@@ -1,0 +1,55 @@
+// The words of services, causes and refusals.
+ghost use Rattle.std.specs.Prelude.{◌≡◌};
+ghost use Rattle.tx_tickets.specs.Texts.{service_text, cause_text, refusal_text, stands_text};
+
+use tx_state::{Cause, Refusal, Service};
+
+/// The service code (ITU-T F.60 practice).
+pub(crate) fn service_word<'a>(service: Service) -> &'a [u8]
+    ensures { result.now ≡ service_text service }
+{
+    match service {
+        Service::Occ => b"OCC",
+        Service::Nc => b"NC",
+        Service::Np => b"NP",
+        Service::Der => b"DER",
+        Service::Abs => b"ABS",
+        Service::Na => b"NA",
+    }
+}
+
+pub(crate) fn cause_word<'a>(cause: Cause) -> &'a [u8]
+    ensures { result.now ≡ cause_text cause }
+{
+    match cause {
+        Cause::Service(service) => service_word(service),
+        Cause::ClearedByCaller => b"CLRA",
+        Cause::ClearedByCalled => b"CLRB",
+        Cause::Lost => b"LOST",
+    }
+}
+
+pub(crate) fn refusal_word<'a>(refusal: Refusal) -> &'a [u8]
+    ensures { result.now ≡ refusal_text refusal }
+{
+    match refusal {
+        Refusal::UnknownCall => b"M1",
+        Refusal::NotStanding => b"M2",
+        Refusal::NotCalling => b"M3",
+        Refusal::NotConnected => b"M4",
+        Refusal::UnknownLine => b"M5",
+        Refusal::LineEngaged => b"M6",
+        Refusal::LineOutOfOrder => b"M7",
+        Refusal::AlreadySo => b"M8",
+        Refusal::NotSo => b"M9",
+        Refusal::NotReleasing => b"M10",
+        Refusal::UnknownCircuit => b"M11",
+        Refusal::Exhausted => b"M12",
+    }
+}
+
+pub(crate) fn stands_word<'a>(stands: bool) -> &'a [u8]
+    ensures { result.now ≡ stands_text stands }
+{
+    if stands { b" STANDS" } else { b" NC" }
+}
