@@ -1,4 +1,6 @@
 pub mod Named
+pub mod Among
+pub mod Ambiguity
 pub mod Lookups
 pub mod Tables
 pub mod Absent

@@ -1,6 +1,7 @@
 pub mod Plan
 pub mod Lines
 pub mod Codes
+pub mod Ambiguous
 pub mod Routes
 pub mod Circuits
 pub mod Rules

@@ -73,7 +73,8 @@ pub(crate) enum LineForm {
     Bad(FormFault),
 }
 
-fn is_end(words: Words<'_>) -> bool
+/// Whether the words are the one word END.
+pub fn is_end(words: Words<'_>) -> bool
     ensures { result ≡ is_end words.entry }
 {
     let mut words = words;

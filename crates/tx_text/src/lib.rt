@@ -31,10 +31,11 @@ mod to_write;
 
 pub use feeder::{Fed, LineFeeder};
 pub use figures::{Figures, are_figures};
-pub use frame::{FaultAt, FormFault, FrameFault, Kind, Phase, Step, Stop};
+pub use frame::{FaultAt, FormFault, FrameFault, Kind, Phase, Step, Stop, is_end};
 pub use frame_reader::FrameReader;
 pub use from_read::FromRead;
 pub use line::TextLine;
+pub use line_bytes::{bytes_fault, without_cr};
 pub use line_fault::LineFault;
 pub use line_words::Words;
 pub use lines::Lines;

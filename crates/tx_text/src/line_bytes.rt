@@ -8,7 +8,7 @@ use memchr::memchr;
 
 /// The line without a CR at its end.
 #[tactic(auto, unfolding(crate::specs::Text::without_cr))]
-pub(crate) fn without_cr(line: &[u8]) -> &[u8]
+pub fn without_cr(line: &[u8]) -> &[u8]
     ensures { result.now ≡ without_cr line.now }
 {
     let len = line.len();
@@ -31,8 +31,9 @@ fn is_text(line: &[u8]) -> bool
     line.iter().all(|byte| is_text_byte(*byte))
 }
 
+/// What is wrong with the bytes of a line, given without its LF and the CR before it.
 #[tactic(auto, unfolding(crate::specs::Text::bytes_fault))]
-pub(crate) fn bytes_fault(line: &[u8]) -> Option<TextFault>
+pub fn bytes_fault(line: &[u8]) -> Option<TextFault>
     ensures { result ≡ bytes_fault line.now }
 {
     if line.len() > 512 {

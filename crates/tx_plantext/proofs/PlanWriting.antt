@@ -1,0 +1,211 @@
+-- Writing a plan text, part by part.
+use Rattle.std.proofs.Common.{◌≡◌, ◌≢◌, ℕ, zero, suc, ◌+◌, ◌<◌, ◌≤◌, ◌==◌, ◌&&◌, Bool, true, false, nat_lt, List, [], ◌∷◌, ◌++◌, map, length, take, drop, get_or, codes, Option, None, Some, Result, Ok, Err, refl, sym, ap, ◌∙◌, subst, arith, append_assoc, append-nil, add-one, inl, inr}
+use Rattle.std.specs.Prelude.{if◌then◌else◌, IsErr, find}
+use Rattle.std.specs.List.{flat_map, slice_get, AllByRecursion}
+use Rattle.std.specs.Option.{option_map_or, option_map}
+use Rattle.std.specs.Fmt.{decimal}
+use Rattle.std.specs.Io.KnownBytes.{append_known}
+use Rattle.std.proofs.lemmas.Bool.{false≢true, cases_lt, lt-ltb, le-ltb, and_from, and_left, and_right, eq-eqb, ne_eqb, cases_eq}
+use Rattle.std.proofs.lemmas.Option.{slice_get_past}
+use Rattle.tx_text.proofs.Writing.{append_known-nil, append_known_twice, stops_first, stops_later, stops_at}
+use Rattle.tx_text.specs.declared.sink.WriteFault.{WriteFault}
+use Rattle.tx_text.specs.Ends.{StopsIn}
+use Rattle.tx_text.specs.Written.{joined, line_written}
+use Rattle.tx_plan.specs.declared.direction.Direction.{Direction}
+use Rattle.tx_plan.specs.declared.direction.Direction.TheVariants.{OneWay, BothWay}
+use Rattle.tx_plan.specs.Plan.{Plan, Code, Group, Route, exchange_name, figures_of, group_name, home_of}
+use Rattle.tx_plan.specs.Circuits.{direction_of, count_of, ends_of}
+use Rattle.tx_plan.specs.Routes.{route_list}
+use Rattle.tx_plan.specs.Rules.{IsPlan, AllPairs}
+use Rattle.tx_plantext.specs.PlanWritten.{plan_written, has_bars, head_of, exchange_words, code_words, range_words, direction_word, group_words, route_words, bar_words}
+use Rattle.tx_plantext.specs.Wrote.{Wrote, lines_of_list, line_at}
+use Rattle.tx_plantext.proofs.Places.{entry_at, all_at}
+
+abbrev Outcome : Type 0
+Outcome = Result (Unit {0}) WriteFault
+
+-- ---- one text and another
+
+pub wrote_none : (a : Option (List ℕ)) (f : Bool) → Wrote a a f f [] (Ok tt)
+wrote_none a f = (append_known-nil a, refl)
+
+pub wrote_then : (a b c : Option (List ℕ)) (f g h : Bool) (s t : List ℕ) (r : Outcome) → Wrote a b f g s (Ok tt) → Wrote b c g h t r → Wrote a c f h (s ++ t) r
+wrote_then a b c f g h s t (Ok x) v w = (w.0 ∙ ap (λ l. append_known l t) v.0 ∙ append_known_twice a s t, w.1 ∙ v.1)
+wrote_then a b c f g h s t (Err x) v w = (stops_later s v.0 w.0, w.1)
+
+-- the sink failed in the first of two texts
+pub wrote_first : (a b : Option (List ℕ)) (f g : Bool) (s t : List ℕ) (r : Outcome) (x : WriteFault) → Wrote a b f g s (Err x) → IsErr r → Wrote a b f g (s ++ t) r
+wrote_first a b f g s t (Ok y) x w bad = absurd (false≢true bad)
+wrote_first a b f g s t (Err y) x w bad = (stops_first t w.0, w.1)
+
+pub text_is : (a b : Option (List ℕ)) (f g : Bool) (s t : List ℕ) (r : Outcome) → s ≡ t → Wrote a b f g t r → Wrote a b f g s r
+text_is a b f g s t r e w = subst (λ (l : List ℕ). Wrote a b f g l r) (sym e) w
+
+-- ---- the lines of a list
+
+take_all : {A : Type 0} (xs : List A) (n : ℕ) → length xs ≤ n → take n xs ≡ xs
+take_all [] zero h = refl
+take_all [] (suc n) h = refl
+take_all (x ∷ xs) zero h = absurd (omega (arith, h))
+take_all (x ∷ xs) (suc n) h = ap (λ l. x ∷ l) (take_all xs n (omega (arith, h)))
+
+module _ {A : Type 0} (words : A → List (List ℕ)) where
+  lines_cut : (xs : List A) (i : ℕ) → lines_of_list words xs ≡ lines_of_list words (take i xs) ++ (line_at words xs i ++ lines_of_list words (drop (suc i) xs))
+  lines_cut [] zero = refl
+  lines_cut [] (suc i) = refl
+  lines_cut (x ∷ xs) zero = refl
+  lines_cut (x ∷ xs) (suc i) = ap (λ l. line_written (words x) ++ l) (lines_cut xs i) ∙ sym (append_assoc (line_written (words x)) (lines_of_list words (take i xs)) (line_at words xs i ++ lines_of_list words (drop (suc i) xs)))
+
+  lines_more : (xs : List A) (i : ℕ) → lines_of_list words (take (suc i) xs) ≡ lines_of_list words (take i xs) ++ line_at words xs i
+  lines_more [] zero = refl
+  lines_more [] (suc i) = refl
+  lines_more (x ∷ xs) zero = append-nil (line_written (words x))
+  lines_more (x ∷ xs) (suc i) = ap (λ l. line_written (words x) ++ l) (lines_more xs i) ∙ sym (append_assoc (line_written (words x)) (lines_of_list words (take i xs)) (line_at words xs i))
+
+  pub list_more : (xs : List A) (i : ℕ) (a b c : Option (List ℕ)) (f g h : Bool) → Wrote a b f g (lines_of_list words (take i xs)) (Ok tt) → Wrote b c g h (line_at words xs i) (Ok tt) → Wrote a c f h (lines_of_list words (take (i + 1) xs)) (Ok tt)
+  list_more xs i a b c f g h v w = rw (add-one, lines_more xs i) (wrote_then a b c f g h (lines_of_list words (take i xs)) (line_at words xs i) (Ok tt) v w)
+
+  pub list_done : (xs : List A) (i : ℕ) (a b : Option (List ℕ)) (f g : Bool) → length xs ≤ i → Wrote a b f g (lines_of_list words (take i xs)) (Ok tt) → Wrote a b f g (lines_of_list words xs) (Ok tt)
+  list_done xs i a b f g h v = subst (λ (ys : List A). Wrote a b f g (lines_of_list words ys) (Ok tt)) (take_all xs i h) v
+
+  pub list_stopped : (xs : List A) (i : ℕ) (a b c : Option (List ℕ)) (f g h : Bool) (r : Outcome) (x : WriteFault) → Wrote a b f g (lines_of_list words (take i xs)) (Ok tt) → Wrote b c g h (line_at words xs i) (Err x) → IsErr r
+      → Wrote a c f h (lines_of_list words xs) r
+  list_stopped xs i a b c f g h r x v w bad =
+      rw (lines_cut xs i) (wrote_then a b c f g h (lines_of_list words (take i xs)) _ r v (wrote_first b c g h (line_at words xs i) (lines_of_list words (drop (suc i) xs)) r x w bad))
+
+  -- the lines of a list come first
+  pub lines_first : (xs : List A) (rest : List (List (List ℕ))) (end : List ℕ) → flat_map line_written (map words xs ++ rest) ++ end ≡ lines_of_list words xs ++ (flat_map line_written rest ++ end)
+  lines_first [] rest end = refl
+  lines_first (x ∷ xs) rest end =
+      append_assoc (line_written (words x)) (flat_map line_written (map words xs ++ rest)) end ∙ ap (λ l. line_written (words x) ++ l) (lines_first xs rest end)
+      ∙ sym (append_assoc (line_written (words x)) (lines_of_list words xs) (flat_map line_written rest ++ end))
+
+  pub lines_last : (xs : List A) (end : List ℕ) → flat_map line_written (map words xs) ++ end ≡ lines_of_list words xs ++ end
+  lines_last xs end = ap (λ (l : List (List (List ℕ))). flat_map line_written l ++ end) (sym (append-nil (map words xs))) ∙ lines_first xs [] end
+
+  -- no line past the end of the list
+  pub line_past : (xs : List A) (i : ℕ) → slice_get xs i ≡ None → line_at words xs i ≡ []
+  line_past xs i e = rw e refl
+
+-- the text of a plan, list by list
+pub plan_cut : (p : Plan) → plan_written p ≡ line_written (head_of (has_bars p)) ++ (lines_of_list exchange_words p.exchanges ++ (lines_of_list (code_words p) p.codes ++ (lines_of_list (range_words p) p.ranges
+    ++ (lines_of_list (group_words p) p.groups ++ (lines_of_list (route_words p) p.routes ++ (lines_of_list (bar_words p) p.bars ++ codes "END\n"))))))
+plan_cut p =
+    let end = codes "END\n" in
+    ap (λ (l : List ℕ). line_written (head_of (has_bars p)) ++ l)
+    (lines_first exchange_words p.exchanges _ end
+    ∙ ap (λ (l : List ℕ). lines_of_list exchange_words p.exchanges ++ l) (lines_first (code_words p) p.codes _ end
+    ∙ ap (λ (l : List ℕ). lines_of_list (code_words p) p.codes ++ l) (lines_first (range_words p) p.ranges _ end
+    ∙ ap (λ (l : List ℕ). lines_of_list (range_words p) p.ranges ++ l) (lines_first (group_words p) p.groups _ end
+    ∙ ap (λ (l : List ℕ). lines_of_list (group_words p) p.groups ++ l) (lines_first (route_words p) p.routes (map (bar_words p) p.bars) end
+    ∙ ap (λ (l : List ℕ). lines_of_list (route_words p) p.routes ++ l) (lines_last (bar_words p) p.bars end))))))
+
+-- ---- one line
+
+module _ {A : Type 0} where
+  pub none_at : (xs : List A) (i : ℕ) → ◌≡◌ {A = Option ℕ} None (if nat_lt i (length xs) then Some i else None) → slice_get xs i ≡ None
+  none_at xs i e =
+      elim (cases_lt i (length xs)) [
+        | inl l ↦ let t = lt-ltb i (length xs) l in let q = rw t at e in absurd (let z : ⊥ = cc in z)
+        | inr l ↦ slice_get_past xs i l
+      ]
+
+  pub some_at : (xs : List A) (i j : ℕ) → Some j ≡ (if nat_lt i (length xs) then Some i else None) → (x : A) × (slice_get xs i ≡ Some x) × (j ≡ i)
+  some_at xs i j e =
+      elim (cases_lt i (length xs)) [
+        | inl l ↦ let t = lt-ltb i (length xs) l in let q = rw t at e in let x = entry_at xs i l in (x.0, x.1, let z : j ≡ i = cc in z)
+        | inr l ↦ let t = le-ltb i (length xs) l in let q = rw t at e in absurd (let z : ⊥ = cc in z)
+      ]
+
+pub code_text : (p : Plan) (i j home : ℕ) (figures name : List ℕ) → Some j ≡ (if nat_lt i (length p.codes) then Some i else None) → figures ≡ figures_of p j → home ≡ home_of p j → name ≡ exchange_name p home
+    → line_at (code_words p) p.codes i ≡ codes "CODE " ++ (figures ++ (codes " " ++ (name ++ (codes "\n" ++ []))))
+code_text p i j home figures name e f h n =
+    let x = some_at p.codes i j e in
+    let at = x.1 in
+    let same = x.2 in
+    rw (n, h, f, same, at) (simp append_assoc)
+
+group_line : (name first second way number : List ℕ) → line_written (codes "GROUP" ∷ name ∷ first ∷ second ∷ way ∷ number ∷ [])
+    ≡ (codes "GROUP " ++ (name ++ (codes " " ++ (first ++ (codes " " ++ (second ++ (codes " " ++ []))))))) ++ (way ++ (codes " " ++ number ++ codes "\n"))
+group_line name first second way number = simp append_assoc
+
+abbrev pub group_head : List ℕ → List ℕ → List ℕ → List ℕ
+group_head name first second = codes "GROUP " ++ (name ++ (codes " " ++ (first ++ (codes " " ++ (second ++ (codes " " ++ []))))))
+
+abbrev pub group_end : ℕ → List ℕ
+group_end count = codes " " ++ decimal count ++ codes "\n"
+
+pub group_text : (p : Plan) (i j count : ℕ) (ends : ℕ × ℕ) (direction : Direction) (name first second : List ℕ) → Some j ≡ (if nat_lt i (length p.groups) then Some i else None)
+    → name ≡ group_name p j → ends ≡ ends_of p j → first ≡ exchange_name p ends.0 → second ≡ exchange_name p ends.1 → direction ≡ direction_of p j → count ≡ count_of p j
+    → line_at (group_words p) p.groups i ≡ group_head name first second ++ (direction_word direction ++ group_end count)
+group_text p i j count ends direction name first second e n b f s d k =
+    let x = some_at p.groups i j e in
+    let at = x.1 in
+    let same = x.2 in
+    rw (k, d, s, f, b, n, same, at) (group_line x.0.name (exchange_name p x.0.a) (exchange_name p x.0.b) (direction_word x.0.direction) (decimal x.0.count))
+
+-- the words after the first, each with a space before it
+joined_after : (p : Plan) (w : List ℕ) (gs : List ℕ) → joined (w ∷ map (group_name p) gs) ≡ w ++ flat_map (λ g. codes " " ++ group_name p g) gs
+joined_after p w [] = sym (append-nil w)
+joined_after p w (g ∷ gs) = ap (λ l. w ++ 32 ∷ l) (joined_after p (group_name p g) gs)
+
+-- the list of a route is found by its exchange and code
+found_at : (r : Route) (rs : List Route) (k : ℕ) → AllPairs (λ q s. q.exchange ≡ s.exchange → q.code ≢ s.code) rs → slice_get rs k ≡ Some r → find (λ q. (q.exchange == r.exchange) && (q.code == r.code)) rs ≡ Some r
+found_at r [] k d at = absurd (let z : ⊥ = cc in z)
+found_at r (q ∷ rs) zero d at =
+    let s : q ≡ r = cc in
+    let t = and_from (q.exchange == r.exchange) (q.code == r.code) (eq-eqb q.exchange r.exchange (ap (λ (y : Route). y.exchange) s)) (eq-eqb q.code r.code (ap (λ (y : Route). y.code) s)) in
+    rw t at
+found_at r (q ∷ rs) (suc k) d at =
+    let apart = all_at (λ s. q.exchange ≡ s.exchange → q.code ≢ s.code) rs k r d.0 at in
+    let t : ((q.exchange == r.exchange) && (q.code == r.code)) ≡ false =
+    elim (cases_eq q.exchange r.exchange) [
+      | inr n ↦ and_left (q.exchange == r.exchange) (q.code == r.code) (ne_eqb q.exchange r.exchange n)
+      | inl m ↦ and_right (q.exchange == r.exchange) (q.code == r.code) (ne_eqb q.code r.code (apart m))
+    ] in
+    rw t (found_at r rs k d.1 at)
+
+list_found : (p : Plan) (i : ℕ) (r : Route) → IsPlan p → slice_get p.routes i ≡ Some r → route_list p r.exchange r.code ≡ r.groups
+list_found p i r h e = ap (λ o. option_map_or (λ (q : Route). q.groups) o []) (found_at r p.routes i h.routes_differ e)
+
+route_line : (p : Plan) (name figures : List ℕ) (gs : List ℕ) → line_written (codes "ROUTE" ∷ name ∷ figures ∷ map (group_name p) gs)
+    ≡ (codes "ROUTE " ++ (name ++ (codes " " ++ (figures ++ [])))) ++ (flat_map (λ g. codes " " ++ group_name p g) gs ++ codes "\n")
+route_line p name figures gs =
+    ap (λ (l : List ℕ). (codes "ROUTE " ++ (name ++ 32 ∷ l)) ++ codes "\n") (joined_after p figures gs)
+    ∙ cut name figures (flat_map (λ g. codes " " ++ group_name p g) gs)
+  where
+    cut : (a b c : List ℕ) → (codes "ROUTE " ++ (a ++ 32 ∷ (b ++ c))) ++ codes "\n" ≡ (codes "ROUTE " ++ (a ++ (codes " " ++ (b ++ [])))) ++ (c ++ codes "\n")
+    cut a b c = simp (append_assoc, append-nil)
+
+route_there : (o : Option Route) (at : ℕ × ℕ) → ◌≡◌ {A = Option (ℕ × ℕ)} (Some at) (option_map (λ (r : Route). (r.exchange, r.code)) o) → (r : Route) × (o ≡ Some r) × (at.0 ≡ r.exchange) × (at.1 ≡ r.code)
+route_there None at e = absurd (let z : ⊥ = cc in z)
+route_there (Some r) at e = let same : ◌≡◌ {A = ℕ × ℕ} at (r.exchange, r.code) = cc in (r, refl, ap (λ (z : ℕ × ℕ). z.0) same, ap (λ (z : ℕ × ℕ). z.1) same)
+
+abbrev pub route_head : List ℕ → List ℕ → List ℕ
+route_head name figures = codes "ROUTE " ++ (name ++ (codes " " ++ (figures ++ [])))
+
+abbrev pub route_end : Plan → List ℕ → List ℕ
+route_end p groups = flat_map (λ g. codes " " ++ group_name p g) groups ++ codes "\n"
+
+pub route_text : (p : Plan) (i : ℕ) (at : ℕ × ℕ) (name figures : List ℕ) (groups : List ℕ) → IsPlan p → ◌≡◌ {A = Option (ℕ × ℕ)} (Some at) (option_map (λ (r : Route). (r.exchange, r.code)) (slice_get p.routes i))
+    → name ≡ exchange_name p at.0 → figures ≡ figures_of p at.1 → groups ≡ route_list p at.0 at.1 → line_at (route_words p) p.routes i ≡ route_head name figures ++ route_end p groups
+route_text p i at name figures groups h e n f l =
+    let q = route_there (slice_get p.routes i) at e in
+    let r = q.0 in
+    let listed : groups ≡ r.groups = l ∙ (λ k. route_list p (q.2 k) (q.3 k)) ∙ list_found p i r h q.1 in
+    let named : name ≡ exchange_name p r.exchange = n ∙ ap (exchange_name p) q.2 in
+    let coded : figures ≡ figures_of p r.code = f ∙ ap (figures_of p) q.3 in
+    rw (listed, coded, named) (ap (λ (o : Option Route). option_map_or (λ z. line_written (route_words p z)) o []) q.1 ∙ route_line p (exchange_name p r.exchange) (figures_of p r.code) r.groups)
+
+-- the sink failed at one of the names
+pub names_stopped : (p : Plan) (gs : List ℕ) (i x : ℕ) (a b c : Option (List ℕ)) (f g h : Bool) (r : Outcome) (fault : WriteFault) → i < length gs → x ≡ get_or gs i x
+    → Wrote a b f g (flat_map (λ v. codes " " ++ group_name p v) (take i gs)) (Ok tt) → Wrote b c g h (codes " " ++ (group_name p x ++ [])) (Err fault) → IsErr r
+    → Wrote a c f h (flat_map (λ v. codes " " ++ group_name p v) gs ++ codes "\n") r
+names_stopped p gs i x a b c f g h (Ok y) fault lt is v w bad = absurd (false≢true bad)
+names_stopped p gs i x a b c f g h (Err y) fault lt is v w bad =
+    (stops_first (codes "\n") (stops_at (λ v. codes " " ++ group_name p v) gs i x lt is v.0 (subst (λ (l : List ℕ). StopsIn b c (codes " " ++ l)) (append-nil (group_name p x)) w.0)), w.1)
+
+pub names_done : (p : Plan) (gs : List ℕ) (i : ℕ) (a b c : Option (List ℕ)) (f g h : Bool) (r : Outcome) → length gs ≤ i
+    → Wrote a b f g (flat_map (λ v. codes " " ++ group_name p v) (take i gs)) (Ok tt) → Wrote b c g h (codes "\n") r → Wrote a c f h (flat_map (λ v. codes " " ++ group_name p v) gs ++ codes "\n") r
+names_done p gs i a b c f g h r all v w =
+    wrote_then a b c f g h (flat_map (λ v. codes " " ++ group_name p v) gs) (codes "\n") r (subst (λ (l : List ℕ). Wrote a b f g (flat_map (λ v. codes " " ++ group_name p v) l) (Ok tt)) (take_all gs i all) v) w

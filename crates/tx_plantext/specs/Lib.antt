@@ -1,0 +1,4 @@
+pub mod PlanText
+pub mod PlanWritten
+pub mod Wrote
+pub mod PlanFaults

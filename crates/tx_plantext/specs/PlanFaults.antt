@@ -1,0 +1,48 @@
+-- The codes and names of the faults of plan texts, as they are printed.
+use Rattle.std.specs.Prelude.{ℕ, List, codes}
+use Rattle.tx_text.specs.declared.text_fault.TextFault.TheVariants.{LineTooLong, BadByte, NoMemory as TextNoMemory}
+use Rattle.tx_text.specs.declared.line_fault.LineFault.TheVariants.{Text, Read}
+use Rattle.tx_text.specs.declared.frame.FormFault.TheVariants.{NoHeader, NoEnd, AfterEnd}
+use Rattle.tx_text.specs.declared.frame.FrameFault.{FrameFault}
+use Rattle.tx_text.specs.declared.frame.FrameFault.TheVariants.{Line, Form}
+use Rattle.tx_text.specs.declared.frame.Kind.{Kind}
+use Rattle.tx_text.specs.declared.frame.Kind.TheVariants.{Frame, Word}
+use Rattle.tx_plan.specs.declared.refusal.PlanRefusal.{PlanRefusal}
+use Rattle.tx_plan.specs.declared.refusal.PlanRefusal.TheVariants.{WrongCount, BadName, BadCode, BadNumber, Duplicate, Unknown, RangeOrder, Overlap, SameEnds, NotOutgoing, RepeatedGroup, RouteAtHome, TooMany, BarAtHome, NoMemory}
+use Rattle.tx_plantext.specs.declared.fault.PlanWord.{PlanWord}
+use Rattle.tx_plantext.specs.declared.fault.PlanWord.TheVariants.{UnknownWord, Refused}
+
+-- a code, and a name
+abbrev pub Row : Type 0
+Row = List ℕ × List ℕ
+
+abbrev pub refusal_row : PlanRefusal → Row
+refusal_row WrongCount = (codes "P4", codes "WrongCount")
+refusal_row BadName = (codes "P5", codes "BadName")
+refusal_row BadCode = (codes "P6", codes "BadCode")
+refusal_row BadNumber = (codes "P7", codes "BadNumber")
+refusal_row Duplicate = (codes "P8", codes "Duplicate")
+refusal_row Unknown = (codes "P9", codes "Unknown")
+refusal_row RangeOrder = (codes "P10", codes "RangeOrder")
+refusal_row Overlap = (codes "P11", codes "Overlap")
+refusal_row SameEnds = (codes "P12", codes "SameEnds")
+refusal_row NotOutgoing = (codes "P13", codes "NotOutgoing")
+refusal_row RepeatedGroup = (codes "P14", codes "RepeatedGroup")
+refusal_row RouteAtHome = (codes "P15", codes "RouteAtHome")
+refusal_row TooMany = (codes "P16", codes "TooMany")
+refusal_row NoMemory = (codes "P21", codes "NoMemory")
+refusal_row BarAtHome = (codes "P22", codes "BarAtHome")
+
+abbrev pub frame_row : FrameFault → Row
+frame_row (Form NoHeader) = (codes "P17", codes "NoHeader")
+frame_row (Form NoEnd) = (codes "P18", codes "NoEnd")
+frame_row (Form AfterEnd) = (codes "P19", codes "AfterEnd")
+frame_row (Line Read) = (codes "P20", codes "ReadFault")
+frame_row (Line (Text LineTooLong)) = (codes "X1", codes "LineTooLong")
+frame_row (Line (Text BadByte)) = (codes "X2", codes "BadByte")
+frame_row (Line (Text TextNoMemory)) = (codes "X3", codes "NoMemory")
+
+abbrev pub fault_row : Kind PlanWord → Row
+fault_row (Frame k) = frame_row k
+fault_row (Word UnknownWord) = (codes "P3", codes "UnknownWord")
+fault_row (Word (Refused r)) = refusal_row r

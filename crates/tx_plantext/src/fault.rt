@@ -1,0 +1,65 @@
+// What is wrong with a plan text.
+ghost use Rattle.std.specs.Prelude.{◌≡◌};
+ghost use Rattle.tx_plantext.specs.PlanFaults.{refusal_row, frame_row, fault_row};
+
+use tx_plan::PlanRefusal;
+use tx_text::{FaultAt, FormFault, FrameFault, Kind, LineFault, TextFault};
+
+/// What is wrong with the words of a line.
+#[derive(Clone, Copy, Debug, PartialEq, Eq)]
+pub enum PlanWord {
+    /// P3: no line begins with the word, or the fifth word of a group is no direction.
+    UnknownWord,
+    /// The builder refuses the declaration.
+    Refused(PlanRefusal),
+}
+
+/// A fault of a plan text, with its line.
+pub type PlanFault = FaultAt<PlanWord>;
+
+/// The code and the name of a fault, as `P11` and `Overlap`.
+pub fn code_and_name(kind: Kind<PlanWord>) -> (&'static [u8], &'static [u8])
+    ensures { (result.0.now, result.1.now) ≡ fault_row kind }
+{
+    match kind {
+        Kind::Frame(fault) => frame_row(fault),
+        Kind::Word(PlanWord::UnknownWord) => (b"P3", b"UnknownWord"),
+        Kind::Word(PlanWord::Refused(refusal)) => refusal_row(refusal),
+    }
+}
+
+fn frame_row(fault: FrameFault) -> (&'static [u8], &'static [u8])
+    ensures { (result.0.now, result.1.now) ≡ frame_row fault }
+{
+    match fault {
+        FrameFault::Form(FormFault::NoHeader) => (b"P17", b"NoHeader"),
+        FrameFault::Form(FormFault::NoEnd) => (b"P18", b"NoEnd"),
+        FrameFault::Form(FormFault::AfterEnd) => (b"P19", b"AfterEnd"),
+        FrameFault::Line(LineFault::Read) => (b"P20", b"ReadFault"),
+        FrameFault::Line(LineFault::Text(TextFault::LineTooLong)) => (b"X1", b"LineTooLong"),
+        FrameFault::Line(LineFault::Text(TextFault::BadByte)) => (b"X2", b"BadByte"),
+        FrameFault::Line(LineFault::Text(TextFault::NoMemory)) => (b"X3", b"NoMemory"),
+    }
+}
+
+fn refusal_row(refusal: PlanRefusal) -> (&'static [u8], &'static [u8])
+    ensures { (result.0.now, result.1.now) ≡ refusal_row refusal }
+{
+    match refusal {
+        PlanRefusal::WrongCount => (b"P4", b"WrongCount"),
+        PlanRefusal::BadName => (b"P5", b"BadName"),
+        PlanRefusal::BadCode => (b"P6", b"BadCode"),
+        PlanRefusal::BadNumber => (b"P7", b"BadNumber"),
+        PlanRefusal::Duplicate => (b"P8", b"Duplicate"),
+        PlanRefusal::Unknown => (b"P9", b"Unknown"),
+        PlanRefusal::RangeOrder => (b"P10", b"RangeOrder"),
+        PlanRefusal::Overlap => (b"P11", b"Overlap"),
+        PlanRefusal::SameEnds => (b"P12", b"SameEnds"),
+        PlanRefusal::NotOutgoing => (b"P13", b"NotOutgoing"),
+        PlanRefusal::RepeatedGroup => (b"P14", b"RepeatedGroup"),
+        PlanRefusal::RouteAtHome => (b"P15", b"RouteAtHome"),
+        PlanRefusal::TooMany => (b"P16", b"TooMany"),
+        PlanRefusal::BarAtHome => (b"P22", b"BarAtHome"),
+        PlanRefusal::NoMemory => (b"P21", b"NoMemory"),
+    }
+}
