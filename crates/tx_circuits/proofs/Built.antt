@@ -1,0 +1,105 @@
+-- A table as it is built.
+use Rattle.std.proofs.Common.{◌≡◌, ◌∙◌, ℕ, zero, suc, ◌+◌, ◌<◌, Bool, true, false, List, [], ◌∷◌, ◌++◌, length, map, take, Option, Some, None, refl, sym, ap, arith}
+use Rattle.std.specs.Prelude.{slice_get, option_and_then, replicate}
+use Rattle.std.specs.Option.{option_map, option_map_or}
+use Rattle.std.specs.Cmp.{nat_cmp_total}
+use Rattle.std.specs.Ordering.{nat_cmp}
+use Rattle.std.proofs.lemmas.Option.{slice_get-map}
+use Rattle.std.proofs.lemmas.List.{length-replicate}
+use Rattle.std.proofs.lemmas.Map.Lookups.{exact_unsigned}
+use Rattle.tx_plan.specs.Plan.{Plan, Group}
+use Rattle.tx_plan.specs.Circuits.{direction_of, count_of, ends_of}
+use Rattle.tx_plan.specs.declared.circuit.Circuit.{Circuit}
+use Rattle.tx_plan.specs.declared.direction.Direction.TheVariants.{OneWay}
+use Rattle.tx_plan.proofs.Named.{circuits_total, exact_circuits}
+use Rattle.tx_circuits.specs.declared.end.End.{End}
+use Rattle.tx_circuits.specs.declared.end.End.TheVariants.{First, Other}
+use Rattle.tx_circuits.specs.declared.state.State.{State}
+use Rattle.tx_circuits.specs.declared.trunk.Trunk.{Trunk}
+use Rattle.tx_circuits.specs.Slots.{has_seized, rising}
+use Rattle.tx_circuits.specs.Groups.{GroupState, state_at, numbered, end_at, idle}
+use Rattle.tx_circuits.specs.Table.{Seat, Table, all_free, unnamed}
+use Rattle.tx_circuits.specs.Seen.{group_of, circuits_of, seats_of, gathered, is_marked, holds, sits, table_of}
+use Rattle.tx_circuits.proofs.Changes.{seats_total, exact_seats}
+use Rattle.tx_circuits.proofs.Those.{those_none}
+
+-- a group with all its circuits idle
+abbrev pub fresh : Group → GroupState
+fresh r = record { trunk = record { a = r.a; b = r.b; direction = r.direction; failed = false; blocked = false }; states = replicate r.count idle }
+
+module _ (gs : List Group) where
+  unmarked : (test : Trunk → Bool) → ((r : Group) → test (fresh r).trunk ≡ false) → (g : ℕ) → is_marked test (map fresh gs) g ≡ false
+  unmarked test off g = ap (λ o. option_map_or (λ t. test t.trunk) o false) (slice_get-map fresh gs g) ∙ each (slice_get gs g)
+    where
+      each : (o : Option Group) → option_map_or (λ t. test t.trunk) (option_map fresh o) false ≡ false
+      each None = refl
+      each (Some r) = off r
+
+  idle_in : (test : State → Bool) → test idle ≡ false → (n m : ℕ) → option_map_or test (numbered (replicate n idle) m) false ≡ false
+  idle_in test off n zero = refl
+  idle_in test off n (suc m) = inside n m
+    where
+      inside : (n m : ℕ) → option_map_or test (slice_get (replicate n idle) m) false ≡ false
+      inside zero m = refl
+      inside (suc n) zero = off
+      inside (suc n) (suc m) = inside n m
+
+  holds_none : (test : State → Bool) → test idle ≡ false → (c : Circuit) → holds test (map fresh gs) c ≡ false
+  holds_none test off c = ap (λ o. option_map_or test (option_and_then (λ t. numbered t.states c.number) o) false) (slice_get-map fresh gs c.group) ∙ each (slice_get gs c.group)
+    where
+      each : (o : Option Group) → option_map_or test (option_and_then (λ t. numbered t.states c.number) (option_map fresh o)) false ≡ false
+      each None = refl
+      each (Some r) = idle_in test off r.count c.number
+
+  sits_none : (q : Seat) → sits (map fresh gs) q ≡ false
+  sits_none q = each (end_at (map fresh gs) q.0.group q.1)
+    where
+      each : (o : Option End) → option_map_or (λ end. holds (has_seized end) (map fresh gs) q.0) o false ≡ false
+      each None = refl
+      each (Some First) = holds_none (has_seized First) refl q.0
+      each (Some Other) = holds_none (has_seized Other) refl q.0
+
+groups_fresh : (gs : List Group) → map group_of (map fresh gs) ≡ map unnamed gs
+groups_fresh [] = refl
+groups_fresh (r ∷ gs) = λ i. record { name = []; a = r.a; b = r.b; direction = r.direction; count = length-replicate r.count idle i } ∷ groups_fresh gs i
+
+pub built_is : (p : Plan) → table_of (map fresh p.groups) ≡ all_free p
+built_is p = λ i. record {
+  groups = groups_fresh p.groups i;
+  failed = those_none nat_cmp_total exact_unsigned (is_marked (λ t. t.failed) (map fresh p.groups)) (rising (length (map fresh p.groups))) (unmarked p.groups (λ t. t.failed) (λ r. refl)) i;
+  blocked = those_none nat_cmp_total exact_unsigned (is_marked (λ t. t.blocked) (map fresh p.groups)) (rising (length (map fresh p.groups))) (unmarked p.groups (λ t. t.blocked) (λ r. refl)) i;
+  releasing = those_none circuits_total exact_circuits (holds (λ s. s.releasing) (map fresh p.groups)) (gathered circuits_of 0 (map fresh p.groups)) (holds_none p.groups (λ s. s.releasing) refl) i;
+  out = those_none circuits_total exact_circuits (holds (λ s. s.out) (map fresh p.groups)) (gathered circuits_of 0 (map fresh p.groups)) (holds_none p.groups (λ s. s.out) refl) i;
+  carried = those_none circuits_total exact_circuits (holds (λ s. s.carried) (map fresh p.groups)) (gathered circuits_of 0 (map fresh p.groups)) (holds_none p.groups (λ s. s.carried) refl) i;
+  seized = those_none seats_total exact_seats (sits (map fresh p.groups)) (gathered seats_of 0 (map fresh p.groups)) (sits_none p.groups) i;
+}
+
+-- one group more
+pub fresh_push : (gs : List Group) (k : ℕ) (r : Group) → slice_get gs k ≡ Some r → map fresh (take (suc k) gs) ≡ map fresh (take k gs) ++ fresh r ∷ []
+fresh_push [] k r e = absurd cc
+fresh_push (g ∷ gs) zero r e = ap (λ (o : Option Group). fresh (or_g o) ∷ []) e
+  where
+    or_g : Option Group → Group
+    or_g None = g
+    or_g (Some w) = w
+fresh_push (g ∷ gs) (suc k) r e = ap (λ (l : List GroupState). fresh g ∷ l) (fresh_push gs k r e)
+
+-- a list has an entry at each place
+pub entry : {A : Type 0} (xs : List A) (k : ℕ) → k < length xs → (x : A) × (slice_get xs k ≡ Some x)
+entry [] k h = absurd (omega arith)
+entry (x ∷ xs) zero h = (x, refl)
+entry (x ∷ xs) (suc k) h = entry xs k (omega arith)
+
+-- a group as the plan's readers tell it
+pub fresh_is : (p : Plan) (k : ℕ) (r : Group) → slice_get p.groups k ≡ Some r
+    → record { trunk = record { a = (ends_of p k).0; b = (ends_of p k).1; direction = direction_of p k; failed = false; blocked = false }; states = replicate (count_of p k) idle } ≡ fresh r
+fresh_is p k r at = ap told at
+  where
+    ends : Option Group → ℕ × ℕ
+    ends o = option_map_or (λ g. (g.a, g.b)) o (0, 0)
+
+    told : Option Group → GroupState
+    told o = record {
+      trunk = record { a = (ends o).0; b = (ends o).1; direction = option_map_or (λ g. g.direction) o OneWay; failed = false; blocked = false };
+      states = replicate (option_map_or (λ g. g.count) o 0) idle;
+    }

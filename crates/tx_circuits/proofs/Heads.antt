@@ -1,0 +1,24 @@
+-- The head of a free list is the first free place, as the end looks.
+use Rattle.std.proofs.Common.{◌≡◌, ◌∙◌, ℕ, Bool, true, false, cond, List, [], ◌∷◌, length, map, Option, Some, None, refl, sym, ap}
+use Rattle.std.specs.Prelude.{filter, find}
+use Rattle.std.proofs.lemmas.List.{length-map}
+use Rattle.tx_circuits.specs.declared.end.End.{End}
+use Rattle.tx_circuits.specs.declared.slot.Slot.{Slot}
+use Rattle.tx_circuits.specs.declared.row.Row.{Row}
+use Rattle.tx_circuits.specs.Linked.{Follows}
+use Rattle.tx_circuits.specs.Slots.{chain, free_at, list_of, in_order, state_of, IsSound}
+use Rattle.tx_circuits.specs.Groups.{group_slots, group_state, first_place, way_of}
+
+head_is : (next : Option ℕ → Option ℕ) (q : Option ℕ) (p : ℕ → Bool) (xs : List ℕ) → Follows next q (filter p xs) → next q ≡ find p xs
+head_is next q p [] f = f
+head_is next q p (x ∷ xs) f = elim (p x) as (λ b. Follows next q (cond b (x ∷ filter p xs) (filter p xs)) → next q ≡ cond b (Some x) (find p xs)) [
+  | true ↦ λ f. f.0
+  | false ↦ λ f. head_is next q p xs f
+] f
+
+pub first_place_is : (slots : List Slot) (row : Row) (end : End) → IsSound (group_slots slots row) row.lists
+    → chain end (way_of end) (group_slots slots row) (list_of end row.lists) None ≡ first_place (group_state slots row) end
+first_place_is slots row end sound =
+    let part = group_slots slots row in
+    head_is (chain end (way_of end) part (list_of end row.lists)) None (free_at end part) (in_order (way_of end) (length part)) (sound.followed end (way_of end))
+    ∙ ap (λ (n : ℕ). find (free_at end part) (in_order (way_of end) n)) (sym (length-map part state_of))

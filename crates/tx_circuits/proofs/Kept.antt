@@ -1,0 +1,370 @@
+-- The groups lie one after another in the vector: a write to one leaves the others.
+use Rattle.std.proofs.Common.{◌≡◌, ◌≢◌, ◌∙◌, ℕ, zero, suc, ◌+◌, ◌-◌, ◌<◌, ◌≤◌, ◌⊎◌, inl, inr, Bool, true, false, List, [], ◌∷◌, ◌++◌, length, map, take, drop, Option, Some, None, slice_index_or, slice_set, refl, sym, ap, subst, arith}
+use Rattle.std.specs.Prelude.{slice_get, is_some, option_and_then, replicate}
+use Rattle.std.specs.Option.{option_map}
+use Rattle.std.specs.List.{between}
+use Rattle.std.proofs.lemmas.Bool.Decides.{eqb_tells}
+use Rattle.std.proofs.lemmas.List.{length-map, take_all, drop_at, take-append-le, length-append, length-replicate}
+use Rattle.std.proofs.lemmas.List.Edits.{length-between, get_or-between}
+use Rattle.std.proofs.lemmas.Option.{slice_get-map}
+use Rattle.std.proofs.lemmas.Slice.{between_is, take-put_mid_below, drop-put_mid, between-put_mid}
+use borrow.Rule.Slice.PartMut.{put_mid}
+use Rattle.tx_plan.specs.declared.circuit.Circuit.{Circuit}
+use Rattle.tx_circuits.specs.declared.slot.Slot.{Slot}
+use Rattle.tx_circuits.specs.declared.state.State.{State}
+use Rattle.tx_circuits.specs.declared.row.Row.{Row}
+use Rattle.tx_circuits.specs.declared.trunk.Trunk.{Trunk}
+use Rattle.tx_circuits.specs.Slots.{state_of, IsSound}
+use Rattle.tx_circuits.specs.Groups.{GroupState, group_slots, group_state, state_at, numbered, set_numbered, change_at, idle, AreKept, AreApart, IsAppended}
+use Rattle.tx_circuits.proofs.Linked.{le_or}
+
+-- LISTS AND THEIR ENTRIES
+
+pub get_within : {A : Type 0} (xs : List A) (k : ℕ) (x : A) → slice_get xs k ≡ Some x → k < length xs
+get_within [] k x e = absurd cc
+get_within (y ∷ xs) zero x e = omega arith
+get_within (y ∷ xs) (suc k) x e = (let a : k < length xs = get_within xs k x e in omega arith)
+
+pub get_is : {A : Type 0} (xs : List A) (k : ℕ) (d : A) → k < length xs → slice_get xs k ≡ Some (slice_index_or xs k d)
+get_is [] k d h = absurd (omega arith)
+get_is (x ∷ xs) zero d h = refl
+get_is (x ∷ xs) (suc k) d h = get_is xs k d (omega arith)
+
+pub get-set_here : {A : Type 0} (xs : List A) (k : ℕ) (y : A) → k < length xs → slice_get (slice_set xs k y) k ≡ Some y
+get-set_here [] k y h = absurd (omega arith)
+get-set_here (x ∷ xs) zero y h = refl
+get-set_here (x ∷ xs) (suc k) y h = get-set_here xs k y (omega arith)
+
+pub get-set_there : {A : Type 0} (xs : List A) (i k : ℕ) (y : A) → k ≢ i → slice_get (slice_set xs i y) k ≡ slice_get xs k
+get-set_there [] i k y ne = refl
+get-set_there (x ∷ xs) zero zero y ne = absurd (ne refl)
+get-set_there (x ∷ xs) zero (suc k) y ne = refl
+get-set_there (x ∷ xs) (suc i) zero y ne = refl
+get-set_there (x ∷ xs) (suc i) (suc k) y ne = get-set_there xs i k y (λ e. ne (ap suc e))
+
+pub get-change_here : {A : Type 0} (f : A → A) (xs : List A) (k : ℕ) → slice_get (change_at f k xs) k ≡ option_map f (slice_get xs k)
+get-change_here f [] k = refl
+get-change_here f (x ∷ xs) zero = refl
+get-change_here f (x ∷ xs) (suc k) = get-change_here f xs k
+
+pub get-change_there : {A : Type 0} (f : A → A) (xs : List A) (i k : ℕ) → k ≢ i → slice_get (change_at f i xs) k ≡ slice_get xs k
+get-change_there f [] i k ne = refl
+get-change_there f (x ∷ xs) zero zero ne = absurd (ne refl)
+get-change_there f (x ∷ xs) zero (suc k) ne = refl
+get-change_there f (x ∷ xs) (suc i) zero ne = refl
+get-change_there f (x ∷ xs) (suc i) (suc k) ne = get-change_there f xs i k (λ e. ne (ap suc e))
+
+pub length-change : {A : Type 0} (f : A → A) (k : ℕ) (xs : List A) → length (change_at f k xs) ≡ length xs
+length-change f k [] = refl
+length-change f zero (x ∷ xs) = refl
+length-change f (suc k) (x ∷ xs) = ap suc (length-change f k xs)
+
+-- a write of one entry, as a column sees it
+pub map-set_change : {A B : Type 0} (v v' : A → B) (f : B → B) (xs : List A) (g : ℕ) (x y : A) → slice_get xs g ≡ Some x → v' y ≡ f (v x)
+    → ((h : ℕ) (z : A) → h ≢ g → slice_get xs h ≡ Some z → v' z ≡ v z) → map v' (slice_set xs g y) ≡ change_at f g (map v xs)
+map-set_change {A} {B} v v' f [] g x y at here rest = refl
+map-set_change {A} {B} v v' f (z ∷ xs) zero x y at here rest =
+    let same : Some z ≡ Some x = at in
+    let head : v' y ≡ f (v z) = here ∙ ap (λ o. f (v (or_else o))) (sym same) in
+    λ i. head i ∷ tail xs (λ h w e. rest (suc h) w (λ e. absurd cc) e) i
+  where
+    or_else : Option A → A
+    or_else None = x
+    or_else (Some w) = w
+
+    tail : (ws : List A) → ((h : ℕ) (w : A) → slice_get ws h ≡ Some w → v' w ≡ v w) → map v' ws ≡ map v ws
+    tail [] each = refl
+    tail (w ∷ ws) each = λ i. each zero w refl i ∷ tail ws (λ h u e. each (suc h) u e) i
+map-set_change {A} {B} v v' f (z ∷ xs) (suc g) x y at here rest =
+    λ i. rest zero z (λ e. absurd cc) refl i ∷ map-set_change v v' f xs g x y at here (λ h w ne e. rest (suc h) w (λ e. ne (drop_suc h g e)) e) i
+  where
+    drop_suc : (h g : ℕ) → suc h ≡ suc g → h ≡ g
+    drop_suc h g e = omega arith
+
+-- THE SLOTS OF A GROUP
+
+pub slots_length : (slots : List Slot) (r : Row) → r.start + r.count ≤ length slots → length (group_slots slots r) ≡ r.count
+slots_length slots r h = (let a : length (group_slots slots r) ≡ r.start + r.count - r.start = length-between slots r.start (r.start + r.count) h in omega arith)
+
+-- after a write to the part of the vector from a on, k long
+module _ (slots : List Slot) (a k : ℕ) (ys : List Slot) (in_it : a + k ≤ length slots) (long : length ys ≡ k) where
+  pub slots_before : (s : Row) → s.start + s.count ≤ a → group_slots (put_mid a k slots ys) s ≡ group_slots slots s
+  slots_before s h =
+      between_is (put_mid a k slots ys) s.start (s.start + s.count) ∙ ap (drop s.start) (take-put_mid_below a k slots ys (s.start + s.count) h (omega arith))
+      ∙ sym (between_is slots s.start (s.start + s.count))
+
+  pub slots_after : (s : Row) → a + k ≤ s.start → group_slots (put_mid a k slots ys) s ≡ group_slots slots s
+  slots_after s h = ap (take (s.start + s.count - s.start)) (drop-put_mid a k slots ys s.start h (omega arith) long)
+
+  pub slots_here : (s : Row) → s.start ≡ a → s.count ≡ k → group_slots (put_mid a k slots ys) s ≡ ys
+  slots_here s e f =
+      ap (λ (x : ℕ × ℕ). between x.0 x.1 (put_mid a k slots ys)) (λ i. (e i, e i + f i)) ∙ between-put_mid a k slots ys (a + k) (omega arith) (let b : length ys ≡ k = long in omega arith)
+
+-- the slots of a group apart from the part
+pub apart_same : (slots : List Slot) (r : Row) (ys : List Slot) → r.start + r.count ≤ length slots → length ys ≡ r.count → (s : Row) → AreApart r s
+    → group_slots (put_mid r.start r.count slots ys) s ≡ group_slots slots s
+apart_same slots r ys h long s (inl a) = slots_after slots r.start r.count ys h long s a
+apart_same slots r ys h long s (inr b) = slots_before slots r.start r.count ys h long s b
+
+-- as a write to the part leaves them
+module _ (slots : List Slot) (r : Row) (ys : List Slot) (h : r.start + r.count ≤ length slots) (long : length ys ≡ r.count) where
+  less : r.start + r.count - r.start ≡ r.count
+  less = omega arith
+
+  pub part_here : group_slots (put_mid r.start (r.start + r.count - r.start) slots ys) r ≡ ys
+  part_here = ap (λ (k : ℕ). group_slots (put_mid r.start k slots ys) r) less ∙ slots_here slots r.start r.count ys h long r refl refl
+
+  pub part_apart : (s : Row) → AreApart r s → group_slots (put_mid r.start (r.start + r.count - r.start) slots ys) s ≡ group_slots slots s
+  part_apart s a = ap (λ (k : ℕ). group_slots (put_mid r.start k slots ys) s) less ∙ apart_same slots r ys h long s a
+
+-- THE ENTRY OF A GROUP
+
+pub entry_at : (slots : List Slot) (rows : List Row) (now : List GroupState) (g i : ℕ) (row : Row) → map (group_state slots) rows ≡ now → i ≡ g → row ≡ slice_index_or rows i row → g < length now
+    → slice_get rows i ≡ Some row
+entry_at slots rows now g i row view is value h =
+    let a : length (map (group_state slots) rows) ≡ length rows = length-map rows (group_state slots) in
+    let b : length (map (group_state slots) rows) ≡ length now = ap length view in
+    get_is rows i row (omega arith) ∙ ap Some (sym value)
+
+-- one group gets other slots, free lists or marks
+module _ (slots : List Slot) (rows : List Row) (kept : AreKept slots rows) (g : ℕ) (r : Row) (at : slice_get rows g ≡ Some r) where
+  pub others : (slots' : List Slot) → ((s : Row) → AreApart r s → group_slots slots' s ≡ group_slots slots s) → (h : ℕ) (s : Row) → h ≢ g → slice_get rows h ≡ Some s
+      → group_slots slots' s ≡ group_slots slots s
+  others slots' rest h s ne e = elim (le_or h g) [
+    | inl le ↦ rest s (inr (kept.apart h g s r e at (omega arith)))
+    | inr lt ↦ rest s (inl (kept.apart g h r s at e lt))
+  ]
+
+  module _ (slots' : List Slot) (r' : Row) (start : r'.start ≡ r.start) (count : r'.count ≡ r.count) (long : length slots' ≡ length slots)
+      (sound : IsSound (group_slots slots' r') r'.lists) (rest : (h : ℕ) (s : Row) → h ≢ g → slice_get rows h ≡ Some s → group_slots slots' s ≡ group_slots slots s) where
+    -- a row of the new list stands for one of the old list
+    record Stands (h : ℕ) (s : Row) : Type 0 where
+      old : Row
+      was : slice_get rows h ≡ Some old
+      same_start : s.start ≡ old.start
+      same_count : s.count ≡ old.count
+      still : IsSound (group_slots slots' s) s.lists
+
+    row_is : (s t : Row) → Some s ≡ Some t → s ≡ t
+    row_is s t e = ap or_s e
+      where
+        or_s : Option Row → Row
+        or_s None = s
+        or_s (Some w) = w
+
+    stands : (h : ℕ) (s : Row) → slice_get (slice_set rows g r') h ≡ Some s → Stands h s
+    stands h s e = elim (eqb_tells h g) [
+      | inl x ↦ (
+          let here : slice_get (slice_set rows g r') g ≡ Some r' = get-set_here rows g r' (get_within rows g r at) in
+          let same : r' ≡ s = row_is r' s (sym here ∙ ap (slice_get (slice_set rows g r')) (sym x.1) ∙ e) in
+          subst (Stands h) same (record { old = r; was = ap (slice_get rows) x.1 ∙ at; same_start = start; same_count = count; still = sound }))
+      | inr x ↦ (
+          let was = sym (get-set_there rows g h r' x.1) ∙ e in
+          record { old = s; was = was; same_start = refl; same_count = refl; still = subst (λ (l : List Slot). IsSound l s.lists) (sym (rest h s x.1 was)) (kept.sound h s was) })
+    ]
+
+    pub kept_after : AreKept slots' (slice_set rows g r')
+    kept_after = record {
+      within = λ h s e. let t = stands h s e in let a : t.old.start + t.old.count ≤ length slots = kept.within h t.old t.was in
+          let b : s.start ≡ t.old.start = t.same_start in let d : s.count ≡ t.old.count = t.same_count in omega arith;
+      apart = λ h k s u e f lt. let t = stands h s e in let v = stands k u f in
+          let a : t.old.start + t.old.count ≤ v.old.start = kept.apart h k t.old v.old t.was v.was lt in
+          let b : s.start ≡ t.old.start = t.same_start in let d : s.count ≡ t.old.count = t.same_count in let x : u.start ≡ v.old.start = v.same_start in omega arith;
+      sound = λ h s e. (stands h s e).still;
+    }
+
+-- ONE GROUP MORE
+
+-- the vector grows
+pub grown : (slots : List Slot) (k n : ℕ) (slot : Slot) → n ≡ length slots + k → take n slots ++ replicate (n - length slots) slot ≡ slots ++ replicate k slot
+grown slots k n slot e = (λ i. take_all n slots (omega arith) i ++ replicate (less i) slot)
+  where
+    less : n - length slots ≡ k
+    less = omega arith
+
+pub grown_before : (slots more : List Slot) (s : Row) → s.start + s.count ≤ length slots → group_slots (slots ++ more) s ≡ group_slots slots s
+grown_before slots more s h =
+    between_is (slots ++ more) s.start (s.start + s.count) ∙ ap (drop s.start) (take-append-le (s.start + s.count) slots more h) ∙ sym (between_is slots s.start (s.start + s.count))
+
+pub grown_here : (slots more : List Slot) (s : Row) → s.start ≡ length slots → s.count ≡ length more → group_slots (slots ++ more) s ≡ more
+grown_here slots more s e f =
+    ap (take (s.start + s.count - s.start)) (drop_at slots more s.start (sym e)) ∙ take_all (s.start + s.count - s.start) more (omega arith)
+
+pub states_alike : (k : ℕ) (slot : Slot) → map state_of (replicate k slot) ≡ replicate k slot.state
+states_alike zero slot = refl
+states_alike (suc k) slot = ap (λ (l : List State). slot.state ∷ l) (states_alike k slot)
+
+get-append_left : {A : Type 0} (xs ys : List A) (k : ℕ) → k < length xs → slice_get (xs ++ ys) k ≡ slice_get xs k
+get-append_left [] ys k h = absurd (omega arith)
+get-append_left (x ∷ xs) ys zero h = refl
+get-append_left (x ∷ xs) ys (suc k) h = get-append_left xs ys k (omega arith)
+
+-- an entry of a list with one more is an entry of the list, or that one
+pushed_is : {A : Type 0} (xs : List A) (y : A) (k : ℕ) (z : A) → slice_get (xs ++ y ∷ []) k ≡ Some z → (slice_get xs k ≡ Some z) ⊎ ((k ≡ length xs) × (y ≡ z))
+pushed_is {A} [] y zero z e = inr (refl, ap or_y e)
+  where
+    or_y : Option A → A
+    or_y None = y
+    or_y (Some w) = w
+pushed_is {A} [] y (suc k) z e = absurd cc
+pushed_is {A} (x ∷ xs) y zero z e = inl e
+pushed_is {A} (x ∷ xs) y (suc k) z e = elim (pushed_is xs y k z e) [ inl a ↦ inl a | inr b ↦ inr (ap suc b.0, b.1) ]
+
+module _ (slots rest : List Slot) (rows : List Row) (kept : AreKept slots rows) (longer : length slots ≤ length rest)
+    (same : (s : Row) → s.start + s.count ≤ length slots → group_slots rest s ≡ group_slots slots s) where
+  pub kept_grown : AreKept rest rows
+  kept_grown = record {
+    within = λ g r e. let a : r.start + r.count ≤ length slots = kept.within g r e in omega arith;
+    apart = kept.apart;
+    sound = λ g r e. subst (λ (l : List Slot). IsSound l r.lists) (sym (same r (kept.within g r e))) (kept.sound g r e);
+  }
+
+  pub views_same : map (group_state rest) rows ≡ map (group_state slots) rows
+  views_same = each rows (λ g r e. same r (kept.within g r e))
+    where
+      each : (rs : List Row) → ((g : ℕ) (r : Row) → slice_get rs g ≡ Some r → group_slots rest r ≡ group_slots slots r) → map (group_state rest) rs ≡ map (group_state slots) rs
+      each [] h = refl
+      each (r ∷ rs) h = λ i. record { trunk = r.trunk; states = map state_of (h zero r refl i) } ∷ each rs (λ g s e. h (suc g) s e) i
+
+  pub kept_push : (row : Row) → row.start ≡ length slots → row.start + row.count ≤ length rest → IsSound (group_slots rest row) row.lists → AreKept rest (rows ++ row ∷ [])
+  kept_push row start fits sound = record {
+    within = λ g r e. elim (pushed_is rows row g r e) [
+      | inl a ↦ (let b : r.start + r.count ≤ length slots = kept.within g r a in omega arith)
+      | inr b ↦ subst (λ (s : Row). s.start + s.count ≤ length rest) b.1 fits
+    ];
+    apart = λ g h r s e f lt. elim (pushed_is rows row g r e) [
+      | inl a ↦ elim (pushed_is rows row h s f) [
+        | inl b ↦ kept.apart g h r s a b lt
+        | inr b ↦ (let d : r.start + r.count ≤ length slots = kept.within g r a in let x : row.start ≡ s.start = ap (λ (z : Row). z.start) b.1 in omega arith)
+      ]
+      | inr a ↦ absurd (let d : h < length (rows ++ row ∷ []) = get_within (rows ++ row ∷ []) h s f in let n : length (rows ++ row ∷ []) ≡ length rows + 1 = length-append rows (row ∷ []) in
+          let x : g ≡ length rows = a.0 in omega arith)
+    ];
+    sound = λ g r e. elim (pushed_is rows row g r e) [
+      | inl a ↦ kept_grown.sound g r a
+      | inr b ↦ subst (λ (s : Row). IsSound (group_slots rest s) s.lists) b.1 sound
+    ];
+  }
+
+-- WHERE A CIRCUIT IS
+
+pub record Located (slots : List Slot) (rows : List Row) (x : Circuit) : Type 0 where
+  pub row : Row
+  pub at : slice_get rows x.group ≡ Some row
+  pub place : ℕ
+  pub numbered : x.number ≡ suc place
+  pub within : place < row.count
+
+pub number_in : {A : Type 0} (xs : List A) (n : ℕ) → is_some (numbered xs n) ≡ true → (m : ℕ) × (n ≡ suc m) × (m < length xs)
+number_in {A} xs zero h = absurd cc
+number_in {A} xs (suc m) h = (m, refl, inside xs m h)
+  where
+    inside : (ys : List A) (m : ℕ) → is_some (slice_get ys m) ≡ true → m < length ys
+    inside [] m h = absurd cc
+    inside (y ∷ ys) zero h = omega arith
+    inside (y ∷ ys) (suc m) h = (let a : m < length ys = inside ys m h in omega arith)
+
+pub located : (slots : List Slot) (rows : List Row) → AreKept slots rows → (x : Circuit) → is_some (state_at (map (group_state slots) rows) x) ≡ true → Located slots rows x
+located slots rows kept x h = find_it (slice_get rows x.group) refl (subst (λ o. is_some (option_and_then (λ t. numbered t.states x.number) o) ≡ true) (slice_get-map (group_state slots) rows x.group) h)
+  where
+    find_it : (o : Option Row) → slice_get rows x.group ≡ o → is_some (option_and_then (λ t. numbered t.states x.number) (option_map (group_state slots) o)) ≡ true → Located slots rows x
+    find_it None e k = absurd cc
+    find_it (Some r) e k =
+        let m = number_in (map state_of (group_slots slots r)) x.number k in
+        let a : m.0 < length (map state_of (group_slots slots r)) = m.2 in
+        let b : length (map state_of (group_slots slots r)) ≡ length (group_slots slots r) = length-map (group_slots slots r) state_of in
+        let d : length (group_slots slots r) ≡ r.count = slots_length slots r (kept.within x.group r e) in
+        record { row = r; at = e; place = m.0; numbered = m.1; within = omega arith }
+
+-- a slot of a group, in the vector
+pub slot_at : (slots : List Slot) (r : Row) (m : ℕ) (d : Slot) → r.start + r.count ≤ length slots → m < r.count → slice_get (map state_of (group_slots slots r)) m ≡ Some (slice_index_or slots (r.start + m) d).state
+slot_at slots r m d h lt =
+    let long = slots_length slots r h in
+    slice_get-map state_of (group_slots slots r) m ∙ ap (option_map state_of) (get_is (group_slots slots r) m d (omega arith))
+    ∙ ap (λ (s : Slot). Some s.state) (get_or-between slots r.start (r.start + r.count) m d (omega arith))
+
+pub slot_past : (slots : List Slot) (r : Row) (m : ℕ) → r.start + r.count ≤ length slots → r.count ≤ m → slice_get (map state_of (group_slots slots r)) m ≡ None
+slot_past slots r m h le = past (map state_of (group_slots slots r)) m (let a = slots_length slots r h in let b : length (map state_of (group_slots slots r)) ≡ length (group_slots slots r) = length-map (group_slots slots r) state_of in omega arith)
+  where
+    past : (xs : List State) (m : ℕ) → length xs ≤ m → slice_get xs m ≡ None
+    past [] m h = refl
+    past (x ∷ xs) zero h = absurd (omega arith)
+    past (x ∷ xs) (suc m) h = past xs m (omega arith)
+
+-- A GROUP'S ROW GETS OTHER LISTS
+
+module _ (slots : List Slot) (rows : List Row) (now : List GroupState) (kept : AreKept slots rows) (view : map (group_state slots) rows ≡ now) (g i : ℕ) (is : i ≡ g) (row : Row) (at : slice_get rows i ≡ Some row)
+    (new : List Slot) (long : length new ≡ length slots) (result : Row) (row_is : result ≡ record row { lists = result.lists }) (sound : IsSound (group_slots new row) result.lists)
+    (rest : (s : Row) → AreApart row s → group_slots new s ≡ group_slots slots s) where
+  pub kept_updated : AreKept new (slice_set rows i result)
+  kept_updated =
+      kept_after slots rows kept i row at new result (ap (λ (r : Row). r.start) row_is) (ap (λ (r : Row). r.count) row_is) long
+      (subst (λ (r : Row). IsSound (group_slots new r) result.lists) (sym row_is) sound) (others slots rows kept i row at new rest)
+
+  pub view_updated : (f : GroupState → GroupState) → record { trunk = row.trunk; states = map state_of (group_slots new row) } ≡ f (group_state slots row)
+      → map (group_state new) (slice_set rows i result) ≡ change_at f g now
+  view_updated f e =
+      map-set_change (group_state slots) (group_state new) f rows i row result at (ap (group_state new) row_is ∙ e)
+      (λ h s ne at_h j. record { trunk = s.trunk; states = map state_of (others slots rows kept i row at new rest h s ne at_h j) }) ∙ (λ j. change_at f (is j) (view j))
+
+pub set_numbered_at : {A : Type 0} (xs : List A) (n : ℕ) (y : A) → 0 < n → slice_set xs (n - 1) y ≡ set_numbered xs n y
+set_numbered_at xs zero y h = absurd (omega arith)
+set_numbered_at xs (suc n) y h = ap (λ (k : ℕ). slice_set xs k y) (less_one n)
+  where
+    less_one : (n : ℕ) → suc n - 1 ≡ n
+    less_one n = omega arith
+
+pub numbered_at : {A : Type 0} (xs : List A) (n : ℕ) → 0 < n → numbered xs n ≡ slice_get xs (n - 1)
+numbered_at xs zero h = absurd (omega arith)
+numbered_at xs (suc n) h = ap (slice_get xs) (more_one n)
+  where
+    more_one : (n : ℕ) → n ≡ suc n - 1
+    more_one n = omega arith
+
+pub view_at : (slots : List Slot) (rows : List Row) (now : List GroupState) (g i : ℕ) (row : Row) → map (group_state slots) rows ≡ now → i ≡ g → slice_get rows i ≡ Some row
+    → slice_get now g ≡ Some (group_state slots row)
+view_at slots rows now g i row view is at = (λ j. slice_get (sym view j) (sym is j)) ∙ slice_get-map (group_state slots) rows i ∙ ap (option_map (group_state slots)) at
+
+-- A GROUP IS ADDED
+
+-- its slots are made and listed
+module _ (slots mid new : List Slot) (row0 row : Row) (start : row0.start ≡ length slots) (row_is : row ≡ record row0 { lists = row.lists }) (slot : Slot) (is_idle : slot.state ≡ idle)
+    (mid_is : mid ≡ slots ++ replicate row0.count slot) (long : length new ≡ length mid) (sound : IsSound (group_slots new row0) row.lists)
+    (states : map state_of (group_slots new row0) ≡ map state_of (group_slots mid row0)) (rest : (s : Row) → AreApart row0 s → group_slots new s ≡ group_slots mid s) where
+  mid_length : length mid ≡ length slots + row0.count
+  mid_length = ap length mid_is ∙ length-append slots (replicate row0.count slot) ∙ ap (λ (n : ℕ). length slots + n) (length-replicate row0.count slot)
+
+  pub appended : IsAppended slots new row0.trunk row0.count row
+  appended = record {
+    trunk_is = ap (λ (r : Row). r.trunk) row_is;
+    start_is = ap (λ (r : Row). r.start) row_is ∙ start;
+    count_is = ap (λ (r : Row). r.count) row_is;
+    grown = long ∙ mid_length;
+    sound = subst (λ (r : Row). IsSound (group_slots new r) row.lists) (sym row_is) sound;
+    states = ap (λ (r : Row). map state_of (group_slots new r)) row_is ∙ states ∙ ap (λ (l : List Slot). map state_of (group_slots l row0)) mid_is
+        ∙ ap (map state_of) (grown_here slots (replicate row0.count slot) row0 start (sym (length-replicate row0.count slot))) ∙ states_alike row0.count slot ∙ ap (replicate row0.count) is_idle;
+    others = λ s h. rest s (inr (omega arith)) ∙ ap (λ (l : List Slot). group_slots l s) mid_is ∙ grown_before slots (replicate row0.count slot) s h;
+  }
+
+-- and its row joins the others, or does not
+module _ (slots new : List Slot) (rows : List Row) (kept : AreKept slots rows) (trunk : Trunk) (count : ℕ) (row : Row) (a : IsAppended slots new trunk count row) where
+  longer : length slots ≤ length new
+  longer = (let l : length new ≡ length slots + count = a.grown in omega arith)
+
+  pub kept_without : AreKept new rows
+  kept_without = kept_grown slots new rows kept longer a.others
+
+  pub view_without : map (group_state new) rows ≡ map (group_state slots) rows
+  view_without = views_same slots new rows kept longer a.others
+
+  pub kept_with : AreKept new (rows ++ row ∷ [])
+  kept_with =
+      let l : length new ≡ length slots + count = a.grown in let s : row.start ≡ length slots = a.start_is in let n : row.count ≡ count = a.count_is in
+      kept_push slots new rows kept longer a.others row s (omega arith) a.sound
+
+  map-push : {A B : Type 0} (f : A → B) (xs : List A) (y : A) → map f (xs ++ y ∷ []) ≡ map f xs ++ f y ∷ []
+  map-push f [] y = refl
+  map-push f (x ∷ xs) y = ap (λ l. f x ∷ l) (map-push f xs y)
+
+  pub view_with : map (group_state new) (rows ++ row ∷ []) ≡ map (group_state slots) rows ++ record { trunk = trunk; states = replicate count idle } ∷ []
+  view_with = map-push (group_state new) rows row ∙ (λ i. view_without i ++ record { trunk = a.trunk_is i; states = a.states i } ∷ [])

@@ -1,0 +1,16 @@
+pub mod Appending
+pub mod Built
+pub mod Changes
+pub mod Columns
+pub mod Heads
+pub mod Kept
+pub mod Linked
+pub mod Members
+pub mod Ordered
+pub mod Places
+pub mod Reading
+pub mod Sound
+pub mod Steps
+pub mod Those
+pub mod Unnamed
+pub mod Updates

@@ -1,0 +1,44 @@
+-- A plan and its groups without their names have the same circuits, and the same ends may seize them.
+use Rattle.std.proofs.Common.{◌≡◌, ◌∙◌, ℕ, Bool, false, List, [], map, Option, Some, None, refl, ap}
+use Rattle.std.specs.Prelude.{slice_get, option_and_then, ◌&&◌, nat_le}
+use Rattle.std.specs.Option.{option_map, option_map_or}
+use Rattle.std.proofs.lemmas.Option.{slice_get-map}
+use Rattle.tx_plan.specs.Plan.{Plan, Group}
+use Rattle.tx_plan.specs.Circuits.{is_circuit, may_seize, may_seize_row, other_end, far_end, circuits_at, order_at}
+use Rattle.tx_plan.specs.declared.circuit.Circuit.{Circuit}
+use Rattle.tx_circuits.specs.Table.{Table, plan_of, unnamed}
+
+module _ (p : Plan) (t : Table) (same : t.groups ≡ map unnamed p.groups) where
+  row : (g : ℕ) → slice_get t.groups g ≡ option_map unnamed (slice_get p.groups g)
+  row g = ap (λ l. slice_get l g) same ∙ slice_get-map unnamed p.groups g
+
+  pub may_seize-same : (g x : ℕ) → may_seize (plan_of t) g x ≡ may_seize p g x
+  may_seize-same g x = ap (λ o. option_map_or (λ r. may_seize_row r x) o false) (row g) ∙ each (slice_get p.groups g)
+    where
+      each : (o : Option Group) → option_map_or (λ r. may_seize_row r x) (option_map unnamed o) false ≡ option_map_or (λ r. may_seize_row r x) o false
+      each None = refl
+      each (Some r) = refl
+
+  pub is_circuit-same : (c : Circuit) → is_circuit (plan_of t) c ≡ is_circuit p c
+  is_circuit-same c = ap (λ o. option_map_or (λ r. nat_le 1 c.number && nat_le c.number r.count) o false) (row c.group) ∙ each (slice_get p.groups c.group)
+    where
+      each : (o : Option Group) → option_map_or (λ r. nat_le 1 c.number && nat_le c.number r.count) (option_map unnamed o) false ≡ option_map_or (λ r. nat_le 1 c.number && nat_le c.number r.count) o false
+      each None = refl
+      each (Some r) = refl
+
+  pub other_end-same : (g x : ℕ) → other_end (plan_of t) g x ≡ other_end p g x
+  other_end-same g x = ap (option_and_then (λ r. far_end r x)) (row g) ∙ each (slice_get p.groups g)
+    where
+      each : (o : Option Group) → option_and_then (λ r. far_end r x) (option_map unnamed o) ≡ option_and_then (λ r. far_end r x) o
+      each None = refl
+      each (Some r) = refl
+
+  pub circuits_at-same : (g x : ℕ) → circuits_at (plan_of t) g x ≡ circuits_at p g x
+  circuits_at-same g x = ap listed (row g) ∙ each (slice_get p.groups g)
+    where
+      listed : Option Group → List Circuit
+      listed o = option_map_or (λ r. map (λ n. record { group = g; number = n }) (order_at r x)) o []
+
+      each : (o : Option Group) → listed (option_map unnamed o) ≡ listed o
+      each None = refl
+      each (Some r) = refl

@@ -1,0 +1,46 @@
+use Rattle.std.proofs.Common.{◌≡◌, ◌≢◌, ◌∙◌, ℕ, ◌+◌, ◌<◌, true, false, Option, Some, length, sym, subst, arith}
+use Rattle.std.specs.Prelude.{IfSome}
+use Rattle.tx_circuits.specs.declared.way.Way.{Way}
+use Rattle.tx_circuits.specs.declared.way.Way.TheVariants.{Up, Down}
+use Rattle.tx_circuits.specs.Linked.{IsFirst, with}
+use Rattle.tx_circuits.specs.Slots.{free_at, chain, link_at, rank_of, ahead, back}
+use Rattle.tx_circuits.proofs.Linked.{take, with_here, with_there, to_last, are_ranked}
+use Rattle.tx_circuits.proofs.Places.{free_within, free_below, first_within, each_way}
+use Rattle.tx_circuits.proofs.chain.take.Goals as goal
+
+pub lead-list-requires : goal.lead-list-requires
+lead-list-requires c =
+    let end = c.args.end in
+    let slots = c.args.slots.now in
+    subst (λ (r : Option ℕ). IfSome r (λ k. k < length slots)) (sym (c.links-links.ensures Down))
+    (first_within (free_at end slots) (rank_of Down) (rank_of Down c.args.place + 1) (length slots) (free_within end slots) (link_at end Down slots c.args.place)
+    ((c.requires.listed Down).goes_on c.args.place c.requires.free))
+
+pub lead-requires : goal.lead-requires
+lead-requires c =
+    let end = c.args.end in
+    let slots = c.args.slots.now in
+    subst (λ (n : ℕ). IfSome c.links-links.result.above (λ k. k < n)) (sym c.lead-list.auto.slots)
+    (subst (λ (r : Option ℕ). IfSome r (λ k. k < length slots)) (sym (c.links-links.ensures Up))
+    (first_within (free_at end slots) (rank_of Up) (rank_of Up c.args.place + 1) (length slots) (free_within end slots) (link_at end Up slots c.args.place)
+    ((c.requires.listed Up).goes_on c.args.place c.requires.free)))
+
+pub returns-clause-listed : goal.returns-clause-listed
+returns-clause-listed c =
+    let end = c.args.end in
+    let slots = c.args.slots.now in
+    let i = c.args.place in
+    let short = c.requires.short in
+    let i_in : i < 240 = (let a : i < length slots = c.requires.place in omega arith) in
+    let free = free_at end slots in
+    let inside = free_below end slots short in
+    let one = λ (w : Way) (joined : chain end w c.lead.new.slots c.lead.result (ahead (back w) c.links-links.result) ≡ link_at end w slots i)
+    (rest : (k : Option ℕ) → k ≢ ahead (back w) c.links-links.result → chain end w c.lead.new.slots c.lead.result k ≡ chain end w slots c.args.list k).
+    take free (with free i false) (rank_of w) (are_ranked w free inside) i (with_here free i false) c.requires.free (λ k ne. with_there free i k false ne)
+    (chain end w slots c.args.list) (chain end w c.lead.new.slots c.lead.result) (c.requires.listed w) (ahead (back w) c.links-links.result)
+    (to_last free inside i i_in w (ahead (back w) c.links-links.result)
+    (subst (IsFirst free (rank_of (back w)) (rank_of (back w) i + 1)) (sym (c.links-links.ensures (back w))) ((c.requires.listed (back w)).goes_on i c.requires.free)))
+    joined rest in
+    each_way _
+    (one Up (c.lead.ensures.turned c.links-links.result.below ∙ c.lead-list.ensures.here ∙ c.links-links.ensures Up) (λ k ne. c.lead.ensures.turned k ∙ c.lead-list.ensures.apart k ne))
+    (one Down (c.lead.ensures.here ∙ c.links-links.ensures Down) (λ k ne. c.lead.ensures.apart k ne ∙ c.lead-list.ensures.turned k))

@@ -1,0 +1,48 @@
+use Rattle.std.proofs.Common.{◌≡◌, ◌∙◌, ℕ, suc, ◌-◌, ◌<◌, ◌≤◌, List, length, map, sym, ap, subst, slice_set, arith}
+use Rattle.std.proofs.lemmas.List.{take_at, with_items_is}
+use Rattle.tx_circuits.specs.declared.slot.Slot.{Slot}
+use Rattle.tx_circuits.specs.declared.row.Row.{Row}
+use Rattle.tx_circuits.specs.Slots.{state_of, cleared, IsSound}
+use Rattle.tx_circuits.specs.Groups.{group_slots, group_state, change_at, with_state, AreApart, AreKept}
+use Rattle.tx_circuits.proofs.Kept.{entry_at, get_within, slots_length, kept_updated, view_updated, set_numbered_at}
+use Rattle.tx_circuits.proofs.Members.{known}
+use Rattle.tx_circuits.proofs.Steps.{state_in}
+use Rattle.tx_circuits.proofs.groups.Groups.clear.Goals as goal
+
+pub clear-requires-clause-short : goal.clear-requires-clause-short
+clear-requires-clause-short g c =
+    let slots = c.self.inside.slots.items in
+    let rows = c.self.inside.rows.items in
+    let row = c.index-row.result.now in
+    let at = entry_at slots rows c.args.self.now c.args.group c.index-place.result row c.self.view_is c.index-place.ensures c.index-row.ensures c.requires in
+    let short : length (group_slots slots row) ≤ 240 = (c.self.invariant.sound c.index-place.result row at).short in
+    let long : length (group_slots slots row) ≡ row.count = slots_length slots row (c.self.invariant.within c.index-place.result row at) in
+    omega arith
+
+pub invariant_of-self : goal.invariant_of-self
+invariant_of-self g c =
+    let slots = c.self.inside.slots.items in
+    let rows = c.self.inside.rows.items in
+    let row = c.index-row.result.now in
+    let at = entry_at slots rows c.args.self.now c.args.group c.index-place.result row c.self.view_is c.index-place.ensures c.index-row.ensures c.requires in
+    let new = c.clear.new.slots in
+    let long : length new ≡ length slots = c.clear.auto.slots ∙ ap length c.as_mut_slice.ensures.value in
+    let len : length new ≡ c.self.inside.slots.len = c.clear.auto.slots ∙ c.as_mut_slice.ensures.len in
+    let rest = λ (s : Row) (a : AreApart row s). c.clear.ensures.rest s a ∙ ap (λ (l : List Slot). group_slots l s) c.as_mut_slice.ensures.value in
+    subst (λ (l : List Slot). AreKept l (slice_set rows c.index-place.result c.clear.result)) (sym (take_at new _ c.self.inside.slots.len len))
+    (kept_updated slots rows c.args.self.now c.self.invariant c.self.view_is c.args.group c.index-place.result c.index-place.ensures row at new long c.clear.result c.clear.ensures.row c.clear.ensures.sound rest)
+
+pub returns : goal.returns
+returns g c =
+    let slots = c.self.inside.slots.items in
+    let rows = c.self.inside.rows.items in
+    let row = c.index-row.result.now in
+    let at = entry_at slots rows c.args.self.now c.args.group c.index-place.result row c.self.view_is c.index-place.ensures c.index-row.ensures c.requires in
+    let new = c.clear.new.slots in
+    let long : length new ≡ length slots = c.clear.auto.slots ∙ ap length c.as_mut_slice.ensures.value in
+    let len : length new ≡ c.self.inside.slots.len = c.clear.auto.slots ∙ c.as_mut_slice.ensures.len in
+    let rest = λ (s : Row) (a : AreApart row s). c.clear.ensures.rest s a ∙ ap (λ (l : List Slot). group_slots l s) c.as_mut_slice.ensures.value in
+    ap (λ (l : List Slot). map (group_state l) (slice_set rows c.index-place.result c.clear.result)) (with_items_is c.self.inside.slots new len)
+    ∙ view_updated slots rows c.args.self.now c.self.invariant c.self.view_is c.args.group c.index-place.result c.index-place.ensures row at new long c.clear.result c.clear.ensures.row c.clear.ensures.sound rest
+    (λ t. record t { states = map cleared t.states })
+    (λ j. record { trunk = row.trunk; states = (c.clear.ensures.states ∙ ap (λ (l : List Slot). map cleared (map state_of (group_slots l row))) c.as_mut_slice.ensures.value) j })

@@ -1,0 +1,7 @@
+use Rattle.std.proofs.Common.{◌≡◌, map, take}
+use Rattle.tx_circuits.proofs.Built.{fresh}
+use Rattle.tx_circuits.proofs.table.CircuitTable.build.Given as goal
+
+-- the groups before this one stand, all their circuits free
+abbrev pub invariant-loop-place : goal.invariant-loop-place
+invariant-loop-place g l = l.groups ≡ map fresh (take l.place l.plan.groups)

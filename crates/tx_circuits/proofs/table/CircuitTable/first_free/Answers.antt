@@ -1,0 +1,62 @@
+use Rattle.std.proofs.Common.{◌≡◌, ◌∙◌, ℕ, suc, ◌+◌, true, false, Option, Some, None, sym, ap, subst, arith}
+use Rattle.std.specs.Option.{option_map}
+use Rattle.tx_plan.specs.Circuits.{is_circuit}
+use Rattle.tx_plan.specs.declared.circuit.Circuit.{Circuit}
+use Rattle.tx_circuits.specs.Groups.{first_place}
+use Rattle.tx_circuits.specs.Table.{Table, plan_of, is_down, is_free_at, first_free}
+use Rattle.tx_circuits.specs.Seen.{table_of}
+use Rattle.tx_circuits.proofs.Reading.{first_is, first_known}
+use Rattle.tx_circuits.proofs.Steps.{group_at, place_is}
+use Rattle.tx_circuits.proofs.table.CircuitTable.first_free.Goals as goal
+
+abbrev numbered_in : ℕ → ℕ → Circuit
+numbered_in g n = record { group = g; number = n }
+
+pub returns-in-Some-clause-value : goal.returns-in-Some-clause-value
+returns-in-Some-clause-value g c =
+    let ts = c.self.inside.groups in
+    let end = c.known_end-end.result in
+    let at = group_at ts c.args.group c.args.exchange end c.known_end-end.ensures in
+    let up : is_down (table_of ts) c.args.group ≡ false = ap (λ (t : Table). is_down t c.args.group) c.self.view_is ∙ sym c.is_down.ensures ∙ c.if-is_down.false in
+    let first = first_is ts c.args.group c.args.exchange at.group at.at end at.seizes up in
+    let place : Some c.in-Some.place ≡ first_place at.group end = place_is ts c.args.group end (Some c.in-Some.place) at.group c.in-Some.ensures at.at in
+    let same : c.from.result ≡ c.in-Some.place = c.from.ensures in
+    let number : suc c.in-Some.place ≡ c.from.result + 1 = omega arith in
+    ap (λ (n : ℕ). Some (numbered_in c.args.group n)) (sym number) ∙ ap (option_map (λ k. numbered_in c.args.group (suc k))) place ∙ sym first
+    ∙ ap (λ (t : Table). first_free t c.args.exchange c.args.group) c.self.view_is
+
+pub returns-in-Some-clause-known : goal.returns-in-Some-clause-known
+returns-in-Some-clause-known g c =
+    let ts = c.self.inside.groups in
+    let end = c.known_end-end.result in
+    let at = group_at ts c.args.group c.args.exchange end c.known_end-end.ensures in
+    let up : is_down (table_of ts) c.args.group ≡ false = ap (λ (t : Table). is_down t c.args.group) c.self.view_is ∙ sym c.is_down.ensures ∙ c.if-is_down.false in
+    let first = first_is ts c.args.group c.args.exchange at.group at.at end at.seizes up in
+    let place : Some c.in-Some.place ≡ first_place at.group end = place_is ts c.args.group end (Some c.in-Some.place) at.group c.in-Some.ensures at.at in
+    let same : c.from.result ≡ c.in-Some.place = c.from.ensures in
+    let number : suc c.in-Some.place ≡ c.from.result + 1 = omega arith in
+    subst (λ (z : Table × ℕ). is_circuit (plan_of z.0) (numbered_in c.args.group z.1) ≡ true) (λ i. (c.self.view_is i, number i))
+    (first_known ts c.args.group c.args.exchange at.group at.at end at.seizes c.in-Some.place (sym place)).0
+
+pub returns-in-Some-clause-free : goal.returns-in-Some-clause-free
+returns-in-Some-clause-free g c =
+    let ts = c.self.inside.groups in
+    let end = c.known_end-end.result in
+    let at = group_at ts c.args.group c.args.exchange end c.known_end-end.ensures in
+    let up : is_down (table_of ts) c.args.group ≡ false = ap (λ (t : Table). is_down t c.args.group) c.self.view_is ∙ sym c.is_down.ensures ∙ c.if-is_down.false in
+    let first = first_is ts c.args.group c.args.exchange at.group at.at end at.seizes up in
+    let place : Some c.in-Some.place ≡ first_place at.group end = place_is ts c.args.group end (Some c.in-Some.place) at.group c.in-Some.ensures at.at in
+    let same : c.from.result ≡ c.in-Some.place = c.from.ensures in
+    let number : suc c.in-Some.place ≡ c.from.result + 1 = omega arith in
+    subst (λ (z : Table × ℕ). is_free_at z.0 c.args.exchange (numbered_in c.args.group z.1) ≡ true) (λ i. (c.self.view_is i, number i))
+    (first_known ts c.args.group c.args.exchange at.group at.at end at.seizes c.in-Some.place (sym place)).1
+
+pub returns-in-None-clause-value : goal.returns-in-None-clause-value
+returns-in-None-clause-value g c =
+    let ts = c.self.inside.groups in
+    let end = c.known_end-end.result in
+    let at = group_at ts c.args.group c.args.exchange end c.known_end-end.ensures in
+    let up : is_down (table_of ts) c.args.group ≡ false = ap (λ (t : Table). is_down t c.args.group) c.self.view_is ∙ sym c.is_down.ensures ∙ c.if-is_down.false in
+    let first = first_is ts c.args.group c.args.exchange at.group at.at end at.seizes up in
+    let place : None ≡ first_place at.group end = place_is ts c.args.group end None at.group c.in-None.ensures at.at in
+    ap (option_map (λ k. numbered_in c.args.group (suc k))) place ∙ sym first ∙ ap (λ (t : Table). first_free t c.args.exchange c.args.group) c.self.view_is

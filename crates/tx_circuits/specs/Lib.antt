@@ -1,0 +1,6 @@
+pub mod Linked
+pub mod Slots
+pub mod Groups
+pub mod Codes
+pub mod Table
+pub mod Seen

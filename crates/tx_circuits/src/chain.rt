@@ -1,0 +1,194 @@
+// The links of the circuits that are free at an end.
+ghost use Rattle.std.specs.Prelude.{◌≡◌, ◌≢◌, ◌<◌, ◌≤◌, ℕ, Option, Some, None, true, false, map, length, IfSome};
+ghost use Rattle.tx_circuits.specs.declared.way.Way.{Way as WayValue};
+ghost use Rattle.tx_circuits.specs.Linked.{IsLinked, IsLast, with};
+ghost use Rattle.tx_circuits.specs.Slots.{free_at, link_at, chain, is_free, rank_of, state_of, back, opposite, ahead, IsListed, AreNeighbours};
+
+use crate::end::End;
+use crate::free_list::FreeList;
+use crate::links::Links;
+use crate::slot::Slot;
+use crate::state::State;
+use crate::way::Way;
+
+// The links of a circuit in the list of an end.
+fn links(slots: &[Slot], end: End, place: usize) -> Links
+    requires { place < length slots.now }
+    ensures { (way : WayValue) → ahead way result ≡ link_at end way slots.now place }
+{
+    slots[place].links(end)
+}
+
+// What follows a place in the list of an end, or begins the list.
+fn follow(slots: &[Slot], list: FreeList, end: End, way: Way, from: Option<u8>) -> Option<u8>
+    requires { IfSome from (λ k. k < length slots.now) }
+    ensures { result ≡ chain end way slots.now list from }
+{
+    match from {
+        None => list.begins(way),
+        Some(place) => {
+            let links = links(slots, end, place as usize);
+            links.ahead(way)
+        }
+    }
+}
+
+fn set_link(slots: &mut [Slot], end: End, way: Way, place: usize, to: Option<u8>)
+    requires { place < length slots.old }
+    ensures here { link_at end way slots.new place ≡ to }
+    ensures apart { (k : ℕ) → k ≢ place → link_at end way slots.new k ≡ link_at end way slots.old k }
+    ensures turned { (k : ℕ) → link_at end (back way) slots.new k ≡ link_at end (back way) slots.old k }
+    ensures other { (w : WayValue) (k : ℕ) → link_at (opposite end) w slots.new k ≡ link_at (opposite end) w slots.old k }
+    ensures states { map state_of slots.new ≡ map state_of slots.old }
+{
+    slots[place] = slots[place].with_link(end, way, to);
+}
+
+// After `from`, or at the list's begin, now comes `to`.
+fn lead(
+    slots: &mut [Slot],
+    list: FreeList,
+    end: End,
+    way: Way,
+    from: Option<u8>,
+    to: Option<u8>,
+) -> FreeList
+    requires { IfSome from (λ k. k < length slots.old) }
+    ensures here { chain end way slots.new result from ≡ to }
+    ensures apart { (q : Option ℕ) → q ≢ from → chain end way slots.new result q ≡ chain end way slots.old list q }
+    ensures turned { (q : Option ℕ) → chain end (back way) slots.new result q ≡ chain end (back way) slots.old list q }
+    ensures other { (w : WayValue) (k : ℕ) → link_at (opposite end) w slots.new k ≡ link_at (opposite end) w slots.old k }
+    ensures states { map state_of slots.new ≡ map state_of slots.old }
+{
+    match (from, way) {
+        (Some(place), _) => {
+            set_link(slots, end, way, place as usize, to);
+            list
+        }
+        (None, Way::Up) => FreeList { least: to, ..list },
+        (None, Way::Down) => FreeList {
+            greatest: to,
+            ..list
+        },
+    }
+}
+
+// The last free circuit that comes before the place in a way.
+fn last_before(slots: &[Slot], list: FreeList, end: End, way: Way, place: usize) -> Option<u8>
+    requires short { length slots.now ≤ 240 }
+    requires listed { IsListed (free_at end slots.now) end slots.now list }
+    requires place { place < length slots.now }
+    ensures { IsLast (free_at end slots.now) (rank_of way) (rank_of way place) result }
+{
+    let limit = way.rank(place);
+    let mut last = None;
+    let mut rest = list.begins(way);
+    while let Some(p) = rest {
+        if way.rank(p as usize) >= limit {
+            break;
+        }
+        last = Some(p);
+        rest = links(slots, end, p as usize).ahead(way);
+    }
+    last
+}
+
+// The neighbours that a circuit would have in the list of an end: looked for from the end of the list that is nearer.
+fn neighbours(slots: &[Slot], list: FreeList, end: End, place: usize) -> Links
+    requires short { length slots.now ≤ 240 }
+    requires listed { IsListed (free_at end slots.now) end slots.now list }
+    requires place { place < length slots.now }
+    requires taken { free_at end slots.now place ≡ false }
+    ensures { AreNeighbours (free_at end slots.now) place result }
+{
+    if place < slots.len() / 2 {
+        let below = last_before(slots, list, end, Way::Up, place);
+        Links {
+            above: follow(slots, list, end, Way::Up, below),
+            below,
+        }
+    } else {
+        let above = last_before(slots, list, end, Way::Down, place);
+        Links {
+            above,
+            below: follow(slots, list, end, Way::Down, above),
+        }
+    }
+}
+
+fn set_links(slots: &mut [Slot], end: End, place: usize, links: Links)
+    requires { place < length slots.old }
+    ensures here { (way : WayValue) → link_at end way slots.new place ≡ ahead way links }
+    ensures apart { (way : WayValue) (k : ℕ) → k ≢ place → link_at end way slots.new k ≡ link_at end way slots.old k }
+    ensures other { (way : WayValue) (k : ℕ) → link_at (opposite end) way slots.new k ≡ link_at (opposite end) way slots.old k }
+    ensures states { map state_of slots.new ≡ map state_of slots.old }
+{
+    slots[place] = slots[place].with_links(end, links);
+}
+
+/// The circuit now stands between two neighbours; all other links are as before.
+pub fn insert(slots: &mut [Slot], list: FreeList, end: End, place: usize, links: Links) -> FreeList
+    requires short { length slots.old ≤ 240 }
+    requires place { place < length slots.old }
+    requires above { IfSome links.above (λ k. k < length slots.old) }
+    requires below { IfSome links.below (λ k. k < length slots.old) }
+    requires apart { (way : WayValue) → Some place ≢ ahead way links }
+    ensures placed { (way : WayValue) → chain end way slots.new result (Some place) ≡ ahead way links }
+    ensures joined { (way : WayValue) → chain end way slots.new result (ahead (back way) links) ≡ Some place }
+    ensures rest { (way : WayValue) (q : Option ℕ) → q ≢ Some place → q ≢ ahead (back way) links → chain end way slots.new result q ≡ chain end way slots.old list q }
+    ensures other { (way : WayValue) (k : ℕ) → link_at (opposite end) way slots.new k ≡ link_at (opposite end) way slots.old k }
+    ensures states { map state_of slots.new ≡ map state_of slots.old }
+{
+    set_links(slots, end, place, links);
+    let list = lead(slots, list, end, Way::Up, links.below, Some(place as u8));
+    lead(slots, list, end, Way::Down, links.above, Some(place as u8))
+}
+
+// Puts a circuit on the list of an end, and gives the list. Walks the list.
+fn put(slots: &mut [Slot], list: FreeList, end: End, place: usize) -> FreeList
+    requires short { length slots.old ≤ 240 }
+    requires listed { IsListed (free_at end slots.old) end slots.old list }
+    requires place { place < length slots.old }
+    requires taken { free_at end slots.old place ≡ false }
+    ensures listed { IsListed (with (free_at end slots.old) place true) end slots.new result }
+    ensures other { (way : WayValue) (k : ℕ) → link_at (opposite end) way slots.new k ≡ link_at (opposite end) way slots.old k }
+    ensures states { map state_of slots.new ≡ map state_of slots.old }
+{
+    let links = neighbours(slots, list, end, place);
+    insert(slots, list, end, place, links)
+}
+
+// Takes a circuit off the list of an end, and gives the list.
+fn take(slots: &mut [Slot], list: FreeList, end: End, place: usize) -> FreeList
+    requires short { length slots.old ≤ 240 }
+    requires listed { IsListed (free_at end slots.old) end slots.old list }
+    requires place { place < length slots.old }
+    requires free { free_at end slots.old place ≡ true }
+    ensures listed { IsListed (with (free_at end slots.old) place false) end slots.new result }
+    ensures other { (way : WayValue) (k : ℕ) → link_at (opposite end) way slots.new k ≡ link_at (opposite end) way slots.old k }
+    ensures states { map state_of slots.new ≡ map state_of slots.old }
+{
+    let links = links(slots, end, place);
+    let list = lead(slots, list, end, Way::Up, links.below, links.above);
+    lead(slots, list, end, Way::Down, links.above, links.below)
+}
+
+/// Puts a circuit on the list of an end, takes it off, or leaves the list, as its new state asks; gives the list.
+pub fn relink(slots: &mut [Slot], list: FreeList, end: End, place: usize, to: State) -> FreeList
+    requires short { length slots.old ≤ 240 }
+    requires listed { IsListed (free_at end slots.old) end slots.old list }
+    requires place { place < length slots.old }
+    ensures listed { IsListed (with (free_at end slots.old) place (is_free end to)) end slots.new result }
+    ensures other { (way : WayValue) (k : ℕ) → link_at (opposite end) way slots.new k ≡ link_at (opposite end) way slots.old k }
+    ensures states { map state_of slots.new ≡ map state_of slots.old }
+{
+    let was = slots[place].state.is_free(end);
+    let will = to.is_free(end);
+    if was == will {
+        return list;
+    }
+    if will {
+        return put(slots, list, end, place);
+    }
+    take(slots, list, end, place)
+}

@@ -1,0 +1,73 @@
+// The circuits of a group, and its free lists.
+ghost use Rattle.std.specs.Prelude.{◌≡◌, ◌<◌, ◌≤◌, ◌+◌, ℕ, map, length, slice_set};
+ghost use Rattle.tx_circuits.specs.declared.way.Way.{Way as WayValue};
+ghost use Rattle.tx_circuits.specs.Slots.{IsSound, IsListed, free_at, link_at, opposite, state_of, cleared, until};
+
+use crate::chain::{insert, relink};
+use crate::end::End;
+use crate::free_list::FreeList;
+use crate::free_lists::FreeLists;
+use crate::links::Links;
+use crate::slot::Slot;
+use crate::state::State;
+
+/// Gives a circuit a state, and gives the lists. Walks a list only where the circuit comes back to it.
+pub fn set_state(slots: &mut [Slot], lists: FreeLists, place: usize, to: State) -> FreeLists
+    requires sound { IsSound slots.old lists }
+    requires place { place < length slots.old }
+    ensures sound { IsSound slots.new result }
+    ensures states { map state_of slots.new ≡ slice_set (map state_of slots.old) place to }
+{
+    let first = relink(slots, lists.first, End::First, place, to);
+    let other = relink(slots, lists.other, End::Other, place, to);
+    slots[place] = Slot {
+        state: to,
+        ..slots[place]
+    };
+    FreeLists { first, other }
+}
+
+// Puts a circuit behind all others on the list of an end, if it is free there, and gives the list.
+fn append(slots: &mut [Slot], list: FreeList, end: End, place: usize) -> FreeList
+    requires short { length slots.old ≤ 240 }
+    requires place { place < length slots.old }
+    requires listed { IsListed (until place (free_at end slots.old)) end slots.old list }
+    ensures listed { IsListed (until (place + 1) (free_at end slots.old)) end slots.new result }
+    ensures other { (way : WayValue) (k : ℕ) → link_at (opposite end) way slots.new k ≡ link_at (opposite end) way slots.old k }
+    ensures states { map state_of slots.new ≡ map state_of slots.old }
+{
+    if !slots[place].state.is_free(end) {
+        return list;
+    }
+    let links = Links {
+        above: None,
+        below: list.greatest,
+    };
+    insert(slots, list, end, place, links)
+}
+
+/// Makes the lists anew, in one pass.
+pub fn relist(slots: &mut [Slot]) -> FreeLists
+    requires short { length slots.old ≤ 240 }
+    ensures sound { IsSound slots.new result }
+    ensures states { map state_of slots.new ≡ map state_of slots.old }
+{
+    let mut lists = FreeLists::new();
+    for place in 0..slots.len() {
+        lists.first = append(slots, lists.first, End::First, place);
+        lists.other = append(slots, lists.other, End::Other, place);
+    }
+    lists
+}
+
+/// Takes all calls off the circuits, and gives the lists.
+pub fn clear(slots: &mut [Slot]) -> FreeLists
+    requires short { length slots.old ≤ 240 }
+    ensures sound { IsSound slots.new result }
+    ensures states { map state_of slots.new ≡ map cleared (map state_of slots.old) }
+{
+    for slot in slots.iter_mut() {
+        slot.state = slot.state.cleared();
+    }
+    relist(slots)
+}

@@ -1,0 +1,189 @@
+// All circuits of a plan in one vector.
+ghost use Rattle.std.specs.Prelude.{◌≡◌, ◌≤◌, ◌<◌, ◌++◌, ◌∷◌, [], ℕ, true, false, is_some, map, length, replicate, Some, None, slice_get, OnOk, OnErr, IfOk, IfSome};
+ghost use Rattle.std.specs.Option.{option_map};
+ghost use Rattle.tx_circuits.specs.Slots.{cleared, has_seized};
+ghost use Rattle.tx_circuits.specs.Groups.{state_at, end_at, change_at, with_state, with_failed, with_blocked, first_place, idle, IsAppended};
+ghost use Rattle.tx_circuits.specs.Seen.{holds};
+
+use crate::end::End;
+use crate::free_lists::FreeLists;
+use crate::row::Row;
+use crate::slot::Slot;
+use crate::state::State;
+use crate::trunk::Trunk;
+use std::alloc::{Allocator, Global};
+use std::marker::Model;
+use tx_plan::{Circuit, ExchangeId, GroupId};
+use tx_text::NoMemory;
+
+/// The groups of a plan with the states of their circuits: all circuits in one vector, group by group, linked in free lists.
+#[derive(Drop)]
+pub struct Groups<A: Allocator = Global> {
+    slots: Vec<Slot, A>,
+    rows: Vec<Row, A>,
+}
+
+impl<A: Allocator> Model for Groups<A> {
+    ghost use Rattle.std.specs.Prelude.{List, map};
+    ghost use Rattle.tx_circuits.specs.Groups.{GroupState, group_state, AreKept};
+
+    ghost Value = { List GroupState };
+
+    ghost view = { λ g. map (group_state g.slots.items) g.rows.items };
+
+    ghost invariant = { λ g. AreKept g.slots.items g.rows.items };
+}
+
+impl<A: Allocator + Copy> Groups<A> {
+    /// No groups yet, with room for so many groups and circuits.
+    pub fn with_room(alloc: A, groups: usize, circuits: usize) -> Result<Self, NoMemory>
+        ensures { IfOk result (λ g. g ≡ []) }
+    {
+        let rows = Vec::with_capacity(alloc, groups)?;
+        let slots = Vec::with_capacity(alloc, circuits)?;
+        Ok(Groups { slots, rows })
+    }
+}
+
+// Appends the slots of a group, all idle, and gives its row.
+fn append<A: Allocator>(
+    slots: &mut Vec<Slot, A>,
+    trunk: Trunk,
+    count: usize,
+) -> Result<Row, NoMemory>
+    requires { count ≤ 240 }
+    ensures ok { IfOk result (IsAppended slots.old.items slots.new.items trunk count) }
+    ensures err { OnErr result (slots.new.items ≡ slots.old.items) }
+{
+    let row = Row {
+        trunk,
+        start: slots.len(),
+        count,
+        lists: FreeLists::new(),
+    };
+    slots.resize(row.start + count, Slot::idle())?;
+    Ok(row.relist(slots.as_mut_slice()))
+}
+
+impl<A: Allocator> Groups<A> {
+    /// Appends a group with so many circuits, all free.
+    pub fn add(&mut self, trunk: Trunk, count: usize) -> Result<(), NoMemory>
+        requires { count ≤ 240 }
+        ensures ok { OnOk result (self.new ≡ self.old ++ record { trunk = trunk; states = replicate count idle } ∷ []) }
+        ensures err { OnErr result (self.new ≡ self.old) }
+    {
+        let row = append(&mut self.slots, trunk, count)?;
+        self.rows.push(row)?;
+        Ok(())
+    }
+
+    /// How many groups.
+    pub fn len(&self) -> usize
+        ensures { result ≡ length self.now }
+    {
+        self.rows.len()
+    }
+
+    /// A group beside its circuits, if there is such a one.
+    pub fn trunk(&self, group: GroupId) -> Option<Trunk>
+        ensures { result ≡ option_map (λ t. t.trunk) (slice_get self.now group) }
+    {
+        match self.rows.get(group.index()) {
+            Some(row) => Some(row.trunk),
+            None => None,
+        }
+    }
+
+    /// The state of a circuit, if there is such a one.
+    pub fn state(&self, circuit: &Circuit) -> Option<State>
+        ensures { result ≡ state_at self.now circuit.now }
+    {
+        match self.rows.get(circuit.group.index()) {
+            Some(row) => row.state(self.slots.as_slice(), circuit.number),
+            None => None,
+        }
+    }
+
+    /// The end at which an exchange seizes circuits of a group, if it may.
+    pub fn end(&self, group: GroupId, exchange: ExchangeId) -> Option<End>
+        ensures { result ≡ end_at self.now group exchange }
+    {
+        match self.rows.get(group.index()) {
+            Some(row) => row.trunk.seizing_end(exchange),
+            None => None,
+        }
+    }
+
+    /// The state of a circuit that there is.
+    pub fn known_state(&self, circuit: &Circuit) -> State
+        requires { is_some (state_at self.now circuit.now) ≡ true }
+        ensures { state_at self.now circuit.now ≡ Some result }
+    {
+        self.state(circuit).unwrap()
+    }
+
+    /// The end at which an exchange seizes, where it may.
+    pub fn known_end(&self, group: GroupId, exchange: ExchangeId) -> End
+        requires { is_some (end_at self.now group exchange) ≡ true }
+        ensures { end_at self.now group exchange ≡ Some result }
+    {
+        self.end(group, exchange).unwrap()
+    }
+
+    /// Whether an end has seized a circuit.
+    pub fn has_seized(&self, circuit: &Circuit, end: End) -> bool
+        ensures { result ≡ holds (has_seized end) self.now circuit.now }
+    {
+        match self.state(circuit) {
+            Some(state) => state.has_seized(end),
+            None => false,
+        }
+    }
+
+    /// The place of the circuit that an end takes next, read from the head of its list.
+    pub fn first_place(&self, group: GroupId, end: End) -> Option<u8>
+        requires { group < length self.now }
+        ensures { IfSome (slice_get self.now group) (λ t. result ≡ first_place t end) }
+    {
+        let lists = &self.rows[group.index()].lists;
+        match end {
+            End::First => lists.first.least,
+            End::Other => lists.other.greatest,
+        }
+    }
+
+    /// Gives a circuit another state.
+    pub fn set_state(&mut self, circuit: &Circuit, to: State)
+        requires { is_some (state_at self.old circuit.now) ≡ true }
+        ensures { self.new ≡ change_at (with_state circuit.now to) circuit.now.group self.old }
+    {
+        let group = circuit.group.index();
+        let row = self.rows[group];
+        let place = circuit.number as usize - 1;
+        self.rows[group] = row.set_state(self.slots.as_mut_slice(), place, to);
+    }
+
+    /// Takes all calls off the circuits of a group.
+    pub fn clear(&mut self, group: GroupId)
+        requires { group < length self.old }
+        ensures { self.new ≡ change_at (λ t. record t { states = map cleared t.states }) group self.old }
+    {
+        let place = group.index();
+        let row = self.rows[place];
+        self.rows[place] = row.clear(self.slots.as_mut_slice());
+    }
+
+    pub fn set_failed(&mut self, group: GroupId, to: bool)
+        requires { group < length self.old }
+        ensures { self.new ≡ change_at (with_failed to) group self.old }
+    {
+        self.rows[group.index()].trunk.failed = to;
+    }
+
+    pub fn set_blocked(&mut self, group: GroupId, to: bool)
+        requires { group < length self.old }
+        ensures { self.new ≡ change_at (with_blocked to) group self.old }
+    {
+        self.rows[group.index()].trunk.blocked = to;
+    }
+}

@@ -1,0 +1,78 @@
+// What is kept of a circuit.
+ghost use Rattle.std.specs.Prelude.{◌≡◌};
+ghost use Rattle.tx_circuits.specs.Groups.{idle};
+ghost use Rattle.tx_circuits.specs.Slots.{links_of, ahead, back, opposite};
+
+use crate::end::End;
+use crate::links::Links;
+use crate::state::State;
+use crate::way::Way;
+
+/// A circuit's state, and its links in the list of each end.
+#[derive(Clone, Copy, Debug, PartialEq, Eq)]
+pub struct Slot {
+    pub state: State,
+    pub first: Links,
+    pub other: Links,
+}
+
+impl Slot {
+    /// The slot of a circuit that no call holds, on no list.
+    pub fn idle() -> Slot
+        ensures { result.state ≡ idle }
+    {
+        let alone = Links {
+            above: None,
+            below: None,
+        };
+        Slot {
+            state: State {
+                seized_first: false,
+                seized_other: false,
+                carried: false,
+                releasing: false,
+                out: false,
+            },
+            first: alone,
+            other: alone,
+        }
+    }
+
+    /// The slot with another link in the list of an end.
+    pub fn with_link(self, end: End, way: Way, to: Option<u8>) -> Slot
+        ensures here { ahead way (links_of end result) ≡ to }
+        ensures turned { ahead (back way) (links_of end result) ≡ ahead (back way) (links_of end self) }
+        ensures other { links_of (opposite end) result ≡ links_of (opposite end) self }
+        ensures state { result.state ≡ self.state }
+    {
+        self.with_links(end, self.links(end).with(way, to))
+    }
+
+    /// The links in the list of an end.
+    pub fn links(self, end: End) -> Links
+        ensures { result ≡ links_of end self }
+    {
+        match end {
+            End::First => self.first,
+            End::Other => self.other,
+        }
+    }
+
+    /// The slot with other links in the list of an end.
+    pub fn with_links(self, end: End, links: Links) -> Slot
+        ensures here { links_of end result ≡ links }
+        ensures other { links_of (opposite end) result ≡ links_of (opposite end) self }
+        ensures state { result.state ≡ self.state }
+    {
+        match end {
+            End::First => Slot {
+                first: links,
+                ..self
+            },
+            End::Other => Slot {
+                other: links,
+                ..self
+            },
+        }
+    }
+}

@@ -1,0 +1,63 @@
+// What holds a circuit.
+ghost use Rattle.std.specs.Prelude.{◌≡◌};
+ghost use Rattle.tx_circuits.specs.Slots.{is_free, has_seized, with_seized, cleared};
+
+use crate::end::End;
+
+/// What holds a circuit.
+#[derive(Clone, Copy, Debug, PartialEq, Eq)]
+pub struct State {
+    pub seized_first: bool,
+    pub seized_other: bool,
+    pub carried: bool,
+    pub releasing: bool,
+    pub out: bool,
+}
+
+impl State {
+    /// Whether the end has seized the circuit.
+    pub fn has_seized(self, end: End) -> bool
+        ensures { result ≡ has_seized end self }
+    {
+        match end {
+            End::First => self.seized_first,
+            End::Other => self.seized_other,
+        }
+    }
+
+    /// Whether the circuit is free at the end.
+    pub fn is_free(self, end: End) -> bool
+        ensures { result ≡ is_free end self }
+    {
+        !self.carried && !self.releasing && !self.out && !self.has_seized(end)
+    }
+
+    /// The state where no call holds the circuit.
+    pub fn cleared(self) -> State
+        ensures { result ≡ cleared self }
+    {
+        State {
+            seized_first: false,
+            seized_other: false,
+            carried: false,
+            releasing: false,
+            out: self.out,
+        }
+    }
+
+    /// The state where the end has, or has not, seized the circuit.
+    pub fn with_seized(self, end: End, to: bool) -> State
+        ensures { result ≡ with_seized end to self }
+    {
+        match end {
+            End::First => State {
+                seized_first: to,
+                ..self
+            },
+            End::Other => State {
+                seized_other: to,
+                ..self
+            },
+        }
+    }
+}

@@ -1,0 +1,3 @@
+pub mod Sets
+pub mod Order
+pub mod Arranged

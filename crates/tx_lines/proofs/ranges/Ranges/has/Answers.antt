@@ -1,0 +1,32 @@
+use Rattle.std.proofs.Common.{◌-◌, ◌<◌, ◌==◌, ◌&&◌, length, sym, ap, ◌∙◌, subst, arith, rules}
+use Rattle.std.proofs.lemmas.List.Sorted.{IsPartitionPoint-from_clause}
+use Rattle.std.proofs.lemmas.Option.{slice_get_read}
+use Rattle.std.specs.Prelude.{slice_get}
+use Rattle.std.specs.List.{list_any}
+use Rattle.tx_plan.specs.Lines.{in_range}
+use Rattle.tx_plan.specs.declared.range.LineRange.{LineRange}
+use Rattle.tx_lines.specs.Ordered.{IsInOrder}
+use Rattle.tx_lines.proofs.Order.{starts_by, partitioned, none_starts, last_start}
+use Rattle.tx_lines.proofs.ranges.Ranges.has.Goals as goal
+
+pub returns-then-after-eq0 : goal.returns-then-after-eq0
+returns-then-after-eq0 g c =
+    let xs = c.deref.result.now in
+    let ordered : IsInOrder xs = subst IsInOrder (sym c.deref.ensures.value) c.self.invariant in
+    let t = starts_by xs ordered c.args.code c.args.number.now in
+    let point = IsPartitionPoint-from_clause t xs c.partition_point-after.result c.partition_point-after.ensures.partitioned (partitioned xs ordered c.args.code c.args.number.now) (λ a r q k. search rules) in
+    none_starts xs ordered c.args.code c.args.number.now c.partition_point-after.result point (omega arith)
+    ∙ ap (list_any (λ (r : LineRange). (r.code == c.args.code) && in_range c.args.number.now r)) (c.deref.ensures.value ∙ c.self.view_is)
+
+pub returns : goal.returns
+returns g c =
+    let xs = c.deref.result.now in
+    let ordered : IsInOrder xs = subst IsInOrder (sym c.deref.ensures.value) c.self.invariant in
+    let t = starts_by xs ordered c.args.code c.args.number.now in
+    let after = c.partition_point-after.result in
+    let point = IsPartitionPoint-from_clause t xs after c.partition_point-after.ensures.partitioned (partitioned xs ordered c.args.code c.args.number.now) (λ a r q k. search rules) in
+    let low : after - 1 < length xs = (let b = c.partition_point-after.ensures.bound in omega arith) in
+    let range = c.index-range.result.now in
+    c.has.ensures
+    ∙ last_start xs ordered c.args.code c.args.number.now after point (after - 1) (omega arith) range (ap (λ l. slice_get l (after - 1)) c.deref.ensures.value ∙ slice_get_read c.self.inside.ranges.items (length c.self.inside.ranges.items) (after - 1) range (λ i. length c.self.inside.ranges.items) (let e = ap length c.deref.ensures.value in omega arith) c.index-range.ensures)
+    ∙ ap (list_any (λ (r : LineRange). (r.code == c.args.code) && in_range c.args.number.now r)) (c.deref.ensures.value ∙ c.self.view_is)

@@ -1,0 +1,4 @@
+pub mod Status
+pub mod Statuses
+pub mod Ordered
+pub mod Book

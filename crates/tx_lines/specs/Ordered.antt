@@ -1,0 +1,25 @@
+-- Ranges in order of code, width and low end.
+use Rattle.std.specs.Prelude.{◌≡◌, ℕ, true, List, Some, length, slice_get}
+use Rattle.std.specs.Ordering.{ordering_then, is_lt, nat_cmp}
+use Rattle.std.specs.declared.cmp.Ordering.{Ordering}
+use Rattle.std.specs.Cmp.Lexicographic.{slice_cmp}
+use Rattle.std.specs.List.Sorted.{IsSortedBy}
+use Rattle.tx_plan.specs.Lines.{at_most}
+use Rattle.tx_plan.specs.declared.range.LineRange.{LineRange}
+
+-- a code and a national number
+abbrev pub Place : Type 0
+Place = ℕ × List ℕ
+
+abbrev pub place_cmp : Place → Place → Ordering
+place_cmp x y = ordering_then (nat_cmp x.0 y.0) (ordering_then (nat_cmp (length x.1) (length y.1)) (slice_cmp nat_cmp x.1 y.1))
+
+-- where a range begins
+abbrev pub start_of : LineRange → Place
+start_of r = (r.code, r.low)
+
+-- In order of their starts; each from its low end up to its high one; two of one code and width that share a number are one.
+pub record IsInOrder (ranges : List LineRange) : Type 0 where
+  pub sorted : IsSortedBy (λ r q. is_lt (place_cmp (start_of r) (start_of q))) ranges
+  pub upward : (i : ℕ) (r : LineRange) → slice_get ranges i ≡ Some r → at_most r.low r.high ≡ true
+  pub apart : (i j : ℕ) (r q : LineRange) → slice_get ranges i ≡ Some r → slice_get ranges j ≡ Some q → r.code ≡ q.code → length r.low ≡ length q.low → at_most q.low r.high ≡ true → at_most r.low q.high ≡ true → i ≡ j

@@ -1,0 +1,66 @@
+-- What the statuses of lines mean as sets.
+use Rattle.std.specs.Prelude.{ℕ, Bool, false, ◌||◌, Option, Some, None, filter, if◌then◌else◌, refl}
+use Rattle.std.specs.Option.{option_map_or}
+use Rattle.std.specs.FinSet as set
+use Rattle.std.specs.Coded.{Coded, code_by, coded×, coded_ℕ}
+use Rattle.indexmap.specs.IndexMap as index
+use Rattle.indexmap.specs.IndexMap.{IndexMap}
+use Rattle.tx_plan.specs.Orders.{same_line, line_cmp, coded_line}
+use Rattle.tx_plan.specs.declared.line.Line.{Line}
+use Rattle.tx_lines.specs.Status.{has, is_unmarked}
+use Rattle.tx_lines.specs.declared.status.Status.{Status}
+use Rattle.tx_lines.specs.declared.status.Mark.{Mark}
+use Rattle.tx_lines.specs.declared.status.Mark.TheVariants.{Faulty, Away, Engaged}
+
+-- the lines with each mark, and the room for lines with a first mark
+pub record Sets : Type 0 where
+  pub faulty : set.FinSet line_cmp
+  pub away : set.FinSet line_cmp
+  pub engaged : set.FinSet line_cmp
+  pub room : ℕ
+
+abbrev pub sets_code : Coded Sets
+sets_code =
+    code_by
+    (set.FinSet line_cmp × (set.FinSet line_cmp × (set.FinSet line_cmp × ℕ)))
+    (coded× (set.code coded_line) (coded× (set.code coded_line) (coded× (set.code coded_line) coded_ℕ)))
+    (λ s. (s.faulty, (s.away, (s.engaged, s.room))))
+    (λ p. record { faulty = p.0; away = p.1.0; engaged = p.1.1.0; room = p.1.1.1 })
+    (λ _. refl)
+
+-- the lines with a mark
+abbrev pub marked : Mark → Sets → set.FinSet line_cmp
+marked Faulty s = s.faulty
+marked Away s = s.away
+marked Engaged s = s.engaged
+
+-- other lines with the mark
+abbrev pub with_marked : Mark → set.FinSet line_cmp → ℕ → Sets → Sets
+with_marked Faulty ls n s = record s { faulty = ls; room = n }
+with_marked Away ls n s = record s { away = ls; room = n }
+with_marked Engaged ls n s = record s { engaged = ls; room = n }
+
+-- the line has a mark
+abbrev pub is_marked : Sets → Line → Bool
+is_marked s l = set.contains s.faulty l || (set.contains s.away l || set.contains s.engaged l)
+
+-- what is kept of a line: its status, if it has a mark
+abbrev pub kept : Status → Option Status
+kept s = if is_unmarked s then None else Some s
+
+module _ {S : Type 0} where
+  -- the line has a status that passes the test
+  abbrev pub passes : (Status → Bool) → IndexMap Line Status S → Line → Bool
+  passes test m l = option_map_or test (index.get same_line m l) false
+
+  -- the lines whose status passes the test
+  abbrev pub with_status : (Status → Bool) → IndexMap Line Status S → set.FinSet line_cmp
+  with_status test m = set.from_list (filter (passes test m) (index.keys m))
+
+  abbrev pub sets_of : IndexMap Line Status S → Sets
+  sets_of m = record {
+    faulty = with_status (has Faulty) m;
+    away = with_status (has Away) m;
+    engaged = with_status (has Engaged) m;
+    room = index.spare m;
+  }

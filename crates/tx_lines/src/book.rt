@@ -1,0 +1,156 @@
+// The book of subscribers' lines.
+ghost use Rattle.std.specs.Prelude.{◌≡◌, ℕ, ◌+◌, ◌<◌, ◌≤◌, true, false, if◌then◌else◌, List, Some, None, OnOk, IfOk};
+ghost use Rattle.std.specs.FinSet as set;
+ghost use Rattle.tx_plan.specs.Lines.{is_line_at};
+ghost use Rattle.tx_plan.specs.Orders.{line_cmp};
+ghost use Rattle.tx_lines.specs.Book.{Book, is_line_of, has_status, switched, answer_of};
+
+use crate::answer::LineAnswer;
+use crate::ranges::Ranges;
+use crate::status::Mark;
+use crate::statuses::Statuses;
+use std::alloc::{Allocator, Global};
+use std::marker::Model;
+use tx_plan::{CodeId, Line, National, Plan};
+use tx_text::NoMemory;
+
+/// The lines of a plan, and which of them are faulty, away or engaged.
+///
+/// A line's first status takes a place of the book's room, which `reserve_one` makes; no other call takes memory.
+#[derive(Drop)]
+pub struct LineBook<A: Allocator = Global> {
+    ranges: Ranges<A>,
+    statuses: Statuses<A>,
+}
+
+impl<A: Allocator> Model for LineBook<A> {
+    ghost use Rattle.tx_lines.specs.Book.{Book, coded_book};
+
+    ghost Value = { Book };
+
+    ghost coded = { coded_book };
+
+    ghost view = { λ b. record { ranges = b.ranges; faulty = b.statuses.faulty; away = b.statuses.away; engaged = b.statuses.engaged; room = b.statuses.room } };
+}
+
+impl<A: Allocator + Copy> LineBook<A> {
+    /// The book of a plan's lines, none of which has a status.
+    pub fn build(alloc: A, plan: &Plan<A>) -> Result<Self, NoMemory>
+        ensures lines { IfOk result (λ b. (code : ℕ) (number : List ℕ) → is_line_of b.ranges code number ≡ is_line_at plan.now code number) }
+        ensures faulty { IfOk result (λ b. b.faulty ≡ set.empty) }
+        ensures away { IfOk result (λ b. b.away ≡ set.empty) }
+        ensures engaged { IfOk result (λ b. b.engaged ≡ set.empty) }
+    {
+        let ranges = Ranges::build(alloc, plan)?;
+        Ok(LineBook {
+            ranges,
+            statuses: Statuses::new(alloc),
+        })
+    }
+}
+
+impl<A: Allocator> LineBook<A> {
+    /// The line of a code and a national number, if the number lies in a range of the code.
+    pub fn find(&self, code: CodeId, national: &[u8]) -> Option<Line>
+        ensures { result ≡ (if is_line_of self.now.ranges code national.now then Some (record { code = code; national = national.now }) else None) }
+    {
+        let national = National::read(national)?;
+        if self.ranges.has(code, national.bytes()) {
+            Some(Line { code, national })
+        } else {
+            None
+        }
+    }
+
+    /// Makes room for one more line with a status.
+    pub fn reserve_one(&mut self) -> Result<(), NoMemory>
+        ensures ok { OnOk result (0 < self.new.room) }
+        ensures room { self.old.room ≤ self.new.room }
+        ensures rest { self.new ≡ record self.old { room = self.new.room } }
+    {
+        self.statuses.reserve_one()
+    }
+
+    /// The line becomes faulty, or is no longer so.
+    pub fn set_fault(&mut self, line: &Line, faulty: bool)
+        requires { faulty ≡ true → has_status self.old line.now ≡ false → 0 < self.old.room }
+        ensures lines { self.new ≡ record self.old { faulty = switched faulty self.old.faulty line.now; room = self.new.room } }
+        ensures room { self.old.room ≤ self.new.room + (if faulty then 1 else 0) }
+    {
+        if faulty {
+            self.statuses.mark(line, Mark::Faulty);
+        } else {
+            self.statuses.unmark(line, Mark::Faulty);
+        }
+    }
+
+    /// The line's subscriber is away, or is back.
+    pub fn set_away(&mut self, line: &Line, away: bool)
+        requires { away ≡ true → has_status self.old line.now ≡ false → 0 < self.old.room }
+        ensures lines { self.new ≡ record self.old { away = switched away self.old.away line.now; room = self.new.room } }
+        ensures room { self.old.room ≤ self.new.room + (if away then 1 else 0) }
+    {
+        if away {
+            self.statuses.mark(line, Mark::Away);
+        } else {
+            self.statuses.unmark(line, Mark::Away);
+        }
+    }
+
+    /// The line takes part in a call.
+    pub fn engage(&mut self, line: &Line)
+        requires { has_status self.old line.now ≡ false → 0 < self.old.room }
+        ensures lines { self.new ≡ record self.old { engaged = set.insert self.old.engaged line.now; room = self.new.room } }
+        ensures room { self.old.room ≤ self.new.room + 1 }
+    {
+        self.statuses.mark(line, Mark::Engaged);
+    }
+
+    /// The line takes part in no call.
+    pub fn free(&mut self, line: &Line)
+        ensures lines { self.new ≡ record self.old { engaged = set.remove self.old.engaged line.now; room = self.new.room } }
+        ensures room { self.old.room ≤ self.new.room }
+    {
+        self.statuses.unmark(line, Mark::Engaged);
+    }
+
+    /// Whether the line is faulty.
+    pub fn is_faulty(&self, line: &Line) -> bool
+        ensures { result ≡ set.contains self.now.faulty line.now }
+    {
+        self.statuses.of(line).faulty
+    }
+
+    /// Whether the line's subscriber is away.
+    pub fn is_away(&self, line: &Line) -> bool
+        ensures { result ≡ set.contains self.now.away line.now }
+    {
+        self.statuses.of(line).away
+    }
+
+    /// Whether the line takes part in a call.
+    pub fn is_engaged(&self, line: &Line) -> bool
+        ensures { result ≡ set.contains self.now.engaged line.now }
+    {
+        self.statuses.of(line).engaged
+    }
+
+    /// What a home exchange finds for a code and a national number.
+    pub fn answer(&self, code: CodeId, national: &[u8]) -> LineAnswer
+        ensures { result ≡ answer_of self.now code national.now }
+    {
+        let Some(line) = self.find(code, national) else {
+            return LineAnswer::NoLine;
+        };
+        let status = self.statuses.of(&line);
+        if status.faulty {
+            LineAnswer::OutOfOrder
+        } else if status.away {
+            LineAnswer::Away
+        } else if status.engaged {
+            LineAnswer::Engaged
+        } else {
+            LineAnswer::Free(line)
+        }
+    }
+}

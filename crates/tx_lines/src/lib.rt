@@ -1,0 +1,14 @@
+// The states of subscribers' lines, by index.
+#![tactic(auto)]
+
+mod answer;
+mod book;
+mod ranges;
+mod status;
+mod statuses;
+
+pub use answer::LineAnswer;
+pub use book::LineBook;
+
+#[cfg(test)]
+mod tests;

@@ -1,0 +1,104 @@
+// The ranges of a plan, in order.
+ghost use Rattle.std.specs.Prelude.{◌≡◌, ◌&&◌, ◌==◌, IfOk, IsPermutation, length};
+ghost use Rattle.std.specs.List.{list_any};
+ghost use Rattle.std.specs.Ordering.{is_le};
+ghost use Rattle.tx_plan.specs.Lines.{at_most, in_range};
+ghost use Rattle.tx_lines.specs.Ordered.{place_cmp, start_of};
+
+use std::alloc::{Allocator, Global};
+use std::cmp::Ordering;
+use std::marker::Model;
+use tx_plan::{CodeId, LineRange, Plan};
+use tx_text::NoMemory;
+
+/// Ranges in order of code, width and low end, no two of which share a number.
+#[derive(Drop)]
+pub struct Ranges<A: Allocator = Global> {
+    ranges: Vec<LineRange, A>,
+}
+
+impl<A: Allocator> Model for Ranges<A> {
+    ghost use Rattle.std.specs.Prelude.{List};
+    ghost use Rattle.tx_plan.specs.declared.range.LineRange.{LineRange};
+    ghost use Rattle.tx_lines.specs.Ordered.{IsInOrder};
+
+    ghost Value = { List LineRange };
+
+    ghost view = { λ t. t.ranges.items };
+
+    ghost invariant = { λ t. IsInOrder t.ranges.items };
+}
+
+impl<A: Allocator> Ranges<A> {
+    /// The ranges of a plan.
+    pub fn build(alloc: A, plan: &Plan<A>) -> Result<Self, NoMemory>
+        ensures { IfOk result (λ r. IsPermutation plan.now.ranges r) }
+    {
+        plan.rules();
+        let mut ranges = Vec::with_capacity(alloc, plan.ranges())?;
+        for place in 0..plan.ranges() {
+            ranges.push_reserved(plan.range_at(place).unwrap());
+        }
+        ranges.sort_unstable_by(|a, b| compare_starts(a, b));
+        Ok(Ranges { ranges })
+    }
+
+    /// Whether a number lies in a range of the code.
+    pub fn has(&self, code: CodeId, number: &[u8]) -> bool
+        ensures { result ≡ list_any (λ r. (r.code == code) && in_range number.now r) self.now }
+    {
+        let after = self
+            .ranges
+            .partition_point(|range| starts_by(range, code, number));
+        if after == 0 {
+            return false;
+        }
+        let range = &self.ranges[after - 1];
+        has(range, code, number)
+    }
+}
+
+fn compare(code: CodeId, low: &[u8], other: CodeId, number: &[u8]) -> Ordering
+    ensures { result ≡ place_cmp (code, low.now) (other, number.now) }
+{
+    match code.index().cmp(&other.index()) {
+        Ordering::Less => Ordering::Less,
+        Ordering::Equal => low.len().cmp(&number.len()).then(low.cmp(number)),
+        Ordering::Greater => Ordering::Greater,
+    }
+}
+
+fn compare_starts(a: &LineRange, b: &LineRange) -> Ordering
+    ensures { result ≡ place_cmp (start_of a.now) (start_of b.now) }
+{
+    compare(a.code, a.low.bytes(), b.code, b.low.bytes())
+}
+
+/// Whether the range starts at the number of the code or before it.
+fn starts_by(range: &LineRange, code: CodeId, number: &[u8]) -> bool
+    ensures { result ≡ is_le (place_cmp (start_of range.now) (code, number.now)) }
+{
+    compare(range.code, range.low.bytes(), code, number).is_le()
+}
+
+fn at_most(low: &[u8], high: &[u8]) -> bool
+    ensures { result ≡ at_most low.now high.now }
+{
+    low.cmp(high).is_le()
+}
+
+/// Whether the number lies in the range, and the range is of the code.
+fn has(range: &LineRange, code: CodeId, number: &[u8]) -> bool
+    ensures { result ≡ ((range.now.code == code) && in_range number.now range.now) }
+{
+    range.code == code && is_in(number, range)
+}
+
+/// Whether the number has the range's width and lies in it.
+fn is_in(number: &[u8], range: &LineRange) -> bool
+    ensures { result ≡ in_range number.now range.now }
+{
+    number.len() == range.low.bytes().len()
+        && at_most(range.low.bytes(), number)
+        && at_most(number, range.high.bytes())
+}

@@ -1,0 +1,61 @@
+// What is known of a line.
+ghost use Rattle.std.specs.Prelude.{◌≡◌};
+ghost use Rattle.tx_lines.specs.Status.{has, with_mark, is_unmarked};
+
+/// A mark that a line may have.
+#[derive(Clone, Copy, Debug, PartialEq, Eq)]
+pub enum Mark {
+    Faulty,
+    Away,
+    Engaged,
+}
+
+/// The marks that a line has.
+#[derive(Clone, Copy, Debug, PartialEq, Eq)]
+pub struct Status {
+    pub faulty: bool,
+    pub away: bool,
+    pub engaged: bool,
+}
+
+/// No mark.
+pub const UNMARKED: Status = Status {
+    faulty: false,
+    away: false,
+    engaged: false,
+};
+
+/// Whether the status has the mark.
+pub fn has(status: Status, mark: Mark) -> bool
+    ensures { result ≡ has mark status }
+{
+    match mark {
+        Mark::Faulty => status.faulty,
+        Mark::Away => status.away,
+        Mark::Engaged => status.engaged,
+    }
+}
+
+/// The status with the mark set or taken away.
+pub fn with_mark(status: Status, mark: Mark, on: bool) -> Status
+    ensures { result ≡ with_mark mark on status }
+{
+    match mark {
+        Mark::Faulty => Status {
+            faulty: on,
+            ..status
+        },
+        Mark::Away => Status { away: on, ..status },
+        Mark::Engaged => Status {
+            engaged: on,
+            ..status
+        },
+    }
+}
+
+/// Whether the status has no mark.
+pub fn is_unmarked(status: Status) -> bool
+    ensures { result ≡ is_unmarked status }
+{
+    !status.faulty && !status.away && !status.engaged
+}

@@ -1,0 +1,10 @@
+pub mod Ways
+pub mod Growing
+pub mod Stepping
+pub mod Holding
+pub mod Prefixes
+pub mod Longest
+pub mod LeastPair
+pub mod Building
+pub mod Looking
+pub mod CodesWritten

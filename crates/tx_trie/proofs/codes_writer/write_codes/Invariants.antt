@@ -1,0 +1,11 @@
+use Rattle.std.proofs.Common.{◌≡◌, take}
+use Rattle.std.specs.Io.KnownBytes.{append_known}
+use Rattle.std.specs.List.{flat_map}
+use Rattle.tx_trie.specs.CodesText.{code_line}
+use Rattle.tx_trie.proofs.codes_writer.write_codes.Given as goal
+
+abbrev pub invariant-loop-place : goal.invariant-loop-place
+invariant-loop-place g l = record {
+  wrote : g.W.Sink.taken l.sink ≡ append_known (g.W.Sink.taken l.initial.sink) (flat_map (code_line l.plan) (take l.place l.plan.codes));
+  mark : g.W.Sink.failed l.sink ≡ g.W.Sink.failed l.initial.sink;
+}

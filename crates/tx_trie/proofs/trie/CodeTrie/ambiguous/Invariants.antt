@@ -1,0 +1,5 @@
+use Rattle.tx_trie.specs.Least.{IsLeastBelow}
+use Rattle.tx_trie.proofs.trie.CodeTrie.ambiguous.Given as goal
+
+abbrev pub invariant-loop-place : goal.invariant-loop-place
+invariant-loop-place g l = IsLeastBelow l.self l.place l.least

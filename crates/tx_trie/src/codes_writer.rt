@@ -1,0 +1,85 @@
+// How the codes of a plan are written out.
+ghost use Rattle.std.specs.Prelude.{◌≡◌, ◌∷◌, [], codes, true, OnOk, OnErr};
+ghost use Rattle.std.specs.Io.KnownBytes.{append_known};
+ghost use Rattle.tx_text.specs.Ends.{StopsIn};
+ghost use Rattle.tx_text.specs.Written.{line_written};
+ghost use Rattle.tx_plan.specs.Plan.{figures_of, exchange_name, home_of};
+ghost use Rattle.tx_trie.specs.CodesText.{pair_line, codes_text};
+
+use crate::trie::CodeTrie;
+use std::alloc::Allocator;
+use tx_plan::{CodeId, Plan};
+use tx_text::{Sink, WriteFault, write_bytes, write_parts};
+
+/// Writes each code with its home, in order of declaration, and then the pair that is ambiguous, if there is one.
+pub fn write_codes<A: Allocator, W: Sink>(
+    plan: &Plan<A>,
+    trie: &CodeTrie<A>,
+    sink: &mut W,
+) -> Result<(), WriteFault>
+    requires { trie.now ≡ plan.now.codes }
+    ensures ok { OnOk result (W.taken sink.new ≡ append_known (W.taken sink.old) (codes_text plan.now)) }
+    ensures err { OnErr result (StopsIn (W.taken sink.old) (W.taken sink.new) (codes_text plan.now)) }
+    ensures mark { OnErr result (W.failed sink.new ≡ true) }
+    ensures unmarked { OnOk result (W.failed sink.new ≡ W.failed sink.old) }
+{
+    plan.rules();
+    for place in 0..plan.codes() {
+        write_code(plan, CodeId::at(place as u16), sink)?;
+    }
+    write_pair(trie.ambiguous(), plan, sink)?;
+    Ok(())
+}
+
+/// Writes a code and its home.
+fn write_code<A: Allocator, W: Sink>(
+    plan: &Plan<A>,
+    code: CodeId,
+    sink: &mut W,
+) -> Result<(), WriteFault>
+    ensures ok { OnOk result (W.taken sink.new ≡ append_known (W.taken sink.old) (line_written (codes "CODE" ∷ figures_of plan.now code ∷ exchange_name plan.now (home_of plan.now code) ∷ []))) }
+    ensures err { OnErr result (StopsIn (W.taken sink.old) (W.taken sink.new) (line_written (codes "CODE" ∷ figures_of plan.now code ∷ exchange_name plan.now (home_of plan.now code) ∷ []))) }
+    ensures mark { OnErr result (W.failed sink.new ≡ true) }
+    ensures unmarked { OnOk result (W.failed sink.new ≡ W.failed sink.old) }
+{
+    let figures = plan.code_figures(code);
+    let home = plan.exchange_name(plan.home(code));
+    write_parts(
+        &[
+            b"CODE ".as_slice(),
+            figures,
+            b" ".as_slice(),
+            home,
+            b"\n".as_slice(),
+        ],
+        sink,
+    )
+}
+
+/// Writes the ambiguous pair, or that there is none.
+fn write_pair<A: Allocator, W: Sink>(
+    pair: Option<(CodeId, CodeId)>,
+    plan: &Plan<A>,
+    sink: &mut W,
+) -> Result<(), WriteFault>
+    ensures ok { OnOk result (W.taken sink.new ≡ append_known (W.taken sink.old) (pair_line plan.now pair)) }
+    ensures err { OnErr result (StopsIn (W.taken sink.old) (W.taken sink.new) (pair_line plan.now pair)) }
+    ensures mark { OnErr result (W.failed sink.new ≡ true) }
+    ensures unmarked { OnOk result (W.failed sink.new ≡ W.failed sink.old) }
+{
+    let Some((shorter, longer)) = pair else {
+        return write_bytes(b"DISTINCT\n", sink);
+    };
+    let shorter = plan.code_figures(shorter);
+    let longer = plan.code_figures(longer);
+    write_parts(
+        &[
+            b"AMBIGUOUS ".as_slice(),
+            shorter,
+            b" ".as_slice(),
+            longer,
+            b"\n".as_slice(),
+        ],
+        sink,
+    )
+}
