@@ -1,0 +1,8 @@
+pub mod Names
+pub mod WrittenWords
+pub mod RanksSoFar
+pub mod Written
+pub mod Whole
+pub mod Ranges
+pub mod Ranked
+pub mod Reading

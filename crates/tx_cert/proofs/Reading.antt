@@ -1,0 +1,38 @@
+-- Reading a certificate text.
+use Rattle.std.proofs.Common.{◌≡◌, ◌⊎◌, ℕ, List, [], ◌∷◌, Option, None, Result, Ok, Err, Bool, true, false, codes, refl, inl, inr}
+use Rattle.tx_text.specs.declared.frame.Phase.TheVariants.{Start}
+use Rattle.tx_text.specs.declared.frame_reader.FrameReader.{FrameReader}
+use Rattle.tx_text.specs.Told.{reading_of_calls, told_at}
+use Rattle.tx_text.specs.Frame.{ReadsOn}
+use Rattle.tx_text.specs.Framing.{to_come}
+use Rattle.tx_text.specs.Said.{said, DeclaredBy}
+use Rattle.tx_text.proofs.ReadingOn.{moves-nil}
+use Rattle.tx_plan.specs.Plan.{Plan}
+use Rattle.tx_cert.specs.declared.fault.CertWord.{CertWord}
+use Rattle.tx_cert.specs.Certificate.{Certificate, no_ranks_for}
+use Rattle.tx_cert.specs.CertText.{declare, cert_of, is_memory}
+
+-- nothing was read yet
+pub at_start : {A : Type 0} (a : Option (List ℕ)) (p : Plan) (v : FrameReader A) (t : Certificate) (left : ℕ) → v.key.now ≡ codes "CERT" → v.most ≡ 1 → v.reader ≡ reading_of_calls left → v.phase ≡ Start → v.number ≡ 1 → t ≡ no_ranks_for p
+    → ReadsOn a a (cert_of p) (λ e more. said (declare p) 1 t (to_come v e more)) × (v.reader.feed.fault ≡ None)
+unfolding told_at
+at_start a p v t left k m r ph n e = (record { read = []; moves = moves-nil a; gives = λ d more. rw (k, m, r, ph, n, e) refl }, rw r refl)
+
+-- a step that is not the end
+pub went_past : {E W : Type 0} → E ⊎ W → (E → ⊥) → W
+went_past (inl e) none = absurd (none e)
+went_past (inr w) none = w
+
+-- there is one version of these texts
+pub any_version : (p : Plan) (v w : ℕ) (t : Certificate) (ws : List (List ℕ)) → declare p v t ws ≡ declare p w t ws
+unfolding declare
+any_version p v w t [] = refl
+any_version p v w t (x ∷ ws) = refl
+
+-- a refused line
+pub refused_by : (r : Result Certificate CertWord) (x : CertWord) → r ≡ Err x → DeclaredBy r (is_memory x) x
+refused_by r x h = by (is_memory x)
+  where
+    by : (b : Bool) → DeclaredBy r b x
+    by true = tt
+    by false = h

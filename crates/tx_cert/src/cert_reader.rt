@@ -1,0 +1,134 @@
+// The readers of certificate texts.
+ghost use Rattle.std.specs.Prelude.{◌≡◌, codes, IfOk, IfErr};
+ghost use Rattle.tx_text.specs.declared.frame.Phase.TheVariants.{Start};
+ghost use Rattle.tx_text.specs.declared.line_fault.LineFault.TheVariants.{Text};
+ghost use Rattle.tx_text.specs.declared.frame.FrameFault.TheVariants.{Line};
+ghost use Rattle.tx_text.specs.declared.frame.Kind.TheVariants.{Frame, Word};
+ghost use Rattle.tx_text.specs.Calls.{source_calls, CallsAtMost, Broken};
+ghost use Rattle.tx_text.specs.Told.{AtEnd, reading_of_calls};
+ghost use Rattle.tx_text.specs.Said.{Answered, AnswersAs, told_fault};
+ghost use Rattle.tx_cert.specs.Certificate.{no_ranks_for, IsCertificateOf};
+ghost use Rattle.tx_cert.specs.CertText.{cert_of, is_memory};
+
+use crate::cert::Cert;
+use crate::declaring::declare;
+use crate::fault::{CertFault, CertWord};
+use std::alloc::Allocator;
+use tx_plan::Plan;
+use tx_text::{
+    FaultAt, FrameFault, FrameReader, Kind, LineFault, SliceSource, Source, Step, TextFault,
+    slices_are_read_whole,
+};
+
+/// Reads a certificate of the plan from a text.
+pub fn read_cert<A: Allocator + Copy>(
+    alloc: A,
+    text: &[u8],
+    plan: &Plan<A>,
+) -> Result<Cert<A>, CertFault>
+    ensures gives { AnswersAs is_memory (cert_of plan.now AtEnd text.now) (told_fault result) }
+    ensures fits { IfOk result (λ t. IsCertificateOf plan.now t) }
+    ensures memory { IfErr result (λ e. e.kind ≡ Word CertWord.NoMemory → e.line ≡ 1) }
+{
+    let cert = match Cert::new(alloc, plan) {
+        Ok(cert) => cert,
+        Err(_) => return Err(no_memory()),
+    };
+    let frame = match FrameReader::for_slice(alloc, b"CERT", 1) {
+        Ok(frame) => frame,
+        Err(fault) => return Err(no_room(fault)),
+    };
+    slices_are_read_whole();
+    let mut source = SliceSource::new(text);
+    read_lines(frame, cert, plan, &mut source)
+}
+
+/// Reads a certificate of the plan from a source, in pieces of any size and by at most 4,294,967,295 calls.
+pub fn read_cert_from<A: Allocator + Copy, R: Source>(
+    alloc: A,
+    source: &mut R,
+    plan: &Plan<A>,
+) -> Result<Cert<A>, CertFault>
+    ensures gives { Answered is_memory (R.rest source.old) (R.rest source.new) (cert_of plan.now)
+        (Broken R.called (R.failed source.new) source_calls source.old source.new) (told_fault result) }
+    ensures calls { CallsAtMost R.called source_calls source.old source.new }
+    ensures fits { IfOk result (λ t. IsCertificateOf plan.now t) }
+    ensures memory { IfErr result (λ e. e.kind ≡ Word CertWord.NoMemory → (e.line ≡ 1) × (source.new ≡ source.old)) }
+{
+    let cert = match Cert::new(alloc, plan) {
+        Ok(cert) => cert,
+        Err(_) => return Err(no_memory()),
+    };
+    let frame = match FrameReader::new(alloc, b"CERT", 1) {
+        Ok(frame) => frame,
+        Err(fault) => return Err(no_room(fault)),
+    };
+    read_lines(frame, cert, plan, source)
+}
+
+/// No memory for the certificate.
+fn no_memory() -> CertFault
+    ensures { result ≡ record { line = 1; kind = Word CertWord.NoMemory } }
+{
+    FaultAt {
+        line: 1,
+        kind: Kind::Word(CertWord::NoMemory),
+    }
+}
+
+/// No memory for the reader's buffer.
+fn no_room(fault: TextFault) -> CertFault
+    ensures { result ≡ record { line = 1; kind = Frame (Line (Text fault)) } }
+{
+    FaultAt {
+        line: 1,
+        kind: Kind::Frame(FrameFault::Line(LineFault::Text(fault))),
+    }
+}
+
+/// Reads all lines into a certificate without ranks.
+fn read_lines<A: Allocator, R: Source>(
+    frame: FrameReader<'_, A>,
+    cert: Cert<A>,
+    plan: &Plan<A>,
+    source: &mut R,
+) -> Result<Cert<A>, CertFault>
+    requires key { frame.key.now ≡ codes "CERT" }
+    requires most { frame.most ≡ 1 }
+    requires reader { frame.reader ≡ reading_of_calls frame.reader.left }
+    requires phase { frame.phase ≡ Start }
+    requires number { frame.number ≡ 1 }
+    requires cert { cert ≡ no_ranks_for plan.now }
+    ensures gives { Answered is_memory (R.rest source.old) (R.rest source.new) (cert_of plan.now)
+        (Broken R.called (R.failed source.new) frame.entry.reader.left source.old source.new) (told_fault result) }
+    ensures calls { CallsAtMost R.called frame.entry.reader.left source.old source.new }
+    ensures fits { IfOk result (λ t. IsCertificateOf plan.now t) }
+    ensures memory { IfErr result (λ e. (e.kind ≡ Word CertWord.NoMemory → ⊥)) }
+{
+    let mut frame = frame;
+    let mut cert = cert;
+    'lines: loop {
+        match frame.advance(source) {
+            Ok(Step::Header(_)) => {}
+            Ok(Step::Line) => match declare(plan, &mut cert, frame.words()) {
+                Ok(()) => {}
+                Err(fault) => {
+                    return Err(FaultAt {
+                        line: frame.number(),
+                        kind: Kind::Word(fault),
+                    });
+                }
+            },
+            Ok(Step::End) => {
+                cert.whole();
+                return Ok(cert);
+            }
+            Err(stop) => {
+                return Err(FaultAt {
+                    line: stop.line,
+                    kind: Kind::Frame(stop.fault),
+                });
+            }
+        }
+    }
+}

@@ -1,0 +1,80 @@
+// What each line of a certificate text declares.
+ghost use Rattle.std.specs.Prelude.{◌≡◌, ◌≢◌, length, Ok, Err, IfOk, IfErr};
+ghost use Rattle.tx_cert.specs.CertText.{declare, rank_line};
+
+use crate::cert::Cert;
+use crate::fault::CertWord;
+use std::alloc::Allocator;
+use tx_plan::Plan;
+use tx_text::{Words, number};
+
+/// The words after RANK: a code, an exchange and a rank.
+fn rank_line<A: Allocator>(
+    plan: &Plan<A>,
+    cert: &mut Cert<A>,
+    words: Words<'_>,
+) -> Result<(), CertWord>
+    requires codes { cert.old.codes ≡ length plan.now.codes }
+    requires exchanges { cert.old.exchanges ≡ length plan.now.exchanges }
+    ensures ok { IfOk result (λ _. rank_line plan.now cert.old words.entry ≡ Ok cert.new) }
+    ensures err { IfErr result (λ e. rank_line plan.now cert.old words.entry ≡ Err e) }
+    ensures memory { IfErr result (λ e. e ≢ CertWord.NoMemory) }
+    ensures codes { cert.new.codes ≡ cert.old.codes }
+    ensures exchanges { cert.new.exchanges ≡ cert.old.exchanges }
+{
+    let mut words = words;
+    let Some(code) = words.next() else {
+        return Err(CertWord::WrongCount);
+    };
+    let Some(exchange) = words.next() else {
+        return Err(CertWord::WrongCount);
+    };
+    let Some(rank) = words.next() else {
+        return Err(CertWord::WrongCount);
+    };
+    if words.next().is_some() {
+        return Err(CertWord::WrongCount);
+    }
+    let Some(code) = plan.code_named(code) else {
+        return Err(CertWord::UnknownName);
+    };
+    let Some(exchange) = plan.exchange_named(exchange) else {
+        return Err(CertWord::UnknownName);
+    };
+    let Some(rank) = number(rank, 65535) else {
+        return Err(CertWord::BadNumber);
+    };
+    if cert.rank(code, exchange).is_some() {
+        return Err(CertWord::Duplicate);
+    }
+    cert.set(code, exchange, rank as u16);
+    Ok(())
+}
+
+/// What the line declares after the lines before it.
+#[tactic(auto, unfolding(crate::specs::CertText::declare))]
+pub(crate) fn declare<A: Allocator>(
+    plan: &Plan<A>,
+    cert: &mut Cert<A>,
+    words: Words<'_>,
+) -> Result<(), CertWord>
+    requires codes { cert.old.codes ≡ length plan.now.codes }
+    requires exchanges { cert.old.exchanges ≡ length plan.now.exchanges }
+    ensures ok { IfOk result (λ _. declare plan.now 1 cert.old words.entry ≡ Ok cert.new) }
+    ensures err { IfErr result (λ e. declare plan.now 1 cert.old words.entry ≡ Err e) }
+    ensures memory { IfErr result (λ e. e ≢ CertWord.NoMemory) }
+    ensures codes { cert.new.codes ≡ cert.old.codes }
+    ensures exchanges { cert.new.exchanges ≡ cert.old.exchanges }
+{
+    let mut words = words;
+    let Some(first) = words.next() else {
+        return Err(CertWord::UnknownWord);
+    };
+    if first == b"RANK".as_slice() {
+        return rank_line(plan, cert, words);
+    }
+    if first == b"END".as_slice() {
+        return Err(CertWord::WrongCount);
+    }
+    Err(CertWord::UnknownWord)
+}

@@ -1,0 +1,62 @@
+// What is wrong with a certificate text.
+ghost use Rattle.std.specs.Prelude.{◌≡◌};
+ghost use Rattle.tx_cert.specs.CertFaults.{word_row, frame_row, fault_row};
+
+use tx_text::{FaultAt, FormFault, FrameFault, Kind, LineFault, TextFault};
+
+/// What is wrong with the words of a line. Of several the first in this order is told.
+#[derive(Clone, Copy, Debug, PartialEq, Eq)]
+pub enum CertWord {
+    /// C1: the first word is none of a certificate's.
+    UnknownWord,
+    /// C2: the number of words.
+    WrongCount,
+    /// C3: no code or exchange of the plan, or no well formed one.
+    UnknownName,
+    /// C4: a rank that is no number of at most 65,535.
+    BadNumber,
+    /// C5: the exchange was ranked for the code before.
+    Duplicate,
+    /// C9: no memory was left.
+    NoMemory,
+}
+
+/// What is wrong with a certificate text, and the line of it, counted from 1.
+pub type CertFault = FaultAt<CertWord>;
+
+/// The code and the name of a fault, as `C5` and `Duplicate`.
+pub fn code_and_name(kind: Kind<CertWord>) -> (&'static [u8], &'static [u8])
+    ensures { (result.0.now, result.1.now) ≡ fault_row kind }
+{
+    match kind {
+        Kind::Frame(fault) => frame_row(fault),
+        Kind::Word(word) => word_row(word),
+    }
+}
+
+fn frame_row(fault: FrameFault) -> (&'static [u8], &'static [u8])
+    ensures { (result.0.now, result.1.now) ≡ frame_row fault }
+{
+    match fault {
+        FrameFault::Form(FormFault::NoHeader) => (b"C6", b"NoHeader"),
+        FrameFault::Form(FormFault::NoEnd) => (b"C7", b"NoEnd"),
+        FrameFault::Form(FormFault::AfterEnd) => (b"C8", b"AfterEnd"),
+        FrameFault::Line(LineFault::Read) => (b"C10", b"ReadFault"),
+        FrameFault::Line(LineFault::Text(TextFault::LineTooLong)) => (b"X1", b"LineTooLong"),
+        FrameFault::Line(LineFault::Text(TextFault::BadByte)) => (b"X2", b"BadByte"),
+        FrameFault::Line(LineFault::Text(TextFault::NoMemory)) => (b"X3", b"NoMemory"),
+    }
+}
+
+fn word_row(word: CertWord) -> (&'static [u8], &'static [u8])
+    ensures { (result.0.now, result.1.now) ≡ word_row word }
+{
+    match word {
+        CertWord::UnknownWord => (b"C1", b"UnknownWord"),
+        CertWord::WrongCount => (b"C2", b"WrongCount"),
+        CertWord::UnknownName => (b"C3", b"UnknownName"),
+        CertWord::BadNumber => (b"C4", b"BadNumber"),
+        CertWord::Duplicate => (b"C5", b"Duplicate"),
+        CertWord::NoMemory => (b"C9", b"NoMemory"),
+    }
+}

@@ -1,0 +1,5 @@
+use Rattle.tx_check.specs.LeastPair.{IsLeastBelow}
+use Rattle.tx_check.proofs.ambiguity.ambiguous.Given as goal
+
+abbrev pub invariant-loop-place : goal.invariant-loop-place
+invariant-loop-place g l = IsLeastBelow l.plan l.place l.least

@@ -1,0 +1,13 @@
+use Rattle.std.proofs.Common.{arith}
+use Rattle.tx_check.proofs.LeastFound.{row_start, row_more, row_end}
+use Rattle.tx_check.proofs.ambiguity.least_with.Goals as goal
+
+pub loop-place-init : goal.loop-place-init
+loop-place-init g c = row_start c.args.plan.now c.args.first c.args.least c.requires.least
+
+pub loop-place-preserved : goal.loop-place-preserved
+loop-place-preserved g c =
+    rw c.with_pair-least.ensures (row_more c.args.plan.now c.args.first c.loop-place.place _ c.loop-place.least c.at.ensures c.requires.first (omega arith) c.loop-place.invariant)
+
+pub returns : goal.returns
+returns g c = row_end c.args.plan.now c.args.first c.loop-place.place c.loop-place.least (omega arith) c.loop-place.invariant

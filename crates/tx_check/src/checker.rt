@@ -1,0 +1,60 @@
+// The checker.
+ghost use Rattle.std.specs.Prelude.{◌≡◌, ◌≤◌};
+ghost use Rattle.tx_plan.specs.Certified.{IsCertified};
+ghost use Rattle.tx_state.specs.Sound.{IsSound, HasFewRoutes};
+ghost use Rattle.tx_check.specs.Checks.{ranks_for, check_faults, foremost, verdict_of};
+
+use crate::ambiguity::ambiguous;
+use crate::fault::CheckFault;
+use crate::lists::list_faults;
+use crate::passes::{height_fault, home_fault, origin_fault};
+use crate::verdict::Verdict;
+use std::alloc::Allocator;
+use tx_cert::Cert;
+use tx_plan::Plan;
+use tx_state::certified_is_sound;
+
+/// Whether the ranks of the certificate show that no call of the plan passes more than `limit` transits or is lost with `spare` groups down or full.
+/// A Yes means that the plan is certified, and so sound: in every run, whatever the events, every state is safe and every NC is excused, and at most
+/// twice `limit` and three Routes of one call are accepted. Takes no memory, and looks at each route list once.
+pub fn check<A: Allocator>(plan: &Plan<A>, cert: &Cert<A>, limit: u8, spare: u8) -> Verdict
+    requires limit { limit ≤ 62 }
+    requires spare { spare ≤ 15 }
+    ensures verdict { result ≡ verdict_of (check_faults plan.now (ranks_for plan.now cert.now) limit spare) }
+    ensures certified { result ≡ Verdict.Yes → IsCertified plan.now (ranks_for plan.now cert.now) limit spare }
+    ensures yes { IsCertified plan.now (ranks_for plan.now cert.now) limit spare → result ≡ Verdict.Yes }
+    ensures sound { result ≡ Verdict.Yes → IsSound plan.now limit spare }
+    ensures few_routes { result ≡ Verdict.Yes → HasFewRoutes plan.now limit }
+{
+    plan.rules();
+    certified_is_sound();
+    match first_fault(plan, cert, limit, spare) {
+        None => Verdict::Yes,
+        Some(fault) => Verdict::No(fault),
+    }
+}
+
+/// The first fault, by the number of its clause.
+fn first_fault<A: Allocator>(
+    plan: &Plan<A>,
+    cert: &Cert<A>,
+    limit: u8,
+    spare: u8,
+) -> Option<CheckFault>
+    ensures { result ≡ foremost (check_faults plan.now (ranks_for plan.now cert.now) limit spare) }
+{
+    if let Some(pair) = ambiguous(plan) {
+        return Some(CheckFault::Ambiguous(pair.0, pair.1));
+    }
+    if let Some(fault) = home_fault(plan, cert) {
+        return Some(fault);
+    }
+    if let Some(fault) = origin_fault(plan, cert) {
+        return Some(fault);
+    }
+    if let Some(fault) = height_fault(plan, cert, limit) {
+        return Some(fault);
+    }
+    let lists = list_faults(plan, cert, spare);
+    lists.short.or(lists.unranked).or(lists.not_lower)
+}

@@ -1,0 +1,18 @@
+// The checker of certificates.
+#![tactic(auto)]
+
+mod ambiguity;
+mod checker;
+mod fault;
+mod law;
+mod lists;
+mod passes;
+mod ranks;
+mod verdict;
+mod verdict_writer;
+
+pub use checker::check;
+pub use fault::CheckFault;
+pub use law::faultless_is_certified;
+pub use verdict::Verdict;
+pub use verdict_writer::write_verdict;

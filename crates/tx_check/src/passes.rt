@@ -1,0 +1,160 @@
+// The faults of single ranks, each looked for in order of declaration.
+ghost use Rattle.std.specs.Prelude.{◌≡◌, ◌<◌, ℕ, length, false, slice_index_or};
+ghost use Rattle.tx_plan.specs.Routes.{is_origin};
+ghost use Rattle.tx_check.specs.Checks.{ranks_for, at_exchanges, foremost, k2_at, k2_faults, k3_at, k3_faults, k4_at, k4_faults};
+
+use crate::fault::CheckFault;
+use crate::ranks::rank_of;
+use std::alloc::Allocator;
+use tx_cert::Cert;
+use tx_plan::{CodeId, ExchangeId, Plan};
+
+/// The first home whose rank is not 0.
+pub(crate) fn home_fault<A: Allocator>(plan: &Plan<A>, cert: &Cert<A>) -> Option<CheckFault>
+    ensures { result ≡ foremost (k2_faults plan.now (ranks_for plan.now cert.now)) }
+{
+    plan.rules();
+    for place in 0..plan.codes() {
+        let found = home_fault_for(plan, cert, CodeId::at(place as u16));
+        if found.is_some() {
+            return found;
+        }
+    }
+    None
+}
+
+fn home_fault_for<A: Allocator>(plan: &Plan<A>, cert: &Cert<A>, code: CodeId) -> Option<CheckFault>
+    ensures { result ≡ foremost (k2_at plan.now (ranks_for plan.now cert.now) code) }
+{
+    match rank_of(plan, cert, code, plan.home(code)) {
+        None => Some(CheckFault::HomeNotZero(code)),
+        Some(rank) => {
+            if rank == 0 {
+                None
+            } else {
+                Some(CheckFault::HomeNotZero(code))
+            }
+        }
+    }
+}
+
+/// The first origin that has no rank.
+pub(crate) fn origin_fault<A: Allocator>(plan: &Plan<A>, cert: &Cert<A>) -> Option<CheckFault>
+    ensures { result ≡ foremost (k3_faults plan.now (ranks_for plan.now cert.now)) }
+{
+    plan.rules();
+    let origins = origins(plan);
+    for place in 0..plan.codes() {
+        let found = origin_fault_for(plan, cert, &origins, CodeId::at(place as u16));
+        if found.is_some() {
+            return found;
+        }
+    }
+    None
+}
+
+/// Which exchanges are origins.
+fn origins<A: Allocator>(plan: &Plan<A>) -> [bool; 256]
+    ensures { (x : ℕ) → x < length plan.now.exchanges → slice_index_or result x false ≡ is_origin plan.now x }
+{
+    plan.rules();
+    let mut marks = [false; 256];
+    for place in 0..plan.exchanges() {
+        marks[place] = plan.is_origin(ExchangeId::at(place as u16));
+    }
+    marks
+}
+
+fn origin_fault_for<A: Allocator>(
+    plan: &Plan<A>,
+    cert: &Cert<A>,
+    origins: &[bool; 256],
+    code: CodeId,
+) -> Option<CheckFault>
+    requires { (x : ℕ) → x < length plan.now.exchanges → slice_index_or origins.now x false ≡ is_origin plan.now x }
+    ensures { result ≡ foremost (at_exchanges plan.now (k3_at plan.now (ranks_for plan.now cert.now) code)) }
+{
+    plan.rules();
+    for place in 0..plan.exchanges() {
+        let exchange = ExchangeId::at(place as u16);
+        let found = origin_fault_at(plan, cert, origins[place], code, exchange);
+        if found.is_some() {
+            return found;
+        }
+    }
+    None
+}
+
+fn origin_fault_at<A: Allocator>(
+    plan: &Plan<A>,
+    cert: &Cert<A>,
+    origin: bool,
+    code: CodeId,
+    exchange: ExchangeId,
+) -> Option<CheckFault>
+    requires { origin ≡ is_origin plan.now exchange }
+    ensures { result ≡ foremost (k3_at plan.now (ranks_for plan.now cert.now) code exchange) }
+{
+    if origin && rank_of(plan, cert, code, exchange).is_none() && !plan.is_barred(exchange, code) {
+        Some(CheckFault::OriginUnranked(code, exchange))
+    } else {
+        None
+    }
+}
+
+/// The first rank that is more than the limit and one.
+pub(crate) fn height_fault<A: Allocator>(
+    plan: &Plan<A>,
+    cert: &Cert<A>,
+    limit: u8,
+) -> Option<CheckFault>
+    ensures { result ≡ foremost (k4_faults plan.now (ranks_for plan.now cert.now) limit) }
+{
+    plan.rules();
+    for place in 0..plan.codes() {
+        let found = height_fault_for(plan, cert, limit, CodeId::at(place as u16));
+        if found.is_some() {
+            return found;
+        }
+    }
+    None
+}
+
+fn height_fault_for<A: Allocator>(
+    plan: &Plan<A>,
+    cert: &Cert<A>,
+    limit: u8,
+    code: CodeId,
+) -> Option<CheckFault>
+    ensures { result ≡ foremost (at_exchanges plan.now (k4_at (ranks_for plan.now cert.now) limit code)) }
+{
+    plan.rules();
+    for place in 0..plan.exchanges() {
+        let found = height_fault_at(plan, cert, limit, code, ExchangeId::at(place as u16));
+        if found.is_some() {
+            return found;
+        }
+    }
+    None
+}
+
+fn height_fault_at<A: Allocator>(
+    plan: &Plan<A>,
+    cert: &Cert<A>,
+    limit: u8,
+    code: CodeId,
+    exchange: ExchangeId,
+) -> Option<CheckFault>
+    ensures { result ≡ foremost (k4_at (ranks_for plan.now cert.now) limit code exchange) }
+{
+    match rank_of(plan, cert, code, exchange) {
+        None => None,
+        Some(rank) => {
+            if rank > u16::from(limit) + 1 {
+                Some(CheckFault::TooHigh(code, exchange))
+            } else {
+                None
+            }
+        }
+    }
+}
