@@ -1,0 +1,9 @@
+-- What the numbers of a command are.
+use Rattle.std.specs.Prelude.{◌≤◌}
+use Rattle.telexplan.specs.declared.command.Command.{Command}
+use Rattle.telexplan.specs.declared.command.Command.TheVariants.{Check}
+
+-- a limit is at most 62, and a spare number at most 15
+abbrev pub IsInRange : Command → Type 0
+IsInRange (Check plan cert limit spare) = (limit ≤ 62) × (spare ≤ 15)
+IsInRange other = Unit {0}

@@ -1,0 +1,159 @@
+//! The program: its words, its files and its exit status.
+#![tactic(auto)]
+
+ghost use Rattle.std.specs.Prelude.{◌≤◌};
+ghost use Rattle.telexplan.specs.Commands.{IsInRange};
+
+mod command;
+mod ends;
+
+use command::{Command, WordsFault, read_command};
+use ends::{FlushingSource, Output, OutputSink, flushed};
+use std::cell::RefCell;
+use std::fs::File;
+use std::process::ExitCode;
+use std::{env, io};
+use tx_check::Verdict;
+use tx_jobs::{JobFault, check_job, codes_job, pipe_job, run_job, write_fault};
+use tx_pipe::TwoTexts;
+use tx_text::{FromRead, ToWrite};
+
+/// A plan and then a script on standard input.
+fn run_pipe(rt: &HostRuntime) -> Result<u8, JobFault> {
+    let Ok(output) = Output::new(rt.alloc(), rt.stdout()) else {
+        return Err(JobFault::NoMemory);
+    };
+    let output = RefCell::new(output);
+    let mut input = TwoTexts::new(FlushingSource::new(rt.stdin(), &output));
+    let done = pipe_job(rt.alloc(), &mut input, &mut OutputSink::new(&output));
+    if !flushed(&output) {
+        return Err(JobFault::Write);
+    }
+    done.map(|_| 0)
+}
+
+fn open(rt: &HostRuntime, path: &str) -> Result<File, JobFault> {
+    File::open(rt, path).map_err(|_| JobFault::Read)
+}
+
+/// `run PLAN SCRIPT`.
+fn run_files(rt: &HostRuntime, plan: &str, script: &str) -> Result<u8, JobFault> {
+    let plan = open(rt, plan)?;
+    let script = open(rt, script)?;
+    let Ok(output) = Output::new(rt.alloc(), rt.stdout()) else {
+        return Err(JobFault::NoMemory);
+    };
+    let output = RefCell::new(output);
+    let mut plan = FromRead::new(plan);
+    let mut script = FlushingSource::new(script, &output);
+    let done = run_job(
+        rt.alloc(),
+        &mut plan,
+        &mut script,
+        &mut OutputSink::new(&output),
+    );
+    if !flushed(&output) {
+        return Err(JobFault::Write);
+    }
+    done.map(|_| 0)
+}
+
+/// `check PLAN CERT`: status 1 after a No.
+fn run_check(rt: &HostRuntime, plan: &str, cert: &str, limit: u8, spare: u8) -> Result<u8, JobFault>
+    requires limit { limit ≤ 62 }
+    requires spare { spare ≤ 15 }
+{
+    let plan = open(rt, plan)?;
+    let cert = open(rt, cert)?;
+    let Ok(output) = Output::new(rt.alloc(), rt.stdout()) else {
+        return Err(JobFault::NoMemory);
+    };
+    let output = RefCell::new(output);
+    let mut plan = FromRead::new(plan);
+    let mut cert = FromRead::new(cert);
+    let mut sink = OutputSink::new(&output);
+    let done = check_job(rt.alloc(), &mut plan, &mut cert, limit, spare, &mut sink);
+    if !flushed(&output) {
+        return Err(JobFault::Write);
+    }
+    done.map(|verdict| u8::from(verdict != Verdict::Yes))
+}
+
+/// `codes PLAN`: status 1 where a code begins another.
+fn run_codes(rt: &HostRuntime, plan: &str) -> Result<u8, JobFault> {
+    let mut plan = FromRead::new(open(rt, plan)?);
+    let Ok(output) = Output::new(rt.alloc(), rt.stdout()) else {
+        return Err(JobFault::NoMemory);
+    };
+    let output = RefCell::new(output);
+    let done = codes_job(rt.alloc(), &mut plan, &mut OutputSink::new(&output));
+    if !flushed(&output) {
+        return Err(JobFault::Write);
+    }
+    done.map(|pair| u8::from(pair.is_some()))
+}
+
+fn run_command(rt: &HostRuntime, command: &Command) -> Result<u8, JobFault>
+    requires { IsInRange command.now }
+{
+    match command {
+        Command::Pipe => run_pipe(rt),
+        Command::Run { plan, script } => run_files(rt, plan.as_str(), script.as_str()),
+        Command::Check {
+            plan,
+            cert,
+            limit,
+            spare,
+        } => run_check(rt, plan.as_str(), cert.as_str(), *limit, *spare),
+        Command::Codes { plan } => run_codes(rt, plan.as_str()),
+    }
+}
+
+fn tell_words(rt: &HostRuntime, fault: &WordsFault) -> io::Result<()> {
+    match fault {
+        WordsFault::Clap(e) => e.print(rt),
+        WordsFault::NoMemory => eprintln!(rt; "telexplan: no memory"),
+    }
+}
+
+fn run_words(rt: &HostRuntime, words: &[&str]) -> u8 {
+    match read_command(rt.alloc(), words) {
+        Ok(command) => match run_command(rt, &command) {
+            Ok(status) => status,
+            Err(fault) => {
+                let _ = write_fault(&fault, &mut ToWrite::new(rt.stderr()));
+                fault.status()
+            }
+        },
+        Err(fault) => {
+            let _ = tell_words(rt, &fault);
+            fault.status()
+        }
+    }
+}
+
+/// The status where the words could not be read at all.
+fn words_status(rt: &HostRuntime, e: &io::Error) -> u8 {
+    if e.kind() == io::ErrorKind::OutOfMemory {
+        let _ = eprintln!(rt; "telexplan: no memory");
+        4
+    } else {
+        64
+    }
+}
+
+fn run(rt: &HostRuntime) -> io::Result<u8> {
+    let all: Vec<String> = env::args(rt)?.collect(rt.alloc())?;
+    let mut words = Vec::new(rt.alloc());
+    for word in all.iter().skip(1) {
+        words.push(word.as_str())?;
+    }
+    Ok(run_words(rt, words.as_slice()))
+}
+
+fn main(rt: HostRuntime) -> ExitCode {
+    match run(&rt) {
+        Ok(status) => ExitCode::from(status),
+        Err(e) => ExitCode::from(words_status(&rt, &e)),
+    }
+}

@@ -1,0 +1,2 @@
+mod Untouched
+mod Piping

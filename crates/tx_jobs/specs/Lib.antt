@@ -1,0 +1,3 @@
+pub mod JobFaults
+pub mod Jobs
+pub mod CheckJobs

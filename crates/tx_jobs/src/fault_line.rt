@@ -1,0 +1,64 @@
+// The line that tells why a job stopped.
+ghost use Rattle.std.specs.Prelude.{◌≡◌, true, OnOk, OnErr};
+ghost use Rattle.std.specs.Io.KnownBytes.{append_known};
+ghost use Rattle.tx_text.specs.Ends.{StopsIn};
+ghost use Rattle.tx_jobs.specs.JobFaults.{fault_line, text_fault_line};
+
+use crate::job_fault::JobFault;
+use itoa::Buffer;
+use tx_text::{Sink, WriteFault, write_bytes, write_parts};
+
+/// Writes the line that tells a fault, as `telexplan: plan line 5: P11 Overlap`.
+pub fn write_fault<W: Sink>(fault: &JobFault, sink: &mut W) -> Result<(), WriteFault>
+    ensures ok { OnOk result (W.taken sink.new ≡ append_known (W.taken sink.old) (fault_line fault.now)) }
+    ensures err { OnErr result (StopsIn (W.taken sink.old) (W.taken sink.new) (fault_line fault.now)) }
+    ensures mark { OnErr result (W.failed sink.new ≡ true) }
+    ensures unmarked { OnOk result (W.failed sink.new ≡ W.failed sink.old) }
+{
+    match fault {
+        JobFault::Plan(fault) => {
+            let (code, name) = tx_plantext::code_and_name(fault.kind);
+            write_text_fault(b"plan", fault.line, code, name, sink)
+        }
+        JobFault::Cert(fault) => {
+            let (code, name) = tx_cert::code_and_name(fault.kind);
+            write_text_fault(b"certificate", fault.line, code, name, sink)
+        }
+        JobFault::Script(fault) => {
+            let (code, name) = tx_script::code_and_name(fault.kind);
+            write_text_fault(b"script", fault.line, code, name, sink)
+        }
+        JobFault::Read => write_bytes(b"telexplan: read fault\n", sink),
+        JobFault::Write => write_bytes(b"telexplan: write fault\n", sink),
+        JobFault::NoMemory => write_bytes(b"telexplan: no memory\n", sink),
+    }
+}
+
+fn write_text_fault<'a, W: Sink>(
+    text: &'a [u8],
+    line: u64,
+    code: &'a [u8],
+    name: &'a [u8],
+    sink: &mut W,
+) -> Result<(), WriteFault>
+    ensures ok { OnOk result (W.taken sink.new ≡ append_known (W.taken sink.old) (text_fault_line text.now line (code.now, name.now))) }
+    ensures err { OnErr result (StopsIn (W.taken sink.old) (W.taken sink.new) (text_fault_line text.now line (code.now, name.now))) }
+    ensures mark { OnErr result (W.failed sink.new ≡ true) }
+    ensures unmarked { OnOk result (W.failed sink.new ≡ W.failed sink.old) }
+{
+    let mut number = Buffer::new();
+    write_parts(
+        &[
+            b"telexplan: ".as_slice(),
+            text,
+            b" line ".as_slice(),
+            number.format(line).as_bytes(),
+            b": ".as_slice(),
+            code,
+            b" ".as_slice(),
+            name,
+            b"\n".as_slice(),
+        ],
+        sink,
+    )
+}

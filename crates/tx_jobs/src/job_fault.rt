@@ -1,0 +1,91 @@
+// Why a job stopped.
+ghost use Rattle.std.specs.Prelude.{◌≡◌};
+ghost use Rattle.tx_jobs.specs.JobFaults.{status_of, plan_fault, cert_fault, script_fault, run_fault};
+
+use thiserror::Error;
+use tx_cert::{CertFault, CertWord};
+use tx_plan::PlanRefusal;
+use tx_plantext::{PlanFault, PlanWord};
+use tx_script::{RunCause, RunFault, ScriptFault};
+use tx_text::{FrameFault, Kind, LineFault, TextFault};
+
+/// Why a job stopped before its end.
+#[derive(Clone, Copy, Debug, PartialEq, Eq, Error)]
+pub enum JobFault {
+    /// The plan's text is refused.
+    #[error("the plan is refused")]
+    Plan(PlanFault),
+    /// The certificate's text is refused.
+    #[error("the certificate is refused")]
+    Cert(CertFault),
+    /// The script's text is refused.
+    #[error("the script is refused")]
+    Script(ScriptFault),
+    /// An input failed.
+    #[error("a read failed")]
+    Read,
+    /// The output failed.
+    #[error("a write failed")]
+    Write,
+    /// No memory was left.
+    #[error("no memory")]
+    NoMemory,
+}
+
+impl JobFault {
+    /// The exit status: 2 for a refused text, 3 for a read or a write fault, 4 for want of memory.
+    pub fn status(&self) -> u8
+        ensures { result ≡ status_of self.now }
+    {
+        match self {
+            JobFault::Plan(_) | JobFault::Cert(_) | JobFault::Script(_) => 2,
+            JobFault::Read | JobFault::Write => 3,
+            JobFault::NoMemory => 4,
+        }
+    }
+
+    /// A failure to read and a want of memory are told as such.
+    pub(crate) fn of_plan(fault: PlanFault) -> JobFault
+        ensures { result ≡ plan_fault fault }
+    {
+        match fault.kind {
+            Kind::Frame(FrameFault::Line(LineFault::Read)) => JobFault::Read,
+            Kind::Frame(FrameFault::Line(LineFault::Text(TextFault::NoMemory)))
+            | Kind::Word(PlanWord::Refused(PlanRefusal::NoMemory)) => JobFault::NoMemory,
+            _ => JobFault::Plan(fault),
+        }
+    }
+
+    pub(crate) fn of_cert(fault: CertFault) -> JobFault
+        ensures { result ≡ cert_fault fault }
+    {
+        match fault.kind {
+            Kind::Frame(FrameFault::Line(LineFault::Read)) => JobFault::Read,
+            Kind::Frame(FrameFault::Line(LineFault::Text(TextFault::NoMemory)))
+            | Kind::Word(CertWord::NoMemory) => JobFault::NoMemory,
+            _ => JobFault::Cert(fault),
+        }
+    }
+
+    pub(crate) fn of_run(fault: RunFault) -> JobFault
+        ensures { result ≡ run_fault fault }
+    {
+        match fault.cause {
+            RunCause::Read => JobFault::Read,
+            RunCause::Write => JobFault::Write,
+            RunCause::NoMemory => JobFault::NoMemory,
+            RunCause::Script(fault) => JobFault::of_script(fault),
+        }
+    }
+
+    fn of_script(fault: ScriptFault) -> JobFault
+        ensures { result ≡ script_fault fault }
+    {
+        match fault.kind {
+            Kind::Frame(FrameFault::Line(LineFault::Text(TextFault::NoMemory))) => {
+                JobFault::NoMemory
+            }
+            _ => JobFault::Script(fault),
+        }
+    }
+}

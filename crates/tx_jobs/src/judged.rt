@@ -1,0 +1,77 @@
+// The job of `check PLAN CERT --limit L --spare K`.
+ghost use Rattle.std.specs.Prelude.{◌≡◌, ◌≤◌};
+ghost use Rattle.tx_text.specs.Calls.{Broken, CallsAtMost, source_calls};
+ghost use Rattle.tx_jobs.specs.CheckJobs.{CheckJobAnswers, CheckAnswers, ToldVerdict};
+
+use crate::job_fault::JobFault;
+use std::alloc::Allocator;
+use tx_cert::{Cert, read_cert_from};
+use tx_check::{Verdict, check, write_verdict};
+use tx_plan::Plan;
+use tx_plantext::read_plan_from;
+use tx_text::{Sink, Source, WriteFault};
+
+/// Reads a plan and then a certificate, and writes whether the certificate shows that the plan is certified. Answers the verdict.
+pub fn check_job<A: Allocator + Copy, P: Source, R: Source, W: Sink>(
+    alloc: A,
+    plan: &mut P,
+    cert: &mut R,
+    limit: u8,
+    spare: u8,
+    out: &mut W,
+) -> Result<Verdict, JobFault>
+    requires limit { limit ≤ 62 }
+    requires spare { spare ≤ 15 }
+    ensures answers { CheckJobAnswers (P.rest plan.old) (P.rest plan.new) (R.rest cert.old) (R.rest cert.new) (W.taken out.old) (W.taken out.new) limit spare
+        (Broken P.called (P.failed plan.new) source_calls plan.old plan.new) (Broken R.called (R.failed cert.new) source_calls cert.old cert.new) (cert.new ≡ cert.old) (out.new ≡ out.old) result }
+    ensures plan_calls { CallsAtMost P.called source_calls plan.old plan.new }
+    ensures cert_calls { CallsAtMost R.called source_calls cert.old cert.new }
+{
+    match read_plan_from(alloc, plan) {
+        Ok(plan) => {
+            plan.rules();
+            check_cert(alloc, &plan, cert, limit, spare, out)
+        }
+        Err(fault) => Err(JobFault::of_plan(fault)),
+    }
+}
+
+/// Reads a certificate of the plan, and writes the verdict.
+fn check_cert<A: Allocator + Copy, R: Source, W: Sink>(
+    alloc: A,
+    plan: &Plan<A>,
+    cert: &mut R,
+    limit: u8,
+    spare: u8,
+    out: &mut W,
+) -> Result<Verdict, JobFault>
+    requires limit { limit ≤ 62 }
+    requires spare { spare ≤ 15 }
+    ensures answers { CheckAnswers plan.now (R.rest cert.old) (R.rest cert.new) (W.taken out.old) (W.taken out.new) limit spare
+        (Broken R.called (R.failed cert.new) source_calls cert.old cert.new) (out.new ≡ out.old) result }
+    ensures calls { CallsAtMost R.called source_calls cert.old cert.new }
+{
+    match read_cert_from(alloc, cert, plan) {
+        Ok(cert) => tell_verdict(plan, &cert, limit, spare, out),
+        Err(fault) => Err(JobFault::of_cert(fault)),
+    }
+}
+
+/// Checks a certificate, and writes the verdict.
+fn tell_verdict<A: Allocator, W: Sink>(
+    plan: &Plan<A>,
+    cert: &Cert<A>,
+    limit: u8,
+    spare: u8,
+    out: &mut W,
+) -> Result<Verdict, JobFault>
+    requires limit { limit ≤ 62 }
+    requires spare { spare ≤ 15 }
+    ensures { ToldVerdict plan.now cert.now limit spare (W.taken out.old) (W.taken out.new) result }
+{
+    let verdict = check(plan, cert, limit, spare);
+    match write_verdict(&verdict, plan, out) {
+        Ok(()) => Ok(verdict),
+        Err(WriteFault) => Err(JobFault::Write),
+    }
+}

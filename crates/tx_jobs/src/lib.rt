@@ -1,0 +1,17 @@
+//! One job per command, over sources and a sink.
+#![tactic(auto)]
+
+mod fault_line;
+mod job_fault;
+mod judged;
+mod listed;
+mod piped;
+mod scripted;
+mod simulate;
+
+pub use fault_line::write_fault;
+pub use job_fault::JobFault;
+pub use judged::check_job;
+pub use listed::codes_job;
+pub use piped::pipe_job;
+pub use scripted::run_job;

@@ -1,0 +1,31 @@
+// The job of the program without words.
+ghost use Rattle.std.specs.Prelude.{◌≡◌};
+ghost use Rattle.tx_pipe.specs.declared.two_texts.Part.TheVariants.{Plan};
+ghost use Rattle.tx_jobs.specs.Jobs.{PipeJobAnswers};
+
+use crate::job_fault::JobFault;
+use crate::simulate::simulate;
+use std::alloc::Allocator;
+use tx_pipe::TwoTexts;
+use tx_plantext::read_plan_from;
+use tx_script::Summary;
+use tx_text::{Sink, Source};
+
+/// Reads a plan from an input, up to and with the first line whose one word is END, and then runs the script that follows, whose lines count from 1.
+pub fn pipe_job<A: Allocator + Copy, R: Source, W: Sink>(
+    alloc: A,
+    input: &mut TwoTexts<R>,
+    out: &mut W,
+) -> Result<Summary, JobFault>
+    requires { input.old.part ≡ Plan }
+    ensures { PipeJobAnswers R.rest R.failed input.old input.new (W.taken out.old) (W.taken out.new) (out.new ≡ out.old) result }
+{
+    match read_plan_from(alloc, input) {
+        Ok(plan) => {
+            plan.rules();
+            input.go_on();
+            simulate(alloc, &plan, input, out)
+        }
+        Err(fault) => Err(JobFault::of_plan(fault)),
+    }
+}

@@ -1,0 +1,34 @@
+// The job of `run PLAN SCRIPT`.
+ghost use Rattle.std.specs.Prelude.{◌≡◌};
+ghost use Rattle.tx_text.specs.Calls.{Broken, CallsAtMost, source_calls};
+ghost use Rattle.tx_jobs.specs.Jobs.{RunJobAnswers};
+
+use crate::job_fault::JobFault;
+use crate::simulate::simulate;
+use std::alloc::Allocator;
+use tx_plantext::read_plan_from;
+use tx_script::Summary;
+use tx_text::{Sink, Source};
+
+/// Reads a plan, and then runs a script over it: writes the replies and the tickets of its events, and at its end the line END EVENTS.
+///
+/// Nothing of the script is read before the plan was read whole.
+pub fn run_job<A: Allocator + Copy, P: Source, R: Source, W: Sink>(
+    alloc: A,
+    plan: &mut P,
+    script: &mut R,
+    out: &mut W,
+) -> Result<Summary, JobFault>
+    ensures answers { RunJobAnswers (P.rest plan.old) (P.rest plan.new) (record { rest_old = R.rest script.old; rest_new = R.rest script.new; taken_old = W.taken out.old; taken_new = W.taken out.new })
+        (Broken P.called (P.failed plan.new) source_calls plan.old plan.new) (Broken R.called (R.failed script.new) source_calls script.old script.new) ((script.new ≡ script.old) × (out.new ≡ out.old)) result }
+    ensures plan_calls { CallsAtMost P.called source_calls plan.old plan.new }
+    ensures script_calls { CallsAtMost R.called source_calls script.old script.new }
+{
+    match read_plan_from(alloc, plan) {
+        Ok(plan) => {
+            plan.rules();
+            simulate(alloc, &plan, script, out)
+        }
+        Err(fault) => Err(JobFault::of_plan(fault)),
+    }
+}

@@ -1,0 +1,31 @@
+// The run of a script over the plain network of a plan.
+ghost use Rattle.std.specs.Prelude.{◌≡◌};
+ghost use Rattle.tx_text.specs.Calls.{Broken, CallsAtMost, source_calls};
+ghost use Rattle.tx_jobs.specs.Jobs.{Simulated};
+
+use crate::job_fault::JobFault;
+use std::alloc::Allocator;
+use tx_machine::Plain;
+use tx_plan::Plan;
+use tx_script::{Summary, run};
+use tx_text::{NoMemory, Sink, Source};
+
+/// Runs a script over a network of the plan, from its opening state.
+pub(crate) fn simulate<A: Allocator + Copy, R: Source, W: Sink>(
+    alloc: A,
+    plan: &Plan<A>,
+    script: &mut R,
+    out: &mut W,
+) -> Result<Summary, JobFault>
+    ensures answers { Simulated plan.now (record { rest_old = R.rest script.old; rest_new = R.rest script.new; taken_old = W.taken out.old; taken_new = W.taken out.new })
+        (Broken R.called (R.failed script.new) source_calls script.old script.new) ((script.new ≡ script.old) × (out.new ≡ out.old)) result }
+    ensures calls { CallsAtMost R.called source_calls script.old script.new }
+{
+    match Plain::new(alloc, plan) {
+        Err(NoMemory) => Err(JobFault::NoMemory),
+        Ok(mut network) => match run(alloc, plan, &mut network, script, out) {
+            Ok(summary) => Ok(summary),
+            Err(fault) => Err(JobFault::of_run(fault)),
+        },
+    }
+}

@@ -1,0 +1,93 @@
+-- What an input of two texts gives of the bytes that it read ahead.
+use Rattle.std.proofs.Common.{◌≡◌, ◌≢◌, ℕ, ◌<◌, ◌≤◌, List, [], ◌∷◌, ◌++◌, Option, Some, None, length, take, drop, refl, ap, sym, ◌∙◌, arith}
+use Rattle.std.specs.Io.KnownBytes.{IsAtEnd, prepend_known}
+use Rattle.std.proofs.lemmas.List.{append_assoc, append-nil, take-append-drop, length-take-le, take-append-le, drop-append-le}
+use Rattle.tx_pipe.specs.declared.two_texts.Part.{Part}
+use Rattle.tx_pipe.specs.declared.two_texts.Part.TheVariants.{Plan, PlanOver, Script}
+use Rattle.tx_pipe.specs.Parts.{plan_part, script_part, Finds}
+use Rattle.tx_pipe.specs.Telling.{in_hand, behind, IsNext}
+
+-- some of the bytes, and those that are left with what follows
+split_at : (n : ℕ) (held more : List ℕ) → held ++ more ≡ take n held ++ (drop n held ++ more)
+split_at n held more = ap (λ h. h ++ more) (sym (take-append-drop n held)) ∙ append_assoc (take n held) (drop n held) more
+
+pub next_of_script : (line : Option (List ℕ)) (held : List ℕ) (n : ℕ) → n ≤ length held → IsNext Script line held Script line n
+next_of_script line held n le = record { within = le; hand = hand; behind = λ _. refl }
+  where
+    hand : (input : Option (List ℕ)) → in_hand Script line held input ≡ prepend_known (take n held) (in_hand Script line (drop n held) input)
+    hand None = refl
+    hand (Some more) = ap Some (split_at n held more)
+
+pub next_of_none : (line : Option (List ℕ)) (held : List ℕ) → IsNext PlanOver line held PlanOver line 0
+next_of_none line held = record { within = omega arith; hand = hand; behind = λ _. refl }
+  where
+    hand : (input : Option (List ℕ)) → in_hand PlanOver line held input ≡ prepend_known (take 0 held) (in_hand PlanOver line (drop 0 held) input)
+    hand None = refl
+    hand (Some more) = refl
+
+module _ (line new : Option (List ℕ)) (held : List ℕ) (n : ℕ) (le : n ≤ length held) where
+  pub next_of_plan : Finds line (take n held) new None → IsNext Plan line held Plan new n
+  next_of_plan f = record { within = le; hand = hand; behind = rest }
+    where
+      hand : (input : Option (List ℕ)) → in_hand Plan line held input ≡ prepend_known (take n held) (in_hand Plan new (drop n held) input)
+      hand None = refl
+      hand (Some more) = ap Some (ap (plan_part line) (split_at n held more) ∙ (f (drop n held ++ more)).0)
+
+      rest : (input : Option (List ℕ)) → behind Plan line held input ≡ behind Plan new (drop n held) input
+      rest None = refl
+      rest (Some more) = ap Some (ap (script_part line) (split_at n held more) ∙ (f (drop n held ++ more)).1)
+
+  -- what is left of the first n, and then of the others
+  left_of : (k : ℕ) (more : List ℕ) → k ≤ n → drop k (take n held) ++ (drop n held ++ more) ≡ drop k held ++ more
+  left_of k more at =
+      sym (append_assoc (drop k (take n held)) (drop n held) more)
+      ∙ ap (λ t. t ++ more) (sym (drop-append-le k (take n held) (drop n held) (let s = length-take-le n held le in omega (arith, s, at))) ∙ ap (drop k) (take-append-drop n held))
+
+  first_of : (k : ℕ) → k ≤ n → take k (take n held) ≡ take k held
+  first_of k at = sym (take-append-le k (take n held) (drop n held) (let s = length-take-le n held le in omega (arith, s, at))) ∙ ap (take k) (take-append-drop n held)
+
+  pub next_of_last : (k : ℕ) → Finds line (take n held) new (Some k) → IsNext Plan line held PlanOver new k
+  next_of_last k (some, at, f) = record { within = omega (arith, size, at, le); hand = hand; behind = rest }
+    where
+      size : length (take n held) ≡ n
+      size = length-take-le n held le
+
+      within : k ≤ n
+      within = omega (arith, size, at)
+
+      hand : (input : Option (List ℕ)) → in_hand Plan line held input ≡ prepend_known (take k held) (in_hand PlanOver new (drop k held) input)
+      hand None = refl
+      hand (Some more) = ap Some (ap (plan_part line) (split_at n held more) ∙ (f (drop n held ++ more)).0 ∙ first_of k within ∙ sym (append-nil (take k held)))
+
+      rest : (input : Option (List ℕ)) → behind Plan line held input ≡ behind PlanOver new (drop k held) input
+      rest None = refl
+      rest (Some more) = ap Some (ap (script_part line) (split_at n held more) ∙ (f (drop n held ++ more)).1 ∙ left_of k more within)
+
+at_end : (part : Part) (line input : Option (List ℕ)) → IsAtEnd input → IsAtEnd (in_hand part line [] input)
+unfolding plan_part
+at_end part line None h = by part
+  where
+    by : (q : Part) → IsAtEnd (in_hand q line [] None)
+    by Plan = tt
+    by PlanOver = tt
+    by Script = tt
+at_end Plan line (Some more) h = ap (plan_part line) h
+at_end PlanOver line (Some more) h = refl
+at_end Script line (Some more) h = h
+
+-- Where nothing was given though there was room, nothing is left.
+pub ended : (held : List ℕ) (n room : ℕ) (part : Part) (line input : Option (List ℕ)) → (0 < room → held ≢ [] → 0 < n) → 0 < room → n ≡ 0 → (held ≡ [] → IsAtEnd input) → IsAtEnd (in_hand part line (drop n held) input)
+ended [] n room part line input some much none end = rw none (at_end part line input (end refl))
+ended (b ∷ held) n room part line input some much none end = absurd (omega (arith, some much (λ e. let bad : ⊥ = cc in bad), none))
+
+-- Where nothing is left of the plan, what stands behind it is all that is left.
+pub all_behind : (part : Part) (line input : Option (List ℕ)) (held : List ℕ) → part ≢ Script → IsAtEnd (in_hand part line held input) → prepend_known held input ≡ behind part line held input
+unfolding plan_part script_part
+all_behind Script line input held begun end = absurd (begun refl)
+all_behind PlanOver line input held begun end = refl
+all_behind Plan line None held begun end = refl
+all_behind Plan line (Some more) held begun end = none (held ++ more) end
+  where
+    none : (text : List ℕ) → plan_part line text ≡ [] → Some text ≡ Some (script_part line text)
+    none [] e = refl
+    none (b ∷ bs) e = let bad : ⊥ = cc in absurd bad

@@ -1,0 +1,3 @@
+mod Parting
+mod Giving
+pub mod Kept

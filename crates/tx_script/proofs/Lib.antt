@@ -1,0 +1,11 @@
+pub mod WrittenWords
+pub mod Places
+pub mod EventLines
+pub mod Writable
+pub mod Balance
+pub mod Scripts
+pub mod Moments
+pub mod Draining
+pub mod Answering
+pub mod NoRoom
+pub mod Running

@@ -1,0 +1,57 @@
+-- The figures of a plan's codes and the names of its groups lead back to their places.
+use Rattle.std.proofs.Common.{◌≡◌, ◌≢◌, ℕ, zero, suc, ◌<◌, true, false, List, [], ◌∷◌, length, Some, refl, sym, ap, subst, arith}
+use Rattle.std.specs.List.{AllByRecursion, slice_get, position, position_or_len}
+use Rattle.std.specs.Str.{bytes_eq}
+use Rattle.std.proofs.lemmas.Bool.{false_from_ne_true, lt-ltb}
+use Rattle.std.proofs.lemmas.Slice.Eq.{bytes_eq-Decides}
+use Rattle.tx_text.specs.Words.{is_name}
+use Rattle.tx_plan.specs.Plan.{Plan, Code, Group, code_named, group_named, figures_of, group_name}
+use Rattle.tx_plan.specs.Rules.{IsPlan, IsCode, IsGroup, AllPairs, is_code}
+
+bytes_apart : (x y : List ℕ) → (x ≡ y → ⊥) → bytes_eq x y ≡ false
+bytes_apart x y h = false_from_ne_true (bytes_eq x y) (λ e. h ((bytes_eq-Decides x y).0 e))
+
+bytes_same : (x y : List ℕ) → x ≡ y → bytes_eq x y ≡ true
+bytes_same x y e = (bytes_eq-Decides x y).1 e
+
+module _ {A : Type 0} where
+  entry_at : (xs : List A) (i : ℕ) → i < length xs → (x : A) × (slice_get xs i ≡ Some x)
+  entry_at [] i h = absurd (omega (arith, h))
+  entry_at (x ∷ xs) zero h = (x, refl)
+  entry_at (x ∷ xs) (suc i) h = entry_at xs i (omega (arith, h))
+
+  all_at : (P : A → Type 0) (xs : List A) (i : ℕ) (x : A) → AllByRecursion P xs → slice_get xs i ≡ Some x → P x
+  all_at P [] i x h e = absurd (let z : ⊥ = cc in z)
+  all_at P (y ∷ xs) zero x h e = let s : y ≡ x = cc in subst P s h.0
+  all_at P (y ∷ xs) (suc i) x h e = all_at P xs i x h.1 e
+
+  module _ (key : A → List ℕ) where
+    first_at : (xs : List A) (i : ℕ) (x : A) → AllPairs (λ a b. key a ≢ key b) xs → slice_get xs i ≡ Some x → position_or_len (λ a. bytes_eq (key x) (key a)) xs ≡ i
+    first_at [] i x h e = absurd (let z : ⊥ = cc in z)
+    first_at (y ∷ xs) zero x h e = let s : y ≡ x = cc in let t = bytes_same (key x) (key y) (ap key (sym s)) in rw t refl
+    first_at (y ∷ xs) (suc i) x h e =
+        let t = bytes_apart (key x) (key y) (λ s. all_at (λ b. key y ≢ key b) xs i x h.0 e (sym s)) in
+        let r = first_at xs i x h.1 e in
+        rw (t, r) (omega arith)
+
+    -- the key of the entry at a place leads back to that place
+    place_back : (xs : List A) (i : ℕ) (x : A) → i < length xs → AllPairs (λ a b. key a ≢ key b) xs → slice_get xs i ≡ Some x → position (λ a. bytes_eq (key x) (key a)) xs ≡ Some i
+    place_back xs i x within h e =
+        let p = first_at xs i x h e in
+        let l = lt-ltb i (length xs) within in
+        rw (p, l) refl
+
+module _ (p : Plan) (h : IsPlan p) where
+  pub code_back : (c : ℕ) → c < length p.codes → (code_named p (figures_of p c) ≡ Some c) × (is_code (figures_of p c) ≡ true)
+  code_back c l =
+      let e = entry_at p.codes c l in
+      let q = e.1 in
+      let r = all_at (IsCode p) p.codes c e.0 h.codes q in
+      rw q (place_back (λ (r : Code). r.figures) p.codes c e.0 l h.codes_differ q, r.figures)
+
+  pub group_back : (g : ℕ) → g < length p.groups → (group_named p (group_name p g) ≡ Some g) × (is_name (group_name p g) ≡ true)
+  group_back g l =
+      let e = entry_at p.groups g l in
+      let q = e.1 in
+      let r = all_at (IsGroup p) p.groups g e.0 h.groups q in
+      rw q (place_back (λ (r : Group). r.name) p.groups g e.0 l h.groups_differ q, r.name)

@@ -1,0 +1,200 @@
+-- A run that goes on from event to event, and the ways in which it ends.
+use Rattle.std.proofs.Common.{◌≡◌, ℕ, ◌+◌, ◌*◌, ◌^◌, ◌<◌, ◌≤◌, Bool, true, false, cond, List, [], ◌∷◌, ◌++◌, length, drop, Option, Some, None, Result, Ok, Err, codes, IfOk, IfErr, OnOk, OnErr, inl, inr, refl, sym, ap, ◌∙◌, subst, append-nil, arith, length-append}
+use Rattle.std.specs.Prelude.{if◌then◌else◌}
+use Rattle.std.specs.List.{count_by, sum_by}
+use Rattle.std.specs.Io.KnownBytes.{append_known, IsAtEnd}
+use Rattle.std.proofs.lemmas.List.Sums.{count_by-le-length}
+use Rattle.tx_text.specs.declared.text_fault.TextFault.TheVariants.{LineTooLong, BadByte, NoMemory as TextNoMemory}
+use Rattle.tx_text.specs.declared.line_fault.LineFault.TheVariants.{Text, Read as line_read}
+use Rattle.tx_text.specs.declared.frame.FrameFault.{FrameFault}
+use Rattle.tx_text.specs.declared.frame.FrameFault.TheVariants.{Line as of_line, Form as of_form}
+use Rattle.tx_text.specs.declared.frame.Kind.{Kind}
+use Rattle.tx_text.specs.declared.frame.Kind.TheVariants.{Frame, Word}
+use Rattle.tx_text.specs.Calls.{source_calls}
+use Rattle.tx_text.specs.Ends.{StopsIn}
+use Rattle.tx_text.specs.Told.{Ending, AtEnd, reading_start, reading_size}
+use Rattle.tx_text.specs.Frame.{Framed, Done, Stop, Headed, Has, ReadsOn, EndsAs, Stands, Stopped, is_read}
+use Rattle.tx_text.specs.declared.frame.Phase.TheVariants.{Start}
+use Rattle.tx_text.specs.declared.frame_reader.FrameReader.{FrameReader}
+use Rattle.tx_text.specs.Framing.{to_come}
+use Rattle.tx_text.proofs.Writing.{append_known_twice}
+use Rattle.tx_plan.specs.Plan.{Plan}
+use Rattle.tx_state.specs.declared.event.Event.{Event}
+use Rattle.tx_state.specs.State.{State}
+use Rattle.tx_state.specs.Refusals.{refusal}
+use Rattle.tx_state.specs.Runs.{Moment, moment, run, state_after}
+use Rattle.tx_state.specs.Sound.{is_refused}
+use Rattle.tx_state.specs.Drained.{drained}
+use Rattle.tx_script.specs.declared.answer.Answered.{Answered}
+use Rattle.tx_script.specs.declared.run_fault.RunFault.{RunFault}
+use Rattle.tx_script.specs.declared.run_cause.RunCause.{RunCause}
+use Rattle.tx_script.specs.declared.run_cause.RunCause.TheVariants.{Read, Write, Script as OfScript, NoMemory}
+use Rattle.tx_script.specs.declared.script_word.ScriptWord.{ScriptWord}
+use Rattle.tx_script.specs.declared.summary.Summary.{Summary}
+use Rattle.tx_script.specs.declared.tally.Tally.{Tally}
+use Rattle.tx_script.specs.Events.{event_of}
+use Rattle.tx_script.specs.Script.{whole, faulty, script_said, script_of}
+use Rattle.tx_script.specs.Output.{tickets_made, moment_text, events_text, end_text, output, summary_of}
+use Rattle.tx_script.specs.Answered.{count_of, Halted, IsUntold, IsUndone}
+use Rattle.tx_script.specs.Answers.{IsFresh, Moved, settled, next, Ran, Begins, RunAnswers}
+use Rattle.tx_script.proofs.Scripts.{SaidSoFar, at_start, header_said, event_said, fault_said, whole_said, stop_said}
+use Rattle.tx_script.proofs.Moments.{IsSoFar, none_so_far, one_more, one_answered, few_tickets, length_run, made_same, after_same, text_same}
+use Rattle.tx_script.proofs.NoRoom.{never_stands}
+
+-- Some events were read, answered and counted: a and b are what the source had to give before and has now, u and v what the sink had taken, s and t
+-- the network, T is what is to come, and size bounds it.
+pub record IsRunning (p : Plan) (a b : Option (List ℕ)) (s t : State) (u v : Option (List ℕ)) (T : Ending → List ℕ → Framed) (tally : Tally) (size : ℕ) : Type 0 where
+  pub events : List Event
+  pub said : SaidSoFar p a b events T
+  pub far : IsSoFar p s t u v events tally
+  pub bounded : tally.answered + size ≤ 4097 * source_calls
+
+-- nothing was read yet
+pub start_runs : {A : Type 0} (p : Plan) (a : Option (List ℕ)) (s : State) (u : Option (List ℕ)) (v : FrameReader A) (tally : Tally) → v.key.now ≡ codes "SCRIPT" → v.most ≡ 1 → v.reader ≡ reading_start → v.phase ≡ Start → v.number ≡ 1
+    → IsFresh s → tally ≡ record { answered = 0; refused = 0; tickets = 0 } → IsRunning p a a s s u u (to_come v) tally (reading_size v.reader)
+start_runs p a s u v tally key most reader phase number fresh i = record {
+  events = [];
+  said = at_start p a v key most reader phase number;
+  far = none_so_far p s u tally fresh i;
+  bounded = (let n = ap (λ (z : Tally). z.answered) i in let m = ap reading_size reader in omega arith);
+}
+
+module _ (p : Plan) (a b : Option (List ℕ)) (s t : State) (u v : Option (List ℕ)) (T : Ending → List ℕ → Framed) (tally : Tally) (size : ℕ) (on : IsRunning p a b s t u v T tally size) where
+  abbrev es : List Event
+  es = on.events
+
+  -- no count wraps
+  pub few_answered : tally.answered < 2 ^ 63
+  few_answered = let h = on.bounded in omega arith
+
+  pub few_refused : tally.refused ≤ tally.answered
+  few_refused =
+      let l = count_by-le-length (λ (m : Moment). is_refused m.reply) (run p s es) in
+      let n = length_run p s es in
+      omega (arith, on.far.refused, on.far.answered)
+
+  pub few_calls : IsFresh s → length t.calls < 2 ^ 63
+  few_calls fresh =
+      let few = few_tickets p s es in
+      let c = ap (λ (r : State). length r.calls) on.far.network in
+      let z = ap length fresh.no_calls in
+      omega (arith, on.far.answered, on.bounded)
+
+  pub few_made : IsFresh s → (e : Event) (count : Answered) → count ≡ count_of (moment p t e) → tally.tickets + count.tickets < 2 ^ 64
+  few_made fresh e count k =
+      let few = few_tickets p s (es ++ e ∷ []) in
+      let m = (one_more p s es e).tickets in
+      let q : count.tickets ≡ length (tickets_made (next p s es e)) = ap (λ (z : Answered). z.tickets) k ∙ ap (λ (r : State). length (tickets_made (moment p r e))) on.far.network ∙ ap length (made_same p (state_after p s es) e) in
+      let z = ap length fresh.no_calls in
+      let l = length-append es (e ∷ []) in
+      omega (arith, on.far.answered, on.far.tickets, on.bounded)
+
+  -- its tickets were taken
+  pub none_left : t.tickets ≡ []
+  none_left = ap (λ (r : State). r.tickets) on.far.network
+
+  -- the header came
+  pub header_runs : (c : Option (List ℕ)) (w : ℕ) (U : Ending → List ℕ → Framed) (left : ℕ) → ReadsOn b c T (λ e more. Headed w (U e more)) → left < size → IsRunning p a c s t u v U tally left
+  header_runs c w U left q l = record { events = es; said = header_said p a b c es T on.said w U q; far = on.far; bounded = (let h = on.bounded in omega arith) }
+
+  -- an event came, and was answered
+  pub event_runs : (c : Option (List ℕ)) (r : State) (w : Option (List ℕ)) (n : ℕ) (ws : List (List ℕ)) (U : Ending → List ℕ → Framed) (e : Event) (new : Tally) (count : Answered) (left : ℕ) → ReadsOn b c T (λ e more. Has n ws (U e more)) → event_of p ws ≡ Ok e
+      → count ≡ count_of (moment p t e) → w ≡ append_known v (moment_text p (moment p t e)) → r ≡ drained (moment p t e).after []
+      → new ≡ record { answered = tally.answered + 1; refused = tally.refused + cond count.refused 1 0; tickets = tally.tickets + count.tickets } → left < size → IsRunning p a c s r u w U new left
+  event_runs c r w n ws U e new count left q h k wrote state i l = record {
+    events = es ++ e ∷ [];
+    said = event_said p a b c es T on.said n ws U e q h;
+    far = one_answered p s t r u v w es e tally new count on.far k wrote state i;
+    bounded = (let h = on.bounded in let j = ap (λ (z : Tally). z.answered) i in omega arith);
+  }
+
+  -- THE ENDS
+
+  module _ (c : Option (List ℕ)) where
+    abbrev there : Moved
+    there = record { rest_old = a; rest_new = c; taken_old = u; taken_new = v; state_old = s; state_new = t }
+
+    place : tally.answered + 1 ≡ length es + 1
+    place = ap (λ n. n + 1) on.far.answered
+
+    ran : (n : ℕ) (k : Kind ScriptWord) → Ran p there (faulty es n k)
+    ran n k = record { wrote = on.far.wrote ∙ ap (append_known u) (sym (append-nil (events_text p s es))); network = on.far.network }
+
+    module _ (broken untouched : Type 0) (f : RunFault) where
+      -- a line says no event
+      pub word_answers : (n : ℕ) (ws : List (List ℕ)) (U : Ending → List ℕ → Framed) (k : ScriptWord) → ReadsOn b c T (λ e more. Has n ws (U e more)) → event_of p ws ≡ Err k
+          → f ≡ record { event = tally.answered + 1; cause = OfScript (record { line = n; kind = Word k }) } → RunAnswers p there broken untouched (Err f)
+      word_answers n ws U k q h i =
+          subst (λ (z : RunFault). RunAnswers p there broken untouched (Err z)) (sym i)
+          (record { events = es; place = place; text = inl (fault_said p a b c es T on.said n ws U k q h); ran = ran n (Word k) })
+
+      -- the frame is faulty, or the source failed
+      stop_by : (n : ℕ) (k : FrameFault) → Stopped a c (script_of p) broken (is_read k) (faulty es n (Frame k))
+          → RunAnswers p there broken untouched (Err (record { event = tally.answered + 1; cause = if is_read k then Read else OfScript (record { line = n; kind = Frame k }) }))
+      stop_by n (of_line line_read) q = record { events = es; line = n; place = place; text = q.0; failed = q.1; ran = ran n (Frame (of_line line_read)) }
+      stop_by n (of_line (Text LineTooLong)) q = record { events = es; place = place; text = q; ran = ran n (Frame (of_line (Text LineTooLong))) }
+      stop_by n (of_line (Text BadByte)) q = record { events = es; place = place; text = q; ran = ran n (Frame (of_line (Text BadByte))) }
+      stop_by n (of_line (Text TextNoMemory)) q = absurd (never_stands p a c es n q)
+      stop_by n (of_form x) q = record { events = es; place = place; text = q; ran = ran n (Frame (of_form x)) }
+
+      pub stop_answers : (n : ℕ) (k : FrameFault) → Stopped b c T broken (is_read k) (Stop n k)
+          → f ≡ record { event = tally.answered + 1; cause = if is_read k then Read else OfScript (record { line = n; kind = Frame k }) } → RunAnswers p there broken untouched (Err f)
+      stop_answers n k q i = subst (λ (z : RunFault). RunAnswers p there broken untouched (Err z)) (sym i) (stop_by n k (stop_said p a b c es T on.said n k broken q))
+
+  -- what was written and where the network stands after an event that was not answered whole, or after the last line
+  module _ (c : Option (List ℕ)) (r : State) (w : Option (List ℕ)) (broken untouched : Type 0) where
+    abbrev after : Moved
+    after = record { rest_old = a; rest_new = c; taken_old = u; taken_new = w; state_old = s; state_new = r }
+
+    halted_by : (e : Event) → Begins p after (es ++ e ∷ []) → (cause : RunCause) → Halted p e (settled p s es) r (append_known u (events_text p s es)) w cause → RunAnswers p after broken untouched (Err (record { event = length es + 1; cause = cause }))
+    halted_by e text Read h = absurd h
+    halted_by e text Write h =
+        let m = next p s es e in
+        inl (record {
+          events = es;
+          hand = e;
+          taken = h.taken;
+          place = refl;
+          text = text;
+          front = subst (StopsIn (append_known u (events_text p s es)) w) (text_same p (state_after p s es) e) h.front;
+          network = h.network ∙ after_same p (state_after p s es) e _ ∙ ap (λ l. drained m.after (drop h.taken l)) (made_same p (state_after p s es) e);
+        })
+    halted_by e text (OfScript f) h = absurd h
+    halted_by e text NoMemory h = record { events = es; hand = e; place = refl; text = text; wrote = h.written; network = h.network; asks = h.asks; unrefused = ap (λ (z : State). refusal p z e) h.network ∙ h.unrefused }
+
+    -- an event was not answered whole
+    pub halted_answers : (f : RunFault) (n : ℕ) (ws : List (List ℕ)) (U : Ending → List ℕ → Framed) (e : Event) (cause : RunCause) → ReadsOn b c T (λ e more. Has n ws (U e more)) → event_of p ws ≡ Ok e
+        → Halted p e t r v w cause → f ≡ record { event = tally.answered + 1; cause = cause } → RunAnswers p after broken untouched (Err f)
+    halted_answers f n ws U e cause q h halted i =
+        let text : Begins p after (es ++ e ∷ []) = record { to_come = λ e more. script_said p (U e more); reads = event_said p a b c es T on.said n ws U e q h } in
+        let here = subst (λ (z : Option (List ℕ)). Halted p e (settled p s es) r z w cause) on.far.wrote (subst (λ (z : State). Halted p e z r v w cause) on.far.network halted) in
+        subst (λ (z : RunFault). RunAnswers p after broken untouched (Err z)) (sym (i ∙ ap (λ n. record { event = n + 1; cause = cause }) on.far.answered)) (halted_by e text cause here)
+
+  module _ (c : Option (List ℕ)) (w : Option (List ℕ)) (broken untouched : Type 0) where
+    abbrev last : Moved
+    last = record { rest_old = a; rest_new = c; taken_old = u; taken_new = w; state_old = s; state_new = t }
+
+    same_end : end_text t ≡ end_text (state_after p s es)
+    same_end = ap end_text on.far.network
+
+    -- the text is whole
+    pub whole_answers : (o : Result Summary RunFault) → EndsAs b c T AtEnd Done × IsAtEnd c
+        → IfOk o (λ z. z ≡ record { events = t.events; refused = tally.refused; tickets = tally.tickets; open_calls = length t.calls }) → OnOk o (w ≡ append_known v (end_text t))
+        → IfErr o (λ f. f ≡ record { event = tally.answered + 1; cause = Write }) → OnErr o (StopsIn v w (end_text t)) → RunAnswers p last broken untouched o
+    whole_answers (Ok z) q counted wrote fault stop = record {
+      events = es;
+      text = (whole_said p a b c es T on.said q.0, q.1);
+      ran = record { wrote = wrote ∙ ap (λ l. append_known v l) same_end ∙ ap (λ l. append_known l (end_text (state_after p s es))) on.far.wrote ∙ append_known_twice u (events_text p s es) (end_text (state_after p s es)); network = on.far.network };
+      counted = counted ∙ ap (λ (n : State). record { events = n.events; refused = tally.refused; tickets = tally.tickets; open_calls = length n.calls }) on.far.network
+          ∙ ap (λ n. record { events = (state_after p s es).events; refused = n; tickets = tally.tickets; open_calls = length (state_after p s es).calls }) on.far.refused
+          ∙ ap (λ n. record { events = (state_after p s es).events; refused = count_by (λ m. is_refused m.reply) (run p s es); tickets = n; open_calls = length (state_after p s es).calls }) on.far.tickets;
+    }
+    whole_answers (Err f) q counted wrote fault stop =
+        subst (λ (z : RunFault). RunAnswers p last broken untouched (Err z)) (sym fault)
+        (inr (record {
+          events = es;
+          place = ap (λ n. n + 1) on.far.answered;
+          text = (whole_said p a b c es T on.said q.0, q.1);
+          front = subst (λ l. StopsIn (append_known u (events_text p s es)) w l) same_end (subst (λ z. StopsIn z w (end_text t)) on.far.wrote stop);
+          network = on.far.network;
+        }))

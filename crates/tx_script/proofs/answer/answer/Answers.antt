@@ -1,0 +1,59 @@
+use Rattle.std.proofs.Common.{[], sym, ap, ◌∙◌, arith}
+use Rattle.std.specs.Io.KnownBytes.{append_known}
+use Rattle.std.proofs.lemmas.Result.{err_from_is_err_and}
+use Rattle.tx_state.specs.Drained.{drained}
+use Rattle.tx_state.specs.State.{State}
+use Rattle.tx_tickets.specs.Texts.{reply_text}
+use Rattle.tx_tickets.proofs.Taking.{then_took}
+use Rattle.tx_script.proofs.Answering.{is_answer, counted_as, untold_reply, untold_tickets}
+use Rattle.tx_script.proofs.answer.answer.Goals as goal
+
+pub write_tickets-requires : goal.write_tickets-requires
+write_tickets-requires g c =
+    let s = g.N.Network.state c.args.net.now in
+    let t = g.N.Network.state c.apply.new.self in
+    let a = is_answer c.args.plan.now (g.N.Network.plan c.args.net.now) s c.args.event c.in_ok-reply.reply t c.requires.plan c.requires.taken c.in_ok-reply.ensures.step in
+    record { few = omega (arith, c.requires.few, a.few) }
+
+pub returns-in_err-write_reply-clause-halted : goal.returns-in_err-write_reply-clause-halted
+returns-in_err-write_reply-clause-halted g c =
+    let p = c.args.plan.now in
+    let s = g.N.Network.state c.args.net.now in
+    let t = g.N.Network.state c.apply.new.self in
+    let reply = c.in_ok-reply.reply in
+    let a = is_answer p (g.N.Network.plan c.args.net.now) s c.args.event reply t c.requires.plan c.requires.taken c.in_ok-reply.ensures.step in
+    let e = err_from_is_err_and c.from_residual-in_err-write_reply.result c.from_residual-in_err-write_reply.ensures.1 in
+    rw (e.1, e.2) (untold_reply p s c.args.event reply t _ _ a c.in_err-write_reply.ensures.err)
+
+pub returns-in_err-tickets-clause-halted : goal.returns-in_err-tickets-clause-halted
+returns-in_err-tickets-clause-halted g c =
+    let p = c.args.plan.now in
+    let s = g.N.Network.state c.args.net.now in
+    let t = g.N.Network.state c.apply.new.self in
+    let reply = c.in_ok-reply.reply in
+    let a = is_answer p (g.N.Network.plan c.args.net.now) s c.args.event reply t c.requires.plan c.requires.taken c.in_ok-reply.ensures.step in
+    let e = err_from_is_err_and c.from_residual-in_err-tickets.result c.from_residual-in_err-tickets.ensures.1 in
+    rw (e.1, e.2) (untold_tickets p s c.args.event reply t _ _ _ _ a c.in_ok-write_reply.ensures.ok c.in_err-tickets.ensures.err c.in_err-tickets.ensures.left)
+
+pub returns-clause-wrote : goal.returns-clause-wrote
+returns-clause-wrote g c =
+    let p = c.args.plan.now in
+    let s = g.N.Network.state c.args.net.now in
+    let t = g.N.Network.state c.apply.new.self in
+    let reply = c.in_ok-reply.reply in
+    let a = is_answer p (g.N.Network.plan c.args.net.now) s c.args.event reply t c.requires.plan c.requires.taken c.in_ok-reply.ensures.step in
+    then_took _ _ _ (reply_text p reply) _ c.in_ok-write_reply.ensures.ok c.in_ok-tickets.ensures.ok ∙ ap (append_known (g.W.Sink.taken c.args.sink.now)) (sym a.text)
+
+pub returns-clause-network : goal.returns-clause-network
+returns-clause-network g c =
+    let s = g.N.Network.state c.args.net.now in
+    let t = g.N.Network.state c.apply.new.self in
+    let a = is_answer c.args.plan.now (g.N.Network.plan c.args.net.now) s c.args.event c.in_ok-reply.reply t c.requires.plan c.requires.taken c.in_ok-reply.ensures.step in
+    c.in_ok-tickets.ensures.taken ∙ ap (λ (u : State). drained u []) (sym a.after)
+
+pub returns-clause-count : goal.returns-clause-count
+returns-clause-count g c =
+    let s = g.N.Network.state c.args.net.now in
+    let t = g.N.Network.state c.apply.new.self in
+    let a = is_answer c.args.plan.now (g.N.Network.plan c.args.net.now) s c.args.event c.in_ok-reply.reply t c.requires.plan c.requires.taken c.in_ok-reply.ensures.step in
+    counted_as c.args.plan.now s c.args.event c.in_ok-reply.reply t a _ _ c.is_refused.ensures c.in_ok-tickets.ensures.count

@@ -1,0 +1,42 @@
+use Rattle.std.proofs.Common.{◌∙◌, refl, sym, arith}
+use Rattle.std.proofs.Math.Facts.{Fits-of_lt}
+use Rattle.tx_text.proofs.Writing.{on_err}
+use Rattle.tx_tickets.specs.Texts.{ticket_text}
+use Rattle.tx_script.proofs.Draining.{drain_start, drain_end, drain_more, drain_stop, drain_left, drain_within, drain_smaller}
+use Rattle.tx_script.proofs.answer.write_tickets.Goals as goal
+
+pub loop-ticket-init : goal.loop-ticket-init
+loop-ticket-init g c = record { plan = refl; draining = drain_start (ticket_text c.args.plan.now) (g.N.Network.state c.args.net.now) (g.W.Sink.taken c.args.sink.now); mark = refl }
+
+pub loop-ticket-preserved : goal.loop-ticket-preserved
+loop-ticket-preserved g c =
+    let v = c.loop-ticket.invariant in
+    record {
+      plan = c.next_ticket.ensures.plan ∙ v.plan;
+      draining = drain_more _ _ _ _ _ _ v.draining _ (sym c.in-Some.ensures.first) _ _ c.next_ticket.ensures.rest c.in_ok-write_ticket.ensures.ok;
+      mark = c.in_ok-write_ticket.ensures.unmarked ∙ v.mark;
+    }
+
+pub returns-in_err-write_ticket-clause-err : goal.returns-in_err-write_ticket-clause-err
+returns-in_err-write_ticket-clause-err g c = on_err c.from_residual.result (drain_stop _ _ _ _ _ _ c.loop-ticket.invariant.draining _ (sym c.in-Some.ensures.first) _ c.in_err-write_ticket.ensures.err)
+
+pub returns-in_err-write_ticket-clause-left : goal.returns-in_err-write_ticket-clause-left
+returns-in_err-write_ticket-clause-left g c = on_err c.from_residual.result (drain_left _ _ _ _ _ _ c.loop-ticket.invariant.draining _ (sym c.in-Some.ensures.first) _ c.next_ticket.ensures.rest)
+
+pub overflow_add-count : goal.overflow_add-count
+overflow_add-count g c =
+    let few = c.requires.few in
+    let l = drain_within _ _ _ _ _ _ c.loop-ticket.invariant.draining _ (sym c.in-Some.ensures.first) in
+    Fits-of_lt (omega arith)
+
+pub loop-ticket-smaller : goal.loop-ticket-smaller
+loop-ticket-smaller g c = drain_smaller _ _ _ _ _ _ c.loop-ticket.invariant.draining _ (sym c.in-Some.ensures.first) _ c.next_ticket.ensures.rest
+
+pub returns-clause-count : goal.returns-clause-count
+returns-clause-count g c = (drain_end _ _ _ _ _ _ c.loop-ticket.invariant.draining _ (sym c.in_default.ensures.first) c.next_ticket.ensures.rest).1
+
+pub returns-clause-ok : goal.returns-clause-ok
+returns-clause-ok g c = (drain_end _ _ _ _ _ _ c.loop-ticket.invariant.draining _ (sym c.in_default.ensures.first) c.next_ticket.ensures.rest).2
+
+pub returns-clause-taken : goal.returns-clause-taken
+returns-clause-taken g c = (drain_end _ _ _ _ _ _ c.loop-ticket.invariant.draining _ (sym c.in_default.ensures.first) c.next_ticket.ensures.rest).0

@@ -1,0 +1,122 @@
+use Rattle.std.proofs.Common.{◌≡◌, ◌∙◌, ◌+◌, ap, sym, refl, Ok, Err, ℕ}
+use Rattle.tx_text.specs.declared.frame.Kind.TheVariants.{Word}
+use Rattle.tx_text.specs.Calls.{source_calls}
+use Rattle.tx_text.specs.Frame.{is_read}
+use Rattle.tx_text.specs.Framing.{to_come, number_of_line, words_of_line}
+use Rattle.tx_text.specs.Told.{Reading, reading_size}
+use Rattle.tx_text.proofs.CallCounts.{went_none, went_on, went_same, calls_on, broken_on, stopped_with}
+use Rattle.tx_script.specs.declared.run_cause.RunCause.{RunCause}
+use Rattle.tx_script.specs.declared.run_cause.RunCause.TheVariants.{Script}
+use Rattle.tx_script.specs.Events.{event_of}
+use Rattle.tx_script.proofs.Scripts.{went_past}
+use Rattle.tx_script.proofs.Running.{start_runs, header_runs, event_runs, few_answered, few_refused, few_calls, few_made, none_left, word_answers, stop_answers, halted_answers, whole_answers}
+use Rattle.tx_script.proofs.runner.run_lines.Goals as goal
+
+pub lines-init : goal.lines-init
+lines-init g c =
+    let r = c.requires in
+    record {
+      plan = r.plan;
+      runs = start_runs c.args.plan.now (g.R.Source.rest c.args.source.now) (g.N.Network.state c.args.net.now) (g.W.Sink.taken c.args.sink.now) c.args.frame _ r.key r.versions r.reader r.phase r.number r.fresh refl;
+      mark = refl;
+      sound = ap (λ (v : Reading). v.feed.fault) r.reader;
+      went = went_same g.R.Source.called _ _ _ _ _ (ap (λ (v : Reading). v.left) r.reader) (went_none g.R.Source.called source_calls c.args.source.now);
+    }
+
+pub lines-preserved-in-Ok-Header : goal.lines-preserved-in-Ok-Header
+lines-preserved-in-Ok-Header g c =
+    let v = c.lines.invariant in
+    let q = rw c.in-Ok-Header.field-0-is at c.in-Ok-Header.ensures.gives in
+    let w = rw c.in-Ok-Header.field-0-is at c.in-Ok-Header.ensures.went in
+    let f = rw c.in-Ok-Header.field-0-is at c.in-Ok-Header.ensures.falls in
+    record {
+      plan = v.plan;
+      runs = header_runs _ _ _ _ _ _ _ _ _ _ v.runs _ _ (to_come c.advance.new.self) _ q (went_past f (λ e. cc));
+      mark = v.mark;
+      sound = c.in-Ok-Header.ensures.fault;
+      went = went_on g.R.Source.called _ _ _ _ _ _ v.went (went_past w (λ e. cc));
+    }
+
+pub answer-requires : goal.answer-requires
+answer-requires g c =
+    let v = c.lines.invariant in
+    record { plan = v.plan; taken = none_left _ _ _ _ _ _ _ _ _ _ v.runs; few = few_calls _ _ _ _ _ _ _ _ _ _ v.runs c.requires.fresh }
+
+pub count-requires : goal.count-requires
+count-requires g c =
+    let v = c.lines.invariant in
+    record {
+      answered = few_answered _ _ _ _ _ _ _ _ _ _ v.runs;
+      refused = few_refused _ _ _ _ _ _ _ _ _ _ v.runs;
+      tickets = few_made _ _ _ _ _ _ _ _ _ _ v.runs c.requires.fresh c.in-Ok.event _ c.in-Ok-answer.ensures.count;
+    }
+
+pub lines-preserved : goal.lines-preserved
+lines-preserved g c =
+    let v = c.lines.invariant in
+    let frame = c.advance.new.self in
+    let n = number_of_line frame.reader.feed.line in
+    let ws = words_of_line frame.reader.feed.line in
+    let q = rw c.in-Ok-Line.field-0-is at c.in-Ok-Line.ensures.gives in
+    let w = rw c.in-Ok-Line.field-0-is at c.in-Ok-Line.ensures.went in
+    let f = rw c.in-Ok-Line.field-0-is at c.in-Ok-Line.ensures.falls in
+    let said : event_of c.args.plan.now ws ≡ Ok c.in-Ok.event = ap (event_of c.args.plan.now) (sym c.words.ensures) ∙ sym c.in-Ok.ensures in
+    let a = c.in-Ok-answer.ensures in
+    record {
+      plan = a.plan;
+      runs = event_runs _ _ _ _ _ _ _ _ _ _ v.runs _ _ _ n ws (to_come frame) c.in-Ok.event c.count.new.self _ _ q said a.count a.wrote a.network c.count.ensures (went_past f (λ e. cc));
+      mark = a.unmarked ∙ v.mark;
+      sound = c.in-Ok-Line.ensures.fault;
+      went = went_on g.R.Source.called _ _ _ _ _ _ v.went (went_past w (λ e. cc));
+    }
+
+pub finish-requires : goal.finish-requires
+finish-requires g c = few_answered _ _ _ _ _ _ _ _ _ _ c.lines.invariant.runs
+
+pub stopped-requires : goal.stopped-requires
+stopped-requires g c = few_answered _ _ _ _ _ _ _ _ _ _ c.lines.invariant.runs
+
+pub returns-in-Err-answer-clause-answers : goal.returns-in-Err-answer-clause-answers
+returns-in-Err-answer-clause-answers g c =
+    let frame = c.advance.new.self in
+    let ws = words_of_line frame.reader.feed.line in
+    let q = rw c.in-Ok-Line.field-0-is at c.in-Ok-Line.ensures.gives in
+    let said : event_of c.args.plan.now ws ≡ Ok c.in-Ok.event = ap (event_of c.args.plan.now) (sym c.words.ensures) ∙ sym c.in-Ok.ensures in
+    halted_answers _ _ _ _ _ _ _ _ _ _ c.lines.invariant.runs _ _ _ _ _ c.stopped.result (number_of_line frame.reader.feed.line) ws (to_come frame) c.in-Ok.event c.in-Err-answer.cause q said c.in-Err-answer.ensures.halted c.stopped.ensures
+
+pub returns-in-Err-event_of-clause-answers : goal.returns-in-Err-event_of-clause-answers
+returns-in-Err-event_of-clause-answers g c =
+    let frame = c.advance.new.self in
+    let n = number_of_line frame.reader.feed.line in
+    let ws = words_of_line frame.reader.feed.line in
+    let k = c.in-Err-event_of.word in
+    let q = rw c.in-Ok-Line.field-0-is at c.in-Ok-Line.ensures.gives in
+    let said : event_of c.args.plan.now ws ≡ Err k = ap (event_of c.args.plan.now) (sym c.words.ensures) ∙ sym c.in-Err-event_of.ensures in
+    let cause : c.script_fault-cause.result ≡ Script (record { line = n; kind = Word k }) = c.script_fault-cause.ensures ∙ ap (λ (m : ℕ). Script (record { line = m; kind = Word k })) c.number.ensures in
+    word_answers _ _ _ _ _ _ _ _ _ _ c.lines.invariant.runs _ _ _ c.stopped-in-Err-event_of.result n ws (to_come frame) k q said (c.stopped-in-Err-event_of.ensures ∙ ap (λ (z : RunCause). record { event = c.lines.tally.answered + 1; cause = z }) cause)
+
+pub returns-in-Ok-End-clause-answers : goal.returns-in-Ok-End-clause-answers
+returns-in-Ok-End-clause-answers g c =
+    let q = rw c.in-Ok-End.field-0-is at c.in-Ok-End.ensures.gives in
+    let f = c.finish.ensures in
+    whole_answers _ _ _ _ _ _ _ _ _ _ c.lines.invariant.runs _ _ _ _ c.finish.result q f.summary f.ok f.fault f.err
+
+pub returns-in-Err-clause-answers : goal.returns-in-Err-clause-answers
+returns-in-Err-clause-answers g c =
+    let x = c.in-Err.stop in
+    let called = g.R.Source.called in
+    let failed = g.R.Source.failed c.advance.new.source in
+    let q = stopped_with _ _ _ _ _ (is_read x.fault) _ (broken_on called failed source_calls c.lines.frame.reader.left _ _ _ c.lines.invariant.went) c.in-Err.ensures.gives in
+    stop_answers _ _ _ _ _ _ _ _ _ _ c.lines.invariant.runs _ _ _ c.stopped-in-Err.result x.line x.fault q (c.stopped-in-Err.ensures ∙ ap (λ (z : RunCause). record { event = c.lines.tally.answered + 1; cause = z }) c.frame_cause.ensures)
+
+pub returns-in-Err-answer-clause-calls : goal.returns-in-Err-answer-clause-calls
+returns-in-Err-answer-clause-calls g c = calls_on g.R.Source.called source_calls c.lines.frame.reader.left _ _ _ c.lines.invariant.went c.advance.ensures.calls
+
+pub returns-in-Err-event_of-clause-calls : goal.returns-in-Err-event_of-clause-calls
+returns-in-Err-event_of-clause-calls g c = calls_on g.R.Source.called source_calls c.lines.frame.reader.left _ _ _ c.lines.invariant.went c.advance.ensures.calls
+
+pub returns-in-Ok-End-clause-calls : goal.returns-in-Ok-End-clause-calls
+returns-in-Ok-End-clause-calls g c = calls_on g.R.Source.called source_calls c.lines.frame.reader.left _ _ _ c.lines.invariant.went c.advance.ensures.calls
+
+pub returns-in-Err-clause-calls : goal.returns-in-Err-clause-calls
+returns-in-Err-clause-calls g c = calls_on g.R.Source.called source_calls c.lines.frame.reader.left _ _ _ c.lines.invariant.went c.advance.ensures.calls

@@ -1,0 +1,145 @@
+-- What a run answers: what it read, what it wrote, and where it left the network.
+use Rattle.std.specs.Prelude.{◌≡◌, ◌⊎◌, ℕ, ◌+◌, Bool, true, false, List, [], ◌∷◌, ◌++◌, drop, length, Option, None, Result, Ok, Err}
+use Rattle.std.specs.Io.KnownBytes.{append_known, IsAtEnd}
+use Rattle.tx_text.specs.declared.frame.Kind.{Kind}
+use Rattle.tx_text.specs.declared.frame.Kind.TheVariants.{Frame, Word}
+use Rattle.tx_text.specs.declared.frame.FrameFault.TheVariants.{Line as of_line}
+use Rattle.tx_text.specs.declared.line_fault.LineFault.TheVariants.{Read as line_read}
+use Rattle.tx_text.specs.Ends.{StopsIn}
+use Rattle.tx_text.specs.Told.{Ending, AtEnd, Cut}
+use Rattle.tx_text.specs.Frame.{ReadsOn, EndsAs, Stands}
+use Rattle.tx_text.specs.Said.{is_no_room}
+use Rattle.tx_plan.specs.Plan.{Plan}
+use Rattle.tx_state.specs.declared.event.Event.{Event}
+use Rattle.tx_state.specs.State.{State}
+use Rattle.tx_state.specs.Refusals.{refusal}
+use Rattle.tx_state.specs.Step.{takes_memory}
+use Rattle.tx_state.specs.Runs.{Moment, moment, state_after}
+use Rattle.tx_state.specs.Drained.{drained}
+use Rattle.tx_script.specs.declared.script_word.ScriptWord.{ScriptWord}
+use Rattle.tx_script.specs.declared.run_fault.RunFault.{RunFault}
+use Rattle.tx_script.specs.declared.run_cause.RunCause.{RunCause}
+use Rattle.tx_script.specs.declared.run_cause.RunCause.TheVariants.{Read, Write, Script as OfScript, NoMemory}
+use Rattle.tx_script.specs.declared.summary.Summary.{Summary}
+use Rattle.tx_script.specs.Script.{Script, whole, faulty, after_events, script_of}
+use Rattle.tx_script.specs.Output.{tickets_made, moment_text, events_text, end_text, output, summary_of}
+
+-- a network as it was made: without calls and tickets
+pub record IsFresh (s : State) : Type 0 where
+  pub no_calls : s.calls ≡ []
+  pub no_tickets : s.tickets ≡ []
+
+-- what a run moved: the source's bytes and the sink's, before and after, and the network's states
+pub record Moved : Type 0 where
+  pub rest_old : Option (List ℕ)
+  pub rest_new : Option (List ℕ)
+  pub taken_old : Option (List ℕ)
+  pub taken_new : Option (List ℕ)
+  pub state_old : State
+  pub state_new : State
+
+-- the network after these events, with its tickets taken
+abbrev pub settled : Plan → State → List Event → State
+settled p s es = drained (state_after p s es) []
+
+-- the moment of one event more
+abbrev pub next : Plan → State → List Event → Event → Moment
+next p s es e = moment p (state_after p s es) e
+
+-- All the output of a script was written, and nothing else; the network stands after its events.
+pub record Ran (p : Plan) (x : Moved) (script : Script) : Type 0 where
+  pub wrote : x.taken_new ≡ append_known x.taken_old (output p x.state_old script)
+  pub network : x.state_new ≡ settled p x.state_old script.events
+
+-- the bytes that were read begin with these events, whatever follows
+pub record Begins (p : Plan) (x : Moved) (es : List Event) : Type 0 where
+  pub to_come : Ending → List ℕ → Script
+  pub reads : ReadsOn x.rest_old x.rest_new (script_of p) (λ e more. after_events es (to_come e more))
+
+-- the reader is at its end, and the whole text is a script of these events
+abbrev pub IsWhole : Plan → Moved → List Event → Type 0
+IsWhole p x es = EndsAs x.rest_old x.rest_new (script_of p) AtEnd (whole es) × IsAtEnd x.rest_new
+
+-- The whole text is a script, and the summary counts its run.
+pub record RanWhole (p : Plan) (x : Moved) (summary : Summary) : Type 0 where
+  pub events : List Event
+  pub text : IsWhole p x events
+  pub ran : Ran p x (whole events)
+  pub counted : summary ≡ summary_of p x.state_old events
+
+-- The text is faulty after the events before this one.
+pub record RanToFault (p : Plan) (x : Moved) (event line : ℕ) (kind : Kind ScriptWord) : Type 0 where
+  pub events : List Event
+  pub place : event ≡ length events + 1
+  pub text : Stands x.rest_old x.rest_new (script_of p) (faulty events line kind)
+  pub ran : Ran p x (faulty events line kind)
+
+-- The source failed in a line, or met the bound on calls, after the events before this one.
+pub record RanToCut (p : Plan) (x : Moved) (broken : Type 0) (event : ℕ) : Type 0 where
+  pub events : List Event
+  pub line : ℕ
+  pub place : event ≡ length events + 1
+  pub text : EndsAs x.rest_old x.rest_new (script_of p) Cut (faulty events line (Frame (of_line line_read)))
+  pub failed : broken
+  pub ran : Ran p x (faulty events line (Frame (of_line line_read)))
+
+-- Memory ran out in this event: the lines of those before it were written, and nothing of it was done. It takes memory, and would not be refused.
+pub record RanOutOfMemory (p : Plan) (x : Moved) (event : ℕ) : Type 0 where
+  pub events : List Event
+  pub hand : Event
+  pub place : event ≡ length events + 1
+  pub text : Begins p x (events ++ hand ∷ [])
+  pub wrote : x.taken_new ≡ append_known x.taken_old (events_text p x.state_old events)
+  pub network : x.state_new ≡ settled p x.state_old events
+  pub asks : takes_memory hand ≡ true
+  pub unrefused : refusal p x.state_new hand ≡ None
+
+-- A write failed in the lines of this event: those of the events before it were written, and a front of its own. It was done, and some of its tickets
+-- were taken.
+pub record FailedInEvent (p : Plan) (x : Moved) (event : ℕ) : Type 0 where
+  pub events : List Event
+  pub hand : Event
+  pub taken : ℕ
+  pub place : event ≡ length events + 1
+  pub text : Begins p x (events ++ hand ∷ [])
+  pub front : StopsIn (append_known x.taken_old (events_text p x.state_old events)) x.taken_new (moment_text p (next p x.state_old events hand))
+  pub network : let m = next p x.state_old events hand in x.state_new ≡ drained m.after (drop taken (tickets_made m))
+
+-- A write failed in the last line: the lines of all events were written, and a front of that line.
+pub record FailedAtEnd (p : Plan) (x : Moved) (event : ℕ) : Type 0 where
+  pub events : List Event
+  pub place : event ≡ length events + 1
+  pub text : IsWhole p x events
+  pub front : StopsIn (append_known x.taken_old (events_text p x.state_old events)) x.taken_new (end_text (state_after p x.state_old events))
+  pub network : x.state_new ≡ settled p x.state_old events
+
+-- Without memory for the reader of lines the first event and the first line are told, and nothing was touched.
+abbrev pub FaultyBy : Plan → Moved → Type 0 → Bool → ℕ → ℕ → Kind ScriptWord → Type 0
+FaultyBy p x untouched true event line kind = (event ≡ 1) × (line ≡ 1) × untouched
+FaultyBy p x untouched false event line kind = RanToFault p x event line kind
+
+abbrev pub is_reader_room : Kind ScriptWord → Bool
+is_reader_room (Frame k) = is_no_room k
+is_reader_room (Word w) = false
+
+abbrev pub Stopped : Plan → Moved → (broken untouched : Type 0) → ℕ → RunCause → Type 0
+Stopped p x broken untouched event Read = RanToCut p x broken event
+Stopped p x broken untouched event Write = FailedInEvent p x event ⊎ FailedAtEnd p x event
+Stopped p x broken untouched event (OfScript f) = FaultyBy p x untouched (is_reader_room f.kind) event f.line f.kind
+Stopped p x broken untouched event NoMemory = RanOutOfMemory p x event
+
+-- WHAT A RUN ANSWERS. Broken says that the source failed or met the bound on calls, untouched that nothing was read, written or done.
+abbrev pub RunAnswers : Plan → Moved → (broken untouched : Type 0) → Result Summary RunFault → Type 0
+RunAnswers p x broken untouched (Ok summary) = RanWhole p x summary
+RunAnswers p x broken untouched (Err f) = Stopped p x broken untouched f.event f.cause
+
+-- a write fault is told where the sink's mark is set, and otherwise the mark is as before
+abbrev pub mark_by : Bool → RunCause → Bool
+mark_by old Read = old
+mark_by old Write = true
+mark_by old (OfScript f) = old
+mark_by old NoMemory = old
+
+abbrev pub mark_after : Bool → Result Summary RunFault → Bool
+mark_after old (Ok summary) = old
+mark_after old (Err f) = mark_by old f.cause

@@ -1,0 +1,6 @@
+pub mod Events
+pub mod ScriptFaults
+pub mod Script
+pub mod Output
+pub mod Answers
+pub mod Answered

@@ -1,0 +1,83 @@
+// The answer to one event: its reply and its tickets.
+ghost use Rattle.std.specs.Prelude.{◌≡◌, ◌+◌, ◌<◌, ◌^◌, ℕ, [], true, OnOk, OnErr, IfOk, IfErr, drop, length};
+ghost use Rattle.std.specs.List.{flat_map};
+ghost use Rattle.std.specs.Io.KnownBytes.{append_known};
+ghost use Rattle.tx_text.specs.Ends.{StopsIn};
+ghost use Rattle.tx_state.specs.Drained.{drained};
+ghost use Rattle.tx_state.specs.Runs.{moment};
+ghost use Rattle.tx_state.specs.Sound.{is_refused};
+ghost use Rattle.tx_tickets.specs.Texts.{ticket_text};
+ghost use Rattle.tx_script.specs.Output.{tickets_made, moment_text};
+ghost use Rattle.tx_script.specs.Answers.{mark_by};
+ghost use Rattle.tx_script.specs.Answered.{count_of, Halted};
+
+use crate::run_cause::RunCause;
+use std::alloc::Allocator;
+use tx_plan::Plan;
+use tx_state::{Event, Network, Reply};
+use tx_text::{Sink, WriteFault};
+use tx_tickets::{write_reply, write_ticket};
+
+/// What is counted of an answer.
+#[derive(Clone, Copy)]
+pub(crate) struct Answered {
+    pub refused: bool,
+    pub tickets: u64,
+}
+
+/// Applies an event to a network whose tickets were taken, and writes the reply and the tickets.
+pub(crate) fn answer<B: Allocator, N: Network, W: Sink>(
+    event: Event,
+    plan: &Plan<B>,
+    net: &mut N,
+    sink: &mut W,
+) -> Result<Answered, RunCause>
+    requires plan { N.plan net.old ≡ plan.now }
+    requires taken { (N.state net.old).tickets ≡ [] }
+    requires few { length (N.state net.old).calls < 2 ^ 63 }
+    ensures plan { N.plan net.new ≡ plan.now }
+    ensures count { IfOk result (λ a. a ≡ count_of (moment plan.now (N.state net.old) event)) }
+    ensures wrote { OnOk result (W.taken sink.new ≡ append_known (W.taken sink.old) (moment_text plan.now (moment plan.now (N.state net.old) event))) }
+    ensures network { OnOk result (N.state net.new ≡ drained (moment plan.now (N.state net.old) event).after []) }
+    ensures unmarked { OnOk result (W.failed sink.new ≡ W.failed sink.old) }
+    ensures halted { IfErr result (Halted plan.now event (N.state net.old) (N.state net.new) (W.taken sink.old) (W.taken sink.new)) }
+    ensures mark { IfErr result (λ cause. W.failed sink.new ≡ mark_by (W.failed sink.old) cause) }
+{
+    let reply = net.apply(event)?;
+    write_reply(&reply, plan, sink)?;
+    let tickets = write_tickets(plan, net, sink)?;
+    Ok(Answered {
+        refused: is_refused(&reply),
+        tickets,
+    })
+}
+
+fn is_refused(reply: &Reply) -> bool
+    ensures { result ≡ is_refused reply.now }
+{
+    matches!(reply, Reply::Refused(_))
+}
+
+/// Takes the tickets out of a network and writes them, the oldest first. Tells how many there were.
+fn write_tickets<B: Allocator, N: Network, W: Sink>(
+    plan: &Plan<B>,
+    net: &mut N,
+    sink: &mut W,
+) -> Result<u64, WriteFault>
+    requires few { length (N.state net.old).tickets < 2 ^ 64 }
+    ensures plan { N.plan net.new ≡ N.plan net.old }
+    ensures count { IfOk result (λ n. n ≡ length (N.state net.old).tickets) }
+    ensures ok { OnOk result (W.taken sink.new ≡ append_known (W.taken sink.old) (flat_map (ticket_text plan.now) (N.state net.old).tickets)) }
+    ensures taken { OnOk result (N.state net.new ≡ drained (N.state net.old) []) }
+    ensures err { OnErr result (StopsIn (W.taken sink.old) (W.taken sink.new) (flat_map (ticket_text plan.now) (N.state net.old).tickets)) }
+    ensures left { OnErr result ((k : ℕ) × (N.state net.new ≡ drained (N.state net.old) (drop k (N.state net.old).tickets))) }
+    ensures mark { OnErr result (W.failed sink.new ≡ true) }
+    ensures unmarked { OnOk result (W.failed sink.new ≡ W.failed sink.old) }
+{
+    let mut count = 0;
+    while let Some(ticket) = net.next_ticket() {
+        write_ticket(&ticket, plan, sink)?;
+        count += 1;
+    }
+    Ok(count)
+}

@@ -1,0 +1,154 @@
+// The line of an event.
+ghost use Rattle.std.specs.Prelude.{◌≡◌, ◌++◌, true, OnOk, OnErr, codes, decimal};
+ghost use Rattle.std.specs.Io.KnownBytes.{append_known};
+ghost use Rattle.tx_text.specs.Ends.{StopsIn};
+ghost use Rattle.tx_plan.specs.Plan.{group_name};
+ghost use Rattle.tx_tickets.specs.Texts.{circuit_text, line_text};
+ghost use Rattle.tx_script.specs.Events.{IsWritable, event_text, party_word};
+
+use itoa::Buffer;
+use std::alloc::Allocator;
+use tx_plan::{Circuit, GroupId, Line, Plan};
+use tx_state::{Event, Party};
+use tx_text::{Figures, Sink, WriteFault, write_parts};
+
+/// Writes the line of an event, as `KEY 41 10001 4110002`, with its LF. The plan has the event's ids, and its circuit has a number from 1 to 240.
+pub fn write_event<A: Allocator, W: Sink>(
+    event: &Event,
+    plan: &Plan<A>,
+    sink: &mut W,
+) -> Result<(), WriteFault>
+    requires { IsWritable plan.now event.now }
+    ensures ok { OnOk result (W.taken sink.new ≡ append_known (W.taken sink.old) (event_text plan.now event.now)) }
+    ensures err { OnErr result (StopsIn (W.taken sink.old) (W.taken sink.new) (event_text plan.now event.now)) }
+    ensures mark { OnErr result (W.failed sink.new ≡ true) }
+    ensures unmarked { OnOk result (W.failed sink.new ≡ W.failed sink.old) }
+{
+    match event {
+        Event::Key { line, keyed } => write_key(line, keyed, plan, sink),
+        Event::Route(call) => write_call(b"ROUTE ", *call, b"\n", sink),
+        Event::Confirm(call) => write_call(b"CONFIRM ", *call, b"\n", sink),
+        Event::Clear { call, party } => write_call(b"CLEAR ", *call, party_end(*party), sink),
+        Event::Released(circuit) => write_circuit(b"RELEASED ", circuit, plan, sink),
+        Event::Fail(group) => write_group(b"FAIL ", *group, plan, sink),
+        Event::Restore(group) => write_group(b"RESTORE ", *group, plan, sink),
+        Event::Block(group) => write_group(b"BLOCK ", *group, plan, sink),
+        Event::Unblock(group) => write_group(b"UNBLOCK ", *group, plan, sink),
+        Event::CircuitOut(circuit) => write_circuit(b"OUT ", circuit, plan, sink),
+        Event::CircuitIn(circuit) => write_circuit(b"IN ", circuit, plan, sink),
+        Event::LineFault(line) => write_line(b"FAULT ", line, plan, sink),
+        Event::LineMend(line) => write_line(b"MEND ", line, plan, sink),
+        Event::LineAway(line) => write_line(b"AWAY ", line, plan, sink),
+        Event::LineBack(line) => write_line(b"BACK ", line, plan, sink),
+    }
+}
+
+/// Writes a calling line and what is keyed.
+fn write_key<A: Allocator, W: Sink>(
+    line: &Line,
+    keyed: &Figures,
+    plan: &Plan<A>,
+    sink: &mut W,
+) -> Result<(), WriteFault>
+    ensures ok { OnOk result (W.taken sink.new ≡ append_known (W.taken sink.old) (codes "KEY " ++ (line_text plan.now line.now ++ (codes " " ++ (keyed.now ++ codes "\n"))))) }
+    ensures err { OnErr result (StopsIn (W.taken sink.old) (W.taken sink.new) (codes "KEY " ++ (line_text plan.now line.now ++ (codes " " ++ (keyed.now ++ codes "\n"))))) }
+    ensures mark { OnErr result (W.failed sink.new ≡ true) }
+    ensures unmarked { OnOk result (W.failed sink.new ≡ W.failed sink.old) }
+{
+    write_parts(
+        &[
+            b"KEY ".as_slice(),
+            plan.code_figures(line.code),
+            b" ".as_slice(),
+            line.national.bytes(),
+            b" ".as_slice(),
+            keyed.bytes(),
+            b"\n".as_slice(),
+        ],
+        sink,
+    )
+}
+
+/// Writes a first word, given with its space, a call's number, and what ends the line.
+fn write_call<W: Sink>(first: &[u8], call: u32, end: &[u8], sink: &mut W) -> Result<(), WriteFault>
+    ensures ok { OnOk result (W.taken sink.new ≡ append_known (W.taken sink.old) (first.now ++ (decimal call ++ end.now))) }
+    ensures err { OnErr result (StopsIn (W.taken sink.old) (W.taken sink.new) (first.now ++ (decimal call ++ end.now))) }
+    ensures mark { OnErr result (W.failed sink.new ≡ true) }
+    ensures unmarked { OnOk result (W.failed sink.new ≡ W.failed sink.old) }
+{
+    let mut digits = Buffer::new();
+    write_parts(
+        &[first, digits.format(call).as_bytes(), end, b"".as_slice()],
+        sink,
+    )
+}
+
+/// The party that clears, with what stands before it and behind it.
+fn party_end<'a>(party: Party) -> &'a [u8]
+    ensures { result.now ≡ codes " " ++ (party_word party ++ codes "\n") }
+{
+    match party {
+        Party::Caller => b" CALLER\n",
+        Party::Called => b" CALLED\n",
+    }
+}
+
+/// Writes a first word, given with its space, and a circuit.
+fn write_circuit<A: Allocator, W: Sink>(
+    first: &[u8],
+    circuit: &Circuit,
+    plan: &Plan<A>,
+    sink: &mut W,
+) -> Result<(), WriteFault>
+    ensures ok { OnOk result (W.taken sink.new ≡ append_known (W.taken sink.old) (first.now ++ (circuit_text plan.now circuit.now ++ codes "\n"))) }
+    ensures err { OnErr result (StopsIn (W.taken sink.old) (W.taken sink.new) (first.now ++ (circuit_text plan.now circuit.now ++ codes "\n"))) }
+    ensures mark { OnErr result (W.failed sink.new ≡ true) }
+    ensures unmarked { OnOk result (W.failed sink.new ≡ W.failed sink.old) }
+{
+    let mut digits = Buffer::new();
+    let number = digits.format(circuit.number).as_bytes();
+    let group = plan.group_name(circuit.group);
+    write_parts(
+        &[first, group, b".".as_slice(), number, b"\n".as_slice()],
+        sink,
+    )
+}
+
+/// Writes a first word, given with its space, and a group.
+fn write_group<A: Allocator, W: Sink>(
+    first: &[u8],
+    group: GroupId,
+    plan: &Plan<A>,
+    sink: &mut W,
+) -> Result<(), WriteFault>
+    ensures ok { OnOk result (W.taken sink.new ≡ append_known (W.taken sink.old) (first.now ++ (group_name plan.now group ++ codes "\n"))) }
+    ensures err { OnErr result (StopsIn (W.taken sink.old) (W.taken sink.new) (first.now ++ (group_name plan.now group ++ codes "\n"))) }
+    ensures mark { OnErr result (W.failed sink.new ≡ true) }
+    ensures unmarked { OnOk result (W.failed sink.new ≡ W.failed sink.old) }
+{
+    write_parts(&[first, plan.group_name(group), b"\n".as_slice()], sink)
+}
+
+/// Writes a first word, given with its space, and a line.
+fn write_line<A: Allocator, W: Sink>(
+    first: &[u8],
+    line: &Line,
+    plan: &Plan<A>,
+    sink: &mut W,
+) -> Result<(), WriteFault>
+    ensures ok { OnOk result (W.taken sink.new ≡ append_known (W.taken sink.old) (first.now ++ (line_text plan.now line.now ++ codes "\n"))) }
+    ensures err { OnErr result (StopsIn (W.taken sink.old) (W.taken sink.new) (first.now ++ (line_text plan.now line.now ++ codes "\n"))) }
+    ensures mark { OnErr result (W.failed sink.new ≡ true) }
+    ensures unmarked { OnOk result (W.failed sink.new ≡ W.failed sink.old) }
+{
+    write_parts(
+        &[
+            first,
+            plan.code_figures(line.code),
+            b" ".as_slice(),
+            line.national.bytes(),
+            b"\n".as_slice(),
+        ],
+        sink,
+    )
+}

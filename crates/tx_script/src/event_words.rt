@@ -1,0 +1,200 @@
+// The event that the words of a line say.
+ghost use Rattle.std.specs.Prelude.{◌≡◌, ◌<◌, None, Some, MatchOption, IfSome, length};
+ghost use Rattle.std.specs.List.{position};
+ghost use Rattle.tx_script.specs.Events.{event_of, event_by, key_event, call_in, clear_event, circuit_in, circuit_of, circuit_number, is_dot, cut_at_dot, group_in, line_in, line_of, party_of, end_event, one_word, two_words, three_words};
+
+use crate::script_word::ScriptWord;
+use crate::verb::Verb;
+use std::alloc::Allocator;
+use tx_plan::{Circuit, GroupId, Line, National, Plan};
+use tx_state::{Event, Party};
+use tx_text::{Figures, Words, number};
+
+/// The event of a line's words.
+#[tactic(auto, unfolding(crate::specs::Events::event_of))]
+pub(crate) fn event_of<A: Allocator>(words: Words<'_>, plan: &Plan<A>) -> Result<Event, ScriptWord>
+    ensures { result ≡ event_of plan.now words.entry }
+{
+    let mut words = words;
+    let first = words.next().ok_or(ScriptWord::UnknownWord)?;
+    let verb = Verb::read(first).ok_or(ScriptWord::UnknownWord)?;
+    event_by(verb, words, plan)
+}
+
+/// The event of a first word and the words that follow it.
+fn event_by<A: Allocator>(verb: Verb, words: Words<'_>, plan: &Plan<A>) -> Result<Event, ScriptWord>
+    ensures { result ≡ event_by plan.now verb words.entry }
+{
+    match verb {
+        Verb::Key => key_event(words, plan),
+        Verb::Route => Ok(Event::Route(call_in(words)?)),
+        Verb::Confirm => Ok(Event::Confirm(call_in(words)?)),
+        Verb::Clear => clear_event(words),
+        Verb::Released => Ok(Event::Released(circuit_in(words, plan)?)),
+        Verb::Fail => Ok(Event::Fail(group_in(words, plan)?)),
+        Verb::Restore => Ok(Event::Restore(group_in(words, plan)?)),
+        Verb::Block => Ok(Event::Block(group_in(words, plan)?)),
+        Verb::Unblock => Ok(Event::Unblock(group_in(words, plan)?)),
+        Verb::Out => Ok(Event::CircuitOut(circuit_in(words, plan)?)),
+        Verb::In => Ok(Event::CircuitIn(circuit_in(words, plan)?)),
+        Verb::Fault => Ok(Event::LineFault(line_in(words, plan)?)),
+        Verb::Mend => Ok(Event::LineMend(line_in(words, plan)?)),
+        Verb::Away => Ok(Event::LineAway(line_in(words, plan)?)),
+        Verb::Back => Ok(Event::LineBack(line_in(words, plan)?)),
+        Verb::End => end_event(words),
+    }
+}
+
+/// A code, a national number and the figures that were keyed.
+fn key_event<A: Allocator>(words: Words<'_>, plan: &Plan<A>) -> Result<Event, ScriptWord>
+    ensures { result ≡ key_event plan.now words.entry }
+{
+    let (code, national, keyed) = three_words(words).ok_or(ScriptWord::WrongCount)?;
+    let keyed = Figures::read(keyed).ok_or(ScriptWord::BadNumber)?;
+    let line = line_of(code, national, plan)?;
+    Ok(Event::Key { line, keyed })
+}
+
+/// A call's number.
+fn call_in(words: Words<'_>) -> Result<u32, ScriptWord>
+    ensures { result ≡ call_in words.entry }
+{
+    let call = one_word(words).ok_or(ScriptWord::WrongCount)?;
+    number(call, u32::MAX).ok_or(ScriptWord::BadNumber)
+}
+
+/// A call's number, and CALLER or CALLED.
+fn clear_event(words: Words<'_>) -> Result<Event, ScriptWord>
+    ensures { result ≡ clear_event words.entry }
+{
+    let (call, party) = two_words(words).ok_or(ScriptWord::WrongCount)?;
+    let party = party_of(party).ok_or(ScriptWord::UnknownWord)?;
+    let call = number(call, u32::MAX).ok_or(ScriptWord::BadNumber)?;
+    Ok(Event::Clear { call, party })
+}
+
+fn party_of(word: &[u8]) -> Option<Party>
+    ensures { result ≡ party_of word.now }
+{
+    if word == b"CALLER".as_slice() {
+        return Some(Party::Caller);
+    }
+    if word == b"CALLED".as_slice() {
+        return Some(Party::Called);
+    }
+    None
+}
+
+/// A circuit.
+fn circuit_in<A: Allocator>(words: Words<'_>, plan: &Plan<A>) -> Result<Circuit, ScriptWord>
+    ensures { result ≡ circuit_in plan.now words.entry }
+{
+    let circuit = one_word(words).ok_or(ScriptWord::WrongCount)?;
+    circuit_of(circuit, plan)
+}
+
+/// The circuit that a word names, as G1.1.
+fn circuit_of<A: Allocator>(word: &[u8], plan: &Plan<A>) -> Result<Circuit, ScriptWord>
+    ensures { result ≡ circuit_of plan.now word.now }
+{
+    let (group, number) = cut_at_dot(word).ok_or(ScriptWord::BadNumber)?;
+    let number = circuit_number(number).ok_or(ScriptWord::BadNumber)?;
+    let group = plan.group_named(group).ok_or(ScriptWord::UnknownName)?;
+    Ok(Circuit { group, number })
+}
+
+/// A number from 1 to 240.
+fn circuit_number(word: &[u8]) -> Option<u32>
+    ensures { result ≡ circuit_number word.now }
+{
+    match number(word, 240) {
+        Some(0) | None => None,
+        Some(number) => Some(number),
+    }
+}
+
+/// What stands before the first dot, and what stands behind it.
+fn cut_at_dot(word: &[u8]) -> Option<(&[u8], &[u8])>
+    ensures { MatchOption result (cut_at_dot word.now ≡ None) (λ c. cut_at_dot word.now ≡ Some (c.0.now, c.1.now)) }
+{
+    match first_dot(word) {
+        Some(dot) => Some((&word[..dot], &word[dot + 1..])),
+        None => None,
+    }
+}
+
+/// Where the first dot stands.
+fn first_dot(word: &[u8]) -> Option<usize>
+    ensures place { result ≡ position is_dot word.now }
+    ensures within { IfSome result (λ dot. dot < length word.now) }
+{
+    word.iter().position(|byte| *byte == b'.')
+}
+
+/// A group.
+fn group_in<A: Allocator>(words: Words<'_>, plan: &Plan<A>) -> Result<GroupId, ScriptWord>
+    ensures { result ≡ group_in plan.now words.entry }
+{
+    let name = one_word(words).ok_or(ScriptWord::WrongCount)?;
+    plan.group_named(name).ok_or(ScriptWord::UnknownName)
+}
+
+/// A line: a code and a national number.
+fn line_in<A: Allocator>(words: Words<'_>, plan: &Plan<A>) -> Result<Line, ScriptWord>
+    ensures { result ≡ line_in plan.now words.entry }
+{
+    let (code, national) = two_words(words).ok_or(ScriptWord::WrongCount)?;
+    line_of(code, national, plan)
+}
+
+fn line_of<A: Allocator>(code: &[u8], national: &[u8], plan: &Plan<A>) -> Result<Line, ScriptWord>
+    ensures { result ≡ line_of plan.now code.now national.now }
+{
+    let national = National::read(national).ok_or(ScriptWord::BadNumber)?;
+    let code = plan.code_named(code).ok_or(ScriptWord::UnknownName)?;
+    Ok(Line { code, national })
+}
+
+/// END is no event.
+fn end_event(words: Words<'_>) -> Result<Event, ScriptWord>
+    ensures { result ≡ end_event words.entry }
+{
+    let mut words = words;
+    match words.next() {
+        Some(_) => Err(ScriptWord::WrongCount),
+        None => Err(ScriptWord::UnknownWord),
+    }
+}
+
+/// The word, where it is the only one.
+fn one_word(words: Words<'_>) -> Option<&[u8]>
+    ensures { MatchOption result (one_word words.entry ≡ None) (λ w. one_word words.entry ≡ Some w.now) }
+{
+    let mut words = words;
+    match (words.next(), words.next()) {
+        (Some(word), None) => Some(word),
+        _ => None,
+    }
+}
+
+/// The words, where they are two.
+fn two_words(words: Words<'_>) -> Option<(&[u8], &[u8])>
+    ensures { MatchOption result (two_words words.entry ≡ None) (λ w. two_words words.entry ≡ Some (w.0.now, w.1.now)) }
+{
+    let mut words = words;
+    match (words.next(), words.next(), words.next()) {
+        (Some(first), Some(second), None) => Some((first, second)),
+        _ => None,
+    }
+}
+
+/// The words, where they are three.
+fn three_words(words: Words<'_>) -> Option<(&[u8], &[u8], &[u8])>
+    ensures { MatchOption result (three_words words.entry ≡ None) (λ w. three_words words.entry ≡ Some (w.0.now, w.1.now, w.2.now)) }
+{
+    let mut words = words;
+    match (words.next(), words.next(), words.next(), words.next()) {
+        (Some(first), Some(second), Some(third), None) => Some((first, second, third)),
+        _ => None,
+    }
+}

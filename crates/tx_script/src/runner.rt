@@ -1,0 +1,158 @@
+// The run of a script over a network.
+ghost use Rattle.std.specs.Prelude.{◌≡◌, ◌+◌, ◌<◌, ◌^◌, true, OnOk, OnErr, IfOk, IfErr, codes, length, if◌then◌else◌};
+ghost use Rattle.std.specs.Io.KnownBytes.{append_known};
+ghost use Rattle.tx_text.specs.declared.frame.Phase.TheVariants.{Start};
+ghost use Rattle.tx_text.specs.Calls.{CallsAtMost, Broken, source_calls};
+ghost use Rattle.tx_text.specs.Ends.{StopsIn};
+ghost use Rattle.tx_text.specs.Told.{reading_start};
+ghost use Rattle.tx_text.specs.Frame.{is_read};
+ghost use Rattle.tx_script.specs.Answers.{RunAnswers, IsFresh, mark_after};
+ghost use Rattle.tx_script.specs.Output.{end_line, end_text};
+
+use crate::answer::answer;
+use crate::event_words::event_of;
+use crate::run_cause::RunCause;
+use crate::run_fault::RunFault;
+use crate::script_word::ScriptKind;
+use crate::summary::Summary;
+use crate::tally::Tally;
+use itoa::Buffer;
+use std::alloc::Allocator;
+use tx_plan::Plan;
+use tx_state::Network;
+use tx_text::{
+    FaultAt, FrameFault, FrameReader, Kind, LineFault, Sink, Source, Step, Stop, WriteFault,
+    write_parts,
+};
+
+const KEY: &[u8] = b"SCRIPT";
+
+/// Runs the script that comes from a source over a network that was made for the plan, and writes the reply and the tickets of each event, and at
+/// the script's end the line END EVENTS. Each event is answered before the source is asked for a line that is not yet there.
+pub fn run<A: Allocator, B: Allocator, N: Network, R: Source, W: Sink>(
+    alloc: A,
+    plan: &Plan<B>,
+    net: &mut N,
+    source: &mut R,
+    sink: &mut W,
+) -> Result<Summary, RunFault>
+    requires plan { N.plan net.old ≡ plan.now }
+    requires fresh { IsFresh (N.state net.old) }
+    ensures plan { N.plan net.new ≡ plan.now }
+    ensures answers { RunAnswers plan.now (record { rest_old = R.rest source.old; rest_new = R.rest source.new; taken_old = W.taken sink.old; taken_new = W.taken sink.new; state_old = N.state net.old; state_new = N.state net.new })
+        (Broken R.called (R.failed source.new) source_calls source.old source.new) ((source.new ≡ source.old) × (sink.new ≡ sink.old) × (net.new ≡ net.old)) result }
+    ensures mark { W.failed sink.new ≡ mark_after (W.failed sink.old) result }
+    ensures calls { CallsAtMost R.called source_calls source.old source.new }
+{
+    match FrameReader::new(alloc, KEY, 1) {
+        Ok(frame) => run_lines(frame, plan, net, source, sink),
+        Err(fault) => Err(RunFault {
+            event: 1,
+            cause: script_fault(1, Kind::Frame(FrameFault::Line(LineFault::Text(fault)))),
+        }),
+    }
+}
+
+/// Answers the lines that the frame leaves to it, one after another.
+fn run_lines<A: Allocator, B: Allocator, N: Network, R: Source, W: Sink>(
+    frame: FrameReader<'_, A>,
+    plan: &Plan<B>,
+    net: &mut N,
+    source: &mut R,
+    sink: &mut W,
+) -> Result<Summary, RunFault>
+    requires key { frame.key.now ≡ codes "SCRIPT" }
+    requires versions { frame.most ≡ 1 }
+    requires reader { frame.reader ≡ reading_start }
+    requires phase { frame.phase ≡ Start }
+    requires number { frame.number ≡ 1 }
+    requires plan { N.plan net.old ≡ plan.now }
+    requires fresh { IsFresh (N.state net.old) }
+    ensures plan { N.plan net.new ≡ plan.now }
+    ensures answers { RunAnswers plan.now (record { rest_old = R.rest source.old; rest_new = R.rest source.new; taken_old = W.taken sink.old; taken_new = W.taken sink.new; state_old = N.state net.old; state_new = N.state net.new })
+        (Broken R.called (R.failed source.new) source_calls source.old source.new) ((source.new ≡ source.old) × (sink.new ≡ sink.old) × (net.new ≡ net.old)) result }
+    ensures mark { W.failed sink.new ≡ mark_after (W.failed sink.old) result }
+    ensures calls { CallsAtMost R.called source_calls source.old source.new }
+{
+    let mut frame = frame;
+    let mut tally = Tally {
+        answered: 0,
+        refused: 0,
+        tickets: 0,
+    };
+    'lines: loop {
+        match frame.advance(source) {
+            Ok(Step::Header(_)) => {}
+            Ok(Step::Line) => match event_of(frame.words(), plan) {
+                Ok(event) => match answer(event, plan, net, sink) {
+                    Ok(answered) => tally.count(answered),
+                    Err(cause) => return Err(tally.stopped(cause)),
+                },
+                Err(word) => {
+                    let cause = script_fault(frame.number(), Kind::Word(word));
+                    return Err(tally.stopped(cause));
+                }
+            },
+            Ok(Step::End) => return finish(&tally, net, sink),
+            Err(stop) => return Err(tally.stopped(frame_cause(stop))),
+        }
+    }
+}
+
+fn script_fault(line: u64, kind: ScriptKind) -> RunCause
+    ensures { result ≡ RunCause.Script (record { line = line; kind = kind }) }
+{
+    RunCause::Script(FaultAt { line, kind })
+}
+
+/// A failure to read is a cause of its own.
+fn frame_cause(stop: Stop) -> RunCause
+    ensures { result ≡ (if is_read stop.fault then RunCause.Read else RunCause.Script (record { line = stop.line; kind = Kind.Frame stop.fault })) }
+{
+    match stop.fault {
+        FrameFault::Line(LineFault::Read) => RunCause::Read,
+        fault => script_fault(stop.line, Kind::Frame(fault)),
+    }
+}
+
+/// Writes the last line, and tells what was counted.
+fn finish<N: Network, W: Sink>(tally: &Tally, net: &N, sink: &mut W) -> Result<Summary, RunFault>
+    requires { tally.now.answered < 2 ^ 63 }
+    ensures summary { IfOk result (λ s. s ≡ record { events = (N.state net.now).events; refused = tally.now.refused; tickets = tally.now.tickets; open_calls = length (N.state net.now).calls }) }
+    ensures ok { OnOk result (W.taken sink.new ≡ append_known (W.taken sink.old) (end_text (N.state net.now))) }
+    ensures fault { IfErr result (λ f. f ≡ record { event = tally.now.answered + 1; cause = RunCause.Write }) }
+    ensures err { OnErr result (StopsIn (W.taken sink.old) (W.taken sink.new) (end_text (N.state net.now))) }
+    ensures mark { W.failed sink.new ≡ mark_after (W.failed sink.old) result }
+{
+    let events = net.events();
+    let open_calls = net.open_calls();
+    match write_end(events, open_calls, sink) {
+        Ok(()) => Ok(Summary {
+            events,
+            refused: tally.refused,
+            tickets: tally.tickets,
+            open_calls,
+        }),
+        Err(WriteFault) => Err(tally.stopped(RunCause::Write)),
+    }
+}
+
+fn write_end<W: Sink>(events: u64, open_calls: u64, sink: &mut W) -> Result<(), WriteFault>
+    ensures ok { OnOk result (W.taken sink.new ≡ append_known (W.taken sink.old) (end_line events open_calls)) }
+    ensures err { OnErr result (StopsIn (W.taken sink.old) (W.taken sink.new) (end_line events open_calls)) }
+    ensures mark { OnErr result (W.failed sink.new ≡ true) }
+    ensures unmarked { OnOk result (W.failed sink.new ≡ W.failed sink.old) }
+{
+    let mut accepted = Buffer::new();
+    let mut open = Buffer::new();
+    write_parts(
+        &[
+            b"END EVENTS ".as_slice(),
+            accepted.format(events).as_bytes(),
+            b" OPEN ".as_slice(),
+            open.format(open_calls).as_bytes(),
+            b"\n".as_slice(),
+        ],
+        sink,
+    )
+}

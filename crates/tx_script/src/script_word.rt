@@ -1,0 +1,59 @@
+// What is wrong with a script.
+ghost use Rattle.std.specs.Prelude.{◌≡◌};
+ghost use Rattle.tx_script.specs.ScriptFaults.{frame_row, word_row, fault_row};
+
+use tx_text::{FaultAt, FormFault, FrameFault, Kind, LineFault, TextFault};
+
+/// What is wrong with the words of a script's line. Of several faults the first in this order is given.
+#[derive(Clone, Copy, Debug, PartialEq, Eq)]
+pub enum ScriptWord {
+    /// S1: the first word is no event's, or the third of a CLEAR line of three words is neither CALLER nor CALLED.
+    UnknownWord,
+    /// S2: the wrong number of words.
+    WrongCount,
+    /// S3: a word that is no number of its kind.
+    BadNumber,
+    /// S4: a code or a group that the plan has not.
+    UnknownName,
+}
+
+/// What is wrong with a line of a script, or with its frame.
+pub type ScriptKind = Kind<ScriptWord>;
+
+/// A fault of a script, with its line.
+pub type ScriptFault = FaultAt<ScriptWord>;
+
+/// The code and the name of a fault, as `S1` and `UnknownWord`. A source that failed has no code in a script.
+pub fn code_and_name(kind: ScriptKind) -> (&'static [u8], &'static [u8])
+    ensures { (result.0.now, result.1.now) ≡ fault_row kind }
+{
+    match kind {
+        Kind::Frame(fault) => frame_row(fault),
+        Kind::Word(word) => word_row(word),
+    }
+}
+
+fn frame_row(fault: FrameFault) -> (&'static [u8], &'static [u8])
+    ensures { (result.0.now, result.1.now) ≡ frame_row fault }
+{
+    match fault {
+        FrameFault::Form(FormFault::NoHeader) => (b"S5", b"NoHeader"),
+        FrameFault::Form(FormFault::NoEnd) => (b"S6", b"NoEnd"),
+        FrameFault::Form(FormFault::AfterEnd) => (b"S7", b"AfterEnd"),
+        FrameFault::Line(LineFault::Read) => (b"", b"ReadFault"),
+        FrameFault::Line(LineFault::Text(TextFault::LineTooLong)) => (b"X1", b"LineTooLong"),
+        FrameFault::Line(LineFault::Text(TextFault::BadByte)) => (b"X2", b"BadByte"),
+        FrameFault::Line(LineFault::Text(TextFault::NoMemory)) => (b"X3", b"NoMemory"),
+    }
+}
+
+fn word_row(word: ScriptWord) -> (&'static [u8], &'static [u8])
+    ensures { (result.0.now, result.1.now) ≡ word_row word }
+{
+    match word {
+        ScriptWord::UnknownWord => (b"S1", b"UnknownWord"),
+        ScriptWord::WrongCount => (b"S2", b"WrongCount"),
+        ScriptWord::BadNumber => (b"S3", b"BadNumber"),
+        ScriptWord::UnknownName => (b"S4", b"UnknownName"),
+    }
+}
