@@ -13,8 +13,7 @@ use std::cell::RefCell;
 use std::fs::File;
 use std::process::ExitCode;
 use std::{env, io};
-use tx_check::Verdict;
-use tx_jobs::{JobFault, check_job, codes_job, pipe_job, run_job, write_fault};
+use tx_jobs::{JobFault, check_status, codes_job, pipe_job, run_job, write_fault};
 use tx_pipe::TwoTexts;
 use tx_text::{FromRead, ToWrite};
 
@@ -72,11 +71,11 @@ fn run_check(rt: &HostRuntime, plan: &str, cert: &str, limit: u8, spare: u8) -> 
     let mut plan = FromRead::new(plan);
     let mut cert = FromRead::new(cert);
     let mut sink = OutputSink::new(&output);
-    let done = check_job(rt.alloc(), &mut plan, &mut cert, limit, spare, &mut sink);
+    let done = check_status(rt.alloc(), &mut plan, &mut cert, limit, spare, &mut sink);
     if !flushed(&output) {
         return Err(JobFault::Write);
     }
-    done.map(|verdict| u8::from(verdict != Verdict::Yes))
+    done
 }
 
 /// `codes PLAN`: status 1 where a code begins another.

@@ -10,7 +10,7 @@ use Rattle.tx_cert.specs.declared.fault.CertWord.{CertWord}
 use Rattle.tx_cert.specs.Certificate.{Certificate, IsCertificateOf}
 use Rattle.tx_cert.specs.CertText.{cert_of, is_memory}
 use Rattle.tx_check.specs.declared.verdict.Verdict.{Verdict}
-use Rattle.tx_check.specs.declared.verdict.Verdict.TheVariants.{Yes}
+use Rattle.tx_check.specs.declared.verdict.Verdict.TheVariants.{Yes, No}
 use Rattle.tx_check.specs.Checks.{check_faults, ranks_for, verdict_of}
 use Rattle.tx_check.specs.Verdicts.{verdict_written}
 use Rattle.tx_jobs.specs.declared.job_fault.JobFault.{JobFault}
@@ -51,3 +51,17 @@ abbrev pub CheckJobAnswers : (plan_old plan_new cert_old cert_new taken_old take
 CheckJobAnswers plan_old plan_new cert_old cert_new taken_old taken_new limit spare plan_broken cert_broken unread silent result =
     PlanRead plan_old plan_new plan_broken (λ p. CheckAnswers p cert_old cert_new taken_old taken_new limit spare cert_broken silent result)
     ⊎ PlanRefused plan_old plan_new plan_broken (unread × silent) result
+
+-- 0 after a Yes, 1 after a No
+abbrev pub status_for : Verdict → ℕ
+status_for Yes = 0
+status_for (No fault) = 1
+
+abbrev pub told_status : Result Verdict JobFault → Result ℕ JobFault
+told_status (Ok v) = Ok (status_for v)
+told_status (Err f) = Err f
+
+-- the same, told as an exit status
+abbrev pub CheckStatusAnswers : (plan_old plan_new cert_old cert_new taken_old taken_new : Option (List ℕ)) → (limit spare : ℕ) → (plan_broken cert_broken unread silent : Type 0) → Result ℕ JobFault → Type 0
+CheckStatusAnswers plan_old plan_new cert_old cert_new taken_old taken_new limit spare plan_broken cert_broken unread silent result =
+    (answer : Result Verdict JobFault) × CheckJobAnswers plan_old plan_new cert_old cert_new taken_old taken_new limit spare plan_broken cert_broken unread silent answer × (result ≡ told_status answer)

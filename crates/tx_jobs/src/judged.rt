@@ -1,7 +1,7 @@
 // The job of `check PLAN CERT --limit L --spare K`.
 ghost use Rattle.std.specs.Prelude.{◌≡◌, ◌≤◌};
 ghost use Rattle.tx_text.specs.Calls.{Broken, CallsAtMost, source_calls};
-ghost use Rattle.tx_jobs.specs.CheckJobs.{CheckJobAnswers, CheckAnswers, ToldVerdict};
+ghost use Rattle.tx_jobs.specs.CheckJobs.{CheckJobAnswers, CheckStatusAnswers, CheckAnswers, ToldVerdict};
 
 use crate::job_fault::JobFault;
 use std::alloc::Allocator;
@@ -33,6 +33,27 @@ pub fn check_job<A: Allocator + Copy, P: Source, R: Source, W: Sink>(
             check_cert(alloc, &plan, cert, limit, spare, out)
         }
         Err(fault) => Err(JobFault::of_plan(fault)),
+    }
+}
+
+/// The same, and answers the exit status: 0 after a Yes, 1 after a No.
+pub fn check_status<A: Allocator + Copy, P: Source, R: Source, W: Sink>(
+    alloc: A,
+    plan: &mut P,
+    cert: &mut R,
+    limit: u8,
+    spare: u8,
+    out: &mut W,
+) -> Result<u8, JobFault>
+    requires limit { limit ≤ 62 }
+    requires spare { spare ≤ 15 }
+    ensures { CheckStatusAnswers (P.rest plan.old) (P.rest plan.new) (R.rest cert.old) (R.rest cert.new) (W.taken out.old) (W.taken out.new) limit spare
+        (Broken P.called (P.failed plan.new) source_calls plan.old plan.new) (Broken R.called (R.failed cert.new) source_calls cert.old cert.new) (cert.new ≡ cert.old) (out.new ≡ out.old) result }
+{
+    match check_job(alloc, plan, cert, limit, spare, out) {
+        Ok(Verdict::Yes) => Ok(0),
+        Ok(Verdict::No(_)) => Ok(1),
+        Err(fault) => Err(fault),
     }
 }
 

@@ -11,7 +11,7 @@ mod simulate;
 
 pub use fault_line::write_fault;
 pub use job_fault::JobFault;
-pub use judged::check_job;
+pub use judged::{check_job, check_status};
 pub use listed::codes_job;
 pub use piped::pipe_job;
 pub use scripted::run_job;

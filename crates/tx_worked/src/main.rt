@@ -8,7 +8,7 @@ use memchr::{memchr, memmem};
 use std::alloc::Allocator;
 use std::io::{BufWriter, Write};
 use std::{fs, io};
-use tx_jobs::{JobFault, check_job, codes_job, pipe_job, write_fault};
+use tx_jobs::{JobFault, check_status, codes_job, pipe_job, write_fault};
 use tx_pipe::TwoTexts;
 use tx_text::{MemorySource, Sink, ToWrite, Words, WriteFault, number, words, write_parts};
 
@@ -62,7 +62,7 @@ fn play_check<A: Allocator + Copy, W: Sink>(
         None => (texts, b"".as_slice()),
     };
     let cert = cert.strip_prefix(b"---\n".as_slice()).unwrap_or(cert);
-    check_job(
+    check_status(
         alloc,
         &mut source(plan),
         &mut source(cert),
