@@ -8,3 +8,4 @@ pub mod LineFound
 pub mod Lists
 pub mod Growing
 pub mod Made
+pub mod SeenWords

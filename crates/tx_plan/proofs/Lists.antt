@@ -80,7 +80,7 @@ place_found t (x ∷ xs) h = by_test (t x) h (place_found t xs)
     by_test true h k = omega arith
     by_test false h k = let l = k h in omega (arith, l)
 
-below : (m n : ℕ) → m < n → nat_lt m n ≡ true
+pub below : (m n : ℕ) → m < n → nat_lt m n ≡ true
 below m n h = grind (arith, nat_tests)
 
 -- where one passes, the place is of a member that passes

@@ -9,3 +9,4 @@ pub mod Declaring
 pub mod Certified
 pub mod Orders
 pub mod Tables
+pub mod Seen

@@ -4,12 +4,13 @@ ghost use Rattle.std.specs.List.{list_any};
 ghost use Rattle.tx_text.specs.Words.{is_name};
 ghost use Rattle.tx_plan.specs.Plan.{exchange_named, code_named, group_named};
 ghost use Rattle.tx_plan.specs.Routes.{is_barred};
-ghost use Rattle.tx_plan.specs.Declaring.{first_true, exchange_refusals, code_refusals, lines_refusals, group_refusals, route_refusals, route_plan_refusals, route_group_refusals, bar_refusals, has_exchange, has_code, has_group, has_route, pair_named, is_not_outgoing, is_ordered, exchange_at, code_at, group_at};
+ghost use Rattle.tx_plan.specs.Seen.{IsSeen};
+ghost use Rattle.tx_plan.specs.Declaring.{first_true, exchange_refusals, code_refusals, lines_refusals, group_refusals, route_refusals, route_plan_refusals, route_group_refusals, bar_refusals, route_word_refusals, has_exchange, has_code, has_group, has_route, pair_named, is_ordered, exchange_at, code_at, group_at};
 
 use crate::direction::Direction;
 use crate::group_list::GroupList;
 use crate::group_row::GroupRow;
-use crate::group_words::{are_many, none_twice, route_words};
+use crate::group_words::none_twice;
 use crate::ids::{CodeId, ExchangeId, GroupId};
 use crate::national::National;
 use crate::pair::Pair;
@@ -17,6 +18,7 @@ use crate::plan::Plan;
 use crate::range::LineRange;
 use crate::ranges::at_most;
 use crate::refusal::PlanRefusal;
+use crate::seen::{Seen, see};
 use crate::short::Short;
 use std::alloc::Allocator;
 use tx_text::{Words, are_figures, is_name};
@@ -41,10 +43,12 @@ fn code_of<A: Allocator>(plan: &Plan<A>, figures: &[u8]) -> Option<CodeId>
 
 /// The group of a name, and whether it was declared.
 #[tactic(auto, using(crate::proofs::Lists::found_any))]
-fn group_of<A: Allocator>(plan: &Plan<A>, name: &[u8]) -> Option<GroupId>
+pub(crate) fn group_of<A: Allocator>(plan: &Plan<A>, name: &[u8]) -> Option<GroupId>
     ensures place { result ≡ group_named plan.now name.now }
     ensures found { is_some result ≡ has_group plan.now name.now }
+    ensures named { is_some result ≡ true → is_name name.now ≡ true }
 {
+    plan.rules();
     plan.group_named(name)
 }
 
@@ -262,97 +266,75 @@ pub(crate) fn bar_entry<A: Allocator>(
     Ok(pair)
 }
 
-/// Whether one of the names is of no group.
-fn any_unknown<A: Allocator>(plan: &Plan<A>, words: Words<'_>) -> bool
-    ensures { result ≡ list_any (λ g. not (has_group plan.now g)) words.entry }
+/// What the words of a route refuse by themselves.
+fn route_words(exchange: &[u8], code: &[u8], groups: &Words<'_>, bad: bool) -> Option<PlanRefusal>
+    requires { bad ≡ list_any (λ g. not (is_name g)) groups.now }
+    ensures { result ≡ first_true (route_word_refusals exchange.now code.now groups.now) }
 {
-    let mut rest = words;
-    'words: loop {
-        match rest.next() {
-            None => return false,
-            Some(word) => {
-                if group_of(plan, word).is_none() {
-                    return true;
-                }
-            }
-        }
+    if groups.again().next().is_none() {
+        return Some(PlanRefusal::WrongCount);
     }
-}
-
-/// Whether the exchange may not seize one of the groups.
-fn any_not_outgoing<A: Allocator>(plan: &Plan<A>, pair: &Pair, words: Words<'_>) -> bool
-    ensures { result ≡ list_any (is_not_outgoing plan.now (Some pair.now)) words.entry }
-{
-    let mut rest = words;
-    'words: loop {
-        match rest.next() {
-            None => return false,
-            Some(word) => {
-                if let Some(group) = plan.group_named(word) {
-                    if !plan.may_seize(group, pair.exchange) {
-                        return true;
-                    }
-                }
-            }
-        }
+    if !is_name(exchange) || bad {
+        return Some(PlanRefusal::BadName);
     }
-}
-
-/// The groups of these names.
-fn list_of<A: Allocator>(plan: &Plan<A>, words: Words<'_>) -> GroupList
-    requires { length words ≤ 16 }
-    ensures { result ≡ map (group_at plan.now) words.entry }
-{
-    let mut rest = words;
-    let mut list = GroupList::new();
-    'words: loop {
-        match rest.next() {
-            None => return list,
-            Some(word) => {
-                let group = plan.group_named(word).unwrap_or(GroupId::at(0));
-                list.push(group);
-            }
-        }
+    if !are_figures(code, 2, 3) {
+        return Some(PlanRefusal::BadCode);
     }
+    None
 }
 
 /// Why the groups are refused to a declared pair, all of them being declared.
+#[tactic(auto, using(crate::proofs::SeenWords::differ_as_words))]
 fn route_groups<A: Allocator>(
     plan: &Plan<A>,
     pair: &Pair,
     groups: &Words<'_>,
+    seen: &Seen,
 ) -> Option<PlanRefusal>
+    requires seen { IsSeen plan.now (Some pair.now) groups.now seen.now }
+    requires known { seen.now.unknown ≡ false }
     ensures gives { result ≡ first_true (route_group_refusals plan.now (Some pair.now) groups.now) }
-    ensures few { IfNone result (length groups.now ≤ 16) }
+    ensures few { IfNone result (seen.now.many ≡ false) }
 {
-    if any_not_outgoing(plan, pair, groups.again()) {
+    if seen.not_outgoing {
         return Some(PlanRefusal::NotOutgoing);
     }
-    if !none_twice(groups.again()) {
+    let once = if seen.many {
+        none_twice(groups.again())
+    } else {
+        seen.list.none_twice()
+    };
+    if !once {
         return Some(PlanRefusal::RepeatedGroup);
     }
     if plan.home(pair.code) == pair.exchange {
         return Some(PlanRefusal::RouteAtHome);
     }
-    if are_many(groups.again()) {
+    if seen.many {
         return Some(PlanRefusal::TooMany);
     }
     None
 }
 
 /// Why a route is refused to a declared pair.
-fn route_row<A: Allocator>(plan: &Plan<A>, pair: &Pair, groups: &Words<'_>) -> Option<PlanRefusal>
+fn route_row<A: Allocator>(
+    plan: &Plan<A>,
+    pair: &Pair,
+    groups: &Words<'_>,
+    seen: &Seen,
+) -> Option<PlanRefusal>
+    requires seen { IsSeen plan.now (Some pair.now) groups.now seen.now }
     ensures gives { result ≡ first_true (route_plan_refusals plan.now (Some pair.now) groups.now) }
-    ensures few { IfNone result (length groups.now ≤ 16) }
+    ensures few { IfNone result (seen.now.many ≡ false) }
     ensures fresh { IfNone result (has_route plan.now pair.now.exchange pair.now.code ≡ false) }
 {
     if plan.has_route(pair) {
         return Some(PlanRefusal::Duplicate);
     }
-    if any_unknown(plan, groups.again()) {
+    if seen.unknown {
         return Some(PlanRefusal::Unknown);
     }
-    route_groups(plan, pair, groups)
+    route_groups(plan, pair, groups, seen)
 }
 
 /// The pair and the groups of a new route, or why it is refused.
@@ -367,18 +349,19 @@ pub(crate) fn route_entry<A: Allocator>(
     ensures entry { IfOk result (λ e. e ≡ (record { exchange = exchange_at plan.now exchange.now; code = code_at plan.now code.now }, map (group_at plan.now) groups.entry)) }
     ensures fresh { IfOk result (λ e. has_route plan.now e.0.exchange e.0.code ≡ false) }
 {
-    match route_words(exchange, code, &groups) {
+    let pair = pair_of(plan, exchange, code);
+    let seen = see(plan, &pair, groups.again());
+    match route_words(exchange, code, &groups, seen.bad) {
         Some(refusal) => return Err(refusal),
         None => {}
     }
-    let pair = match pair_of(plan, exchange, code) {
+    let pair = match pair {
         Some(pair) => pair,
         None => return Err(PlanRefusal::Unknown),
     };
-    match route_row(plan, &pair, &groups) {
+    match route_row(plan, &pair, &groups, &seen) {
         Some(refusal) => return Err(refusal),
         None => {}
     }
-    let list = list_of(plan, groups);
-    Ok((pair, list))
+    Ok((pair, seen.list))
 }

@@ -1,5 +1,7 @@
 // The groups of a route.
-ghost use Rattle.std.specs.Prelude.{◌≡◌, ◌<◌, ◌++◌, ◌∷◌, [], length};
+ghost use Rattle.std.specs.Prelude.{◌≡◌, ◌==◌, ◌++◌, ◌∷◌, [], if◌then◌else◌, nat_lt, length};
+ghost use Rattle.std.specs.List.{list_any};
+ghost use Rattle.tx_plan.specs.Seen.{differ};
 
 use crate::ids::GroupId;
 use std::marker::Model;
@@ -31,12 +33,35 @@ impl GroupList {
         }
     }
 
-    pub fn push(&mut self, group: GroupId)
-        requires { length self.old < 16 }
-        ensures { self.new ≡ self.old ++ group ∷ [] }
+    /// Appends a group, unless there are 16.
+    pub fn keep(&mut self, group: GroupId) -> bool
+        ensures kept { result ≡ nat_lt (length self.old) 16 }
+        ensures list { self.new ≡ (if nat_lt (length self.old) 16 then self.old ++ group ∷ [] else self.old) }
     {
+        if self.len >= 16 {
+            return false;
+        }
         self.groups[self.len] = group;
         self.len += 1;
+        true
+    }
+
+    /// Whether no group stands there twice.
+    pub fn none_twice(&self) -> bool
+        ensures { result ≡ differ self.now }
+    {
+        let mut rest = self.groups();
+        'groups: loop {
+            match rest.split_first() {
+                None => return true,
+                Some((group, others)) => {
+                    if is_among(*group, others) {
+                        return false;
+                    }
+                    rest = others;
+                }
+            }
+        }
     }
 
     pub fn groups(&self) -> &[GroupId]
@@ -44,4 +69,11 @@ impl GroupList {
     {
         &self.groups[..self.len]
     }
+}
+
+/// Whether the group is one of the groups.
+fn is_among(group: GroupId, groups: &[GroupId]) -> bool
+    ensures { result ≡ list_any (λ g. g == group) groups.now }
+{
+    groups.iter().any(|other| *other == group)
 }

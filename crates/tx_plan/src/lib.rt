@@ -23,6 +23,7 @@ mod ranges;
 mod refusal;
 mod routes;
 mod rows;
+mod seen;
 mod short;
 #[cfg(test)]
 mod tests;
