@@ -1,10 +1,13 @@
 -- A word that is no name names nothing.
-use Rattle.std.proofs.Common.{◌≡◌, ℕ, Bool, true, false, nat_lt, List, [], ◌∷◌, length, None, refl, sym, ap, ◌∙◌, arith}
+use Rattle.std.proofs.Common.{◌≡◌, ℕ, ◌<◌, ◌≤◌, Bool, true, false, ◌&&◌, ◌||◌, nat_lt, nat_le, List, [], ◌∷◌, length, None, refl, sym, ap, ◌∙◌, arith}
 use Rattle.std.specs.Prelude.{position}
-use Rattle.std.specs.List.{position_or_len, AllByRecursion}
+use Rattle.std.specs.List.{position_or_len, AllByRecursion, list_all}
 use Rattle.std.specs.Str.{bytes_eq}
 use Rattle.std.proofs.lemmas.Slice.Eq.{bytes_eq-Decides}
 use Rattle.std.proofs.lemmas.Bool.Decides.{nat_tests}
+use Rattle.std.proofs.lemmas.Bool.{leb-true, and_parts}
+use Rattle.tx_text.specs.Words.{is_name, is_letter, is_figure}
+use Rattle.tx_plan.specs.Rules.{is_code}
 
 -- where no element passes, the place is past the end
 none_len : {A : Type 0} (t : A → Bool) (xs : List A) → AllByRecursion (λ x. t x ≡ false) xs → position_or_len t xs ≡ length xs
@@ -29,3 +32,16 @@ others ok word P w (x ∷ xs) k h all =
 
 pub unnamed : {A : Type 0} (ok : List ℕ → Bool) (word : A → List ℕ) (P : A → Type 0) (w : List ℕ) (xs : List A) → ((x : A) → P x → ok (word x) ≡ true) → ok w ≡ false → AllByRecursion P xs → position (λ x. bytes_eq w (word x)) xs ≡ None
 unnamed ok word P w xs k h all = no_place (λ x. bytes_eq w (word x)) xs (others ok word P w xs k h all)
+
+-- a text too long for the words that pass
+pub too_long : (ok : List ℕ → Bool) (n : ℕ) → ((w : List ℕ) → ok w ≡ true → length w ≤ n) → (w : List ℕ) → n < length w → ok w ≡ false
+too_long ok n short w h = same_not (ok w) (λ e. absurd (let s = short w e in omega (arith, s, h)))
+
+pub short_name : (w : List ℕ) → is_name w ≡ true → length w ≤ 8
+short_name [] e = absurd (cc)
+short_name (b ∷ bs) e =
+    let l = leb-true (length bs) 7 (and_parts (is_letter b && list_all (λ x. is_letter x || is_figure x) bs) (nat_le (length bs) 7) e).1 in omega (arith, l)
+
+pub short_code : (w : List ℕ) → is_code w ≡ true → length w ≤ 3
+short_code w e =
+    leb-true (length w) 3 (and_parts (nat_le 2 (length w)) (nat_le (length w) 3) (and_parts (nat_le 2 (length w) && nat_le (length w) 3) (list_all is_figure w) e).0).1

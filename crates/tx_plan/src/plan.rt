@@ -22,7 +22,6 @@ use crate::ranges::Ranges;
 use crate::routes::Routes;
 use std::alloc::{Allocator, Global};
 use std::marker::Model;
-use tx_text::{are_figures, is_name};
 
 /// A route plan: exchanges, codes, ranges, groups, routes and bars, each in order of declaration. It obeys the rules of a plan.
 ///
@@ -167,7 +166,7 @@ impl<A: Allocator> Plan<A> {
         ensures { result ≡ exchange_named self.now name.now }
     {
         self.rules();
-        if !is_name(name) {
+        if name.len() > 8 {
             return None;
         }
         match self.exchanges.find(name) {
@@ -181,7 +180,7 @@ impl<A: Allocator> Plan<A> {
         ensures { result ≡ code_named self.now figures.now }
     {
         self.rules();
-        if !are_figures(figures, 2, 3) {
+        if figures.len() > 3 {
             return None;
         }
         match self.codes.find(figures) {
@@ -195,7 +194,7 @@ impl<A: Allocator> Plan<A> {
         ensures { result ≡ group_named self.now name.now }
     {
         self.rules();
-        if !is_name(name) {
+        if name.len() > 8 {
             return None;
         }
         match self.groups.find(name) {

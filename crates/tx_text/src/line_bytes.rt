@@ -28,7 +28,12 @@ fn is_text_byte(byte: u8) -> bool
 fn is_text(line: &[u8]) -> bool
     ensures { result ≡ list_all is_text_byte line.now }
 {
-    line.iter().all(|byte| is_text_byte(*byte))
+    // With no way out in between, so that several bytes are looked at at a time.
+    let mut all = true;
+    for byte in line {
+        all = all & is_text_byte(*byte);
+    }
+    all
 }
 
 /// What is wrong with the bytes of a line, given without its LF and the CR before it.

@@ -2,15 +2,15 @@ use Rattle.std.proofs.Common.{◌∙◌, ap, sym, Some}
 use Rattle.tx_plan.specs.Plan.{Plan, group_named}
 use Rattle.tx_plan.specs.Rules.{IsGroup}
 use Rattle.tx_text.specs.Words.{is_name}
-use Rattle.tx_plan.proofs.Absent.{unnamed}
+use Rattle.tx_plan.proofs.Absent.{unnamed, too_long, short_name}
 use Rattle.tx_plan.proofs.plan.Plan.group_named.Goals as goal
-
-pub returns-then-not-is_name : goal.returns-then-not-is_name
-returns-then-not-is_name g c =
-    sym (unnamed is_name (λ r. r.name) (IsGroup c.args.self.now) c.args.name.now c.args.self.now.groups (λ x h. h.name) (sym c.is_name.ensures.gives ∙ c.if-not-is_name.true) c.rules.ensures.groups)
 
 pub returns-in-Some : goal.returns-in-Some
 returns-in-Some g c = ap Some c.of.ensures ∙ sym c.in-Some.is ∙ c.find.ensures.place ∙ ap (λ (p : Plan). group_named p c.args.name.now) c.self.view_is
 
 pub returns-in-None : goal.returns-in-None
 returns-in-None g c = sym c.in-None.is ∙ c.find.ensures.place ∙ ap (λ (p : Plan). group_named p c.args.name.now) c.self.view_is
+
+pub returns-then-name-gt8 : goal.returns-then-name-gt8
+returns-then-name-gt8 g c =
+    sym (unnamed is_name (λ r. r.name) (IsGroup c.args.self.now) c.args.name.now c.args.self.now.groups (λ x h. h.name) (too_long is_name 8 short_name c.args.name.now c.if-name-gt8.true) c.rules.ensures.groups)
