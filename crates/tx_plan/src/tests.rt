@@ -1,212 +1,113 @@
-// Refusals and their order, limits, readers, and want of memory.
-mod holds;
-
-use crate::{Direction, Plan, PlanBuilder, PlanRefusal};
-use holds::holds;
+// Each public call on its happy path, as many entries as there may be, and want of memory.
+use crate::{CodeId, Direction, ExchangeId, GroupId, Plan, PlanBuilder, PlanRefusal};
 use refusing::Refusing;
 use std::alloc::Allocator;
-use std::process::Abort;
-use std::test::Fail;
 use tx_text::words;
 
-/// Two exchanges, both groups from the first, and a bar.
-const SMALL: &str = "\
-EXCHANGE ALFA
-EXCHANGE BETA
-CODE 41 ALFA
-CODE 51 BETA
-LINES 41 100 199
-GROUP G1 ALFA BETA ONEWAY 1
-GROUP G2 ALFA BETA ONEWAY 1
-ROUTE ALFA 51 G1 G2
-BAR ALFA 51";
-
-/// What the small plan answers to one more line.
-const ANSWERS: &str = "\
-P4 ROUTE BETA 41
-P5 EXCHANGE Alfa
-P5 EXCHANGE ABCDEFGHI
-P5 BAR alfa 51
-P6 CODE 1 ALFA
-P6 BAR ALFA 5
-P7 LINES 51 0 1234567890
-P7 GROUP G3 ALFA BETA ONEWAY 241
-P7 GROUP G1 ALFA ALFA ONEWAY 0
-P8 EXCHANGE BETA
-P8 CODE 51 ALFA
-P8 CODE 51 GAMA
-P8 GROUP G1 ALFA ALFA ONEWAY 1
-P8 ROUTE ALFA 51 G2
-P8 ROUTE ALFA 51 G9
-P8 BAR ALFA 51
-P9 CODE 61 GAMA
-P9 LINES 61 20 10
-P9 GROUP G3 NEW NEW ONEWAY 1
-P9 BAR GAMA 51
-P10 LINES 51 9 10
-P10 LINES 51 20 10
-P10 LINES 41 1 99
-P11 LINES 41 150 150
-P11 LINES 41 199 250
-P12 GROUP G3 ALFA ALFA ONEWAY 1
-P13 ROUTE BETA 41 G1
-P14 ROUTE ALFA 41 G1 G1
-P15 ROUTE ALFA 41 G1
-P22 BAR ALFA 41
-OK LINES 41 001 099
-OK LINES 41 1000 1999
-OK LINES 51 100 199
-OK EXCHANGE G1
-OK GROUP ONEWAY BETA ALFA BOTHWAY 240";
-
-/// A both-way group, a range with leading zeros, and a bar.
-const BOTH: &str = "\
-EXCHANGE ALFA
-EXCHANGE BETA
-EXCHANGE GAMA
-CODE 41 ALFA
-CODE 51 BETA
-LINES 41 001 099
-GROUP G1 ALFA BETA BOTHWAY 2
-GROUP G2 ALFA BETA ONEWAY 240
-ROUTE ALFA 51 G2 G1
-ROUTE BETA 41 G1
-BAR ALFA 51";
-
-/// What holds of it.
-const TRUE: &str = "\
-SIZES 3 2 1 2 2 1
-EXCHANGE 2 GAMA
-CODE 1 51
-GROUP 1 G2
-RANGE 0 41 001 099
-ROUTE 1 BETA 41
-BAR 0 ALFA 51
-HOME 41 ALFA
-HOME 51 BETA
-LINE 41 007
-LIST ALFA 51 G2 G1
-LIST BETA 41 G1
-LIST GAMA 51
-ORIGIN ALFA
-STARTS ALFA 41
-BARRED ALFA 51
-BOTHWAY G1
-COUNT G1 2
-COUNT G2 240
-ENDS G2 ALFA BETA
-ACROSS G1 ALFA BETA
-ACROSS G1 BETA ALFA
-SEIZES G1 ALFA
-SEIZES G1 BETA
-SEIZES G2 ALFA";
-
-/// What does not.
-const FALSE: &str = "\
-EXCHANGE 3 GAMA
-CODE 2 51
-GROUP 2 G2
-RANGE 1 41 001 099
-ROUTE 2 BETA 41
-BAR 1 ALFA 51
-HOME 511 BETA
-LINE 41 07
-LINE 41 00:
-LINE 51 007
-LIST ALFA 51 G1 G2
-ORIGIN BETA
-ORIGIN NOSUCHNAME
-STARTS ALFA 51
-BARRED ALFA 41
-BOTHWAY G2
-ENDS G2 BETA ALFA
-ACROSS G1 GAMA BETA
-SEIZES G2 BETA
-SEIZES G3 ALFA";
-
-/// Declares what a line says.
-fn declare<A: Allocator>(builder: &mut PlanBuilder<A>, line: &[u8]) -> Result<(), PlanRefusal> {
-    let mut rest = words(line);
-    let kind = rest.next().unwrap_or(b"");
-    let first = rest.next().unwrap_or(b"");
-    if kind == b"EXCHANGE".as_slice() {
-        return builder.exchange(first);
+/// One declaration of a small plan.
+fn declare<A: Allocator>(plan: &mut PlanBuilder<A>, step: u32) -> Result<(), PlanRefusal> {
+    match step {
+        0 => plan.exchange(b"ALFA"),
+        1 => plan.exchange(b"BETA"),
+        2 => plan.code(b"41", b"ALFA"),
+        3 => plan.code(b"51", b"BETA"),
+        4 => plan.lines(b"41", b"001", b"099"),
+        5 => plan.group(b"G1", b"ALFA", b"BETA", Direction::BothWay, 2),
+        6 => plan.route(b"ALFA", b"51", words(b"G1")),
+        _ => plan.bar(b"BETA", b"41"),
     }
-    let second = rest.next().unwrap_or(b"");
-    if kind == b"CODE".as_slice() {
-        return builder.code(first, second);
-    }
-    if kind == b"ROUTE".as_slice() {
-        return builder.route(first, second, rest);
-    }
-    if kind == b"BAR".as_slice() {
-        return builder.bar(first, second);
-    }
-    let third = rest.next().unwrap_or(b"");
-    if kind == b"LINES".as_slice() {
-        return builder.lines(first, second, third);
-    }
-    let direction = if rest.next().unwrap_or(b"") == b"BOTHWAY".as_slice() {
-        Direction::BothWay
-    } else {
-        Direction::OneWay
-    };
-    let count = tx_text::number(rest.next().unwrap_or(b""), 999).unwrap_or(0);
-    builder.group(first, second, third, direction, count)
 }
 
-/// A plan of these lines.
-fn made<A: Allocator + Copy>(alloc: A, lines: &str) -> Result<PlanBuilder<A>, PlanRefusal> {
-    let mut builder = PlanBuilder::new(alloc);
-    for line in lines.lines() {
-        declare(&mut builder, line.as_bytes())?;
+/// Declares the small plan, and again what found no memory. Marks that, and tells whether all was declared.
+fn declare_all<A: Allocator>(plan: &mut PlanBuilder<A>, refused: &mut u32) -> bool {
+    let mut mark = 1u32;
+    for step in 0..8u32 {
+        let mut answer = declare(plan, step);
+        if answer == Err(PlanRefusal::NoMemory) {
+            *refused |= mark;
+            answer = declare(plan, step);
+        }
+        if answer.is_err() {
+            return false;
+        }
+        mark = mark.wrapping_mul(2);
     }
-    Ok(builder)
+    true
 }
 
-/// The code of an answer.
-fn code_of(answer: Result<(), PlanRefusal>) -> &'static str {
-    match answer {
-        Ok(()) => "OK",
-        Err(PlanRefusal::WrongCount) => "P4",
-        Err(PlanRefusal::BadName) => "P5",
-        Err(PlanRefusal::BadCode) => "P6",
-        Err(PlanRefusal::BadNumber) => "P7",
-        Err(PlanRefusal::Duplicate) => "P8",
-        Err(PlanRefusal::Unknown) => "P9",
-        Err(PlanRefusal::RangeOrder) => "P10",
-        Err(PlanRefusal::Overlap) => "P11",
-        Err(PlanRefusal::SameEnds) => "P12",
-        Err(PlanRefusal::NotOutgoing) => "P13",
-        Err(PlanRefusal::RepeatedGroup) => "P14",
-        Err(PlanRefusal::RouteAtHome) => "P15",
-        Err(PlanRefusal::TooMany) => "P16",
-        Err(PlanRefusal::NoMemory) => "P21",
-        Err(PlanRefusal::BarAtHome) => "P22",
-    }
+/// How many exchanges, codes, ranges, groups, routes and bars.
+fn sizes<A: Allocator>(plan: &Plan<A>) -> [usize; 6] {
+    [
+        plan.exchanges(),
+        plan.codes(),
+        plan.ranges(),
+        plan.groups(),
+        plan.routes(),
+        plan.bars(),
+    ]
+}
+
+const ALFA: u16 = 0;
+
+const BETA: u16 = 1;
+
+fn has_places<A: Allocator>(plan: &Plan<A>) -> bool {
+    plan.exchange_at(1) == Some(ExchangeId::at(BETA))
+        && plan.code_at(1) == Some(CodeId::at(1))
+        && plan.group_at(0) == Some(GroupId::at(0))
+        && plan.route_at(0) == Some((ExchangeId::at(ALFA), CodeId::at(1)))
+        && plan.bar_at(0) == Some((ExchangeId::at(BETA), CodeId::at(0)))
+        && plan
+            .range_at(0)
+            .is_some_and(|range| range.high.bytes() == b"099".as_slice())
+}
+
+fn has_names<A: Allocator>(plan: &Plan<A>) -> bool {
+    plan.exchange_named(b"BETA") == Some(ExchangeId::at(BETA))
+        && plan.code_named(b"51") == Some(CodeId::at(1))
+        && plan.group_named(b"G1") == Some(GroupId::at(0))
+        && plan.exchange_name(ExchangeId::at(BETA)) == b"BETA".as_slice()
+        && plan.code_figures(CodeId::at(1)) == b"51".as_slice()
+        && plan.group_name(GroupId::at(0)) == b"G1".as_slice()
+}
+
+fn has_lines<A: Allocator>(plan: &Plan<A>) -> bool {
+    let (alfa, beta) = (ExchangeId::at(ALFA), ExchangeId::at(BETA));
+    plan.line_at(CodeId::at(0), b"007")
+        .is_some_and(|line| line.national.bytes() == b"007".as_slice())
+        && plan.home(CodeId::at(1)) == beta
+        && plan.list(alfa, CodeId::at(1)) == [GroupId::at(0)].as_slice()
+        && plan.is_barred(beta, CodeId::at(0))
+        && plan.is_origin(alfa)
+        && plan.is_origin_for(alfa, CodeId::at(1))
+}
+
+fn has_groups<A: Allocator>(plan: &Plan<A>) -> bool {
+    let (alfa, beta) = (ExchangeId::at(ALFA), ExchangeId::at(BETA));
+    let group = GroupId::at(0);
+    plan.direction(group) == Direction::BothWay
+        && plan.group_count(group) == 2
+        && plan.ends(group) == (alfa, beta)
+        && plan.other_end(group, alfa) == Some(beta)
+        && plan.may_seize(group, beta)
 }
 
 #[test]
-fn first_refusals(rt: HostRuntime) -> Result<(), Fail> {
-    for row in ANSWERS.lines() {
-        let (want, line) = row.split_once(' ').ok_or("a code and a line")?;
-        let mut builder = made(rt.alloc(), SMALL)?;
-        let answer = declare(&mut builder, line.as_bytes());
-        assert_eq!(rt; code_of(answer), want, "at {line}");
-    }
-    Ok(())
-}
-
-#[test]
-fn readers(rt: HostRuntime) -> Result<(), Fail> {
-    let plan = made(rt.alloc(), BOTH)?.finish();
-    for line in TRUE.lines() {
-        assert!(rt; holds(&plan, line.as_bytes()), "{line}");
-    }
-    for line in FALSE.lines() {
-        assert!(rt; !holds(&plan, line.as_bytes()), "{line}");
-    }
-    Ok(())
+fn readers(rt: HostRuntime) {
+    let mut builder = PlanBuilder::new(rt.alloc());
+    let done = declare_all(&mut builder, &mut 0);
+    let plan = builder.finish();
+    plan.rules();
+    let has = [
+        has_places(&plan),
+        has_names(&plan),
+        has_lines(&plan),
+        has_groups(&plan),
+    ];
+    let sizes = sizes(&plan);
+    drop(plan);
+    assert!(rt; done && has == [true; 4]);
+    assert_eq!(rt; sizes, [2, 2, 1, 1, 1, 1]);
 }
 
 /// A letter and four figures.
@@ -220,69 +121,51 @@ fn name_of(letter: u8, number: u32) -> [u8; 5] {
     ]
 }
 
-/// As many exchanges, groups and ranges as there may be.
-fn filled<A: Allocator>(builder: &mut PlanBuilder<A>) -> Result<(), PlanRefusal> {
-    for i in 2..256u32 {
-        builder.exchange(&name_of(b'E', i))?;
+/// Declares more exchanges, groups and ranges than there may be.
+fn fill<A: Allocator>(plan: &mut PlanBuilder<A>) {
+    for number in 0..300u32 {
+        let _ = plan.exchange(&name_of(b'E', number));
     }
-    for i in 2..4096u32 {
-        builder.group(&name_of(b'G', i), b"BETA", b"ALFA", Direction::OneWay, 1)?;
+    for number in 0..4200u32 {
+        let name = name_of(b'G', number);
+        let _ = plan.group(&name, b"BETA", b"ALFA", Direction::OneWay, 1);
     }
-    for i in 1..4096u32 {
-        let figures = name_of(b'0', i);
-        builder.lines(b"41", &figures, &figures)?;
+    for number in 0..4200u32 {
+        let figures = name_of(b'0', number);
+        let _ = plan.lines(b"41", &figures, &figures);
     }
-    Ok(())
 }
-
-/// What the full plan answers to one more line.
-const LAST: &str = "\
-P16 EXCHANGE LAST
-P8 EXCHANGE ALFA
-P16 GROUP LAST BETA ALFA ONEWAY 1
-P16 LINES 41 99999 99999
-P16 ROUTE BETA 41 G0002 G0003 G0004 G0005 G0006 G0007 G0008 G0009 G0010 G0011 G0012 G0013 G0014 G0015 G0016 G0017 G0018
-OK ROUTE BETA 41 G0002 G0003 G0004 G0005 G0006 G0007 G0008 G0009 G0010 G0011 G0012 G0013 G0014 G0015 G0016 G0017";
 
 #[test]
-fn limits(rt: HostRuntime) -> Result<(), Fail> {
-    let mut builder = made(rt.alloc(), SMALL)?;
-    filled(&mut builder)?;
-    for row in LAST.lines() {
-        let (want, line) = row.split_once(' ').ok_or("a code and a line")?;
-        let answer = declare(&mut builder, line.as_bytes());
-        assert_eq!(rt; code_of(answer), want, "at {line}");
-    }
-    Ok(())
+fn limits(rt: HostRuntime) {
+    let mut builder = PlanBuilder::new(rt.alloc());
+    let done = declare_all(&mut builder, &mut 0);
+    fill(&mut builder);
+    let plan = builder.finish();
+    let sizes = sizes(&plan);
+    drop(plan);
+    assert!(rt; done && sizes == [256, 2, 4096, 4096, 1, 1]);
 }
 
-/// Declares the lines, and again each that found no memory. Tells how many did.
-fn made_by_force<A: Allocator + Copy>(rt: &impl Abort, alloc: A, marks: &mut u32) -> Plan<A> {
+/// Declares the small plan over an allocator.
+fn declare_over<A: Allocator + Copy>(alloc: A, refused: &mut u32) -> bool {
     let mut builder = PlanBuilder::new(alloc);
-    let mut mark = 1u32;
-    for line in SMALL.lines() {
-        if let Err(refusal) = declare(&mut builder, line.as_bytes()) {
-            assert_eq!(rt; refusal, PlanRefusal::NoMemory, "at {line}");
-            *marks |= mark;
-            let again = declare(&mut builder, line.as_bytes());
-            assert_eq!(rt; code_of(again), "OK", "again at {line}");
-        }
-        mark = mark.wrapping_mul(2);
-    }
-    builder.finish()
+    let done = declare_all(&mut builder, refused);
+    drop(builder);
+    done
 }
 
 #[test]
 fn each_growth_is_refused_in_turn(rt: HostRuntime) {
-    let mut marks = 0;
+    let mut refused = 0;
     for n in 1..100u64 {
         let heap = Refusing::new(rt.alloc(), n);
-        let plan = made_by_force(&rt, &heap, &mut marks);
-        assert!(rt; holds(&plan, b"SIZES 2 2 1 2 1 1"), "after {n}");
+        let done = declare_over(&heap, &mut refused);
+        assert!(rt; done, "after {n}");
         if !heap.has_refused() {
             break;
         }
     }
-    // The first line of each kind takes memory.
-    assert_eq!(rt; marks, 0b110110101);
+    // The first declaration of each kind takes memory.
+    assert_eq!(rt; refused, 0b11110101);
 }
