@@ -1,9 +1,9 @@
 -- The short walks of one code, as they are added to the findings.
-use Rattle.std.proofs.Common.{◌≡◌, ◌≢◌, ℕ, ◌+◌, ◌<◌, ◌≤◌, true, false, eqb, eqb-true, List, [], ◌∷◌, ◌++◌, length, map, inl, inr, Option, Some, refl, sym, ap, subst, ◌∙◌, arith, append_assoc, append-nil}
+use Rattle.std.proofs.Common.{◌≡◌, ℕ, ◌+◌, ◌<◌, true, false, eqb, eqb-true, List, [], ◌∷◌, ◌++◌, map, inl, inr, Option, refl, sym, ap, subst, ◌∙◌, arith, append_assoc, append-nil}
 use Rattle.std.proofs.lemmas.Bool.{eqb-false}
 use Rattle.std.proofs.lemmas.List.{map-append}
 use Rattle.tx_plan.specs.Rules.{AllPairs}
-use Rattle.tx_plan.proofs.Among.{Among, among_left, among_right, among_cases, map_among}
+use Rattle.tx_plan.proofs.Among.{Among, among_left, among_right, among_cases}
 use Rattle.tx_plan.proofs.Lists.{pairs_put}
 use Rattle.tx_rank.specs.declared.finding.Finding.{Finding}
 use Rattle.tx_rank.specs.declared.finding.Finding.TheVariants.{Short}

@@ -1,7 +1,7 @@
 -- From codes to plans: what certifies each code certifies the plan, and a certified plan has nothing wrong.
-use Rattle.std.proofs.Common.{◌≡◌, ◌≢◌, ℕ, ◌+◌, ◌<◌, ◌≤◌, true, false, ◌&&◌, ltb, nat_lt, List, [], length, inl, inr, Option, Some, None, refl, sym, ap, subst, ◌∙◌, arith}
+use Rattle.std.proofs.Common.{◌≡◌, ℕ, ◌<◌, ◌≤◌, true, false, ltb, nat_lt, List, length, Option, Some, None, refl, sym, ap, subst, ◌∙◌, arith}
 use Rattle.std.specs.Prelude.{slice_get}
-use Rattle.std.proofs.lemmas.Bool.{and_parts, and_from, lt-ltb, ltb-true}
+use Rattle.std.proofs.lemmas.Bool.{and_parts, and_from, ltb-true}
 use Rattle.std.proofs.lemmas.List.{take_all}
 use borrow.Author.Tests.{ltb-false}
 use Rattle.tx_plan.specs.Plan.{Plan, Code}
@@ -9,8 +9,7 @@ use Rattle.tx_plan.specs.Codes.{is_prefix}
 use Rattle.tx_plan.specs.Routes.{route_list}
 use Rattle.tx_plan.specs.Ambiguous.{ambiguous_of}
 use Rattle.tx_plan.specs.Certified.{Ranks, IsBelow, LeadsLower, IsCertified}
-use Rattle.tx_plan.proofs.Among.{Among}
-use Rattle.tx_plan.proofs.Ambiguity.{IsAmbiguousAt, ambiguous-none, none-ambiguous}
+use Rattle.tx_plan.proofs.Ambiguity.{ambiguous-none, none-ambiguous}
 use Rattle.tx_trie.proofs.Prefixes.{prefix_is_take}
 use Rattle.tx_rank.specs.declared.finding.Finding.{Finding}
 use Rattle.tx_rank.specs.declared.finding.Finding.TheVariants.{Ambiguous, Loop, Short, Long}

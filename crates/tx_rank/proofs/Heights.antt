@@ -1,5 +1,5 @@
 -- Ranks of a pass after which each ranked exchange but the home lists a group are heights.
-use Rattle.std.proofs.Common.{◌≡◌, ◌≢◌, ℕ, zero, suc, ◌+◌, ◌<◌, ◌≤◌, true, false, eqb, List, [], ◌∷◌, ◌++◌, length, ◌⊎◌, inl, inr, Option, Some, None, refl, sym, ap, subst, ◌∙◌, arith, eqb-true}
+use Rattle.std.proofs.Common.{◌≡◌, ◌≢◌, ℕ, zero, suc, true, false, eqb, List, [], ◌∷◌, length, Option, Some, refl, ap, arith, eqb-true}
 use Rattle.std.proofs.lemmas.Bool.{eqb-false}
 use Rattle.tx_plan.proofs.Among.{Among}
 use Rattle.tx_rank.specs.Walks.{Net, Goes, end_of}

@@ -1,5 +1,5 @@
 -- Links, as they are made.
-use Rattle.std.proofs.Common.{◌≡◌, ◌≢◌, ℕ, zero, suc, ◌+◌, ◌*◌, ◌<◌, ◌≤◌, true, false, eqb, eqb-true, List, [], ◌∷◌, ◌++◌, length, take, get_or, replicate, ◌⊎◌, inl, inr, Option, Some, None, refl, sym, ap, subst, ◌∙◌, arith}
+use Rattle.std.proofs.Common.{◌≡◌, ◌≢◌, ℕ, zero, suc, ◌+◌, ◌<◌, ◌≤◌, true, false, eqb, eqb-true, List, [], ◌∷◌, ◌++◌, length, take, get_or, replicate, ◌⊎◌, inl, inr, Option, Some, None, refl, sym, ap, subst, ◌∙◌, arith}
 use Rattle.std.specs.Prelude.{slice_get}
 use Rattle.std.proofs.Math.ListN.{set, length-set}
 use Rattle.std.proofs.lemmas.Bool.{eqb-false}
@@ -60,6 +60,24 @@ module _ (n : Net) (ranks : ℕ → Option ℕ) (p : ℕ) where
   pub linking_step : (i : ℕ) (old links : List (Option (ℕ × ℕ))) (g y : ℕ) → slice_get (n.list p) i ≡ Some g → IsLinking n ranks p (take i (n.list p)) old links → (r : ℕ) × (ranks p ≡ Some r) → p ≢ n.home → n.far g p ≡ Some y → y < n.exchanges → IsLinking n ranks p (take (i + 1) (n.list p)) old (set links y (Some (g, p)))
   linking_step i old links g y at l r away leads within =
       subst (λ (x : List ℕ). IsLinking n ranks p x old (set links y (Some (g, p)))) (sym (take_next (n.list p) i g at)) (linking_more (take i (n.list p)) old links g y r.0 l r.1 away (among_at (n.list p) i g at) leads within)
+
+  -- where it leads is linked already
+  pub linking_kept : (i : ℕ) (old links : List (Option (ℕ × ℕ))) (g y : ℕ) (s : ℕ × ℕ) → slice_get (n.list p) i ≡ Some g → IsLinking n ranks p (take i (n.list p)) old links → n.far g p ≡ Some y → slice_get links y ≡ Some (Some s)
+      → IsLinking n ranks p (take (i + 1) (n.list p)) old links
+  linking_kept i old links g y s at l leads linked =
+      subst (λ (x : List ℕ). IsLinking n ranks p x old links) (sym (take_next (n.list p) i g at))
+      (record {
+        long = l.long;
+        true_of = l.true_of;
+        stays = l.stays;
+        all = λ h z m leads'. elim (among_cases h (take i (n.list p)) (g ∷ []) m) [
+          | inl a ↦ l.all h z a leads'
+          | inr b ↦ elim b [
+            | inl e ↦ let q = ap (λ k. n.far k p) e in let same : y ≡ z = cc in (s, ap (slice_get links) (sym same) ∙ linked)
+            | inr f ↦ absurd f
+          ]
+        ];
+      })
 
   pub linking_all : (i : ℕ) (old links : List (Option (ℕ × ℕ))) → length (n.list p) ≤ i → IsLinking n ranks p (take i (n.list p)) old links → LinksAll n links p (n.list p)
   linking_all i old links h l = subst (λ (x : List ℕ). LinksAll n links p x) (take_all i (n.list p) h) l.all

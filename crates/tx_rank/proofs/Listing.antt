@@ -9,7 +9,7 @@ use Rattle.tx_plan.specs.Certified.{IsCertified}
 use Rattle.tx_plan.proofs.Among.{Among}
 use Rattle.tx_cert.specs.Certificate.{Certificate, rank_at, has_pair, no_ranks, no_ranks_for, ranks_of}
 use Rattle.tx_rank.specs.declared.finding.Finding.{Finding}
-use Rattle.tx_rank.specs.declared.finding.Finding.TheVariants.{Ambiguous, Loop, Short, Long}
+use Rattle.tx_rank.specs.declared.finding.Finding.TheVariants.{Short}
 use Rattle.tx_rank.specs.Walks.{Walk, net_of, IsShort}
 use Rattle.tx_rank.specs.Heights.{RanksByHeight, AreHeights}
 use Rattle.tx_rank.specs.Findings.{IsTrueOf, IsLongest, long_findings, AreFindingsOfCode, AreFindingsBelow, pair_findings, AreFindings}

@@ -1,11 +1,11 @@
 -- A look at a list, group by group.
-use Rattle.std.proofs.Common.{◌≡◌, ℕ, zero, suc, ◌+◌, ◌<◌, ◌≤◌, List, [], ◌∷◌, ◌++◌, length, get_or, take, ◌⊎◌, inl, inr, Option, Some, None, refl, sym, ap, subst, ◌∙◌, arith}
+use Rattle.std.proofs.Common.{◌≡◌, ℕ, zero, suc, ◌+◌, ◌<◌, ◌≤◌, List, [], ◌∷◌, ◌++◌, length, get_or, take, ◌⊎◌, inl, inr, Some, None, refl, sym, ap, subst, ◌∙◌, arith}
 use Rattle.std.specs.Prelude.{slice_get}
 use Rattle.std.proofs.lemmas.List.{take_more}
 use Rattle.std.proofs.lemmas.Option.{slice_get_within, slice_get-get_or, get_or_from_slice_get}
 use Rattle.tx_plan.proofs.Among.{Among, among_left, among_right, among_cases}
 use Rattle.tx_rank.specs.Walks.{Net}
-use Rattle.tx_rank.specs.Nets.{IsNet, LeadsBelow}
+use Rattle.tx_rank.specs.Nets.{IsNet}
 use Rattle.tx_rank.specs.Marks.{rank_in, IsOnward, IsTop}
 use Rattle.tx_rank.specs.declared.mark.Mark.{Mark}
 

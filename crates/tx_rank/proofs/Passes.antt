@@ -1,5 +1,5 @@
 -- What the loops of a ranking pass keep.
-use Rattle.std.proofs.Common.{◌≡◌, ◌≢◌, ℕ, zero, suc, ◌+◌, ◌*◌, ◌<◌, ◌≤◌, true, false, List, [], ◌∷◌, ◌++◌, length, ◌⊎◌, inl, inr, Option, Some, None, refl, sym, ap, subst, ◌∙◌, arith, Bool, eqb, eqb-true, ltb, get_or, Result, Ok, Err}
+use Rattle.std.proofs.Common.{◌≡◌, ℕ, zero, suc, ◌+◌, ◌*◌, ◌<◌, ◌≤◌, true, false, List, length, ◌⊎◌, inl, inr, Option, Some, None, refl, sym, ap, subst, ◌∙◌, arith, Bool, eqb, eqb-true, ltb, get_or, Result, Ok, Err}
 use Rattle.std.specs.Prelude.{slice_get, IfOk}
 use Rattle.std.specs.Option.{option_and_then}
 use Rattle.std.proofs.lemmas.Option.{slice_get-get_or, slice_get_past}
@@ -11,7 +11,7 @@ use Rattle.tx_rank.proofs.Turns.{set_same, set_other, cost_set}
 use Rattle.std.proofs.Math.ListN.{set, length-set}
 use Rattle.tx_rank.specs.Walks.{Net}
 use Rattle.tx_rank.specs.Nets.{IsNet}
-use Rattle.tx_rank.specs.Marks.{rank_of, rank_in, cost, IsMarked, IsInHand, Grew, NoneOpen, IsStep, IsEnd, IsPassing, AreSettled, IsPassed}
+use Rattle.tx_rank.specs.Marks.{rank_of, rank_in, cost, IsMarked, IsInHand, Grew, NoneOpen, IsStep, IsEnd, IsPassing, IsPassed}
 use Rattle.tx_rank.specs.declared.mark.Mark.{Mark}
 use Rattle.tx_rank.specs.declared.mark.Mark.TheVariants.{Unseen, Open, Ranked}
 

@@ -1,12 +1,12 @@
 -- Walks back along links, and down along ranks.
-use Rattle.std.proofs.Common.{◌≡◌, ◌≢◌, ℕ, zero, suc, ◌+◌, ◌-◌, ◌*◌, ◌<◌, ◌≤◌, true, false, Bool, eqb, eqb-true, ltb, List, [], ◌∷◌, ◌++◌, length, take, get_or, ◌⊎◌, inl, inr, Option, Some, None, unwrap_or, refl, sym, ap, subst, ◌∙◌, arith, length-append}
+use Rattle.std.proofs.Common.{◌≡◌, ◌≢◌, ℕ, suc, ◌+◌, ◌-◌, ◌*◌, ◌<◌, ◌≤◌, false, List, [], ◌∷◌, ◌++◌, length, take, inl, inr, Option, Some, None, unwrap_or, refl, sym, ap, subst, ◌∙◌, arith, length-append}
 use Rattle.std.proofs.lemmas.Bool.{false≢true}
 use Rattle.std.specs.Prelude.{slice_get, reverse}
 use Rattle.std.proofs.lemmas.List.{reverse-append}
 use Rattle.tx_plan.proofs.Among.{Among, among_cases}
-use Rattle.tx_rank.specs.Walks.{Net, Goes, end_of, IsWalk}
+use Rattle.tx_rank.specs.Walks.{Net, Goes, end_of}
 use Rattle.tx_rank.specs.Marks.{AreSettled, IsLower}
-use Rattle.tx_rank.specs.Links.{IsLink, LinksBelow, IsLinked}
+use Rattle.tx_rank.specs.Links.{IsLink, LinksBelow}
 use Rattle.tx_rank.proofs.Ways.{goes_push, end_push}
 use Rattle.tx_rank.proofs.Looks.{take_next}
 use Rattle.tx_rank.proofs.Ranks.{falling, one_down, reached_ranked}

@@ -1,5 +1,5 @@
 -- What is true of all walks for one code after a pass that met no loop.
-use Rattle.std.proofs.Common.{◌≡◌, ◌≢◌, ℕ, zero, suc, ◌+◌, ◌<◌, ◌≤◌, true, false, eqb, eqb-true, leb, List, [], ◌∷◌, length, inl, Option, Some, None, refl, sym, ap, ◌∙◌, arith}
+use Rattle.std.proofs.Common.{◌≡◌, ◌≢◌, ℕ, ◌+◌, ◌<◌, ◌≤◌, true, false, eqb, eqb-true, leb, List, [], ◌∷◌, length, inl, Option, Some, refl, sym, ap, ◌∙◌, arith}
 use Rattle.std.proofs.lemmas.Bool.{eqb-false}
 use borrow.Author.Tests.{leb-true, leb-false}
 use Rattle.tx_plan.proofs.Among.{Among}

@@ -1,5 +1,5 @@
 -- What the ranking of one code adds to the findings, and the parts of this.
-use Rattle.std.specs.Prelude.{◌≡◌, ◌≢◌, ℕ, ◌+◌, ◌<◌, ◌≤◌, Bool, true, List, [], ◌++◌, length, map, Option, Some, None, slice_get}
+use Rattle.std.specs.Prelude.{◌≡◌, ◌≢◌, ℕ, ◌+◌, ◌≤◌, Bool, true, List, [], ◌++◌, length, map, Option, Some, None, slice_get}
 use Rattle.tx_plan.specs.Plan.{Plan}
 use Rattle.tx_plan.specs.Routes.{is_origin}
 use Rattle.tx_rank.specs.declared.finding.Finding.{Finding}

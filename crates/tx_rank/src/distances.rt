@@ -11,7 +11,10 @@ use tx_text::NoMemory;
 const FAR: u16 = u16::MAX;
 
 /// The steps of a shortest walk to each exchange.
-pub fn distances_of<A: Allocator + Copy, N: Routes>(alloc: A, net: &N) -> Result<Vec<u16, A>, NoMemory>
+pub fn distances_of<A: Allocator + Copy, N: Routes>(
+    alloc: A,
+    net: &N,
+) -> Result<Vec<u16, A>, NoMemory>
     ensures { IfOk result (λ d. length d.items ≡ (N.net net.now).exchanges) }
 {
     let mut distances = vec![in alloc; FAR; net.exchanges()]?;

@@ -13,8 +13,6 @@ mod mark;
 mod ranking;
 mod routes;
 mod shorts;
-#[cfg(test)]
-mod tests;
 mod walk;
 mod written;
 

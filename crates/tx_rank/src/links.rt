@@ -51,9 +51,10 @@ fn link_list<N: Routes>(
     let list = net.list(exchange);
     for i in 0..list.len() {
         let (group, to) = onward(net, exchange, list, i);
-        if is_nearer(distances, exchange, link_at(links, to)) {
-            links[to.index()] = Some((group, exchange));
+        if !is_nearer(distances, exchange, link_at(links, to)) {
+            continue;
         }
+        links[to.index()] = Some((group, exchange));
     }
 }
 

@@ -1,4 +1,4 @@
-use Rattle.std.proofs.Common.{ℕ, ◌-◌, ◌≡◌, suc, length, sym, arith}
+use Rattle.std.proofs.Common.{◌-◌, ◌≡◌, suc, length, sym, arith}
 use Rattle.tx_rank.proofs.Ways.{end_last}
 use Rattle.tx_rank.proofs.explore.end.Goals as goal
 

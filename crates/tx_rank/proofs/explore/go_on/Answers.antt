@@ -1,4 +1,4 @@
-use Rattle.std.proofs.Common.{subst, sym, ap, ◌∙◌, ◌≡◌, refl, List, ℕ, Some, arith}
+use Rattle.std.proofs.Common.{subst, sym, ap, ◌∙◌, ◌≡◌, List, ℕ, Some}
 use Rattle.std.specs.Prelude.{slice_get}
 use Rattle.tx_rank.specs.Walks.{IsLoop}
 use Rattle.tx_rank.specs.Marks.{IsStep, rank_in}

@@ -1,4 +1,4 @@
-use Rattle.std.proofs.Common.{subst, sym, ap, ◌∙◌, ◌≡◌, ◌+◌, refl, List, ℕ, suc, Some, length, [], ◌∷◌, arith}
+use Rattle.std.proofs.Common.{subst, sym, ◌≡◌, ◌+◌, refl, List, ℕ, suc, length, [], ◌∷◌, arith}
 use Rattle.tx_rank.specs.Marks.{IsStep, IsEnd}
 use Rattle.tx_rank.specs.declared.mark.Mark.TheVariants.{Ranked}
 use Rattle.std.proofs.Math.ListN.{set}

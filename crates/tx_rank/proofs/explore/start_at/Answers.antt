@@ -1,4 +1,4 @@
-use Rattle.std.proofs.Common.{subst, sym, ap, ◌∙◌, ◌≡◌, ◌<◌, refl, List, [], ℕ, Some, length, arith}
+use Rattle.std.proofs.Common.{subst, sym, refl, List, ℕ}
 use Rattle.std.proofs.Math.ListN.{set}
 use Rattle.tx_rank.specs.Marks.{IsMarked, IsInHand, Grew}
 use Rattle.tx_rank.specs.declared.mark.Mark.TheVariants.{Unseen, Open}

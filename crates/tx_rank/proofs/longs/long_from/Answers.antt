@@ -1,5 +1,4 @@
-use Rattle.std.proofs.Common.{sym, ◌∙◌, ◌≡◌, ◌≢◌, ◌≤◌, ◌+◌, ap, refl, subst, ℕ, List, length, arith}
-use Rattle.tx_rank.specs.Walks.{end_of}
+use Rattle.std.proofs.Common.{◌∙◌, arith}
 use Rattle.tx_rank.specs.Marks.{rank_in}
 use Rattle.tx_rank.proofs.Walked.{long_true}
 use Rattle.tx_rank.proofs.longs.long_from.Goals as goal

@@ -1,4 +1,3 @@
-use Rattle.std.proofs.Common.{ap, sym, ◌∙◌, ◌≡◌, subst, List, ℕ, Some, arith, length}
 use Rattle.tx_rank.specs.Marks.{rank_in}
 use Rattle.tx_rank.proofs.Looks.{among_at}
 use Rattle.tx_rank.proofs.Tracing.{lower_more}

@@ -1,6 +1,6 @@
-use Rattle.std.proofs.Common.{ap, sym, ◌∙◌, ◌≡◌, ◌+◌, ◌-◌, ◌<◌, subst, List, ℕ, Option, Some, None, arith, length, length-append, ◌++◌, ◌∷◌, []}
+use Rattle.std.proofs.Common.{ap, sym, ◌-◌, subst, List, ℕ, arith, length, length-append, ◌++◌, ◌∷◌, []}
 use Rattle.tx_rank.specs.Marks.{rank_in}
-use Rattle.tx_rank.proofs.Tracing.{IsDown, down_more, goes_down, down_away}
+use Rattle.tx_rank.proofs.Tracing.{IsDown, down_more, goes_down}
 use Rattle.tx_rank.proofs.longs.walk_down.Goals as goal
 
 pub unreachable-requires : goal.unreachable-requires

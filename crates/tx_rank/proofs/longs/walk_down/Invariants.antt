@@ -1,4 +1,4 @@
-use Rattle.std.proofs.Common.{◌-◌, ◌+◌, ◌*◌, ◌≡◌, length}
+use Rattle.std.proofs.Common.{◌≡◌, length}
 use Rattle.tx_rank.specs.Marks.{rank_in}
 use Rattle.tx_rank.proofs.Tracing.{IsDown}
 use Rattle.tx_rank.proofs.longs.walk_down.Given as goal

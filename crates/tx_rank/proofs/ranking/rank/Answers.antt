@@ -1,4 +1,4 @@
-use Rattle.std.proofs.Common.{◌≡◌, ◌≢◌, ◌∙◌, ◌+◌, ℕ, sym, subst, ap, length, vec_len, [], arith, eqb-true}
+use Rattle.std.proofs.Common.{◌≡◌, ◌≢◌, ◌∙◌, ℕ, sym, subst, ap, length, vec_len, [], arith, eqb-true}
 use Rattle.std.proofs.lemmas.Bool.{eqb-false}
 use Rattle.tx_cert.specs.Certificate.{ranks_of, rank_at}
 use Rattle.tx_rank.specs.Walks.{net_of}

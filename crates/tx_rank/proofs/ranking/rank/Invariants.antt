@@ -1,5 +1,4 @@
 use Rattle.tx_rank.proofs.Listing.{IsRankedBelow}
-use Rattle.tx_rank.specs.Judged.{AreOrigins}
 use Rattle.tx_rank.proofs.ranking.rank.Given as goal
 
 abbrev pub invariant-loop-place : goal.invariant-loop-place

@@ -1,4 +1,4 @@
-use Rattle.std.proofs.Common.{◌≡◌, arith}
+use Rattle.std.proofs.Common.{arith}
 use Rattle.tx_rank.proofs.Passes.{rank_within}
 use Rattle.tx_rank.proofs.shorts.has_short.Goals as goal
 

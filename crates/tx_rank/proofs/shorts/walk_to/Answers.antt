@@ -1,7 +1,5 @@
-use Rattle.std.proofs.Common.{ap, sym, ◌∙◌, ◌≡◌, ◌<◌, subst, List, ℕ, Option, Some, None, arith, length}
-use Rattle.std.specs.Prelude.{slice_get}
+use Rattle.std.proofs.Common.{sym, ◌∙◌, subst, List, ℕ, arith}
 use Rattle.tx_rank.specs.Marks.{rank_in}
-use Rattle.tx_rank.specs.Links.{IsLink}
 use Rattle.tx_rank.proofs.Tracing.{IsBack, back_within, back_more, back_smaller, is_linked, no_link}
 use Rattle.tx_rank.proofs.shorts.walk_to.Goals as goal
 

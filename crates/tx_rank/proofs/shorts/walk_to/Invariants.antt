@@ -1,4 +1,4 @@
-use Rattle.std.proofs.Common.{◌-◌, ◌+◌, ◌*◌, unwrap_or}
+use Rattle.std.proofs.Common.{◌-◌, ◌*◌, unwrap_or}
 use Rattle.tx_rank.specs.Marks.{rank_in}
 use Rattle.tx_rank.proofs.Tracing.{IsBack}
 use Rattle.tx_rank.proofs.shorts.walk_to.Given as goal

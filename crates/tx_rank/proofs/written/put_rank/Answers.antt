@@ -1,4 +1,4 @@
-use Rattle.std.proofs.Common.{◌≡◌, ◌∙◌, ◌<◌, sym, ap, subst, ℕ, arith}
+use Rattle.std.proofs.Common.{◌∙◌, ap, arith}
 use Rattle.tx_cert.specs.Certificate.{rank_at as ranked_at}
 use Rattle.tx_rank.proofs.Writing.{rank_there}
 use Rattle.tx_rank.proofs.written.put_rank.Goals as goal
