@@ -22,45 +22,39 @@ fn begins(plan: &Plan, shorter: CodeId, longer: CodeId) -> bool {
     shorter != longer && figures.starts_with(plan.code_figures(shorter))
 }
 
-/// Whether the figures of a code come before those of the one that is known.
-fn is_less(plan: &Plan, code: CodeId, known: Option<CodeId>) -> bool {
-    match known {
-        Some(other) => plan.code_figures(code) < plan.code_figures(other),
-        None => true,
-    }
+/// Whether a pair comes before another: by the figures of its first code, and then by those of its second.
+fn is_before(plan: &Plan, a: CodeId, b: CodeId, c: CodeId, d: CodeId) -> bool {
+    let first = (plan.code_figures(a), plan.code_figures(b));
+    let second = (plan.code_figures(c), plan.code_figures(d));
+    first < second
 }
 
-/// The code with the least figures of those that a code begins.
-fn least_longer(plan: &Plan, shorter: CodeId) -> Option<CodeId> {
-    let mut known = None;
-    for place in 0..plan.codes() {
-        if let Some(code) = plan.code_at(place) {
-            if begins(plan, shorter, code) && is_less(plan, code, known) {
-                known = Some(code);
+/// Whether a code that begins another one makes a pair before this one.
+fn has_before(plan: &Plan, shorter: CodeId, longer: CodeId) -> bool {
+    for i in 0..plan.codes() {
+        for j in 0..plan.codes() {
+            if let (Some(a), Some(b)) = (plan.code_at(i), plan.code_at(j)) {
+                if begins(plan, a, b) && is_before(plan, a, b, shorter, longer) {
+                    return true;
+                }
             }
         }
     }
-    known
+    false
 }
 
-/// The code with the least figures of those that begin another one.
-fn least_shorter(plan: &Plan) -> Option<CodeId> {
-    let mut known = None;
-    for place in 0..plan.codes() {
-        if let Some(code) = plan.code_at(place) {
-            if least_longer(plan, code).is_some() && is_less(plan, code, known) {
-                known = Some(code);
-            }
-        }
-    }
-    known
-}
-
-/// The ambiguous pair, if there is one: the least by the shorter code's figures and then the longer's.
+/// The ambiguous pair before which there is none.
 fn ambiguous(plan: &Plan) -> Option<Wanted> {
-    let shorter = least_shorter(plan)?;
-    let longer = least_longer(plan, shorter)?;
-    Some(Wanted::Ambiguous(shorter, longer))
+    for i in 0..plan.codes() {
+        for j in 0..plan.codes() {
+            if let (Some(a), Some(b)) = (plan.code_at(i), plan.code_at(j)) {
+                if begins(plan, a, b) && !has_before(plan, a, b) {
+                    return Some(Wanted::Ambiguous(a, b));
+                }
+            }
+        }
+    }
+    None
 }
 
 /// Adds a finding for each exchange to which a walk comes that lists no more than `spare` groups, and is not the home.
