@@ -36,7 +36,7 @@ pub record CertRead (p : Plan) (old new : Option (List ℕ)) (broken : Type 0) (
   pub goes_on : after cert
 
 -- the certificate was refused, and nothing was written
-pub record CertRefused (p : Plan) (old new : Option (List ℕ)) (broken silent : Type 0) (result : Result Verdict JobFault) : Type 0 where
+pub record CertRefused {X : Type 0} (p : Plan) (old new : Option (List ℕ)) (broken silent : Type 0) (result : Result X JobFault) : Type 0 where
   pub fault : FaultAt CertWord
   pub read : Answered is_memory old new (cert_of p) broken (Err (fault.line, fault.kind))
   pub told : result ≡ Err (cert_fault fault)

@@ -1,6 +1,8 @@
 //! One job per command, over sources and a sink.
 #![tactic(auto)]
 
+mod allowed;
+mod audits;
 mod fault_line;
 mod job_fault;
 mod judged;
@@ -9,6 +11,8 @@ mod piped;
 mod scripted;
 mod simulate;
 
+pub use allowed::run_checked_job;
+pub use audits::audit_job;
 pub use fault_line::write_fault;
 pub use job_fault::JobFault;
 pub use judged::{check_job, check_status};

@@ -1,0 +1,72 @@
+-- What an audit answers.
+use Rattle.std.specs.Prelude.{◌≡◌, ℕ, List, [], ◌∷◌, Option, Result, Ok, Err}
+use Rattle.std.specs.List.{AllByRecursion}
+use Rattle.std.specs.Io.KnownBytes.{append_known}
+use Rattle.tx_text.specs.Said.{Answered}
+use Rattle.tx_text.specs.Ends.{StopsIn}
+use Rattle.tx_plan.specs.Plan.{Plan}
+use Rattle.tx_plan.specs.Rules.{IsPlan}
+use Rattle.tx_plan.specs.Certified.{IsCertified}
+use Rattle.tx_plantext.specs.PlanText.{plan_of, is_memory}
+use Rattle.tx_cert.specs.Certificate.{Certificate, IsCertificateOf, ranks_of}
+use Rattle.tx_state.specs.Sound.{IsSound, HasFewRoutes}
+use Rattle.tx_check.specs.declared.verdict.Verdict.TheVariants.{Yes}
+use Rattle.tx_check.specs.Checks.{check_faults, ranks_for, verdict_of}
+use Rattle.tx_rank.specs.declared.finding.Finding.{Finding}
+use Rattle.tx_rank.specs.Findings.{IsTrueOf, AreFindings}
+use Rattle.tx_rank.specs.Heights.{AreHeights}
+use Rattle.tx_audit.specs.declared.audited.Audited.{Audited}
+use Rattle.tx_audit.specs.declared.audited.Audited.TheVariants.{Sound, Unsound}
+use Rattle.tx_audit.specs.declared.audited.AuditFault.{AuditFault}
+use Rattle.tx_audit.specs.declared.audited.AuditFault.TheVariants.{Plan as PlanRefused, Write, NoMemory}
+use Rattle.tx_audit.specs.Report.{report}
+
+-- The certificate ranks by heights and certifies the plan, the checker says Yes to it, and so the plan is sound and calls are routed a few times only.
+pub record IsCleared (p : Plan) (cert : Certificate) (limit spare : ℕ) : Type 0 where
+  pub fits : IsCertificateOf p cert
+  pub heights : AreHeights p (ranks_of cert)
+  pub certified : IsCertified p (ranks_of cert) limit spare
+  pub yes : verdict_of (check_faults p (ranks_for p cert) limit spare) ≡ Yes
+  pub sound : IsSound p limit spare
+  pub few_routes : HasFewRoutes p limit
+
+module _ {A : Type 0} where
+  -- all that is wrong with a plan, in order, each true; none where nothing is
+  abbrev pub IsAllFound : Plan → (limit spare : ℕ) → List (Finding A) → Type 0
+  IsAllFound p limit spare [] = (f : Finding A) → IsTrueOf p limit spare f → ⊥
+  IsAllFound p limit spare (f ∷ findings) = AllByRecursion (IsTrueOf p limit spare) (f ∷ findings) × AreFindings p limit spare (f ∷ findings)
+
+  -- there is a finding
+  abbrev pub IsSome : List (Finding A) → Type 0
+  IsSome [] = ⊥
+  IsSome (f ∷ findings) = Unit {0}
+
+  -- the plan of the whole text was audited, and the report was written
+  pub record Reported (p : Plan) (limit spare : ℕ) (old new taken_old taken_new : Option (List ℕ)) (broken : Type 0) (findings : List (Finding A)) : Type 0 where
+    pub rules : IsPlan p
+    pub read : Answered is_memory old new plan_of broken (Ok p)
+    pub found : IsAllFound p limit spare findings
+    pub wrote : taken_new ≡ append_known taken_old (report p limit spare findings)
+
+  -- the same, but a write failed within the report
+  pub record ReportedInPart (limit spare : ℕ) (old new taken_old taken_new : Option (List ℕ)) (broken : Type 0) : Type 0 where
+    pub plan : Plan
+    pub rules : IsPlan plan
+    pub read : Answered is_memory old new plan_of broken (Ok plan)
+    pub findings : List (Finding A)
+    pub found : IsAllFound plan limit spare findings
+    pub wrote : StopsIn taken_old taken_new (report plan limit spare findings)
+
+-- the plan was read, and there was no memory to rank it
+pub record ReadAlone (old new : Option (List ℕ)) (broken : Type 0) : Type 0 where
+  pub plan : Plan
+  pub rules : IsPlan plan
+  pub read : Answered is_memory old new plan_of broken (Ok plan)
+
+-- WHAT AN AUDIT ANSWERS. Broken says that the source failed or met the bound on calls, silent that nothing was written.
+abbrev pub AuditAnswers : {A : Type 0} → (limit spare : ℕ) → (old new taken_old taken_new : Option (List ℕ)) → (broken silent : Type 0) → Result (Audited A) AuditFault → Type 0
+AuditAnswers {A} limit spare old new taken_old taken_new broken silent (Ok (Sound p cert)) = Reported {A} p limit spare old new taken_old taken_new broken [] × IsCleared p cert limit spare
+AuditAnswers limit spare old new taken_old taken_new broken silent (Ok (Unsound p findings)) = Reported p limit spare old new taken_old taken_new broken findings.items × IsSome findings.items
+AuditAnswers limit spare old new taken_old taken_new broken silent (Err (PlanRefused f)) = Answered is_memory old new plan_of broken (Err (f.line, f.kind)) × silent
+AuditAnswers {A} limit spare old new taken_old taken_new broken silent (Err Write) = ReportedInPart {A} limit spare old new taken_old taken_new broken
+AuditAnswers limit spare old new taken_old taken_new broken silent (Err NoMemory) = ReadAlone old new broken × silent

@@ -1,0 +1,44 @@
+-- What a run after a check answers.
+use Rattle.std.specs.Prelude.{◌≡◌, ◌⊎◌, ℕ, List, Option, Result, Ok, Err}
+use Rattle.tx_plan.specs.Plan.{Plan}
+use Rattle.tx_cert.specs.Certificate.{Certificate}
+use Rattle.tx_state.specs.State.{State, opening}
+use Rattle.tx_state.specs.Sound.{IsSound, HasFewRoutes}
+use Rattle.tx_check.specs.declared.verdict.Verdict.TheVariants.{Yes, No}
+use Rattle.tx_check.specs.Checks.{check_faults, ranks_for, verdict_of}
+use Rattle.tx_script.specs.declared.summary.Summary.{Summary}
+use Rattle.tx_script.specs.declared.run_fault.RunFault.{RunFault}
+use Rattle.tx_script.specs.declared.run_cause.RunCause.TheVariants.{NoMemory}
+use Rattle.tx_script.specs.Answers.{RunAnswers}
+use Rattle.tx_audit.specs.declared.checked.Checked.{Checked}
+use Rattle.tx_audit.specs.declared.checked.Checked.TheVariants.{Ran, Denied}
+
+-- what a run moved: the script's bytes and the sink's, before and after
+pub record Bytes : Type 0 where
+  pub rest_old : Option (List ℕ)
+  pub rest_new : Option (List ℕ)
+  pub taken_old : Option (List ℕ)
+  pub taken_new : Option (List ℕ)
+
+-- the script was run over a network of the plan, from the opening state
+pub record RanFromOpening (p : Plan) (x : Bytes) (broken untouched : Type 0) (answer : Result Summary RunFault) : Type 0 where
+  pub state : State
+  pub ran :
+      RunAnswers p (record { rest_old = x.rest_old; rest_new = x.rest_new; taken_old = x.taken_old; taken_new = x.taken_new; state_old = opening 0 0; state_new = state }) broken
+      (untouched × (state ≡ opening 0 0)) answer
+
+-- there was no memory for the network: the first event is told, and nothing was read or written
+abbrev pub HadNoRoom : (untouched : Type 0) → RunFault → Type 0
+HadNoRoom untouched f = (f ≡ record { event = 1; cause = NoMemory }) × untouched
+
+-- The checker said Yes. So every state of the run is safe, every NC is excused, and few Routes of one call are accepted.
+pub record IsAllowed (p : Plan) (cert : Certificate) (limit spare : ℕ) : Type 0 where
+  pub yes : verdict_of (check_faults p (ranks_for p cert) limit spare) ≡ Yes
+  pub sound : IsSound p limit spare
+  pub few_routes : HasFewRoutes p limit
+
+-- WHAT A CHECKED RUN ANSWERS. It ran only after a Yes; after a No it read and wrote nothing, and tells that No.
+abbrev pub CheckedAnswers : Plan → Certificate → (limit spare : ℕ) → Bytes → (broken untouched : Type 0) → Result Checked RunFault → Type 0
+CheckedAnswers p cert limit spare x broken untouched (Ok (Ran summary)) = IsAllowed p cert limit spare × RanFromOpening p x broken untouched (Ok summary)
+CheckedAnswers p cert limit spare x broken untouched (Ok (Denied f)) = (verdict_of (check_faults p (ranks_for p cert) limit spare) ≡ No f) × untouched
+CheckedAnswers p cert limit spare x broken untouched (Err f) = IsAllowed p cert limit spare × (RanFromOpening p x broken untouched (Err f) ⊎ HadNoRoom untouched f)

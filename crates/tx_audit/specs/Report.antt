@@ -1,0 +1,35 @@
+-- The report of an audit, as it is written.
+use Rattle.std.specs.Prelude.{ℕ, zero, suc, List, ◌++◌, length, codes, decimal}
+use Rattle.std.specs.List.{flat_map}
+use Rattle.tx_plan.specs.Plan.{Plan, exchange_name, figures_of, group_name}
+use Rattle.tx_rank.specs.Walks.{Walk}
+use Rattle.tx_rank.specs.declared.finding.Finding.{Finding}
+use Rattle.tx_rank.specs.declared.finding.Finding.TheVariants.{Ambiguous, Loop, Short, Long}
+
+-- the limit and the spare number
+abbrev pub head_line : (limit spare : ℕ) → List ℕ
+head_line limit spare = codes "AUDIT LIMIT " ++ (decimal limit ++ (codes " SPARE " ++ (decimal spare ++ codes "\n")))
+
+-- a step of a walk: by a group to an exchange
+abbrev pub step_text : Plan → ℕ × ℕ → List ℕ
+step_text p s = codes " " ++ (group_name p s.0 ++ (codes " " ++ exchange_name p s.1))
+
+-- a code and a walk: its exchanges, with the groups between them
+abbrev pub walk_text : Plan → ℕ → Walk → List ℕ
+walk_text p code w = figures_of p code ++ (codes " VIA " ++ (exchange_name p w.start ++ (flat_map (step_text p) w.steps ++ codes "\n")))
+
+module _ {A : Type 0} where
+  abbrev pub finding_line : Plan → Finding A → List ℕ
+  finding_line p (Ambiguous a b) = codes "F1 AMBIGUOUS " ++ (figures_of p a ++ (codes " " ++ (figures_of p b ++ codes "\n")))
+  finding_line p (Loop code w) = codes "F2 LOOP " ++ walk_text p code w
+  finding_line p (Short code w) = codes "F3 SHORT " ++ walk_text p code w
+  finding_line p (Long code w) = codes "F4 LONG " ++ walk_text p code w
+
+-- Yes, or No with the number of findings
+abbrev pub verdict_line : ℕ → List ℕ
+verdict_line zero = codes "VERDICT YES\n"
+verdict_line (suc n) = codes "VERDICT NO " ++ (decimal (suc n) ++ codes "\n")
+
+-- THE REPORT: what was asked, a line for each finding, and the verdict
+abbrev pub report : {A : Type 0} → Plan → (limit spare : ℕ) → List (Finding A) → List ℕ
+report p limit spare findings = head_line limit spare ++ (flat_map (finding_line p) findings ++ verdict_line (length findings))

@@ -1,0 +1,68 @@
+// Runs of scripts over plans that the checker has passed.
+ghost use Rattle.std.specs.Prelude.{◌≡◌, ◌≤◌};
+ghost use Rattle.tx_text.specs.Calls.{Broken, CallsAtMost, source_calls};
+ghost use Rattle.tx_state.specs.Sound.{IsSound, HasFewRoutes};
+ghost use Rattle.tx_check.specs.declared.verdict.Verdict.TheVariants.{Yes};
+ghost use Rattle.tx_check.specs.Checks.{check_faults, ranks_for, verdict_of};
+ghost use Rattle.tx_audit.specs.CheckedRuns.{CheckedAnswers};
+
+use crate::checked::Checked;
+use std::alloc::Allocator;
+use tx_cert::Cert;
+use tx_check::{Verdict, check};
+use tx_machine::Plain;
+use tx_plan::Plan;
+use tx_script::{RunCause, RunFault, run};
+use tx_text::{NoMemory, Sink, Source};
+
+/// Runs a script over a network of the plan, if the checker says Yes to the certificate: every state of the run is then safe and every NC excused.
+/// After a No nothing is read or written. Without memory for the network the fault names the first event.
+pub fn run_checked<A: Allocator + Copy, R: Source, W: Sink>(
+    alloc: A,
+    plan: &Plan<A>,
+    cert: &Cert<A>,
+    limit: u8,
+    spare: u8,
+    script: &mut R,
+    out: &mut W,
+) -> Result<Checked, RunFault>
+    requires limit { limit ≤ 62 }
+    requires spare { spare ≤ 15 }
+    ensures answers { CheckedAnswers plan.now cert.now limit spare (record { rest_old = R.rest script.old; rest_new = R.rest script.new; taken_old = W.taken out.old; taken_new = W.taken out.new })
+        (Broken R.called (R.failed script.new) source_calls script.old script.new) ((script.new ≡ script.old) × (out.new ≡ out.old)) result }
+    ensures calls { CallsAtMost R.called source_calls script.old script.new }
+{
+    match check(plan, cert, limit, spare) {
+        Verdict::Yes => run_allowed(alloc, plan, cert, limit, spare, script, out),
+        Verdict::No(fault) => Ok(Checked::Denied(fault)),
+    }
+}
+
+/// The run after a Yes.
+fn run_allowed<A: Allocator + Copy, R: Source, W: Sink>(
+    alloc: A,
+    plan: &Plan<A>,
+    cert: &Cert<A>,
+    limit: u8,
+    spare: u8,
+    script: &mut R,
+    out: &mut W,
+) -> Result<Checked, RunFault>
+    requires yes { verdict_of (check_faults plan.now (ranks_for plan.now cert.now) limit spare) ≡ Yes }
+    requires sound { IsSound plan.now limit spare }
+    requires few_routes { HasFewRoutes plan.now limit }
+    ensures answers { CheckedAnswers plan.now cert.now limit spare (record { rest_old = R.rest script.old; rest_new = R.rest script.new; taken_old = W.taken out.old; taken_new = W.taken out.new })
+        (Broken R.called (R.failed script.new) source_calls script.old script.new) ((script.new ≡ script.old) × (out.new ≡ out.old)) result }
+    ensures calls { CallsAtMost R.called source_calls script.old script.new }
+{
+    match Plain::new(alloc, plan) {
+        Err(NoMemory) => Err(RunFault {
+            event: 1,
+            cause: RunCause::NoMemory,
+        }),
+        Ok(mut network) => match run(alloc, plan, &mut network, script, out) {
+            Ok(summary) => Ok(Checked::Ran(summary)),
+            Err(fault) => Err(fault),
+        },
+    }
+}

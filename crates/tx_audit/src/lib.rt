@@ -1,0 +1,13 @@
+//! The audit of a plan text, and runs of scripts after a check.
+#![tactic(auto)]
+
+mod audited;
+mod auditor;
+mod checked;
+mod checked_run;
+mod report;
+
+pub use audited::{AuditFault, Audited};
+pub use auditor::audit;
+pub use checked::Checked;
+pub use checked_run::run_checked;

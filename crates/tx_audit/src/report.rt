@@ -1,0 +1,134 @@
+// The writer of reports.
+ghost use Rattle.std.specs.Prelude.{◌≡◌, length, ◌++◌, codes};
+ghost use Rattle.std.specs.List.{flat_map};
+ghost use Rattle.tx_plantext.specs.Wrote.{Wrote};
+ghost use Rattle.tx_audit.specs.Report.{head_line, step_text, walk_text, finding_line, verdict_line, report};
+
+use itoa::Buffer;
+use std::alloc::Allocator;
+use tx_plan::{CodeId, ExchangeId, GroupId, Plan};
+use tx_rank::{Finding, Walk};
+use tx_text::{Sink, WriteFault, write_parts};
+
+/// Writes what was asked, a line for each finding, and the verdict.
+pub(crate) fn write_report<A: Allocator, W: Sink>(
+    plan: &Plan<A>,
+    findings: &[Finding<A>],
+    limit: u8,
+    spare: u8,
+    sink: &mut W,
+) -> Result<(), WriteFault>
+    ensures { Wrote (W.taken sink.old) (W.taken sink.new) (W.failed sink.old) (W.failed sink.new) (report plan.now limit spare findings.now) result }
+{
+    write_head(limit, spare, sink)?;
+    write_findings(plan, findings, sink)?;
+    write_verdict(findings.len(), sink)
+}
+
+/// Writes the parts of a text, one after another.
+fn write_text<W: Sink>(parts: &[&[u8]], sink: &mut W) -> Result<(), WriteFault>
+    ensures { Wrote (W.taken sink.old) (W.taken sink.new) (W.failed sink.old) (W.failed sink.new) (flat_map (λ p. p.now) parts.now) result }
+{
+    write_parts(parts, sink)
+}
+
+fn write_head<W: Sink>(limit: u8, spare: u8, sink: &mut W) -> Result<(), WriteFault>
+    ensures { Wrote (W.taken sink.old) (W.taken sink.new) (W.failed sink.old) (W.failed sink.new) (head_line limit spare) result }
+{
+    let mut transits = Buffer::new();
+    let mut groups = Buffer::new();
+    let limit = transits.format(limit).as_bytes();
+    let spare = groups.format(spare).as_bytes();
+    write_text(&[b"AUDIT LIMIT ", limit, b" SPARE ", spare, b"\n"], sink)
+}
+
+fn write_verdict<W: Sink>(count: usize, sink: &mut W) -> Result<(), WriteFault>
+    ensures { Wrote (W.taken sink.old) (W.taken sink.new) (W.failed sink.old) (W.failed sink.new) (verdict_line count) result }
+{
+    if count == 0 {
+        return write_text(&[b"VERDICT YES\n"], sink);
+    }
+    let mut buffer = Buffer::new();
+    let count = buffer.format(count).as_bytes();
+    write_text(&[b"VERDICT NO ", count, b"\n"], sink)
+}
+
+fn write_findings<A: Allocator, W: Sink>(
+    plan: &Plan<A>,
+    findings: &[Finding<A>],
+    sink: &mut W,
+) -> Result<(), WriteFault>
+    ensures { Wrote (W.taken sink.old) (W.taken sink.new) (W.failed sink.old) (W.failed sink.new) (flat_map (finding_line plan.now) findings.now) result }
+{
+    for i in 0..findings.len() {
+        write_finding(plan, &findings[i], sink)?;
+    }
+    Ok(())
+}
+
+fn write_finding<A: Allocator, W: Sink>(
+    plan: &Plan<A>,
+    finding: &Finding<A>,
+    sink: &mut W,
+) -> Result<(), WriteFault>
+    ensures { Wrote (W.taken sink.old) (W.taken sink.new) (W.failed sink.old) (W.failed sink.new) (finding_line plan.now finding.now) result }
+{
+    match finding {
+        Finding::Ambiguous(shorter, longer) => {
+            let shorter = plan.code_figures(*shorter);
+            let longer = plan.code_figures(*longer);
+            write_text(&[b"F1 AMBIGUOUS ", shorter, b" ", longer, b"\n"], sink)
+        }
+        Finding::Loop(code, walk) => {
+            write_text(&[b"F2 LOOP "], sink)?;
+            write_walk(plan, *code, walk, sink)
+        }
+        Finding::Short(code, walk) => {
+            write_text(&[b"F3 SHORT "], sink)?;
+            write_walk(plan, *code, walk, sink)
+        }
+        Finding::Long(code, walk) => {
+            write_text(&[b"F4 LONG "], sink)?;
+            write_walk(plan, *code, walk, sink)
+        }
+    }
+}
+
+/// Writes a code and the exchanges of a walk, with the groups between them, and the end of the line.
+fn write_walk<A: Allocator, W: Sink>(
+    plan: &Plan<A>,
+    code: CodeId,
+    walk: &Walk<A>,
+    sink: &mut W,
+) -> Result<(), WriteFault>
+    ensures { Wrote (W.taken sink.old) (W.taken sink.new) (W.failed sink.old) (W.failed sink.new) (walk_text plan.now code walk.now) result }
+{
+    let code = plan.code_figures(code);
+    write_text(&[code, b" VIA ", plan.exchange_name(walk.start)], sink)?;
+    write_steps(plan, walk.steps.as_slice(), sink)
+}
+
+/// Writes the steps of a walk, and the end of the line.
+fn write_steps<A: Allocator, W: Sink>(
+    plan: &Plan<A>,
+    steps: &[(GroupId, ExchangeId)],
+    sink: &mut W,
+) -> Result<(), WriteFault>
+    ensures { Wrote (W.taken sink.old) (W.taken sink.new) (W.failed sink.old) (W.failed sink.new) (flat_map (step_text plan.now) steps.now ++ codes "\n") result }
+{
+    for i in 0..steps.len() {
+        write_step(plan, steps[i], sink)?;
+    }
+    write_text(&[b"\n"], sink)
+}
+
+fn write_step<A: Allocator, W: Sink>(
+    plan: &Plan<A>,
+    step: (GroupId, ExchangeId),
+    sink: &mut W,
+) -> Result<(), WriteFault>
+    ensures { Wrote (W.taken sink.old) (W.taken sink.new) (W.failed sink.old) (W.failed sink.new) (step_text plan.now step) result }
+{
+    let group = plan.group_name(step.0);
+    write_text(&[b" ", group, b" ", plan.exchange_name(step.1)], sink)
+}

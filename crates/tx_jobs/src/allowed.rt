@@ -1,0 +1,94 @@
+// The job of `run PLAN SCRIPT --cert CERT --limit L --spare K`.
+ghost use Rattle.std.specs.Prelude.{◌≡◌, ◌≤◌};
+ghost use Rattle.tx_text.specs.Calls.{Broken, CallsAtMost, source_calls};
+ghost use Rattle.tx_jobs.specs.CheckedJobs.{CheckedJobAnswers, CertAnswers, ToldRun};
+
+use crate::job_fault::JobFault;
+use std::alloc::Allocator;
+use tx_audit::{Checked, run_checked};
+use tx_cert::{Cert, read_cert_from};
+use tx_check::{Verdict, write_verdict};
+use tx_plan::Plan;
+use tx_plantext::read_plan_from;
+use tx_text::{Sink, Source, WriteFault};
+
+/// Reads a plan and a certificate, and runs a script over the plan after a Yes of the checker. After a No it writes the verdict alone, and reads nothing of
+/// the script.
+pub fn run_checked_job<A: Allocator + Copy, P: Source, C: Source, R: Source, W: Sink>(
+    alloc: A,
+    plan: &mut P,
+    cert: &mut C,
+    limit: u8,
+    spare: u8,
+    script: &mut R,
+    out: &mut W,
+) -> Result<Checked, JobFault>
+    requires limit { limit ≤ 62 }
+    requires spare { spare ≤ 15 }
+    ensures answers { CheckedJobAnswers limit spare (P.rest plan.old) (P.rest plan.new) (C.rest cert.old) (C.rest cert.new)
+        (record { rest_old = R.rest script.old; rest_new = R.rest script.new; taken_old = W.taken out.old; taken_new = W.taken out.new })
+        (Broken P.called (P.failed plan.new) source_calls plan.old plan.new) (Broken C.called (C.failed cert.new) source_calls cert.old cert.new) (Broken R.called (R.failed script.new) source_calls script.old script.new)
+        (cert.new ≡ cert.old) (script.new ≡ script.old) (out.new ≡ out.old) result }
+    ensures plan_calls { CallsAtMost P.called source_calls plan.old plan.new }
+    ensures cert_calls { CallsAtMost C.called source_calls cert.old cert.new }
+    ensures script_calls { CallsAtMost R.called source_calls script.old script.new }
+{
+    match read_plan_from(alloc, plan) {
+        Ok(plan) => {
+            plan.rules();
+            read_and_run(alloc, &plan, cert, limit, spare, script, out)
+        }
+        Err(fault) => Err(JobFault::of_plan(fault)),
+    }
+}
+
+/// Reads a certificate of the plan, and runs the script after a Yes.
+fn read_and_run<A: Allocator + Copy, C: Source, R: Source, W: Sink>(
+    alloc: A,
+    plan: &Plan<A>,
+    cert: &mut C,
+    limit: u8,
+    spare: u8,
+    script: &mut R,
+    out: &mut W,
+) -> Result<Checked, JobFault>
+    requires limit { limit ≤ 62 }
+    requires spare { spare ≤ 15 }
+    ensures answers { CertAnswers plan.now limit spare (C.rest cert.old) (C.rest cert.new)
+        (record { rest_old = R.rest script.old; rest_new = R.rest script.new; taken_old = W.taken out.old; taken_new = W.taken out.new })
+        (Broken C.called (C.failed cert.new) source_calls cert.old cert.new) (Broken R.called (R.failed script.new) source_calls script.old script.new)
+        (script.new ≡ script.old) (out.new ≡ out.old) result }
+    ensures cert_calls { CallsAtMost C.called source_calls cert.old cert.new }
+    ensures script_calls { CallsAtMost R.called source_calls script.old script.new }
+{
+    match read_cert_from(alloc, cert, plan) {
+        Ok(cert) => run_or_tell(alloc, plan, &cert, limit, spare, script, out),
+        Err(fault) => Err(JobFault::of_cert(fault)),
+    }
+}
+
+/// Runs the script after a Yes, or writes the verdict.
+fn run_or_tell<A: Allocator + Copy, R: Source, W: Sink>(
+    alloc: A,
+    plan: &Plan<A>,
+    cert: &Cert<A>,
+    limit: u8,
+    spare: u8,
+    script: &mut R,
+    out: &mut W,
+) -> Result<Checked, JobFault>
+    requires limit { limit ≤ 62 }
+    requires spare { spare ≤ 15 }
+    ensures told { ToldRun plan.now cert.now limit spare (record { rest_old = R.rest script.old; rest_new = R.rest script.new; taken_old = W.taken out.old; taken_new = W.taken out.new })
+        (Broken R.called (R.failed script.new) source_calls script.old script.new) (script.new ≡ script.old) (out.new ≡ out.old) result }
+    ensures calls { CallsAtMost R.called source_calls script.old script.new }
+{
+    match run_checked(alloc, plan, cert, limit, spare, script, out) {
+        Ok(Checked::Ran(summary)) => Ok(Checked::Ran(summary)),
+        Ok(Checked::Denied(fault)) => match write_verdict(&Verdict::No(fault), plan, out) {
+            Ok(()) => Ok(Checked::Denied(fault)),
+            Err(WriteFault) => Err(JobFault::Write),
+        },
+        Err(fault) => Err(JobFault::of_run(fault)),
+    }
+}

@@ -1,0 +1,30 @@
+// The job of `audit PLAN --limit L --spare K`.
+ghost use Rattle.std.specs.Prelude.{◌≡◌, ◌≤◌};
+ghost use Rattle.tx_text.specs.Calls.{Broken, CallsAtMost, source_calls};
+ghost use Rattle.tx_jobs.specs.AuditJobs.{AuditJobAnswers};
+
+use crate::job_fault::JobFault;
+use std::alloc::Allocator;
+use tx_audit::{AuditFault, Audited, audit};
+use tx_text::{Sink, Source};
+
+/// Reads a plan, and writes the report of its audit. Answers the plan, with a certificate or with all that is wrong with it.
+pub fn audit_job<A: Allocator + Copy, P: Source, W: Sink>(
+    alloc: A,
+    plan: &mut P,
+    limit: u8,
+    spare: u8,
+    out: &mut W,
+) -> Result<Audited<A>, JobFault>
+    requires limit { limit ≤ 62 }
+    requires spare { spare ≤ 15 }
+    ensures answers { AuditJobAnswers limit spare (P.rest plan.old) (P.rest plan.new) (W.taken out.old) (W.taken out.new) (Broken P.called (P.failed plan.new) source_calls plan.old plan.new) (out.new ≡ out.old) result }
+    ensures calls { CallsAtMost P.called source_calls plan.old plan.new }
+{
+    match audit(alloc, plan, limit, spare, out) {
+        Ok(audited) => Ok(audited),
+        Err(AuditFault::Plan(fault)) => Err(JobFault::of_plan(fault)),
+        Err(AuditFault::Write) => Err(JobFault::Write),
+        Err(AuditFault::NoMemory) => Err(JobFault::NoMemory),
+    }
+}

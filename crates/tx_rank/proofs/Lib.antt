@@ -1,0 +1,16 @@
+pub mod Ways
+pub mod Ranks
+pub mod Turns
+pub mod Heights
+pub mod Looks
+pub mod Passes
+pub mod Linking
+pub mod Tracing
+pub mod Walked
+pub mod Adding
+pub mod Writing
+pub mod Nets
+pub mod Origins
+pub mod Judging
+pub mod Certifying
+pub mod Listing

@@ -1,0 +1,138 @@
+-- Links, as they are made.
+use Rattle.std.proofs.Common.{◌≡◌, ◌≢◌, ℕ, zero, suc, ◌+◌, ◌<◌, ◌≤◌, true, false, eqb, eqb-true, List, [], ◌∷◌, ◌++◌, length, take, get_or, replicate, ◌⊎◌, inl, inr, Option, Some, None, refl, sym, ap, subst, ◌∙◌, arith}
+use Rattle.std.specs.Prelude.{slice_get}
+use Rattle.std.proofs.Math.ListN.{set, length-set}
+use Rattle.std.proofs.lemmas.Bool.{eqb-false}
+use Rattle.std.proofs.lemmas.Option.{slice_get-get_or}
+use Rattle.std.proofs.lemmas.List.{length-replicate, take_all}
+use Rattle.tx_plan.proofs.Among.{Among, among_cases}
+use Rattle.tx_rank.specs.Walks.{Net, Goes, end_of}
+use Rattle.tx_rank.specs.Links.{IsLink, AreLinks, LinksAll, StaysLinked, LinksBelow, IsLinked}
+use Rattle.tx_rank.proofs.Looks.{among_at, take_next}
+use Rattle.tx_rank.proofs.Turns.{set_same, set_other}
+
+pub record IsLinking (n : Net) (ranks : ℕ → Option ℕ) (p : ℕ) (groups : List ℕ) (old links : List (Option (ℕ × ℕ))) : Type 0 where
+  pub long : length links ≡ n.exchanges
+  pub true_of : AreLinks n ranks links
+  pub stays : StaysLinked old links
+  pub all : LinksAll n links p groups
+
+module _ (n : Net) (ranks : ℕ → Option ℕ) (p : ℕ) where
+  pub linking_none : (old : List (Option (ℕ × ℕ))) → length old ≡ n.exchanges → AreLinks n ranks old → IsLinking n ranks p [] old old
+  linking_none old long links = record { long = long; true_of = links; stays = λ y s h. (s, h); all = λ g y m. absurd m }
+
+  put : (links : List (Option (ℕ × ℕ))) (y : ℕ) (s : ℕ × ℕ) → y < length links → slice_get (set links y (Some s)) y ≡ Some (Some s)
+  put links y s h = set_same links y (get_or links y None) (Some s) (slice_get-get_or links y None h)
+
+  kept : (links : List (Option (ℕ × ℕ))) (y : ℕ) (s : ℕ × ℕ) → y < length links → StaysLinked links (set links y (Some s))
+  kept links y s h z t old =
+      elim (eqb y z) as (λ b. eqb y z ≡ b → (t' : ℕ × ℕ) × (slice_get (set links y (Some s)) z ≡ Some (Some t'))) [
+        | true ↦ λ e. (s, ap (slice_get (set links y (Some s))) (sym (eqb-true y z e)) ∙ put links y s h)
+        | false ↦ λ e. (t, set_other links y z (Some s) (eqb-false y z e) ∙ old)
+      ] refl
+
+  linking_more : (groups : List ℕ) (old links : List (Option (ℕ × ℕ))) (g y r : ℕ) → IsLinking n ranks p groups old links → ranks p ≡ Some r → p ≢ n.home → Among g (n.list p) → n.far g p ≡ Some y → y < n.exchanges → IsLinking n ranks p (groups ++ g ∷ []) old (set links y (Some (g, p)))
+  linking_more groups old links g y r l ranked away listed leads within =
+      let long = l.long in
+      let fits : y < length links = omega arith in
+      let stay = kept links y (g, p) fits in
+      record {
+        long = length-set links y (Some (g, p)) ∙ long;
+        true_of = λ z s h. elim (eqb y z) as (λ b. eqb y z ≡ b → IsLink n ranks z s) [
+          | true ↦ λ e.
+              let same = eqb-true y z e in
+              let z' = ap (slice_get (set links y (Some (g, p)))) same in
+              let w = put links y (g, p) fits in
+              let is : (g, p) ≡ s = cc in
+              subst (λ (t : ℕ × ℕ). IsLink n ranks z t) is (record { rank = r; ranked = ranked; away = away; listed = listed; leads = leads ∙ ap (λ k. Some k) same })
+          | false ↦ λ e. l.true_of z s (sym (set_other links y z (Some (g, p)) (eqb-false y z e)) ∙ h)
+        ] refl;
+        stays = λ z s h. let t = l.stays z s h in stay z t.0 t.1;
+        all = λ h z m leads'. elim (among_cases h groups (g ∷ []) m) [
+          | inl a ↦ let t = l.all h z a leads' in stay z t.0 t.1
+          | inr b ↦ elim b [
+            | inl e ↦ let q = ap (λ k. n.far k p) e in let same : y ≡ z = cc in ((g, p), ap (slice_get (set links y (Some (g, p)))) (sym same) ∙ put links y (g, p) fits)
+            | inr f ↦ absurd f
+          ]
+        ];
+      }
+
+  pub linking_step : (i : ℕ) (old links : List (Option (ℕ × ℕ))) (g y : ℕ) → slice_get (n.list p) i ≡ Some g → IsLinking n ranks p (take i (n.list p)) old links → (r : ℕ) × (ranks p ≡ Some r) → p ≢ n.home → n.far g p ≡ Some y → y < n.exchanges → IsLinking n ranks p (take (i + 1) (n.list p)) old (set links y (Some (g, p)))
+  linking_step i old links g y at l r away leads within =
+      subst (λ (x : List ℕ). IsLinking n ranks p x old (set links y (Some (g, p)))) (sym (take_next (n.list p) i g at)) (linking_more (take i (n.list p)) old links g y r.0 l r.1 away (among_at (n.list p) i g at) leads within)
+
+  -- where it leads is linked already
+  pub linking_kept : (i : ℕ) (old links : List (Option (ℕ × ℕ))) (g y : ℕ) (s : ℕ × ℕ) → slice_get (n.list p) i ≡ Some g → IsLinking n ranks p (take i (n.list p)) old links → n.far g p ≡ Some y → slice_get links y ≡ Some (Some s)
+      → IsLinking n ranks p (take (i + 1) (n.list p)) old links
+  linking_kept i old links g y s at l leads linked =
+      subst (λ (x : List ℕ). IsLinking n ranks p x old links) (sym (take_next (n.list p) i g at))
+      (record {
+        long = l.long;
+        true_of = l.true_of;
+        stays = l.stays;
+        all = λ h z m leads'. elim (among_cases h (take i (n.list p)) (g ∷ []) m) [
+          | inl a ↦ l.all h z a leads'
+          | inr b ↦ elim b [
+            | inl e ↦ let q = ap (λ k. n.far k p) e in let same : y ≡ z = cc in (s, ap (slice_get links) (sym same) ∙ linked)
+            | inr f ↦ absurd f
+          ]
+        ];
+      })
+
+  pub linking_all : (i : ℕ) (old links : List (Option (ℕ × ℕ))) → length (n.list p) ≤ i → IsLinking n ranks p (take i (n.list p)) old links → LinksAll n links p (n.list p)
+  linking_all i old links h l = subst (λ (x : List ℕ). LinksAll n links p x) (take_all i (n.list p) h) l.all
+
+-- the links of the exchanges before place i
+pub record IsLinkedBelow (n : Net) (ranks : ℕ → Option ℕ) (links : List (Option (ℕ × ℕ))) (i : ℕ) : Type 0 where
+  pub long : length links ≡ n.exchanges
+  pub true_of : AreLinks n ranks links
+  pub below : LinksBelow n ranks links i
+
+no_links : (k y : ℕ) (s : ℕ × ℕ) → slice_get (replicate k None) y ≡ Some (Some s) → ⊥
+no_links zero y s h = cc
+no_links (suc k) zero s h = cc
+no_links (suc k) (suc y) s h = no_links k y s h
+
+pub linked_none : (n : Net) (ranks : ℕ → Option ℕ) (links : List (Option (ℕ × ℕ))) (k : ℕ) → links ≡ replicate k None → k ≡ n.exchanges → IsLinkedBelow n ranks links 0
+linked_none n ranks links k e h =
+    record {
+      long = ap length e ∙ length-replicate k None ∙ h;
+      true_of = λ y s l. absurd (no_links k y s (ap (λ x. slice_get x y) (sym e) ∙ l));
+      below = λ p r l. absurd (omega arith);
+    }
+
+pub linked_all : (n : Net) (ranks : ℕ → Option ℕ) (links : List (Option (ℕ × ℕ))) (i : ℕ) → i ≡ n.exchanges → IsLinkedBelow n ranks links i → IsLinked n ranks links
+linked_all n ranks links i e l = record { long = l.long; true_of = l.true_of; all = subst (LinksBelow n ranks links) e l.below }
+
+module _ (n : Net) (ranks : ℕ → Option ℕ) where
+  -- the next place has nothing to link
+  pub below_skip : (links : List (Option (ℕ × ℕ))) (i : ℕ) → LinksBelow n ranks links i → ((r : ℕ) → ranks i ≡ Some r → i ≢ n.home → ⊥) → LinksBelow n ranks links (i + 1)
+  below_skip links i b nothing p r h ranked away =
+      elim (eqb p i) as (λ t. eqb p i ≡ t → LinksAll n links p (n.list p)) [
+        | true ↦ λ e. let same = eqb-true p i e in absurd (nothing r (ap ranks (sym same) ∙ ranked) (λ q. away (same ∙ q)))
+        | false ↦ λ e. let d = eqb-false p i e in b p r (omega arith) ranked away
+      ] refl
+
+  pub below_more : (old links : List (Option (ℕ × ℕ))) (i : ℕ) → LinksBelow n ranks old i → StaysLinked old links → LinksAll n links i (n.list i) → LinksBelow n ranks links (i + 1)
+  below_more old links i b stays all p r h ranked away =
+      elim (eqb p i) as (λ t. eqb p i ≡ t → LinksAll n links p (n.list p)) [
+        | true ↦ λ e. subst (λ (k : ℕ). LinksAll n links k (n.list k)) (sym (eqb-true p i e)) all
+        | false ↦ λ e. λ g y m leads. let d = eqb-false p i e in let t = b p r (omega arith) ranked away g y m leads in stays y t.0 t.1
+      ] refl
+
+  -- the last step of a walk
+  pub record IsLast (x : ℕ) (y : ℕ) : Type 0 where
+    pub front : List (ℕ × ℕ)
+    pub goes : Goes n x front
+    pub group : ℕ
+    pub away : end_of x front ≢ n.home
+    pub listed : Among group (n.list (end_of x front))
+    pub leads : n.far group (end_of x front) ≡ Some y
+
+  pub last_step : (x : ℕ) (steps : List (ℕ × ℕ)) (y : ℕ) → Goes n x steps → end_of x steps ≡ y → (x ≡ y) ⊎ IsLast x y
+  last_step x [] y go e = inl e
+  last_step x (s ∷ steps) y go e =
+      elim (last_step s.1 steps y go.3 e) [
+        | inl same ↦ inr (record { front = []; goes = tt; group = s.0; away = go.0; listed = go.1; leads = go.2 ∙ ap (λ k. Some k) same })
+        | inr l ↦ inr (record { front = s ∷ l.front; goes = (go.0, go.1, go.2, l.goes); group = l.group; away = l.away; listed = l.listed; leads = l.leads })
+      ]

@@ -1,0 +1,9 @@
+use Rattle.tx_rank.specs.Marks.{cost}
+use Rattle.tx_rank.proofs.Passes.{IsExploring}
+use Rattle.tx_rank.proofs.explore.explore.Given as goal
+
+abbrev pub invariant-loop : goal.invariant-loop
+invariant-loop g l = IsExploring (g.N.Routes.net l.net) l.fn.search.start l.fn.search.marks.items l.search.start l.search.steps.items l.search.marks.items
+
+abbrev pub decreases-loop : goal.decreases-loop
+decreases-loop g l = cost l.search.marks.items

@@ -1,0 +1,29 @@
+use Rattle.std.proofs.Common.{subst, sym, ap, ◌∙◌, ◌≡◌, List, ℕ, Some}
+use Rattle.std.specs.Prelude.{slice_get}
+use Rattle.tx_rank.specs.Walks.{IsLoop}
+use Rattle.tx_rank.specs.Marks.{IsStep, rank_in}
+use Rattle.tx_rank.specs.declared.mark.Mark.{Mark}
+use Rattle.tx_rank.specs.declared.mark.Mark.TheVariants.{Unseen, Open}
+use Rattle.std.proofs.Math.ListN.{set}
+use Rattle.tx_rank.proofs.Turns.{closes, went_on}
+use Rattle.tx_rank.proofs.explore.go_on.Goals as goal
+
+pub returns-then-is_open-clause-ok : goal.returns-then-is_open-clause-ok
+returns-then-is_open-clause-ok g c =
+    let n = g.N.Routes.net c.args.net.now in
+    let marks = c.args.search.now.marks.items in
+    let start = c.args.search.now.start in
+    let steps = c.args.search.now.steps.items in
+    let a = subst (λ (l : List Mark). slice_get l c.args.to ≡ Some Open) c.deref.ensures.value (c.is_open.ensures.open c.if-is_open.true) in
+    subst (λ (l : List (ℕ × ℕ)). IsLoop n start l) (sym c.in_ok-push.ensures.items) (closes n marks start steps (c.args.group, c.args.to) c.requires.marked c.requires.hand c.requires.onward a)
+
+pub returns-clause-ok : goal.returns-clause-ok
+returns-clause-ok g c =
+    let n = g.N.Routes.net c.args.net.now in
+    let marks = c.args.search.now.marks.items in
+    let start = c.args.search.now.start in
+    let steps = c.args.search.now.steps.items in
+    let fresh = ap (λ (l : List Mark). rank_in l c.args.to) c.deref.ensures.value ∙ c.requires.onward.fresh in
+    let was = subst (λ (l : List Mark). slice_get l c.args.to ≡ Some Unseen) c.deref.ensures.value (c.is_open.ensures.unseen c.if-is_open.false fresh) in
+    let step = went_on n marks start steps c.args.group c.args.to c.requires.marked c.requires.hand c.requires.onward was in
+    subst (λ (k : ℕ). IsStep n start marks (set marks k Open) c.push.new.self.items) (sym c.index.ensures) (subst (λ (l : List (ℕ × ℕ)). IsStep n start marks (set marks c.args.to Open) l) (sym c.in_ok-push.ensures.items) step)

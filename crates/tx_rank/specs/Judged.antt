@@ -1,0 +1,51 @@
+-- What the ranking of one code adds to the findings, and the parts of this.
+use Rattle.std.specs.Prelude.{◌≡◌, ◌≢◌, ℕ, ◌+◌, ◌≤◌, Bool, true, List, [], ◌++◌, length, map, Option, Some, None, slice_get}
+use Rattle.tx_plan.specs.Plan.{Plan}
+use Rattle.tx_plan.specs.Routes.{is_origin}
+use Rattle.tx_rank.specs.declared.finding.Finding.{Finding}
+use Rattle.tx_rank.specs.declared.finding.Finding.TheVariants.{Short}
+use Rattle.tx_rank.specs.Walks.{Net, Walk, IsLong}
+use Rattle.tx_rank.specs.Heights.{RanksByHeight}
+use Rattle.tx_rank.specs.Findings.{AreShorts, AreFindingsOfCode}
+use Rattle.tx_rank.specs.Nets.{Certifies}
+
+-- a walk ends at x, which is not the home and lists no more than spare groups
+pub record IsShortAt (n : Net) (ranks : ℕ → Option ℕ) (spare x : ℕ) : Type 0 where
+  pub rank : ℕ
+  pub ranked : ranks x ≡ Some rank
+  pub away : x ≢ n.home
+  pub few : length (n.list x) ≤ spare
+
+-- no origin is ranked above limit + 1
+abbrev pub LowOrigins : Net → (ℕ → Option ℕ) → ℕ → Type 0
+LowOrigins n ranks limit = (x r : ℕ) → n.is_origin x ≡ true → ranks x ≡ Some r → r ≤ limit + 1
+
+-- a long walk, or no origin is ranked above limit + 1
+abbrev pub IsLongFound : Net → (ℕ → Option ℕ) → ℕ → Option Walk → Type 0
+IsLongFound n ranks limit None = LowOrigins n ranks limit
+IsLongFound n ranks limit (Some w) = IsLong n limit w.start w.steps
+
+-- a long walk, or x is no origin that is ranked above limit + 1
+abbrev pub IsLongFrom : Net → (ℕ → Option ℕ) → ℕ → ℕ → Option Walk → Type 0
+IsLongFrom n ranks limit x None = (r : ℕ) → n.is_origin x ≡ true → ranks x ≡ Some r → r ≤ limit + 1
+IsLongFrom n ranks limit x (Some w) = IsLong n limit w.start w.steps
+
+-- each exchange has whether calls may start there
+pub record AreOrigins (p : Plan) (origins : List Bool) : Type 0 where
+  pub long : length origins ≡ length p.exchanges
+  pub each : (x : ℕ) (b : Bool) → slice_get origins x ≡ Some b → b ≡ is_origin p x
+
+module _ {A : Type 0} where
+  -- a short walk was added for each exchange to which there is one
+  pub record AddsShorts (n : Net) (code spare : ℕ) (old new : List (Finding A)) : Type 0 where
+    pub walks : List Walk
+    pub added : new ≡ old ++ map (Short code) walks
+    pub found : AreShorts n spare walks
+
+  -- the findings of a code were added, and where there are none its ranks are heights and certify it
+  pub record IsJudged (n : Net) (code limit spare : ℕ) (old new : List (Finding A)) (ranks : ℕ → Option ℕ) : Type 0 where
+    pub mine : List (Finding A)
+    pub added : new ≡ old ++ mine
+    pub listed : AreFindingsOfCode n code limit spare mine
+    pub heights : mine ≡ [] → RanksByHeight n ranks
+    pub certified : mine ≡ [] → Certifies n ranks limit spare

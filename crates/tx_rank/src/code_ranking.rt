@@ -1,0 +1,60 @@
+// The ranking of one code.
+ghost use Rattle.std.specs.Prelude.{◌≡◌, ◌≢◌, ◌<◌, ℕ, None, IfOk};
+ghost use Rattle.tx_cert.specs.Certificate.{rank_at as ranked_at};
+ghost use Rattle.tx_rank.specs.Judged.{IsJudged};
+
+use crate::explore::{Search, pass, unseen};
+use crate::finding::Finding;
+use crate::longs::long_walk;
+use crate::routes::Routes;
+use crate::shorts::add_shorts;
+use crate::walk::{Steps, Walk};
+use crate::written::put_ranks;
+use std::alloc::Allocator;
+use tx_cert::Cert;
+use tx_plan::CodeId;
+use tx_text::NoMemory;
+
+/// Adds what is wrong with a code, or writes its ranks into the certificate.
+pub fn rank_code<A: Allocator + Copy, N: Routes>(
+    alloc: A,
+    net: &N,
+    code: CodeId,
+    limit: u8,
+    spare: u8,
+    cert: &mut Cert<A>,
+    findings: &mut Vec<Finding<A>, A>,
+) -> Result<(), NoMemory>
+    requires code { code < cert.old.codes }
+    requires exchanges { cert.old.exchanges ≡ (N.net net.now).exchanges }
+    requires blank { (x : ℕ) → ranked_at cert.old code x ≡ None }
+    ensures judged { IfOk result (λ _. IsJudged (N.net net.now) code limit spare findings.old.items findings.new.items (ranked_at cert.new code)) }
+    ensures others { IfOk result (λ _. (d x : ℕ) → d ≢ code → ranked_at cert.new d x ≡ ranked_at cert.old d x) }
+    ensures codes { cert.new.codes ≡ cert.old.codes }
+    ensures exchanges { cert.new.exchanges ≡ cert.old.exchanges }
+{
+    let mut search = unseen(alloc, net)?;
+    let closed = pass(net, &mut search)?;
+    let Search {
+        start,
+        steps,
+        marks,
+    } = search;
+    if closed {
+        let walk = Walk {
+            start,
+            steps: Steps::of(steps),
+        };
+        findings.push(Finding::Loop(code, walk))?;
+        return Ok(());
+    }
+    put_ranks(net, &marks, code, cert);
+    add_shorts(alloc, net, &marks, code, spare, findings)?;
+    match long_walk(alloc, net, &marks, limit)? {
+        Some(walk) => {
+            findings.push(Finding::Long(code, walk))?;
+            Ok(())
+        }
+        None => Ok(()),
+    }
+}

@@ -1,0 +1,197 @@
+// The ranking pass: a walk in hand that grows and shrinks at its end.
+ghost use Rattle.std.specs.Prelude.{◌≡◌, ◌<◌, ◌+◌, length, true, false, None, Some, IfOk, slice_get};
+ghost use Rattle.tx_rank.specs.Walks.{end_of, IsLoop};
+ghost use Rattle.tx_rank.specs.Nets.{IsNet};
+ghost use Rattle.tx_rank.specs.Marks.{IsMarked, IsInHand, IsOnward, IsTop, IsAdvanced, IsEnd, NoneOpen, IsPassing, IsPassed, rank_in};
+
+use crate::look::{Look, look_at, rank_at};
+use crate::mark::Mark;
+use crate::routes::Routes;
+use std::alloc::Allocator;
+use tx_plan::{ExchangeId, GroupId};
+use tx_text::NoMemory;
+
+/// The walk in hand goes on, all walks from its start are ranked, or it is a loop.
+#[derive(Clone, Copy, Debug, PartialEq, Eq)]
+pub enum Progress {
+    More,
+    Done,
+    Closed,
+}
+
+/// The walk in hand, and the marks of all exchanges.
+#[derive(Drop)]
+pub struct Search<A: Allocator> {
+    pub start: ExchangeId,
+    pub steps: Vec<(GroupId, ExchangeId), A>,
+    pub marks: Vec<Mark, A>,
+}
+
+/// The marks before a pass: the home is ranked 0.
+pub fn unseen<A: Allocator + Copy, N: Routes>(alloc: A, net: &N) -> Result<Search<A>, NoMemory>
+    ensures marked { IfOk result (λ s. IsMarked (N.net net.now) s.marks.items) }
+    ensures none { IfOk result (λ s. NoneOpen s.marks.items) }
+{
+    net.rules();
+    let mut marks = vec![in alloc; Mark::Unseen; net.exchanges()]?;
+    marks[net.home().index()] = Mark::Ranked(0);
+    Ok(Search {
+        start: net.home(),
+        steps: Vec::new(alloc),
+        marks,
+    })
+}
+
+/// Where the walk in hand ends.
+fn end(start: ExchangeId, steps: &[(GroupId, ExchangeId)]) -> ExchangeId
+    ensures { result ≡ end_of start steps.now }
+{
+    match steps.last() {
+        Some(step) => step.1,
+        None => start,
+    }
+}
+
+/// Whether an exchange is on the walk in hand.
+fn is_open(marks: &[Mark], exchange: ExchangeId) -> bool
+    requires { exchange < length marks.now }
+    ensures open { result ≡ true → slice_get marks.now exchange ≡ Some (Mark.Open) }
+    ensures unseen { result ≡ false → rank_in marks.now exchange ≡ None → slice_get marks.now exchange ≡ Some (Mark.Unseen) }
+{
+    match marks[exchange.index()] {
+        Mark::Open => true,
+        _ => false,
+    }
+}
+
+/// The walk in hand goes one step on.
+fn go_on<A: Allocator, N: Routes>(
+    net: &N,
+    search: &mut Search<A>,
+    group: GroupId,
+    to: ExchangeId,
+) -> Result<Progress, NoMemory>
+    requires marked { IsMarked (N.net net.now) search.old.marks.items }
+    requires hand { IsInHand (N.net net.now) search.old.marks.items search.old.start search.old.steps.items }
+    requires onward { IsOnward (N.net net.now) search.old.marks.items (end_of search.old.start search.old.steps.items) (group, to) }
+    ensures start { search.new.start ≡ search.old.start }
+    ensures ok { IfOk result (λ p. IsAdvanced (N.net net.now) search.old.start p search.old.marks.items search.new.marks.items search.new.steps.items) }
+{
+    search.steps.push((group, to))?;
+    if is_open(&search.marks, to) {
+        return Ok(Progress::Closed);
+    }
+    search.marks[to.index()] = Mark::Open;
+    Ok(Progress::More)
+}
+
+/// The last exchange of the walk in hand is ranked.
+fn settle<A: Allocator, N: Routes>(
+    net: &N,
+    search: &mut Search<A>,
+    exchange: ExchangeId,
+    top: u16,
+) -> Progress
+    requires net { IsNet (N.net net.now) }
+    requires marked { IsMarked (N.net net.now) search.old.marks.items }
+    requires hand { IsInHand (N.net net.now) search.old.marks.items search.old.start search.old.steps.items }
+    requires end { exchange ≡ end_of search.old.start search.old.steps.items }
+    requires top { IsTop (N.net net.now) search.old.marks.items exchange ((N.net net.now).list exchange) top }
+    ensures start { search.new.start ≡ search.old.start }
+    ensures ok { IsAdvanced (N.net net.now) search.old.start result search.old.marks.items search.new.marks.items search.new.steps.items }
+{
+    search.marks[exchange.index()] = Mark::Ranked(top + 1);
+    match search.steps.pop() {
+        Some(_) => Progress::More,
+        None => Progress::Done,
+    }
+}
+
+/// A turn of the pass: it opens an exchange, or ranks one.
+fn advance<A: Allocator, N: Routes>(net: &N, search: &mut Search<A>) -> Result<Progress, NoMemory>
+    requires marked { IsMarked (N.net net.now) search.old.marks.items }
+    requires hand { IsInHand (N.net net.now) search.old.marks.items search.old.start search.old.steps.items }
+    ensures start { search.new.start ≡ search.old.start }
+    ensures ok { IfOk result (λ p. IsAdvanced (N.net net.now) search.old.start p search.old.marks.items search.new.marks.items search.new.steps.items) }
+{
+    net.rules();
+    let exchange = end(search.start, &search.steps);
+    match look_at(net, &search.marks, exchange) {
+        Look::Onward(group, to) => go_on(net, search, group, to),
+        Look::Settled(top) => Ok(settle(net, search, exchange, top)),
+    }
+}
+
+/// Goes over all walks that go on from the walk in hand: true if one of them is a loop, which is then in hand.
+fn explore<A: Allocator, N: Routes>(net: &N, search: &mut Search<A>) -> Result<bool, NoMemory>
+    requires marked { IsMarked (N.net net.now) search.old.marks.items }
+    requires hand { IsInHand (N.net net.now) search.old.marks.items search.old.start search.old.steps.items }
+    ensures start { search.new.start ≡ search.old.start }
+    ensures closed { IfOk result (λ closed. closed ≡ true → IsLoop (N.net net.now) search.new.start search.new.steps.items) }
+    ensures done { IfOk result (λ closed. closed ≡ false → IsEnd (N.net net.now) search.new.start search.old.marks.items search.new.marks.items) }
+{
+    loop {
+        match advance(net, search)? {
+            Progress::More => {}
+            Progress::Done => return Ok(false),
+            Progress::Closed => return Ok(true),
+        }
+    }
+}
+
+/// Goes over all walks from an origin that was not seen.
+fn start_at<A: Allocator, N: Routes>(
+    net: &N,
+    search: &mut Search<A>,
+    origin: ExchangeId,
+) -> Result<bool, NoMemory>
+    requires origin { (N.net net.now).is_origin origin ≡ true }
+    requires marked { IsMarked (N.net net.now) search.old.marks.items }
+    requires none { NoneOpen search.old.marks.items }
+    requires unseen { rank_in search.old.marks.items origin ≡ None }
+    ensures closed { IfOk result (λ closed. closed ≡ true → IsLoop (N.net net.now) search.new.start search.new.steps.items) }
+    ensures done { IfOk result (λ closed. closed ≡ false → IsEnd (N.net net.now) origin search.old.marks.items search.new.marks.items) }
+{
+    net.rules();
+    search.start = origin;
+    search.steps.clear();
+    search.marks[origin.index()] = Mark::Open;
+    explore(net, search)
+}
+
+/// Goes over all walks from the exchange at a place.
+fn start_from<A: Allocator, N: Routes>(
+    net: &N,
+    search: &mut Search<A>,
+    place: usize,
+) -> Result<bool, NoMemory>
+    requires place { place < (N.net net.now).exchanges }
+    requires passing { IsPassing (N.net net.now) search.old.marks.items place }
+    ensures closed { IfOk result (λ closed. closed ≡ true → IsLoop (N.net net.now) search.new.start search.new.steps.items) }
+    ensures done { IfOk result (λ closed. closed ≡ false → IsPassing (N.net net.now) search.new.marks.items (place + 1)) }
+{
+    let origin = net.exchange(place);
+    if !net.is_origin(origin) {
+        return Ok(false);
+    }
+    match rank_at(&search.marks, origin) {
+        Some(_) => Ok(false),
+        None => start_at(net, search, origin),
+    }
+}
+
+/// Goes over all walks: true if one is a loop, which is then in hand. Each exchange is opened once and ranked once, however many walks pass it.
+pub fn pass<A: Allocator, N: Routes>(net: &N, search: &mut Search<A>) -> Result<bool, NoMemory>
+    requires marked { IsMarked (N.net net.now) search.old.marks.items }
+    requires none { NoneOpen search.old.marks.items }
+    ensures closed { IfOk result (λ closed. closed ≡ true → IsLoop (N.net net.now) search.new.start search.new.steps.items) }
+    ensures done { IfOk result (λ closed. closed ≡ false → IsPassed (N.net net.now) search.new.marks.items) }
+{
+    net.rules();
+    for place in 0..net.exchanges() {
+        if start_from(net, search, place)? {
+            return Ok(true);
+        }
+    }
+    Ok(false)
+}

@@ -1,0 +1,88 @@
+// The ranking of a plan.
+ghost use Rattle.std.specs.Prelude.{◌≡◌, ◌≢◌, ◌≤◌, ◌↔◌, ℕ, [], IfOk, OnOk};
+ghost use Rattle.std.specs.List.{AllByRecursion};
+ghost use Rattle.tx_plan.specs.Certified.{Ranks, IsCertified};
+ghost use Rattle.tx_plan.specs.Ambiguous.{ambiguous_of};
+ghost use Rattle.tx_cert.specs.Certificate.{ranks_of, IsCertificateOf};
+ghost use Rattle.tx_rank.specs.Heights.{AreHeights};
+ghost use Rattle.tx_rank.specs.Findings.{IsTrueOf, AreFindings, pair_findings};
+ghost use Rattle.tx_rank.specs.Rankings.{IsFound, OnFound, OnFails};
+
+use crate::code_ranking::rank_code;
+use crate::code_routes::{CodeRoutes, origins_of};
+use crate::finding::Finding;
+use std::alloc::{Allocator, Global};
+use tx_cert::Cert;
+use tx_plan::{CodeId, Plan};
+use tx_text::NoMemory;
+use tx_trie::CodeTrie;
+
+/// What the ranking of a plan comes to.
+#[derive(Drop)]
+pub enum Ranking<A: Allocator = Global> {
+    /// A certificate, by which the plan is certified.
+    Found(Cert<A>),
+    /// All that is wrong with the plan.
+    Fails(Vec<Finding<A>, A>),
+}
+
+/// The ambiguous pair, as a finding.
+fn pair_found<A: Allocator + Copy>(alloc: A, plan: &Plan<A>) -> Result<Vec<Finding<A>, A>, NoMemory>
+    ensures { IfOk result (λ findings. findings.items ≡ pair_findings (ambiguous_of plan.now.codes)) }
+{
+    let mut findings = Vec::new(alloc);
+    let trie = CodeTrie::build(alloc, plan)?;
+    if let Some((shorter, longer)) = trie.ambiguous() {
+        findings.push(Finding::Ambiguous(shorter, longer))?;
+    }
+    Ok(findings)
+}
+
+/// Ranks the exchanges for each code by their heights above its home, or tells all that is wrong.
+pub fn rank<A: Allocator + Copy>(
+    alloc: A,
+    plan: &Plan<A>,
+    limit: u8,
+    spare: u8,
+) -> Result<Ranking<A>, NoMemory>
+    requires limit { limit ≤ 62 }
+    requires spare { spare ≤ 15 }
+
+    // A certificate is found exactly where no finding is true, and so wherever any certificate certifies the plan.
+    ensures found { IfOk result (λ r. IsFound r ↔ ((f : Finding A) → IsTrueOf plan.now limit spare f → ⊥)) }
+    ensures wherever { IfOk result (λ r. (ranks : Ranks) → IsCertified plan.now ranks limit spare → IsFound r) }
+
+    ensures certified { IfOk result (OnFound (λ cert. IsCertified plan.now (ranks_of cert) limit spare)) }
+    ensures heights { IfOk result (OnFound (λ cert. AreHeights plan.now (ranks_of cert))) }
+    ensures fits { IfOk result (OnFound (IsCertificateOf plan.now)) }
+
+    ensures fails { IfOk result (OnFails (λ findings. findings ≢ [])) }
+    ensures each { IfOk result (OnFails (AllByRecursion (IsTrueOf plan.now limit spare))) }
+    ensures listed { IfOk result (OnFails (AreFindings plan.now limit spare)) }
+{
+    plan.rules();
+    let mut findings = pair_found(alloc, plan)?;
+    let mut cert = Cert::new(alloc, plan)?;
+    let origins = origins_of(alloc, plan)?;
+    for place in 0..plan.codes() {
+        let net = CodeRoutes {
+            plan,
+            origins: &origins,
+            code: CodeId::at(place as u16),
+        };
+        rank_code(
+            alloc,
+            &net,
+            net.code,
+            limit,
+            spare,
+            &mut cert,
+            &mut findings,
+        )?;
+    }
+    if findings.is_empty() {
+        cert.whole();
+        return Ok(Ranking::Found(cert));
+    }
+    Ok(Ranking::Fails(findings))
+}

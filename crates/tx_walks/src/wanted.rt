@@ -1,0 +1,117 @@
+// The findings that the walks call for.
+use crate::survey::Survey;
+use std::alloc::{AllocError, Global};
+use tx_plan::{CodeId, ExchangeId, Plan};
+
+/// A finding that there is to be.
+#[derive(Clone, Copy, Debug, PartialEq, Eq)]
+pub enum Wanted {
+    /// This pair.
+    Ambiguous(CodeId, CodeId),
+    /// A loop for the code.
+    Loop(CodeId),
+    /// A walk of so many steps for the code to this exchange, whose list is too short.
+    Short(CodeId, ExchangeId, usize),
+    /// A walk for the code that is too long.
+    Long(CodeId),
+}
+
+/// Whether a code begins another one.
+fn begins(plan: &Plan, shorter: CodeId, longer: CodeId) -> bool {
+    let figures = plan.code_figures(longer);
+    shorter != longer && figures.starts_with(plan.code_figures(shorter))
+}
+
+/// Whether a pair comes before another: by the figures of its first code, and then by those of its second.
+fn is_before(plan: &Plan, a: CodeId, b: CodeId, c: CodeId, d: CodeId) -> bool {
+    let first = (plan.code_figures(a), plan.code_figures(b));
+    let second = (plan.code_figures(c), plan.code_figures(d));
+    first < second
+}
+
+/// Whether a code that begins another one makes a pair before this one.
+fn has_before(plan: &Plan, shorter: CodeId, longer: CodeId) -> bool {
+    for i in 0..plan.codes() {
+        for j in 0..plan.codes() {
+            if let (Some(a), Some(b)) = (plan.code_at(i), plan.code_at(j)) {
+                if begins(plan, a, b) && is_before(plan, a, b, shorter, longer) {
+                    return true;
+                }
+            }
+        }
+    }
+    false
+}
+
+/// The ambiguous pair before which there is none.
+fn ambiguous(plan: &Plan) -> Option<Wanted> {
+    for i in 0..plan.codes() {
+        for j in 0..plan.codes() {
+            if let (Some(a), Some(b)) = (plan.code_at(i), plan.code_at(j)) {
+                if begins(plan, a, b) && !has_before(plan, a, b) {
+                    return Some(Wanted::Ambiguous(a, b));
+                }
+            }
+        }
+    }
+    None
+}
+
+/// Adds a finding for each exchange to which a walk comes that lists no more than `spare` groups, and is not the home.
+fn add_shorts(
+    plan: &Plan,
+    survey: &Survey,
+    spare: u8,
+    wanted: &mut Vec<Wanted>,
+) -> Result<(), AllocError> {
+    for (place, nearest) in survey.nearest.iter().enumerate() {
+        if let (Some(exchange), Some(steps)) = (plan.exchange_at(place), *nearest) {
+            let groups = plan.list(exchange, survey.code).len();
+            if exchange != plan.home(survey.code) && groups <= usize::from(spare) {
+                wanted.push(Wanted::Short(survey.code, exchange, steps))?;
+            }
+        }
+    }
+    Ok(())
+}
+
+/// Adds the findings of a code.
+fn add_code(
+    plan: &Plan,
+    survey: &Survey,
+    limit: u8,
+    spare: u8,
+    wanted: &mut Vec<Wanted>,
+) -> Result<(), AllocError> {
+    if survey.has_loop {
+        wanted.push(Wanted::Loop(survey.code))?;
+        return Ok(());
+    }
+    add_shorts(plan, survey, spare, wanted)?;
+    if survey
+        .walks
+        .iter()
+        .any(|trail| trail.is_long(plan, survey.code, limit))
+    {
+        wanted.push(Wanted::Long(survey.code))?;
+    }
+    Ok(())
+}
+
+/// All findings, in order.
+pub fn wanted_of(
+    alloc: Global,
+    plan: &Plan,
+    surveys: &[Survey],
+    limit: u8,
+    spare: u8,
+) -> Result<Vec<Wanted>, AllocError> {
+    let mut wanted = Vec::new(alloc);
+    if let Some(finding) = ambiguous(plan) {
+        wanted.push(finding)?;
+    }
+    for survey in surveys {
+        add_code(plan, survey, limit, spare, &mut wanted)?;
+    }
+    Ok(wanted)
+}
