@@ -11,10 +11,11 @@ use std::alloc::{AllocError, AllocFailed, Global};
 pub enum Command {
     /// No words: a plan and a script on standard input.
     Pipe,
-    /// `run PLAN SCRIPT`.
+    /// `run PLAN SCRIPT`, after a Yes to a certificate if there is one.
     Run {
         plan: String,
         script: String,
+        checked: Option<(String, u8, u8)>,
     },
     /// `check PLAN CERT --limit L --spare K`: at most L transits, with K groups to spare.
     Check {
@@ -27,6 +28,13 @@ pub enum Command {
     Codes {
         plan: String,
     },
+    /// `audit PLAN --limit L --spare K`: the certificate goes to a file, if one is named.
+    Audit {
+        plan: String,
+        limit: u8,
+        spare: u8,
+        cert: Option<String>,
+    },
 }
 
 /// Why the words give no command.
@@ -34,6 +42,8 @@ pub enum Command {
 pub enum WordsFault {
     /// The words are refused, or ask for help.
     Clap(clap::Error),
+    /// `run` has some of its three options, and not all.
+    Together,
     /// No memory was left.
     NoMemory,
 }
@@ -47,6 +57,7 @@ impl WordsFault {
                 ErrorKind::OutOfMemory => 4,
                 _ => 64,
             },
+            WordsFault::Together => 64,
             WordsFault::NoMemory => 4,
         }
     }
@@ -94,6 +105,14 @@ fn cert_file<'a>(alloc: Global) -> Arg<'a> {
         .action(ArgAction::Set)
 }
 
+fn cert_option<'a>(alloc: Global, help: &'a str) -> Arg<'a> {
+    Arg::new(alloc, "cert")
+        .long("cert")
+        .value_name("CERT")
+        .help(help)
+        .action(ArgAction::Set)
+}
+
 fn limit<'a>(alloc: Global) -> Arg<'a> {
     Arg::new(alloc, "limit")
         .long("limit")
@@ -112,34 +131,61 @@ fn spare<'a>(alloc: Global) -> Arg<'a> {
         .value_parser(value_parser!(u8).range(0..=15))
 }
 
-fn grammar<'a>(alloc: Global) -> Result<clap::Command<'a>, AllocError> {
-    let run = clap::Command::new(alloc, "run")
+fn run_grammar<'a>(alloc: Global) -> Result<clap::Command<'a>, AllocError> {
+    clap::Command::new(alloc, "run")
         .about(
             "Run a script of events over a plan, and print each reply and the ticket of each call that ended",
         )
         .arg(plan_file(alloc))?
-        .arg(script_file(alloc))?;
-    let check = clap::Command::new(alloc, "check")
+        .arg(script_file(alloc))?
+        .arg(cert_option(
+            alloc,
+            "Run only if this certificate shows that the plan is safe, else print the verdict; goes with --limit and --spare",
+        ))?
+        .arg(limit(alloc))?
+        .arg(spare(alloc))
+}
+
+fn check_grammar<'a>(alloc: Global) -> Result<clap::Command<'a>, AllocError> {
+    clap::Command::new(alloc, "check")
         .about(
             "Say whether a certificate shows that a plan is safe: YES, or NO with the first reason",
         )
         .arg(plan_file(alloc))?
         .arg(cert_file(alloc))?
         .arg(limit(alloc).required(true))?
-        .arg(spare(alloc).required(true))?;
-    let codes = clap::Command::new(alloc, "codes")
+        .arg(spare(alloc).required(true))
+}
+
+fn codes_grammar<'a>(alloc: Global) -> Result<clap::Command<'a>, AllocError> {
+    clap::Command::new(alloc, "codes")
         .about(
             "List the destination codes of a plan, and the least pair of a code and a longer one that begins with it",
         )
-        .arg(plan_file(alloc))?;
+        .arg(plan_file(alloc))
+}
+
+fn audit_grammar<'a>(alloc: Global) -> Result<clap::Command<'a>, AllocError> {
+    clap::Command::new(alloc, "audit")
+        .about(
+            "Say whether a plan is safe: YES, or NO with all that is wrong with it and walks that show it",
+        )
+        .arg(plan_file(alloc))?
+        .arg(limit(alloc).required(true))?
+        .arg(spare(alloc).required(true))?
+        .arg(cert_option(alloc, "After YES, write the certificate to this file"))
+}
+
+fn grammar<'a>(alloc: Global) -> Result<clap::Command<'a>, AllocError> {
     clap::Command::new(alloc, "telexplan")
         .about(
             "Audit the route plan of an automatic telex network, and simulate calls over it. Without words, a plan and a script are read from standard input.",
         )
         .no_binary_name(true)
-        .subcommand(run)?
-        .subcommand(check)?
-        .subcommand(codes)
+        .subcommand(audit_grammar(alloc)?)?
+        .subcommand(check_grammar(alloc)?)?
+        .subcommand(run_grammar(alloc)?)?
+        .subcommand(codes_grammar(alloc)?)
 }
 
 fn text(alloc: Global, matches: &ArgMatches<'_>, id: &str) -> Result<Option<String>, AllocError> {
@@ -181,6 +227,54 @@ fn check_of(
     }
 }
 
+/// The words of `audit` behind the plan.
+fn audit_of(
+    alloc: Global,
+    plan: String,
+    matches: &ArgMatches<'_>,
+) -> Result<Option<Command>, WordsFault>
+    ensures { IfOk result (λ c. IfSome c IsInRange) }
+{
+    let limit = number(matches, "limit", 62);
+    let spare = number(matches, "spare", 15);
+    let cert = text(alloc, matches, "cert")?;
+    match (limit, spare) {
+        (Some(limit), Some(spare)) => Ok(Some(Command::Audit {
+            plan,
+            limit,
+            spare,
+            cert,
+        })),
+        _ => Ok(None),
+    }
+}
+
+/// The words of `run` behind the plan.
+fn run_of(
+    alloc: Global,
+    plan: String,
+    matches: &ArgMatches<'_>,
+) -> Result<Option<Command>, WordsFault>
+    ensures { IfOk result (λ c. IfSome c IsInRange) }
+{
+    let Some(script) = text(alloc, matches, "script")? else {
+        return Ok(None);
+    };
+    let limit = number(matches, "limit", 62);
+    let spare = number(matches, "spare", 15);
+    let cert = text(alloc, matches, "cert")?;
+    let checked = match (cert, limit, spare) {
+        (Some(cert), Some(limit), Some(spare)) => Some((cert, limit, spare)),
+        (None, None, None) => None,
+        _ => return Err(WordsFault::Together),
+    };
+    Ok(Some(Command::Run {
+        plan,
+        script,
+        checked,
+    }))
+}
+
 /// The command of a subcommand's words, or None where a word that it needs is missing, which the grammar rules out.
 fn command_of(
     alloc: Global,
@@ -198,10 +292,10 @@ fn command_of(
     if name == "check" {
         return check_of(alloc, plan, matches);
     }
-    let Some(script) = text(alloc, matches, "script")? else {
-        return Ok(None);
-    };
-    Ok(Some(Command::Run { plan, script }))
+    if name == "audit" {
+        return audit_of(alloc, plan, matches);
+    }
+    run_of(alloc, plan, matches)
 }
 
 /// Reads the words after the program's name.

@@ -13,8 +13,14 @@ use std::cell::RefCell;
 use std::fs::File;
 use std::process::ExitCode;
 use std::{env, io};
-use tx_jobs::{JobFault, check_status, codes_job, pipe_job, run_job, write_fault};
+use tx_audit::Audited;
+use tx_cert::{Cert, write_cert};
+use tx_jobs::{
+    JobFault, audit_job, check_status, codes_job, pipe_job, run_checked_status, run_job,
+    write_fault,
+};
 use tx_pipe::TwoTexts;
+use tx_plan::Plan;
 use tx_text::{FromRead, ToWrite};
 
 /// A plan and then a script on standard input.
@@ -57,6 +63,44 @@ fn run_files(rt: &HostRuntime, plan: &str, script: &str) -> Result<u8, JobFault>
     done.map(|_| 0)
 }
 
+/// `run PLAN SCRIPT --cert CERT --limit L --spare K`: status 1 after a No.
+fn run_checked_files(
+    rt: &HostRuntime,
+    plan: &str,
+    cert: &str,
+    limit: u8,
+    spare: u8,
+    script: &str,
+) -> Result<u8, JobFault>
+    requires limit { limit ≤ 62 }
+    requires spare { spare ≤ 15 }
+{
+    let plan = open(rt, plan)?;
+    let cert = open(rt, cert)?;
+    let script = open(rt, script)?;
+    let Ok(output) = Output::new(rt.alloc(), rt.stdout()) else {
+        return Err(JobFault::NoMemory);
+    };
+    let output = RefCell::new(output);
+    let mut plan = FromRead::new(plan);
+    let mut cert = FromRead::new(cert);
+    let mut script = FlushingSource::new(script, &output);
+    let mut sink = OutputSink::new(&output);
+    let done = run_checked_status(
+        rt.alloc(),
+        &mut plan,
+        &mut cert,
+        limit,
+        spare,
+        &mut script,
+        &mut sink,
+    );
+    if !flushed(&output) {
+        return Err(JobFault::Write);
+    }
+    done
+}
+
 /// `check PLAN CERT`: status 1 after a No.
 fn run_check(rt: &HostRuntime, plan: &str, cert: &str, limit: u8, spare: u8) -> Result<u8, JobFault>
     requires limit { limit ≤ 62 }
@@ -92,12 +136,76 @@ fn run_codes(rt: &HostRuntime, plan: &str) -> Result<u8, JobFault> {
     done.map(|pair| u8::from(pair.is_some()))
 }
 
+/// `audit PLAN`: status 1 after a No. The file of the certificate is made after a Yes alone, when the report is out.
+fn run_audit(
+    rt: &HostRuntime,
+    plan: &str,
+    limit: u8,
+    spare: u8,
+    keep: Option<&str>,
+) -> Result<u8, JobFault>
+    requires limit { limit ≤ 62 }
+    requires spare { spare ≤ 15 }
+{
+    let mut plan = FromRead::new(open(rt, plan)?);
+    let Ok(output) = Output::new(rt.alloc(), rt.stdout()) else {
+        return Err(JobFault::NoMemory);
+    };
+    let output = RefCell::new(output);
+    let mut sink = OutputSink::new(&output);
+    let done = audit_job(rt.alloc(), &mut plan, limit, spare, &mut sink);
+    if !flushed(&output) {
+        return Err(JobFault::Write);
+    }
+    match done? {
+        Audited::Sound(plan, cert) => {
+            if let Some(path) = keep {
+                keep_cert(rt, path, &plan, &cert)?;
+            }
+            Ok(0)
+        }
+        Audited::Unsound(_, _) => Ok(1),
+    }
+}
+
+/// Writes a certificate to a file.
+fn keep_cert(rt: &HostRuntime, path: &str, plan: &Plan, cert: &Cert) -> Result<(), JobFault> {
+    let Ok(file) = File::create(rt, path) else {
+        return Err(JobFault::Write);
+    };
+    let Ok(output) = Output::new(rt.alloc(), file) else {
+        return Err(JobFault::NoMemory);
+    };
+    let output = RefCell::new(output);
+    let done = write_cert(cert, plan, &mut OutputSink::new(&output));
+    if done.is_err() || !flushed(&output) {
+        return Err(JobFault::Write);
+    }
+    Ok(())
+}
+
 fn run_command(rt: &HostRuntime, command: &Command) -> Result<u8, JobFault>
     requires { IsInRange command.now }
 {
     match command {
         Command::Pipe => run_pipe(rt),
-        Command::Run { plan, script } => run_files(rt, plan.as_str(), script.as_str()),
+        Command::Run {
+            plan,
+            script,
+            checked: None,
+        } => run_files(rt, plan.as_str(), script.as_str()),
+        Command::Run {
+            plan,
+            script,
+            checked: Some((cert, limit, spare)),
+        } => run_checked_files(
+            rt,
+            plan.as_str(),
+            cert.as_str(),
+            *limit,
+            *spare,
+            script.as_str(),
+        ),
         Command::Check {
             plan,
             cert,
@@ -105,12 +213,24 @@ fn run_command(rt: &HostRuntime, command: &Command) -> Result<u8, JobFault>
             spare,
         } => run_check(rt, plan.as_str(), cert.as_str(), *limit, *spare),
         Command::Codes { plan } => run_codes(rt, plan.as_str()),
+        Command::Audit {
+            plan,
+            limit,
+            spare,
+            cert,
+        } => {
+            let keep = cert.as_ref().map(|path| path.as_str());
+            run_audit(rt, plan.as_str(), *limit, *spare, keep)
+        }
     }
 }
 
 fn tell_words(rt: &HostRuntime, fault: &WordsFault) -> io::Result<()> {
     match fault {
         WordsFault::Clap(e) => e.print(rt),
+        WordsFault::Together => {
+            eprintln!(rt; "telexplan: --cert, --limit and --spare go together")
+        }
         WordsFault::NoMemory => eprintln!(rt; "telexplan: no memory"),
     }
 }

@@ -48,14 +48,14 @@ module _ {A : Type 0} where
     pub found : IsAllFound p limit spare findings
     pub wrote : taken_new ≡ append_known taken_old (report p limit spare findings)
 
-  -- the same, but a write failed within the report
-  pub record ReportedInPart (limit spare : ℕ) (old new taken_old taken_new : Option (List ℕ)) (broken : Type 0) : Type 0 where
-    pub plan : Plan
-    pub rules : IsPlan plan
-    pub read : Answered is_memory old new plan_of broken (Ok plan)
-    pub findings : List (Finding A)
-    pub found : IsAllFound plan limit spare findings
-    pub wrote : StopsIn taken_old taken_new (report plan limit spare findings)
+-- the same, but a write failed within the report
+pub record ReportedInPart (A : Type 0) (limit spare : ℕ) (old new taken_old taken_new : Option (List ℕ)) (broken : Type 0) : Type 0 where
+  pub plan : Plan
+  pub rules : IsPlan plan
+  pub read : Answered is_memory old new plan_of broken (Ok plan)
+  pub findings : List (Finding A)
+  pub found : IsAllFound plan limit spare findings
+  pub wrote : StopsIn taken_old taken_new (report plan limit spare findings)
 
 -- the plan was read, and there was no memory to rank it
 pub record ReadAlone (old new : Option (List ℕ)) (broken : Type 0) : Type 0 where
@@ -65,8 +65,8 @@ pub record ReadAlone (old new : Option (List ℕ)) (broken : Type 0) : Type 0 wh
 
 -- WHAT AN AUDIT ANSWERS. Broken says that the source failed or met the bound on calls, silent that nothing was written.
 abbrev pub AuditAnswers : {A : Type 0} → (limit spare : ℕ) → (old new taken_old taken_new : Option (List ℕ)) → (broken silent : Type 0) → Result (Audited A) AuditFault → Type 0
-AuditAnswers {A} limit spare old new taken_old taken_new broken silent (Ok (Sound p cert)) = Reported {A} p limit spare old new taken_old taken_new broken [] × IsCleared p cert limit spare
+AuditAnswers {A} limit spare old new taken_old taken_new broken silent (Ok (Sound p cert)) = Reported {A = A} p limit spare old new taken_old taken_new broken [] × IsCleared p cert limit spare
 AuditAnswers limit spare old new taken_old taken_new broken silent (Ok (Unsound p findings)) = Reported p limit spare old new taken_old taken_new broken findings.items × IsSome findings.items
 AuditAnswers limit spare old new taken_old taken_new broken silent (Err (PlanRefused f)) = Answered is_memory old new plan_of broken (Err (f.line, f.kind)) × silent
-AuditAnswers {A} limit spare old new taken_old taken_new broken silent (Err Write) = ReportedInPart {A} limit spare old new taken_old taken_new broken
+AuditAnswers {A} limit spare old new taken_old taken_new broken silent (Err Write) = ReportedInPart A limit spare old new taken_old taken_new broken
 AuditAnswers limit spare old new taken_old taken_new broken silent (Err NoMemory) = ReadAlone old new broken × silent

@@ -1,5 +1,5 @@
 -- The report of an audit, as it is written.
-use Rattle.std.specs.Prelude.{ℕ, zero, suc, List, ◌++◌, length, codes, decimal}
+use Rattle.std.specs.Prelude.{ℕ, ◌==◌, if◌then◌else◌, List, ◌++◌, length, codes, decimal}
 use Rattle.std.specs.List.{flat_map}
 use Rattle.tx_plan.specs.Plan.{Plan, exchange_name, figures_of, group_name}
 use Rattle.tx_rank.specs.Walks.{Walk}
@@ -27,8 +27,7 @@ module _ {A : Type 0} where
 
 -- Yes, or No with the number of findings
 abbrev pub verdict_line : ℕ → List ℕ
-verdict_line zero = codes "VERDICT YES\n"
-verdict_line (suc n) = codes "VERDICT NO " ++ (decimal (suc n) ++ codes "\n")
+verdict_line n = if n == 0 then codes "VERDICT YES\n" else codes "VERDICT NO " ++ (decimal n ++ codes "\n")
 
 -- THE REPORT: what was asked, a line for each finding, and the verdict
 abbrev pub report : {A : Type 0} → Plan → (limit spare : ℕ) → List (Finding A) → List ℕ

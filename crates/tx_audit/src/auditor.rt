@@ -69,7 +69,7 @@ fn confirm<A: Allocator, W: Sink>(
     ensures yes { verdict_of (check_faults plan.now (ranks_for plan.now cert.now) limit spare) ≡ Yes }
     ensures sound { IsSound plan.now limit spare }
     ensures few_routes { HasFewRoutes plan.now limit }
-    ensures wrote { Wrote (W.taken out.old) (W.taken out.new) (W.failed out.old) (W.failed out.new) (report {A} plan.now limit spare []) result }
+    ensures wrote { Wrote (W.taken out.old) (W.taken out.new) (W.failed out.old) (W.failed out.new) (report {A = A} plan.now limit spare []) result }
 {
     match check(plan, cert, limit, spare) {
         Verdict::Yes => {

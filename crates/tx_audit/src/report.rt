@@ -79,32 +79,27 @@ fn write_finding<A: Allocator, W: Sink>(
             let longer = plan.code_figures(*longer);
             write_text(&[b"F1 AMBIGUOUS ", shorter, b" ", longer, b"\n"], sink)
         }
-        Finding::Loop(code, walk) => {
-            write_text(&[b"F2 LOOP "], sink)?;
-            write_walk(plan, *code, walk, sink)
-        }
-        Finding::Short(code, walk) => {
-            write_text(&[b"F3 SHORT "], sink)?;
-            write_walk(plan, *code, walk, sink)
-        }
-        Finding::Long(code, walk) => {
-            write_text(&[b"F4 LONG "], sink)?;
-            write_walk(plan, *code, walk, sink)
-        }
+        Finding::Loop(code, walk) => write_walk(b"F2 LOOP ", plan, *code, walk, sink),
+        Finding::Short(code, walk) => write_walk(b"F3 SHORT ", plan, *code, walk, sink),
+        Finding::Long(code, walk) => write_walk(b"F4 LONG ", plan, *code, walk, sink),
     }
 }
 
-/// Writes a code and the exchanges of a walk, with the groups between them, and the end of the line.
+/// Writes the head of a line, a code and the exchanges of a walk with the groups between them, and the end of the line.
 fn write_walk<A: Allocator, W: Sink>(
+    head: &[u8],
     plan: &Plan<A>,
     code: CodeId,
     walk: &Walk<A>,
     sink: &mut W,
 ) -> Result<(), WriteFault>
-    ensures { Wrote (W.taken sink.old) (W.taken sink.new) (W.failed sink.old) (W.failed sink.new) (walk_text plan.now code walk.now) result }
+    ensures { Wrote (W.taken sink.old) (W.taken sink.new) (W.failed sink.old) (W.failed sink.new) (head.now ++ walk_text plan.now code walk.now) result }
 {
     let code = plan.code_figures(code);
-    write_text(&[code, b" VIA ", plan.exchange_name(walk.start)], sink)?;
+    write_text(
+        &[head, code, b" VIA ", plan.exchange_name(walk.start)],
+        sink,
+    )?;
     write_steps(plan, walk.steps.as_slice(), sink)
 }
 

@@ -1,2 +1,3 @@
 mod Untouched
 mod Piping
+mod CheckedRun

@@ -9,23 +9,9 @@ use Rattle.tx_script.specs.declared.run_cause.RunCause.{RunCause}
 use Rattle.tx_script.specs.declared.run_cause.RunCause.TheVariants.{Read, Write, Script as OfScript, NoMemory}
 use Rattle.tx_state.specs.State.{State, opening}
 use Rattle.tx_jobs.specs.declared.job_fault.JobFault.{JobFault}
+use Rattle.tx_audit.proofs.Untouched.{answers_with}
 use Rattle.tx_jobs.specs.Jobs.{Bytes, told_run, Simulated}
 use Rattle.tx_script.specs.Answers.{Moved, FaultyBy, Stopped, RunAnswers, is_reader_room}
-
-module _ (p : Plan) (x : Moved) (broken D E : Type 0) (f : D → E) where
-  faulty_with : (room : Bool) (event line : ℕ) (kind : Kind ScriptWord) → FaultyBy p x D room event line kind → FaultyBy p x E room event line kind
-  faulty_with true event line kind h = (h.0, h.1, f h.2)
-  faulty_with false event line kind h = h
-
-  stopped_with : (event : ℕ) (cause : RunCause) → Stopped p x broken D event cause → Stopped p x broken E event cause
-  stopped_with event Read h = h
-  stopped_with event Write h = h
-  stopped_with event NoMemory h = h
-  stopped_with event (OfScript s) h = faulty_with (is_reader_room s.kind) event s.line s.kind h
-
-  pub answers_with : (r : Result Summary RunFault) → RunAnswers p x broken D r → RunAnswers p x broken E r
-  answers_with (Ok s) h = h
-  answers_with (Err q) h = stopped_with q.event q.cause h
 
 -- The answer of a run from the opening state, as a job tells it.
 pub simulated_by : {p : Plan} {x : Bytes} {broken D U : Type 0} {old new : State} {result : Result Summary JobFault} (answer : Result Summary RunFault)

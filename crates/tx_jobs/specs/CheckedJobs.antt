@@ -1,6 +1,7 @@
 -- What `run PLAN SCRIPT --cert CERT` answers.
 use Rattle.std.specs.Prelude.{◌≡◌, ◌⊎◌, ℕ, List, Option, Result, Ok, Err}
 use Rattle.std.specs.Io.KnownBytes.{append_known}
+use Rattle.tx_text.specs.declared.sink.WriteFault.{WriteFault}
 use Rattle.tx_text.specs.Ends.{StopsIn}
 use Rattle.tx_plan.specs.Plan.{Plan}
 use Rattle.tx_cert.specs.Certificate.{Certificate}
@@ -32,6 +33,13 @@ pub record VerdictStopped (p : Plan) (t : Certificate) (limit spare : ℕ) (x : 
   pub rest : unread
   pub told : fault ≡ Write
 
+-- The verdict is written where it was a No.
+abbrev pub ToldNo : Plan → Checked → (old new : Option (List ℕ)) → (silent : Type 0) → Result (Unit {0}) WriteFault → Type 0
+ToldNo p (Ran summary) old new silent (Ok x) = silent
+ToldNo p (Ran summary) old new silent (Err e) = ⊥
+ToldNo p (Denied f) old new silent (Ok x) = new ≡ append_known old (verdict_written p (No f))
+ToldNo p (Denied f) old new silent (Err e) = StopsIn old new (verdict_written p (No f))
+
 -- After a Yes the script was run. After a No the verdict was written, and nothing of the script was read.
 abbrev pub ToldRun : Plan → Certificate → (limit spare : ℕ) → Bytes → (broken unread silent : Type 0) → Result Checked JobFault → Type 0
 ToldRun p t limit spare x broken unread silent (Ok (Ran summary)) = IsAllowed p t limit spare × RanFromOpening p x broken (unread × silent) (Ok summary)
@@ -47,3 +55,17 @@ abbrev pub CheckedJobAnswers : (limit spare : ℕ) → (plan_old plan_new cert_o
 CheckedJobAnswers limit spare plan_old plan_new cert_old cert_new x plan_broken cert_broken broken unread_cert unread silent result =
     PlanRead plan_old plan_new plan_broken (λ p. CertAnswers p limit spare cert_old cert_new x cert_broken broken unread silent result)
     ⊎ PlanRefused plan_old plan_new plan_broken (unread_cert × unread × silent) result
+
+-- 0 after a Yes, 1 after a No
+abbrev pub status_of_run : Checked → ℕ
+status_of_run (Ran summary) = 0
+status_of_run (Denied fault) = 1
+
+abbrev pub told_status : Result Checked JobFault → Result ℕ JobFault
+told_status (Ok checked) = Ok (status_of_run checked)
+told_status (Err fault) = Err fault
+
+-- the same, told as an exit status
+abbrev pub CheckedStatusAnswers : (limit spare : ℕ) → (plan_old plan_new cert_old cert_new : Option (List ℕ)) → Bytes → (plan_broken cert_broken broken unread_cert unread silent : Type 0) → Result ℕ JobFault → Type 0
+CheckedStatusAnswers limit spare plan_old plan_new cert_old cert_new x plan_broken cert_broken broken unread_cert unread silent result =
+    (answer : Result Checked JobFault) × CheckedJobAnswers limit spare plan_old plan_new cert_old cert_new x plan_broken cert_broken broken unread_cert unread silent answer × (result ≡ told_status answer)

@@ -1,7 +1,7 @@
 // The job of `run PLAN SCRIPT --cert CERT --limit L --spare K`.
 ghost use Rattle.std.specs.Prelude.{◌≡◌, ◌≤◌};
 ghost use Rattle.tx_text.specs.Calls.{Broken, CallsAtMost, source_calls};
-ghost use Rattle.tx_jobs.specs.CheckedJobs.{CheckedJobAnswers, CertAnswers, ToldRun};
+ghost use Rattle.tx_jobs.specs.CheckedJobs.{CheckedJobAnswers, CheckedStatusAnswers, CertAnswers, ToldRun, ToldNo};
 
 use crate::job_fault::JobFault;
 use std::alloc::Allocator;
@@ -39,6 +39,30 @@ pub fn run_checked_job<A: Allocator + Copy, P: Source, C: Source, R: Source, W: 
             read_and_run(alloc, &plan, cert, limit, spare, script, out)
         }
         Err(fault) => Err(JobFault::of_plan(fault)),
+    }
+}
+
+/// The same, and answers the exit status: 0 after a Yes, 1 after a No.
+pub fn run_checked_status<A: Allocator + Copy, P: Source, C: Source, R: Source, W: Sink>(
+    alloc: A,
+    plan: &mut P,
+    cert: &mut C,
+    limit: u8,
+    spare: u8,
+    script: &mut R,
+    out: &mut W,
+) -> Result<u8, JobFault>
+    requires limit { limit ≤ 62 }
+    requires spare { spare ≤ 15 }
+    ensures { CheckedStatusAnswers limit spare (P.rest plan.old) (P.rest plan.new) (C.rest cert.old) (C.rest cert.new)
+        (record { rest_old = R.rest script.old; rest_new = R.rest script.new; taken_old = W.taken out.old; taken_new = W.taken out.new })
+        (Broken P.called (P.failed plan.new) source_calls plan.old plan.new) (Broken C.called (C.failed cert.new) source_calls cert.old cert.new) (Broken R.called (R.failed script.new) source_calls script.old script.new)
+        (cert.new ≡ cert.old) (script.new ≡ script.old) (out.new ≡ out.old) result }
+{
+    match run_checked_job(alloc, plan, cert, limit, spare, script, out) {
+        Ok(Checked::Ran(_)) => Ok(0),
+        Ok(Checked::Denied(_)) => Ok(1),
+        Err(fault) => Err(fault),
     }
 }
 
@@ -84,11 +108,27 @@ fn run_or_tell<A: Allocator + Copy, R: Source, W: Sink>(
     ensures calls { CallsAtMost R.called source_calls script.old script.new }
 {
     match run_checked(alloc, plan, cert, limit, spare, script, out) {
-        Ok(Checked::Ran(summary)) => Ok(Checked::Ran(summary)),
-        Ok(Checked::Denied(fault)) => match write_verdict(&Verdict::No(fault), plan, out) {
-            Ok(()) => Ok(Checked::Denied(fault)),
+        Ok(checked) => match tell_no(&checked, plan, out) {
+            Ok(()) => Ok(checked),
             Err(WriteFault) => Err(JobFault::Write),
         },
         Err(fault) => Err(JobFault::of_run(fault)),
+    }
+}
+
+/// Writes the verdict where it was a No.
+fn tell_no<A: Allocator, W: Sink>(
+    checked: &Checked,
+    plan: &Plan<A>,
+    out: &mut W,
+) -> Result<(), WriteFault>
+    ensures { ToldNo plan.now checked.now (W.taken out.old) (W.taken out.new) (out.new ≡ out.old) result }
+{
+    match checked {
+        Checked::Ran(_) => Ok(()),
+        Checked::Denied(fault) => {
+            let verdict = Verdict::No(*fault);
+            write_verdict(&verdict, plan, out)
+        }
     }
 }

@@ -11,7 +11,7 @@ mod piped;
 mod scripted;
 mod simulate;
 
-pub use allowed::run_checked_job;
+pub use allowed::{run_checked_job, run_checked_status};
 pub use audits::audit_job;
 pub use fault_line::write_fault;
 pub use job_fault::JobFault;

@@ -1,0 +1,4 @@
+pub mod Reporting
+pub mod Confirming
+pub mod Found
+pub mod Untouched

@@ -1,0 +1,8 @@
+use Rattle.tx_audit.specs.Report.{finding_line}
+use Rattle.tx_audit.proofs.Reporting.{texts_stopped}
+use Rattle.tx_audit.proofs.report.write_findings.Goals as goal
+
+pub returns-in_err-write_finding : goal.returns-in_err-write_finding
+returns-in_err-write_finding g c =
+    texts_stopped (finding_line c.args.plan.now) c.args.findings.now c.loop-i.i c.index-findings-i.result _ _ _ _ _ _ _ c.in_err-write_finding.field-0.0 c.loop-i-test.true c.index-findings-i.is c.loop-i.invariant c.in_err-write_finding.ensures
+    c.from_residual.ensures.0

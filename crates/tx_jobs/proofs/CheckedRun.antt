@@ -1,0 +1,30 @@
+-- The answer of a checked run, after its verdict was written.
+use Rattle.std.proofs.Common.{◌≡◌, ◌∙◌, ℕ, List, Option, Ok, sym, ap, subst}
+use Rattle.std.specs.Io.KnownBytes.{append_known}
+use Rattle.tx_plan.specs.Plan.{Plan}
+use Rattle.tx_cert.specs.Certificate.{Certificate}
+use Rattle.tx_state.specs.State.{opening}
+use Rattle.tx_check.specs.declared.verdict.Verdict.TheVariants.{No}
+use Rattle.tx_check.specs.Verdicts.{verdict_written}
+use Rattle.tx_script.specs.Answers.{RanWhole}
+use Rattle.tx_audit.specs.declared.checked.Checked.{Checked}
+use Rattle.tx_audit.specs.declared.checked.Checked.TheVariants.{Ran, Denied}
+use Rattle.tx_audit.specs.CheckedRuns.{CheckedAnswers}
+use Rattle.tx_jobs.specs.CheckedJobs.{ToldRun, ToldNo}
+
+module _ {W : Type 0} (taken : W → Option (List ℕ)) (p : Plan) (t : Certificate) (limit spare : ℕ) (rest_old rest_new : Option (List ℕ)) (a b c : W) (broken unread : Type 0) where
+  pub told_run_by : (checked : Checked)
+      → CheckedAnswers p t limit spare (record { rest_old = rest_old; rest_new = rest_new; taken_old = taken a; taken_new = taken b }) broken (unread × (b ≡ a)) (Ok checked)
+      → ToldNo p checked (taken b) (taken c) (c ≡ b) (Ok tt)
+      → ToldRun p t limit spare (record { rest_old = rest_old; rest_new = rest_new; taken_old = taken a; taken_new = taken c }) broken unread (c ≡ a) (Ok checked)
+  told_run_by (Ran summary) h e = (
+    h.0,
+    record {
+      state = h.1.state;
+      ran =
+          subst
+          (λ (w : W). RanWhole p (record { rest_old = rest_old; rest_new = rest_new; taken_old = taken a; taken_new = taken w; state_old = opening 0 0; state_new = h.1.state }) summary)
+          (sym e) h.1.ran;
+    },
+  )
+  told_run_by (Denied f) h e = (h.0, e ∙ ap (λ (w : W). append_known (taken w) (verdict_written p (No f))) h.1.1, h.1.0)
