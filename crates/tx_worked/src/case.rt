@@ -98,7 +98,7 @@ fn put_mark<A: Allocator>(mark: &[u8], bytes: &mut Vec<u8, A>) -> Result<(), NoM
         }
         return Ok(());
     }
-    let byte = next_number(&mut words, 255) as u8;
+    let byte = next_number(&mut words, 255).min(255) as u8;
     for _ in 0..next_number(&mut words, 100_000).max(1) {
         bytes.push(byte)?;
     }

@@ -47,8 +47,8 @@ fn play_other<A: Allocator + Copy, W: Sink>(
         play_cert(alloc, first, second, out)
     } else if kind == b"certified".as_slice() {
         let mut numbers = numbers;
-        let limit = next_number(&mut numbers, 62) as u8;
-        let spare = next_number(&mut numbers, 15) as u8;
+        let limit = next_number(&mut numbers, 62).min(62) as u8;
+        let spare = next_number(&mut numbers, 15).min(15) as u8;
         play_certified(alloc, (limit, spare), texts, out)
     } else {
         play_script(alloc, kind, numbers, texts, out)
@@ -140,8 +140,8 @@ fn job_of(word: &[u8], numbers: Words<'_>) -> Option<Job> {
         return Some(Job::Codes);
     }
     if word == b"check".as_slice() {
-        let limit = next_number(&mut numbers, 62) as u8;
-        let spare = next_number(&mut numbers, 15) as u8;
+        let limit = next_number(&mut numbers, 62).min(62) as u8;
+        let spare = next_number(&mut numbers, 15).min(15) as u8;
         return Some(Job::Check { limit, spare });
     }
     None
