@@ -1,0 +1,62 @@
+// What the output and the script of a run tell of its events.
+use memchr::memchr;
+use tx_text::words;
+
+/// The first line of a text, with its LF, and what stands behind it.
+pub(crate) fn next_line(text: &[u8]) -> Option<(&[u8], &[u8])> {
+    if text.is_empty() {
+        return None;
+    }
+    match memchr(b'\n', text) {
+        Some(end) => text.split_at_checked(end.saturating_add(1)),
+        None => Some((text, b"".as_slice())),
+    }
+}
+
+/// How many bytes of the output are that of the first so many events: their replies, each with the tickets behind it. The line END EVENTS counts as
+/// one more.
+pub(crate) fn written_after(output: &[u8], events: u64) -> usize {
+    let mut rest = output;
+    let mut left = events;
+    for _ in 0..output.len() {
+        let Some((_, behind)) = next_line(rest) else {
+            break;
+        };
+        if left == 0 {
+            break;
+        }
+        if !behind.starts_with(b"T ") {
+            left = left.saturating_sub(1);
+        }
+        rest = behind;
+    }
+    output.len().saturating_sub(rest.len())
+}
+
+/// The first word of the line that says an event of a script, counted from 1.
+pub(crate) fn event_word(script: &[u8], event: u64) -> &[u8] {
+    let mut rest = script;
+    let mut left = event;
+    for _ in 0..script.len() {
+        let Some((line, behind)) = next_line(rest) else {
+            break;
+        };
+        let line = line.strip_suffix(b"\n".as_slice()).unwrap_or(line);
+        if let Some(word) = words(line).next() {
+            if left == 0 {
+                return word;
+            }
+            left = left.saturating_sub(1);
+        }
+        rest = behind;
+    }
+    b""
+}
+
+/// Whether an event of this first word takes memory: a call that is keyed or routed, and a line that gets a status.
+pub(crate) fn takes_memory(word: &[u8]) -> bool {
+    word == b"KEY".as_slice()
+        || word == b"ROUTE".as_slice()
+        || word == b"FAULT".as_slice()
+        || word == b"AWAY".as_slice()
+}

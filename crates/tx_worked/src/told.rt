@@ -1,0 +1,43 @@
+// What the player writes.
+use itoa::Buffer;
+use tx_text::{NoMemory, Sink, WriteFault, write_parts};
+
+/// Why the player stopped.
+#[derive(Clone, Copy, Debug, PartialEq, Eq)]
+pub(crate) enum Stop {
+    Write,
+    NoMemory,
+}
+
+impl From<WriteFault> for Stop {
+    fn from(_fault: WriteFault) -> Stop {
+        Stop::Write
+    }
+}
+
+impl From<NoMemory> for Stop {
+    fn from(_fault: NoMemory) -> Stop {
+        Stop::NoMemory
+    }
+}
+
+/// Writes a number between two texts.
+pub(crate) fn write_count<W: Sink>(
+    before: &[u8],
+    count: u64,
+    behind: &[u8],
+    out: &mut W,
+) -> Result<(), WriteFault> {
+    let mut digits = Buffer::new();
+    write_parts(&[before, digits.format(count).as_bytes(), behind], out)
+}
+
+/// Says loudly which law a case broke, and at which number first.
+pub(crate) fn write_broken<W: Sink>(
+    law: &[u8],
+    number: u64,
+    out: &mut W,
+) -> Result<(), WriteFault> {
+    write_parts(&[b"!!!! BROKEN: ", law], out)?;
+    write_count(b" ", number, b"\n", out)
+}
