@@ -152,24 +152,39 @@ fn run_audit(
         return Err(JobFault::NoMemory);
     };
     let output = RefCell::new(output);
-    let mut sink = OutputSink::new(&output);
-    let done = audit_job(rt.alloc(), &mut plan, limit, spare, &mut sink);
-    if !flushed(&output) {
+    let done = audit_job(
+        rt.alloc(),
+        &mut plan,
+        limit,
+        spare,
+        &mut OutputSink::new(&output),
+    );
+    let is_out = flushed(&output);
+    audit_status(rt, keep, is_out, &done)
+}
+
+/// The status of an audit, whose report is out or was not let out. After a Yes the certificate is kept.
+fn audit_status(
+    rt: &HostRuntime,
+    keep: Option<&str>,
+    is_out: bool,
+    done: &Result<Audited, JobFault>,
+) -> Result<u8, JobFault> {
+    if !is_out {
         return Err(JobFault::Write);
     }
-    match done? {
-        Audited::Sound(plan, cert) => {
-            if let Some(path) = keep {
-                keep_cert(rt, path, &plan, &cert)?;
-            }
-            Ok(0)
-        }
-        Audited::Unsound(_, _) => Ok(1),
+    match done {
+        Ok(Audited::Sound(plan, cert)) => match keep {
+            Some(path) => keep_cert(rt, path, plan, cert),
+            None => Ok(0),
+        },
+        Ok(Audited::Unsound(_, _)) => Ok(1),
+        Err(fault) => Err(*fault),
     }
 }
 
 /// Writes a certificate to a file.
-fn keep_cert(rt: &HostRuntime, path: &str, plan: &Plan, cert: &Cert) -> Result<(), JobFault> {
+fn keep_cert(rt: &HostRuntime, path: &str, plan: &Plan, cert: &Cert) -> Result<u8, JobFault> {
     let Ok(file) = File::create(rt, path) else {
         return Err(JobFault::Write);
     };
@@ -181,7 +196,7 @@ fn keep_cert(rt: &HostRuntime, path: &str, plan: &Plan, cert: &Cert) -> Result<(
     if done.is_err() || !flushed(&output) {
         return Err(JobFault::Write);
     }
-    Ok(())
+    Ok(0)
 }
 
 fn run_command(rt: &HostRuntime, command: &Command) -> Result<u8, JobFault>
