@@ -1,19 +1,18 @@
 -- The least ambiguous pair, by the places of its codes.
-use Rattle.std.proofs.Common.{◌≡◌, ◌≢◌, ℕ, zero, suc, ◌+◌, ◌<◌, Bool, true, false, ◌&&◌, ◌⊎◌, List, [], ◌∷◌, ◌++◌, map, length, Option, Some, None, cond, refl, ap, sym, ◌∙◌, subst, inl, inr, arith}
+use Rattle.std.proofs.Common.{◌≡◌, ℕ, ◌+◌, true, false, ◌⊎◌, List, [], ◌∷◌, map, Option, Some, None, refl, ap, sym, ◌∙◌, subst, inl, inr, arith}
 use Rattle.std.specs.Prelude.{filter, slice_get, if◌then◌else◌}
-use Rattle.std.specs.List.{enumerate_from, flat_map}
+use Rattle.std.specs.List.{enumerate_from}
 use Rattle.std.specs.Option.{option_map}
-use Rattle.std.specs.Ordering.{ordering_then, ordering_reverse, is_le, is_lt, nat_cmp}
+use Rattle.std.specs.Ordering.{ordering_reverse, is_le, is_lt, nat_cmp}
 use Rattle.std.specs.declared.cmp.Ordering.{Ordering}
 use Rattle.std.specs.declared.cmp.Ordering.TheVariants.{Less, Equal, Greater}
 use Rattle.std.specs.Cmp.{IsTotalOrder}
 use Rattle.std.specs.Cmp.Lexicographic.{slice_cmp, nat_list_cmp_total}
 use Rattle.std.proofs.lemmas.Cmp.{on_total, then_total}
 use Rattle.std.proofs.lemmas.Map.Lookups.{exact_pairs, exact_bytes}
-use Rattle.std.proofs.lemmas.Bool.{and_parts, false≢true}
+use Rattle.std.proofs.lemmas.Bool.{false≢true}
 use Rattle.tx_plan.proofs.Among.{Among, among_map, map_among, among_flat, flat_among, among_filter, filter_among, among_places, places_among}
 use Rattle.tx_plan.specs.Plan.{Code}
-use Rattle.tx_plan.specs.Codes.{is_prefix}
 use Rattle.tx_plan.specs.Ambiguous.{CodePair, is_ambiguous, code_pairs, pair_cmp, lesser, least, ambiguous_of}
 
 -- THE LEAST PAIR

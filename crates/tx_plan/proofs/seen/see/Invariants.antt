@@ -1,4 +1,4 @@
-use Rattle.std.proofs.Common.{◌≡◌, ◌<◌, ◌≤◌, ◌++◌, ◌||◌, Bool, true, false, not, map, length}
+use Rattle.std.proofs.Common.{◌≡◌, ◌<◌, ◌≤◌, ◌++◌, ◌||◌, true, false, not, map, length}
 use Rattle.std.specs.List.{list_any}
 use Rattle.tx_text.specs.Words.{is_name}
 use Rattle.tx_plan.specs.Declaring.{has_group, is_not_outgoing, group_at}
