@@ -1,11 +1,16 @@
-//! Worked examples: plays each case of the file `cases` through the jobs, and prints what they write and what they tell.
+//! Worked examples: plays each case of the file `cases`, and prints what it writes and tells. Where a law is broken, a line with `BROKEN` says so.
 //!
-//! A case begins with a line `=== NAME KIND` and has its texts behind it, with a line `---` between two: for `pipe` a plan and a script in one text, for
-//! `run` in two, for `both` in one that is played in both ways, for `codes` a plan, and for `check L K` a plan and a certificate.
+//! A case begins with a line `=== NAME KIND` and has its texts behind it, with a line `---` between two. A text may have the marks of `spelled_out`.
 //!
-//! Behind what the job writes stands a line with its exit status, how many calls of its sources it makes where each gives one byte, and how many bytes it
-//! writes. Each of those calls was made to fail, and each smaller room was given; what that does is checked, as is each refused request for memory, and
-//! that the size of the pieces makes no difference. Where it is not as it has to be, a line with `BROKEN` says so.
+//! - `pipe` has a plan and a script in one text, `run` in two; `both` has them in one, which is played in both ways. `codes` has a plan, `check L K` a plan
+//!   and a certificate. Each is played by sources of 1, 2, 7 and 4,096 bytes a call, which has to make no difference.
+//! - `each-end` before such a kind also refuses each request for memory, gives each smaller room, and makes each call of each source fail. The lines with
+//!   `--` tell the exit status, the calls of the sources at one byte a call, the bytes written, and what a run counted or the event where it stopped.
+//! - `prefixes` before such a kind plays each front of the last text, and tells the stretches of lengths at which the same happens.
+//! - `rooms` and `calls PIECE` have a plan and a script, and tell at which event the run stops in each room, and where each call of the source fails.
+//!   `stopped-writer ROOM` counts the calls that are made before the writer fails. `starting NUMBERS EVENTS` runs from another opening state.
+//! - `certified L K` has a plan, a certificate and a script, whose events are driven after a Yes of the checker, and again with memory refused in between.
+//! - `cert` has a plan and a certificate, and `plan` a plan, which are written and read back.
 #![tactic(auto)]
 
 mod case;
