@@ -6,8 +6,6 @@ mod fault;
 mod plan_reader;
 mod plan_writer;
 mod round_trip;
-#[cfg(test)]
-mod tests;
 
 pub use fault::{PlanFault, PlanWord, code_and_name};
 pub use plan_reader::{read_plan, read_plan_from};
