@@ -2,12 +2,10 @@
 #![tactic(auto)]
 
 ghost use Rattle.std.specs.Prelude.{◌≤◌};
-ghost use Rattle.telexplan.specs.Commands.{IsInRange};
+ghost use Rattle.tx_words.specs.Commands.{IsInRange};
 
-mod command;
 mod ends;
 
-use command::{Command, WordsFault, read_command};
 use ends::{FlushingSource, Output, OutputSink, flushed};
 use std::cell::RefCell;
 use std::fs::File;
@@ -22,6 +20,7 @@ use tx_jobs::{
 use tx_pipe::TwoTexts;
 use tx_plan::Plan;
 use tx_text::{FromRead, ToWrite};
+use tx_words::{Command, WordsFault, read_command};
 
 /// A plan and then a script on standard input.
 fn run_pipe(rt: &HostRuntime) -> Result<u8, JobFault> {
@@ -272,6 +271,7 @@ fn words_status(rt: &HostRuntime, e: &io::Error) -> u8 {
         let _ = eprintln!(rt; "telexplan: no memory");
         4
     } else {
+        let _ = eprintln!(rt; "telexplan: a word is no UTF-8 text");
         64
     }
 }

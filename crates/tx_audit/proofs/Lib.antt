@@ -1,4 +1,3 @@
 pub mod Reporting
-pub mod Confirming
 pub mod Found
 pub mod Untouched

@@ -1,13 +1,12 @@
 -- What an audit answers.
-use Rattle.std.specs.Prelude.{◌≡◌, ℕ, List, [], ◌∷◌, Option, Result, Ok, Err}
+use Rattle.std.specs.Prelude.{◌≡◌, ℕ, Bool, true, List, [], ◌∷◌, Option, Result, Ok, Err}
 use Rattle.std.specs.List.{AllByRecursion}
 use Rattle.std.specs.Io.KnownBytes.{append_known}
-use Rattle.tx_text.specs.Said.{Answered}
 use Rattle.tx_text.specs.Ends.{StopsIn}
 use Rattle.tx_plan.specs.Plan.{Plan}
 use Rattle.tx_plan.specs.Rules.{IsPlan}
 use Rattle.tx_plan.specs.Certified.{IsCertified}
-use Rattle.tx_plantext.specs.PlanText.{plan_of, is_memory}
+use Rattle.tx_plantext.specs.PlanText.{SaysPlan, ReadsPlan}
 use Rattle.tx_cert.specs.Certificate.{Certificate, IsCertificateOf, ranks_of}
 use Rattle.tx_state.specs.Sound.{IsSound, HasFewRoutes}
 use Rattle.tx_check.specs.declared.verdict.Verdict.TheVariants.{Yes}
@@ -42,31 +41,42 @@ module _ {A : Type 0} where
   IsSome (f ∷ findings) = Unit {0}
 
   -- the plan of the whole text was audited, and the report was written
-  pub record Reported (p : Plan) (limit spare : ℕ) (old new taken_old taken_new : Option (List ℕ)) (broken : Type 0) (findings : List (Finding A)) : Type 0 where
+  pub record Reported (p : Plan) (limit spare : ℕ) (old new taken_old taken_new : Option (List ℕ)) (findings : List (Finding A)) : Type 0 where
     pub rules : IsPlan p
-    pub read : Answered is_memory old new plan_of broken (Ok p)
+    pub read : SaysPlan old new p
     pub found : IsAllFound p limit spare findings
     pub wrote : taken_new ≡ append_known taken_old (report p limit spare findings)
 
 -- the same, but a write failed within the report
-pub record ReportedInPart (A : Type 0) (limit spare : ℕ) (old new taken_old taken_new : Option (List ℕ)) (broken : Type 0) : Type 0 where
+pub record ReportedInPart (A : Type 0) (limit spare : ℕ) (old new taken_old taken_new : Option (List ℕ)) : Type 0 where
   pub plan : Plan
   pub rules : IsPlan plan
-  pub read : Answered is_memory old new plan_of broken (Ok plan)
+  pub read : SaysPlan old new plan
   pub findings : List (Finding A)
   pub found : IsAllFound plan limit spare findings
+  pub cleared : findings ≡ [] → (cert : Certificate) × IsCleared plan cert limit spare
   pub wrote : StopsIn taken_old taken_new (report plan limit spare findings)
 
 -- the plan was read, and there was no memory to rank it
-pub record ReadAlone (old new : Option (List ℕ)) (broken : Type 0) : Type 0 where
+pub record ReadAlone (old new : Option (List ℕ)) : Type 0 where
   pub plan : Plan
   pub rules : IsPlan plan
-  pub read : Answered is_memory old new plan_of broken (Ok plan)
+  pub read : SaysPlan old new plan
 
--- WHAT AN AUDIT ANSWERS. Broken says that the source failed or met the bound on calls, silent that nothing was written.
-abbrev pub AuditAnswers : {A : Type 0} → (limit spare : ℕ) → (old new taken_old taken_new : Option (List ℕ)) → (broken silent : Type 0) → Result (Audited A) AuditFault → Type 0
-AuditAnswers {A} limit spare old new taken_old taken_new broken silent (Ok (Sound p cert)) = Reported {A = A} p limit spare old new taken_old taken_new broken [] × IsCleared p cert limit spare
-AuditAnswers limit spare old new taken_old taken_new broken silent (Ok (Unsound p findings)) = Reported p limit spare old new taken_old taken_new broken findings.items × IsSome findings.items
-AuditAnswers limit spare old new taken_old taken_new broken silent (Err (PlanRefused f)) = Answered is_memory old new plan_of broken (Err (f.line, f.kind)) × silent
-AuditAnswers {A} limit spare old new taken_old taken_new broken silent (Err Write) = ReportedInPart A limit spare old new taken_old taken_new broken
-AuditAnswers limit spare old new taken_old taken_new broken silent (Err NoMemory) = ReadAlone old new broken × silent
+-- WHAT AN AUDIT ANSWERS. Broken says that the source failed or met the bound on calls, unread that nothing was read, silent that nothing was written.
+abbrev pub AuditAnswers : {A : Type 0} → (limit spare : ℕ) → (old new taken_old taken_new : Option (List ℕ)) → (broken unread silent : Type 0) → Result (Audited A) AuditFault → Type 0
+AuditAnswers {A} limit spare old new taken_old taken_new broken unread silent (Ok (Sound p cert)) = Reported {A = A} p limit spare old new taken_old taken_new [] × IsCleared p cert limit spare
+AuditAnswers limit spare old new taken_old taken_new broken unread silent (Ok (Unsound p findings)) = Reported p limit spare old new taken_old taken_new findings.items × IsSome findings.items
+AuditAnswers limit spare old new taken_old taken_new broken unread silent (Err (PlanRefused f)) = ReadsPlan old new broken unread (Err (f.line, f.kind)) × silent
+AuditAnswers {A} limit spare old new taken_old taken_new broken unread silent (Err Write) = ReportedInPart A limit spare old new taken_old taken_new
+AuditAnswers limit spare old new taken_old taken_new broken unread silent (Err NoMemory) = ReadAlone old new × silent
+
+-- a write fault is told where the sink's mark is set, and otherwise the mark is as before
+abbrev pub mark_by : Bool → AuditFault → Bool
+mark_by old (PlanRefused f) = old
+mark_by old Write = true
+mark_by old NoMemory = old
+
+abbrev pub mark_after : {A : Type 0} → Bool → Result (Audited A) AuditFault → Bool
+mark_after old (Ok audited) = old
+mark_after old (Err f) = mark_by old f

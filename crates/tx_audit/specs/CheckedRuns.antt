@@ -1,5 +1,5 @@
 -- What a run after a check answers.
-use Rattle.std.specs.Prelude.{◌≡◌, ◌⊎◌, ℕ, List, Option, Result, Ok, Err}
+use Rattle.std.specs.Prelude.{◌≡◌, ◌⊎◌, ℕ, Bool, List, Option, Result, Ok, Err}
 use Rattle.tx_plan.specs.Plan.{Plan}
 use Rattle.tx_cert.specs.Certificate.{Certificate}
 use Rattle.tx_state.specs.State.{State, opening}
@@ -9,7 +9,7 @@ use Rattle.tx_check.specs.Checks.{check_faults, ranks_for, verdict_of}
 use Rattle.tx_script.specs.declared.summary.Summary.{Summary}
 use Rattle.tx_script.specs.declared.run_fault.RunFault.{RunFault}
 use Rattle.tx_script.specs.declared.run_cause.RunCause.TheVariants.{NoMemory}
-use Rattle.tx_script.specs.Answers.{RunAnswers}
+use Rattle.tx_script.specs.Answers.{RunAnswers, mark_by}
 use Rattle.tx_audit.specs.declared.checked.Checked.{Checked}
 use Rattle.tx_audit.specs.declared.checked.Checked.TheVariants.{Ran, Denied}
 
@@ -42,3 +42,8 @@ abbrev pub CheckedAnswers : Plan → Certificate → (limit spare : ℕ) → Byt
 CheckedAnswers p cert limit spare x broken untouched (Ok (Ran summary)) = IsAllowed p cert limit spare × RanFromOpening p x broken untouched (Ok summary)
 CheckedAnswers p cert limit spare x broken untouched (Ok (Denied f)) = (verdict_of (check_faults p (ranks_for p cert) limit spare) ≡ No f) × untouched
 CheckedAnswers p cert limit spare x broken untouched (Err f) = IsAllowed p cert limit spare × (RanFromOpening p x broken untouched (Err f) ⊎ HadNoRoom untouched f)
+
+-- a write fault is told where the sink's mark is set, and otherwise the mark is as before
+abbrev pub mark_after : Bool → Result Checked RunFault → Bool
+mark_after old (Ok checked) = old
+mark_after old (Err f) = mark_by old f.cause

@@ -7,7 +7,7 @@ ghost use Rattle.tx_cert.specs.Certificate.{IsCertificateOf, ranks_of};
 ghost use Rattle.tx_state.specs.Sound.{IsSound, HasFewRoutes};
 ghost use Rattle.tx_check.specs.declared.verdict.Verdict.TheVariants.{Yes};
 ghost use Rattle.tx_check.specs.Checks.{check_faults, ranks_for, verdict_of};
-ghost use Rattle.tx_audit.specs.Audits.{AuditAnswers};
+ghost use Rattle.tx_audit.specs.Audits.{AuditAnswers, mark_after};
 ghost use Rattle.tx_audit.specs.Report.{report};
 
 use crate::audited::{AuditFault, Audited};
@@ -33,7 +33,8 @@ pub fn audit<A: Allocator + Copy, R: Source, W: Sink>(
 ) -> Result<Audited<A>, AuditFault>
     requires limit { limit ≤ 62 }
     requires spare { spare ≤ 15 }
-    ensures answers { AuditAnswers limit spare (R.rest source.old) (R.rest source.new) (W.taken out.old) (W.taken out.new) (Broken R.called (R.failed source.new) source_calls source.old source.new) (out.new ≡ out.old) result }
+    ensures answers { AuditAnswers limit spare (R.rest source.old) (R.rest source.new) (W.taken out.old) (W.taken out.new) (Broken R.called (R.failed source.new) source_calls source.old source.new) (source.new ≡ source.old) (out.new ≡ out.old) result }
+    ensures mark { W.failed out.new ≡ mark_after (W.failed out.old) result }
     ensures calls { CallsAtMost R.called source_calls source.old source.new }
 {
     let plan = match read_plan_from(alloc, source) {

@@ -4,7 +4,7 @@ ghost use Rattle.tx_text.specs.Calls.{Broken, CallsAtMost, source_calls};
 ghost use Rattle.tx_state.specs.Sound.{IsSound, HasFewRoutes};
 ghost use Rattle.tx_check.specs.declared.verdict.Verdict.TheVariants.{Yes};
 ghost use Rattle.tx_check.specs.Checks.{check_faults, ranks_for, verdict_of};
-ghost use Rattle.tx_audit.specs.CheckedRuns.{CheckedAnswers};
+ghost use Rattle.tx_audit.specs.CheckedRuns.{CheckedAnswers, mark_after};
 
 use crate::checked::Checked;
 use std::alloc::Allocator;
@@ -30,6 +30,7 @@ pub fn run_checked<A: Allocator + Copy, R: Source, W: Sink>(
     requires spare { spare ≤ 15 }
     ensures answers { CheckedAnswers plan.now cert.now limit spare (record { rest_old = R.rest script.old; rest_new = R.rest script.new; taken_old = W.taken out.old; taken_new = W.taken out.new })
         (Broken R.called (R.failed script.new) source_calls script.old script.new) ((script.new ≡ script.old) × (out.new ≡ out.old)) result }
+    ensures mark { W.failed out.new ≡ mark_after (W.failed out.old) result }
     ensures calls { CallsAtMost R.called source_calls script.old script.new }
 {
     match check(plan, cert, limit, spare) {
@@ -53,6 +54,7 @@ fn run_allowed<A: Allocator + Copy, R: Source, W: Sink>(
     requires few_routes { HasFewRoutes plan.now limit }
     ensures answers { CheckedAnswers plan.now cert.now limit spare (record { rest_old = R.rest script.old; rest_new = R.rest script.new; taken_old = W.taken out.old; taken_new = W.taken out.new })
         (Broken R.called (R.failed script.new) source_calls script.old script.new) ((script.new ≡ script.old) × (out.new ≡ out.old)) result }
+    ensures mark { W.failed out.new ≡ mark_after (W.failed out.old) result }
     ensures calls { CallsAtMost R.called source_calls script.old script.new }
 {
     match Plain::new(alloc, plan) {

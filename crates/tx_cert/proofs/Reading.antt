@@ -1,5 +1,5 @@
 -- Reading a certificate text.
-use Rattle.std.proofs.Common.{◌≡◌, ◌⊎◌, ℕ, List, [], ◌∷◌, Option, None, Result, Ok, Err, Bool, true, false, codes, refl, inl, inr}
+use Rattle.std.proofs.Common.{◌≡◌, ◌⊎◌, ℕ, List, [], ◌∷◌, Option, None, Result, Err, Bool, true, false, codes, refl, inl, inr}
 use Rattle.tx_text.specs.declared.frame.Phase.TheVariants.{Start}
 use Rattle.tx_text.specs.declared.frame_reader.FrameReader.{FrameReader}
 use Rattle.tx_text.specs.Told.{reading_of_calls, told_at}
@@ -9,6 +9,7 @@ use Rattle.tx_text.specs.Said.{said, DeclaredBy}
 use Rattle.tx_text.proofs.ReadingOn.{moves-nil}
 use Rattle.tx_plan.specs.Plan.{Plan}
 use Rattle.tx_cert.specs.declared.fault.CertWord.{CertWord}
+use Rattle.tx_cert.specs.declared.fault.CertWord.TheVariants.{UnknownWord, WrongCount, UnknownName, BadNumber, Duplicate, NoMemory}
 use Rattle.tx_cert.specs.Certificate.{Certificate, no_ranks_for}
 use Rattle.tx_cert.specs.CertText.{declare, cert_of, is_memory}
 
@@ -29,10 +30,19 @@ unfolding declare
 any_version p v w t [] = refl
 any_version p v w t (x ∷ ws) = refl
 
--- a refused line
-pub refused_by : (r : Result Certificate CertWord) (x : CertWord) → r ≡ Err x → DeclaredBy r (is_memory x) x
-refused_by r x h = by (is_memory x)
+-- a line that was refused, and not for want of memory
+pub refused_by : (r : Result Certificate CertWord) (x : CertWord) → (is_memory x ≡ true → ⊥) → r ≡ Err x → DeclaredBy r (is_memory x) x
+refused_by r x none h = by (is_memory x) none
   where
-    by : (b : Bool) → DeclaredBy r b x
-    by true = tt
-    by false = h
+    by : (b : Bool) → (b ≡ true → ⊥) → DeclaredBy r b x
+    by true n = absurd (n refl)
+    by false n = h
+
+-- declaring takes no memory
+pub no_memory : (x : CertWord) → (x ≡ NoMemory → ⊥) → is_memory x ≡ true → ⊥
+no_memory NoMemory h i = h refl
+no_memory UnknownWord h i = cc
+no_memory WrongCount h i = cc
+no_memory UnknownName h i = cc
+no_memory BadNumber h i = cc
+no_memory Duplicate h i = cc

@@ -1,10 +1,10 @@
 -- A certificate keeps a place for each pair, and no rank above 65,535.
-use Rattle.std.proofs.Common.{◌≡◌, ℕ, ◌*◌, ◌≤◌, List, length, replicate, Option, Some, None, refl, sym, ap, ◌∙◌, subst}
+use Rattle.std.proofs.Common.{◌≡◌, ℕ, ◌*◌, ◌≤◌, List, length, replicate, Option, Some, None, sym, ap, ◌∙◌, subst}
 use Rattle.std.specs.List.{slice_set, All}
 use Rattle.std.specs.Option.{IfSome}
 use Rattle.std.proofs.lemmas.List.{length-set, length-replicate}
 use Rattle.std.proofs.lemmas.List.Elements.{All-set, All-replicate}
-use Rattle.tx_cert.specs.Certificate.{Certificate, IsWhole, no_ranks}
+use Rattle.tx_cert.specs.Certificate.{Certificate, IsWhole}
 
 pub whole_none : (rows width : ℕ) (rs : List (Option ℕ)) → rs ≡ replicate (rows * width) None → IsWhole (record { codes = rows; exchanges = width; ranks = rs })
 whole_none rows width rs e = record {

@@ -1,17 +1,16 @@
 -- Certificate texts that were written read back.
-use Rattle.std.proofs.Common.{◌≡◌, ℕ, zero, suc, ◌+◌, ◌*◌, ◌<◌, ◌≤◌, Bool, false, List, [], ◌∷◌, ◌++◌, length, replicate, Option, Some, None, Result, Ok, codes, refl, sym, ap, ◌∙◌, subst, arith, add-one}
+use Rattle.std.proofs.Common.{◌≡◌, ℕ, zero, suc, ◌+◌, ◌*◌, ◌<◌, ◌≤◌, List, [], ◌∷◌, ◌++◌, length, Option, Some, None, Result, Ok, codes, refl, sym, ap, ◌∙◌, subst, arith}
 use Rattle.std.specs.Fmt.{decimal}
 use Rattle.std.specs.List.{flat_map, range_with_len}
 use Rattle.std.specs.Option.{IfSome}
 use Rattle.std.proofs.Math.Nat.{mul-le-mul_right}
-use Rattle.tx_text.specs.Frame.{header_of, is_end}
+use Rattle.tx_text.specs.Frame.{header_of}
 use Rattle.tx_text.specs.Written.{IsWrittenLine, LeadsTo}
 use Rattle.tx_text.proofs.ReadBack.{reads_back}
 use Rattle.tx_plan.specs.Plan.{Plan, exchange_name, figures_of}
 use Rattle.tx_plan.specs.Rules.{IsPlan}
-use Rattle.tx_cert.specs.Certificate.{Certificate, no_ranks_for, rank_at, with_rank, place_of, IsCertificateOf}
-use Rattle.tx_cert.specs.CertText.{declare, rank_lines, code_lines, cert_lines, cert_written, ReadsBack}
-use Rattle.tx_cert.specs.declared.fault.CertWord.{CertWord}
+use Rattle.tx_cert.specs.Certificate.{Certificate, no_ranks_for, rank_at, place_of, IsCertificateOf}
+use Rattle.tx_cert.specs.CertText.{declare, rank_lines, code_lines, cert_lines, ReadsBack}
 use Rattle.tx_cert.proofs.Names.{exchange_back, exchange_is_name, code_back, figures_are_code}
 use Rattle.tx_cert.proofs.WrittenWords.{name_word, figures_word, rank_word, rank_back, line_of_short, fixed_word}
 use Rattle.tx_cert.proofs.RanksSoFar.{so_far, IsPair, rank_is, none_yet, so_far_none, next_none, next_some, so_far_all}

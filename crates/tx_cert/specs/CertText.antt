@@ -1,17 +1,17 @@
 -- Certificate texts: what each line says, and what is written.
-use Rattle.std.specs.Prelude.{◌≡◌, ℕ, Bool, true, false, List, [], ◌∷◌, ◌++◌, length, Option, None, Some, is_some, Result, Ok, Err, codes, if◌then◌else◌}
+use Rattle.std.specs.Prelude.{◌≡◌, ℕ, Bool, true, false, List, [], ◌∷◌, ◌++◌, length, Option, None, Some, Result, Ok, Err, codes, if◌then◌else◌}
 use Rattle.std.specs.Fmt.{decimal}
 use Rattle.std.specs.List.{flat_map, range_with_len}
-use Rattle.std.specs.Option.{option_map_or}
 use Rattle.std.specs.Str.{bytes_eq}
+use Rattle.std.specs.Io.KnownBytes.{IsAtEnd}
 use Rattle.tx_text.specs.declared.frame.Kind.{Kind}
 use Rattle.tx_text.specs.declared.frame.Phase.TheVariants.{Start}
 use Rattle.tx_text.specs.Text.{lines_of}
 use Rattle.tx_text.specs.Words.{number_of}
 use Rattle.tx_text.specs.Told.{Ending, AtEnd, told}
 use Rattle.tx_text.specs.Written.{line_written}
-use Rattle.tx_text.specs.Frame.{header_of, framed}
-use Rattle.tx_text.specs.Said.{said}
+use Rattle.tx_text.specs.Frame.{header_of, framed, EndsAs}
+use Rattle.tx_text.specs.Said.{said, Answered}
 use Rattle.tx_plan.specs.Plan.{Plan, exchange_named, code_named, exchange_name, figures_of}
 use Rattle.tx_plan.specs.Rules.{IsPlan}
 use Rattle.tx_cert.specs.declared.fault.CertWord.{CertWord}
@@ -53,6 +53,15 @@ cert_of p e text = said (declare p) 1 (no_ranks_for p) (framed (header_of (codes
 abbrev pub is_memory : CertWord → Bool
 is_memory NoMemory = true
 is_memory w = false
+
+-- the whole text that was read says this certificate of the plan
+abbrev pub SaysCert : Plan → (old new : Option (List ℕ)) → Certificate → Type 0
+SaysCert p old new t = EndsAs old new (cert_of p) AtEnd (Ok t) × IsAtEnd new
+
+-- WHAT A READER OF CERTIFICATE TEXTS ANSWERS. Broken says that the source failed or met the bound on calls, unread that nothing was read. Memory can be
+-- wanting only before anything is read.
+abbrev pub ReadsCert : Plan → (old new : Option (List ℕ)) → (broken unread : Type 0) → Result Certificate (ℕ × Kind CertWord) → Type 0
+ReadsCert p old new broken unread result = Answered is_memory old new (cert_of p) broken unread (λ n. (n ≡ 1) × unread) result
 
 -- WHAT IS WRITTEN
 

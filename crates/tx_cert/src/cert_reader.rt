@@ -6,9 +6,9 @@ ghost use Rattle.tx_text.specs.declared.frame.FrameFault.TheVariants.{Line};
 ghost use Rattle.tx_text.specs.declared.frame.Kind.TheVariants.{Frame, Word};
 ghost use Rattle.tx_text.specs.Calls.{source_calls, CallsAtMost, Broken};
 ghost use Rattle.tx_text.specs.Told.{AtEnd, reading_of_calls};
-ghost use Rattle.tx_text.specs.Said.{Answered, AnswersAs, told_fault};
+ghost use Rattle.tx_text.specs.Said.{AnswersAs, told_fault};
 ghost use Rattle.tx_cert.specs.Certificate.{no_ranks_for, IsCertificateOf};
-ghost use Rattle.tx_cert.specs.CertText.{cert_of, is_memory};
+ghost use Rattle.tx_cert.specs.CertText.{cert_of, is_memory, ReadsCert};
 
 use crate::cert::Cert;
 use crate::declaring::declare;
@@ -26,9 +26,8 @@ pub fn read_cert<A: Allocator + Copy>(
     text: &[u8],
     plan: &Plan<A>,
 ) -> Result<Cert<A>, CertFault>
-    ensures gives { AnswersAs is_memory (cert_of plan.now AtEnd text.now) (told_fault result) }
+    ensures gives { AnswersAs is_memory (cert_of plan.now AtEnd text.now) (λ n. n ≡ 1) (told_fault result) }
     ensures fits { IfOk result (λ t. IsCertificateOf plan.now t) }
-    ensures memory { IfErr result (λ e. e.kind ≡ Word CertWord.NoMemory → e.line ≡ 1) }
 {
     let cert = match Cert::new(alloc, plan) {
         Ok(cert) => cert,
@@ -49,11 +48,10 @@ pub fn read_cert_from<A: Allocator + Copy, R: Source>(
     source: &mut R,
     plan: &Plan<A>,
 ) -> Result<Cert<A>, CertFault>
-    ensures gives { Answered is_memory (R.rest source.old) (R.rest source.new) (cert_of plan.now)
-        (Broken R.called (R.failed source.new) source_calls source.old source.new) (told_fault result) }
+    ensures gives { ReadsCert plan.now (R.rest source.old) (R.rest source.new)
+        (Broken R.called (R.failed source.new) source_calls source.old source.new) (source.new ≡ source.old) (told_fault result) }
     ensures calls { CallsAtMost R.called source_calls source.old source.new }
     ensures fits { IfOk result (λ t. IsCertificateOf plan.now t) }
-    ensures memory { IfErr result (λ e. e.kind ≡ Word CertWord.NoMemory → (e.line ≡ 1) × (source.new ≡ source.old)) }
 {
     let cert = match Cert::new(alloc, plan) {
         Ok(cert) => cert,
@@ -99,11 +97,10 @@ fn read_lines<A: Allocator, R: Source>(
     requires phase { frame.phase ≡ Start }
     requires number { frame.number ≡ 1 }
     requires cert { cert ≡ no_ranks_for plan.now }
-    ensures gives { Answered is_memory (R.rest source.old) (R.rest source.new) (cert_of plan.now)
-        (Broken R.called (R.failed source.new) frame.entry.reader.left source.old source.new) (told_fault result) }
+    ensures gives { ReadsCert plan.now (R.rest source.old) (R.rest source.new)
+        (Broken R.called (R.failed source.new) frame.entry.reader.left source.old source.new) (source.new ≡ source.old) (told_fault result) }
     ensures calls { CallsAtMost R.called frame.entry.reader.left source.old source.new }
     ensures fits { IfOk result (λ t. IsCertificateOf plan.now t) }
-    ensures memory { IfErr result (λ e. (e.kind ≡ Word CertWord.NoMemory → ⊥)) }
 {
     let mut frame = frame;
     let mut cert = cert;

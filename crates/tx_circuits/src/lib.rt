@@ -12,8 +12,6 @@ mod row;
 mod slot;
 mod state;
 mod table;
-#[cfg(test)]
-mod tests;
 mod trunk;
 mod way;
 

@@ -1,3 +1,4 @@
-mod Untouched
+mod Marks
 mod Piping
+mod Breaking
 mod CheckedRun

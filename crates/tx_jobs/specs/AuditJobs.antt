@@ -19,6 +19,6 @@ told_audit (Ok audited) = Ok audited
 told_audit (Err f) = Err (audit_fault f)
 
 -- `audit PLAN --limit L --spare K`
-abbrev pub AuditJobAnswers : {A : Type 0} → (limit spare : ℕ) → (old new taken_old taken_new : Option (List ℕ)) → (broken silent : Type 0) → Result (Audited A) JobFault → Type 0
-AuditJobAnswers {A} limit spare old new taken_old taken_new broken silent result =
-    (answer : Result (Audited A) AuditFault) × AuditAnswers limit spare old new taken_old taken_new broken silent answer × (result ≡ told_audit answer)
+abbrev pub AuditJobAnswers : {A : Type 0} → (limit spare : ℕ) → (old new taken_old taken_new : Option (List ℕ)) → (broken unread silent : Type 0) → Result (Audited A) JobFault → Type 0
+AuditJobAnswers {A} limit spare old new taken_old taken_new broken unread silent result =
+    (answer : Result (Audited A) AuditFault) × AuditAnswers limit spare old new taken_old taken_new broken unread silent answer × (result ≡ told_audit answer)

@@ -1,14 +1,13 @@
 -- What `check PLAN CERT` answers: what its calls do, one after another.
 use Rattle.std.specs.Prelude.{◌≡◌, ◌⊎◌, ℕ, List, Option, Result, Ok, Err}
 use Rattle.std.specs.Io.KnownBytes.{append_known}
-use Rattle.tx_text.specs.Said.{Answered}
 use Rattle.tx_text.specs.Ends.{StopsIn}
 use Rattle.tx_text.specs.declared.frame.FaultAt.{FaultAt}
 use Rattle.tx_plan.specs.Plan.{Plan}
 use Rattle.tx_state.specs.Sound.{IsSound}
 use Rattle.tx_cert.specs.declared.fault.CertWord.{CertWord}
 use Rattle.tx_cert.specs.Certificate.{Certificate, IsCertificateOf}
-use Rattle.tx_cert.specs.CertText.{cert_of, is_memory}
+use Rattle.tx_cert.specs.CertText.{SaysCert, ReadsCert}
 use Rattle.tx_check.specs.declared.verdict.Verdict.{Verdict}
 use Rattle.tx_check.specs.declared.verdict.Verdict.TheVariants.{Yes, No}
 use Rattle.tx_check.specs.Checks.{check_faults, ranks_for, verdict_of}
@@ -29,28 +28,28 @@ ToldVerdict p t limit spare old new (Err Write) = StopsIn old new (verdict_writt
 ToldVerdict p t limit spare old new (Err other) = ⊥
 
 -- the certificate was read, and then checked
-pub record CertRead (p : Plan) (old new : Option (List ℕ)) (broken : Type 0) (after : Certificate → Type 0) : Type 0 where
+pub record CertRead (p : Plan) (old new : Option (List ℕ)) (after : Certificate → Type 0) : Type 0 where
   pub cert : Certificate
   pub fits : IsCertificateOf p cert
-  pub read : Answered is_memory old new (cert_of p) broken (Ok cert)
+  pub read : SaysCert p old new cert
   pub goes_on : after cert
 
--- the certificate was refused, and nothing was written
-pub record CertRefused {X : Type 0} (p : Plan) (old new : Option (List ℕ)) (broken silent : Type 0) (result : Result X JobFault) : Type 0 where
+-- the certificate was refused, and nothing was written; unread says that nothing was read of its text
+pub record CertRefused {X : Type 0} (p : Plan) (old new : Option (List ℕ)) (broken unread silent : Type 0) (result : Result X JobFault) : Type 0 where
   pub fault : FaultAt CertWord
-  pub read : Answered is_memory old new (cert_of p) broken (Err (fault.line, fault.kind))
+  pub read : ReadsCert p old new broken unread (Err (fault.line, fault.kind))
   pub told : result ≡ Err (cert_fault fault)
   pub rest : silent
 
-abbrev pub CheckAnswers : Plan → (old new taken_old taken_new : Option (List ℕ)) → (limit spare : ℕ) → (broken silent : Type 0) → Result Verdict JobFault → Type 0
-CheckAnswers p old new taken_old taken_new limit spare broken silent result =
-    CertRead p old new broken (λ t. ToldVerdict p t limit spare taken_old taken_new result) ⊎ CertRefused p old new broken silent result
+abbrev pub CheckAnswers : Plan → (old new taken_old taken_new : Option (List ℕ)) → (limit spare : ℕ) → (broken unread silent : Type 0) → Result Verdict JobFault → Type 0
+CheckAnswers p old new taken_old taken_new limit spare broken unread silent result =
+    CertRead p old new (λ t. ToldVerdict p t limit spare taken_old taken_new result) ⊎ CertRefused p old new broken unread silent result
 
 -- `check PLAN CERT --limit L --spare K`
-abbrev pub CheckJobAnswers : (plan_old plan_new cert_old cert_new taken_old taken_new : Option (List ℕ)) → (limit spare : ℕ) → (plan_broken cert_broken unread silent : Type 0) → Result Verdict JobFault → Type 0
-CheckJobAnswers plan_old plan_new cert_old cert_new taken_old taken_new limit spare plan_broken cert_broken unread silent result =
-    PlanRead plan_old plan_new plan_broken (λ p. CheckAnswers p cert_old cert_new taken_old taken_new limit spare cert_broken silent result)
-    ⊎ PlanRefused plan_old plan_new plan_broken (unread × silent) result
+abbrev pub CheckJobAnswers : (plan_old plan_new cert_old cert_new taken_old taken_new : Option (List ℕ)) → (limit spare : ℕ) → (plan_broken plan_unread cert_broken cert_unread silent : Type 0) → Result Verdict JobFault → Type 0
+CheckJobAnswers plan_old plan_new cert_old cert_new taken_old taken_new limit spare plan_broken plan_unread cert_broken cert_unread silent result =
+    PlanRead plan_old plan_new (λ p. CheckAnswers p cert_old cert_new taken_old taken_new limit spare cert_broken cert_unread silent result)
+    ⊎ PlanRefused plan_old plan_new plan_broken plan_unread (cert_unread × silent) result
 
 -- 0 after a Yes, 1 after a No
 abbrev pub status_for : Verdict → ℕ
@@ -62,6 +61,6 @@ told_status (Ok v) = Ok (status_for v)
 told_status (Err f) = Err f
 
 -- the same, told as an exit status
-abbrev pub CheckStatusAnswers : (plan_old plan_new cert_old cert_new taken_old taken_new : Option (List ℕ)) → (limit spare : ℕ) → (plan_broken cert_broken unread silent : Type 0) → Result ℕ JobFault → Type 0
-CheckStatusAnswers plan_old plan_new cert_old cert_new taken_old taken_new limit spare plan_broken cert_broken unread silent result =
-    (answer : Result Verdict JobFault) × CheckJobAnswers plan_old plan_new cert_old cert_new taken_old taken_new limit spare plan_broken cert_broken unread silent answer × (result ≡ told_status answer)
+abbrev pub CheckStatusAnswers : (plan_old plan_new cert_old cert_new taken_old taken_new : Option (List ℕ)) → (limit spare : ℕ) → (plan_broken plan_unread cert_broken cert_unread silent : Type 0) → Result ℕ JobFault → Type 0
+CheckStatusAnswers plan_old plan_new cert_old cert_new taken_old taken_new limit spare plan_broken plan_unread cert_broken cert_unread silent result =
+    (answer : Result Verdict JobFault) × CheckJobAnswers plan_old plan_new cert_old cert_new taken_old taken_new limit spare plan_broken plan_unread cert_broken cert_unread silent answer × (result ≡ told_status answer)

@@ -46,15 +46,15 @@ ToldRun p t limit spare x broken unread silent (Ok (Ran summary)) = IsAllowed p 
 ToldRun p t limit spare x broken unread silent (Ok (Denied f)) = (verdict_for p t limit spare ≡ No f) × (x.taken_new ≡ append_known x.taken_old (verdict_written p (No f))) × unread
 ToldRun p t limit spare x broken unread silent (Err fault) = RunStopped p t limit spare x broken (unread × silent) fault ⊎ VerdictStopped p t limit spare x unread fault
 
-abbrev pub CertAnswers : Plan → (limit spare : ℕ) → (old new : Option (List ℕ)) → Bytes → (cert_broken broken unread silent : Type 0) → Result Checked JobFault → Type 0
-CertAnswers p limit spare old new x cert_broken broken unread silent result =
-    CertRead p old new cert_broken (λ t. ToldRun p t limit spare x broken unread silent result) ⊎ CertRefused p old new cert_broken (unread × silent) result
+abbrev pub CertAnswers : Plan → (limit spare : ℕ) → (old new : Option (List ℕ)) → Bytes → (cert_broken cert_unread broken unread silent : Type 0) → Result Checked JobFault → Type 0
+CertAnswers p limit spare old new x cert_broken cert_unread broken unread silent result =
+    CertRead p old new (λ t. ToldRun p t limit spare x broken unread silent result) ⊎ CertRefused p old new cert_broken cert_unread (unread × silent) result
 
 -- `run PLAN SCRIPT --cert CERT --limit L --spare K`
-abbrev pub CheckedJobAnswers : (limit spare : ℕ) → (plan_old plan_new cert_old cert_new : Option (List ℕ)) → Bytes → (plan_broken cert_broken broken unread_cert unread silent : Type 0) → Result Checked JobFault → Type 0
-CheckedJobAnswers limit spare plan_old plan_new cert_old cert_new x plan_broken cert_broken broken unread_cert unread silent result =
-    PlanRead plan_old plan_new plan_broken (λ p. CertAnswers p limit spare cert_old cert_new x cert_broken broken unread silent result)
-    ⊎ PlanRefused plan_old plan_new plan_broken (unread_cert × unread × silent) result
+abbrev pub CheckedJobAnswers : (limit spare : ℕ) → (plan_old plan_new cert_old cert_new : Option (List ℕ)) → Bytes → (plan_broken plan_unread cert_broken cert_unread broken unread silent : Type 0) → Result Checked JobFault → Type 0
+CheckedJobAnswers limit spare plan_old plan_new cert_old cert_new x plan_broken plan_unread cert_broken cert_unread broken unread silent result =
+    PlanRead plan_old plan_new (λ p. CertAnswers p limit spare cert_old cert_new x cert_broken cert_unread broken unread silent result)
+    ⊎ PlanRefused plan_old plan_new plan_broken plan_unread (cert_unread × unread × silent) result
 
 -- 0 after a Yes, 1 after a No
 abbrev pub status_of_run : Checked → ℕ
@@ -66,6 +66,6 @@ told_status (Ok checked) = Ok (status_of_run checked)
 told_status (Err fault) = Err fault
 
 -- the same, told as an exit status
-abbrev pub CheckedStatusAnswers : (limit spare : ℕ) → (plan_old plan_new cert_old cert_new : Option (List ℕ)) → Bytes → (plan_broken cert_broken broken unread_cert unread silent : Type 0) → Result ℕ JobFault → Type 0
-CheckedStatusAnswers limit spare plan_old plan_new cert_old cert_new x plan_broken cert_broken broken unread_cert unread silent result =
-    (answer : Result Checked JobFault) × CheckedJobAnswers limit spare plan_old plan_new cert_old cert_new x plan_broken cert_broken broken unread_cert unread silent answer × (result ≡ told_status answer)
+abbrev pub CheckedStatusAnswers : (limit spare : ℕ) → (plan_old plan_new cert_old cert_new : Option (List ℕ)) → Bytes → (plan_broken plan_unread cert_broken cert_unread broken unread silent : Type 0) → Result ℕ JobFault → Type 0
+CheckedStatusAnswers limit spare plan_old plan_new cert_old cert_new x plan_broken plan_unread cert_broken cert_unread broken unread silent result =
+    (answer : Result Checked JobFault) × CheckedJobAnswers limit spare plan_old plan_new cert_old cert_new x plan_broken plan_unread cert_broken cert_unread broken unread silent answer × (result ≡ told_status answer)

@@ -1,5 +1,5 @@
 -- Why jobs stop, and what is told of it.
-use Rattle.std.specs.Prelude.{ℕ, List, ◌++◌, codes, decimal}
+use Rattle.std.specs.Prelude.{ℕ, Bool, true, List, ◌++◌, Result, Ok, Err, codes, decimal}
 use Rattle.tx_text.specs.declared.text_fault.TextFault.TheVariants.{NoMemory as TextNoMemory}
 use Rattle.tx_text.specs.declared.line_fault.LineFault.TheVariants.{Text, Read as LineRead}
 use Rattle.tx_text.specs.declared.frame.FrameFault.TheVariants.{Line}
@@ -64,6 +64,19 @@ cause_fault (RunScript f) = script_fault f
 
 abbrev pub run_fault : RunFault → JobFault
 run_fault f = cause_fault f.cause
+
+-- THE SINK'S MARK: it is set where a write fault is told, and otherwise as before
+abbrev pub mark_by : Bool → JobFault → Bool
+mark_by old (Plan f) = old
+mark_by old (Cert f) = old
+mark_by old (Script f) = old
+mark_by old Read = old
+mark_by old Write = true
+mark_by old NoMemory = old
+
+abbrev pub mark_after : {X : Type 0} → Bool → Result X JobFault → Bool
+mark_after old (Ok x) = old
+mark_after old (Err f) = mark_by old f
 
 -- THE LINE that tells a fault
 

@@ -1,5 +1,6 @@
 pub mod JobFaults
 pub mod Jobs
+pub mod PipeJobs
 pub mod CheckJobs
 pub mod AuditJobs
 pub mod CheckedJobs

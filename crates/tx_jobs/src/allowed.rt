@@ -1,6 +1,7 @@
 // The job of `run PLAN SCRIPT --cert CERT --limit L --spare K`.
-ghost use Rattle.std.specs.Prelude.{◌≡◌, ◌≤◌};
+ghost use Rattle.std.specs.Prelude.{◌≡◌, ◌≤◌, true, OnOk, OnErr};
 ghost use Rattle.tx_text.specs.Calls.{Broken, CallsAtMost, source_calls};
+ghost use Rattle.tx_jobs.specs.JobFaults.{mark_after};
 ghost use Rattle.tx_jobs.specs.CheckedJobs.{CheckedJobAnswers, CheckedStatusAnswers, CertAnswers, ToldRun, ToldNo};
 
 use crate::job_fault::JobFault;
@@ -14,6 +15,7 @@ use tx_text::{Sink, Source, WriteFault};
 
 /// Reads a plan and a certificate, and runs a script over the plan after a Yes of the checker. After a No it writes the verdict alone, and reads nothing of
 /// the script.
+#[tactic(auto, using(crate::proofs::Marks::plan_unmarked))]
 pub fn run_checked_job<A: Allocator + Copy, P: Source, C: Source, R: Source, W: Sink>(
     alloc: A,
     plan: &mut P,
@@ -27,8 +29,9 @@ pub fn run_checked_job<A: Allocator + Copy, P: Source, C: Source, R: Source, W: 
     requires spare { spare ≤ 15 }
     ensures answers { CheckedJobAnswers limit spare (P.rest plan.old) (P.rest plan.new) (C.rest cert.old) (C.rest cert.new)
         (record { rest_old = R.rest script.old; rest_new = R.rest script.new; taken_old = W.taken out.old; taken_new = W.taken out.new })
-        (Broken P.called (P.failed plan.new) source_calls plan.old plan.new) (Broken C.called (C.failed cert.new) source_calls cert.old cert.new) (Broken R.called (R.failed script.new) source_calls script.old script.new)
-        (cert.new ≡ cert.old) (script.new ≡ script.old) (out.new ≡ out.old) result }
+        (Broken P.called (P.failed plan.new) source_calls plan.old plan.new) (plan.new ≡ plan.old) (Broken C.called (C.failed cert.new) source_calls cert.old cert.new) (cert.new ≡ cert.old)
+        (Broken R.called (R.failed script.new) source_calls script.old script.new) (script.new ≡ script.old) (out.new ≡ out.old) result }
+    ensures mark { W.failed out.new ≡ mark_after (W.failed out.old) result }
     ensures plan_calls { CallsAtMost P.called source_calls plan.old plan.new }
     ensures cert_calls { CallsAtMost C.called source_calls cert.old cert.new }
     ensures script_calls { CallsAtMost R.called source_calls script.old script.new }
@@ -54,10 +57,14 @@ pub fn run_checked_status<A: Allocator + Copy, P: Source, C: Source, R: Source, 
 ) -> Result<u8, JobFault>
     requires limit { limit ≤ 62 }
     requires spare { spare ≤ 15 }
-    ensures { CheckedStatusAnswers limit spare (P.rest plan.old) (P.rest plan.new) (C.rest cert.old) (C.rest cert.new)
+    ensures answers { CheckedStatusAnswers limit spare (P.rest plan.old) (P.rest plan.new) (C.rest cert.old) (C.rest cert.new)
         (record { rest_old = R.rest script.old; rest_new = R.rest script.new; taken_old = W.taken out.old; taken_new = W.taken out.new })
-        (Broken P.called (P.failed plan.new) source_calls plan.old plan.new) (Broken C.called (C.failed cert.new) source_calls cert.old cert.new) (Broken R.called (R.failed script.new) source_calls script.old script.new)
-        (cert.new ≡ cert.old) (script.new ≡ script.old) (out.new ≡ out.old) result }
+        (Broken P.called (P.failed plan.new) source_calls plan.old plan.new) (plan.new ≡ plan.old) (Broken C.called (C.failed cert.new) source_calls cert.old cert.new) (cert.new ≡ cert.old)
+        (Broken R.called (R.failed script.new) source_calls script.old script.new) (script.new ≡ script.old) (out.new ≡ out.old) result }
+    ensures mark { W.failed out.new ≡ mark_after (W.failed out.old) result }
+    ensures plan_calls { CallsAtMost P.called source_calls plan.old plan.new }
+    ensures cert_calls { CallsAtMost C.called source_calls cert.old cert.new }
+    ensures script_calls { CallsAtMost R.called source_calls script.old script.new }
 {
     match run_checked_job(alloc, plan, cert, limit, spare, script, out) {
         Ok(Checked::Ran(_)) => Ok(0),
@@ -67,6 +74,7 @@ pub fn run_checked_status<A: Allocator + Copy, P: Source, C: Source, R: Source, 
 }
 
 /// Reads a certificate of the plan, and runs the script after a Yes.
+#[tactic(auto, using(crate::proofs::Marks::cert_unmarked))]
 fn read_and_run<A: Allocator + Copy, C: Source, R: Source, W: Sink>(
     alloc: A,
     plan: &Plan<A>,
@@ -80,8 +88,9 @@ fn read_and_run<A: Allocator + Copy, C: Source, R: Source, W: Sink>(
     requires spare { spare ≤ 15 }
     ensures answers { CertAnswers plan.now limit spare (C.rest cert.old) (C.rest cert.new)
         (record { rest_old = R.rest script.old; rest_new = R.rest script.new; taken_old = W.taken out.old; taken_new = W.taken out.new })
-        (Broken C.called (C.failed cert.new) source_calls cert.old cert.new) (Broken R.called (R.failed script.new) source_calls script.old script.new)
-        (script.new ≡ script.old) (out.new ≡ out.old) result }
+        (Broken C.called (C.failed cert.new) source_calls cert.old cert.new) (cert.new ≡ cert.old)
+        (Broken R.called (R.failed script.new) source_calls script.old script.new) (script.new ≡ script.old) (out.new ≡ out.old) result }
+    ensures mark { W.failed out.new ≡ mark_after (W.failed out.old) result }
     ensures cert_calls { CallsAtMost C.called source_calls cert.old cert.new }
     ensures script_calls { CallsAtMost R.called source_calls script.old script.new }
 {
@@ -92,6 +101,7 @@ fn read_and_run<A: Allocator + Copy, C: Source, R: Source, W: Sink>(
 }
 
 /// Runs the script after a Yes, or writes the verdict.
+#[tactic(auto, using(crate::proofs::Marks::run_marked))]
 fn run_or_tell<A: Allocator + Copy, R: Source, W: Sink>(
     alloc: A,
     plan: &Plan<A>,
@@ -105,6 +115,7 @@ fn run_or_tell<A: Allocator + Copy, R: Source, W: Sink>(
     requires spare { spare ≤ 15 }
     ensures told { ToldRun plan.now cert.now limit spare (record { rest_old = R.rest script.old; rest_new = R.rest script.new; taken_old = W.taken out.old; taken_new = W.taken out.new })
         (Broken R.called (R.failed script.new) source_calls script.old script.new) (script.new ≡ script.old) (out.new ≡ out.old) result }
+    ensures mark { W.failed out.new ≡ mark_after (W.failed out.old) result }
     ensures calls { CallsAtMost R.called source_calls script.old script.new }
 {
     match run_checked(alloc, plan, cert, limit, spare, script, out) {
@@ -122,7 +133,9 @@ fn tell_no<A: Allocator, W: Sink>(
     plan: &Plan<A>,
     out: &mut W,
 ) -> Result<(), WriteFault>
-    ensures { ToldNo plan.now checked.now (W.taken out.old) (W.taken out.new) (out.new ≡ out.old) result }
+    ensures told { ToldNo plan.now checked.now (W.taken out.old) (W.taken out.new) (out.new ≡ out.old) result }
+    ensures mark { OnErr result (W.failed out.new ≡ true) }
+    ensures unmarked { OnOk result (W.failed out.new ≡ W.failed out.old) }
 {
     match checked {
         Checked::Ran(_) => Ok(()),

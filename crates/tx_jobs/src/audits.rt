@@ -1,6 +1,7 @@
 // The job of `audit PLAN --limit L --spare K`.
 ghost use Rattle.std.specs.Prelude.{◌≡◌, ◌≤◌};
 ghost use Rattle.tx_text.specs.Calls.{Broken, CallsAtMost, source_calls};
+ghost use Rattle.tx_jobs.specs.JobFaults.{mark_after};
 ghost use Rattle.tx_jobs.specs.AuditJobs.{AuditJobAnswers};
 
 use crate::job_fault::JobFault;
@@ -9,6 +10,7 @@ use tx_audit::{AuditFault, Audited, audit};
 use tx_text::{Sink, Source};
 
 /// Reads a plan, and writes the report of its audit. Answers the plan, with a certificate or with all that is wrong with it.
+#[tactic(auto, using(crate::proofs::Marks::plan_unmarked))]
 pub fn audit_job<A: Allocator + Copy, P: Source, W: Sink>(
     alloc: A,
     plan: &mut P,
@@ -18,7 +20,8 @@ pub fn audit_job<A: Allocator + Copy, P: Source, W: Sink>(
 ) -> Result<Audited<A>, JobFault>
     requires limit { limit ≤ 62 }
     requires spare { spare ≤ 15 }
-    ensures answers { AuditJobAnswers limit spare (P.rest plan.old) (P.rest plan.new) (W.taken out.old) (W.taken out.new) (Broken P.called (P.failed plan.new) source_calls plan.old plan.new) (out.new ≡ out.old) result }
+    ensures answers { AuditJobAnswers limit spare (P.rest plan.old) (P.rest plan.new) (W.taken out.old) (W.taken out.new) (Broken P.called (P.failed plan.new) source_calls plan.old plan.new) (plan.new ≡ plan.old) (out.new ≡ out.old) result }
+    ensures mark { W.failed out.new ≡ mark_after (W.failed out.old) result }
     ensures calls { CallsAtMost P.called source_calls plan.old plan.new }
 {
     match audit(alloc, plan, limit, spare, out) {

@@ -1,6 +1,7 @@
 // The job of `check PLAN CERT --limit L --spare K`.
 ghost use Rattle.std.specs.Prelude.{◌≡◌, ◌≤◌};
 ghost use Rattle.tx_text.specs.Calls.{Broken, CallsAtMost, source_calls};
+ghost use Rattle.tx_jobs.specs.JobFaults.{mark_after};
 ghost use Rattle.tx_jobs.specs.CheckJobs.{CheckJobAnswers, CheckStatusAnswers, CheckAnswers, ToldVerdict};
 
 use crate::job_fault::JobFault;
@@ -12,6 +13,7 @@ use tx_plantext::read_plan_from;
 use tx_text::{Sink, Source, WriteFault};
 
 /// Reads a plan and then a certificate, and writes whether the certificate shows that the plan is certified. Answers the verdict.
+#[tactic(auto, using(crate::proofs::Marks::plan_unmarked))]
 pub fn check_job<A: Allocator + Copy, P: Source, R: Source, W: Sink>(
     alloc: A,
     plan: &mut P,
@@ -23,7 +25,9 @@ pub fn check_job<A: Allocator + Copy, P: Source, R: Source, W: Sink>(
     requires limit { limit ≤ 62 }
     requires spare { spare ≤ 15 }
     ensures answers { CheckJobAnswers (P.rest plan.old) (P.rest plan.new) (R.rest cert.old) (R.rest cert.new) (W.taken out.old) (W.taken out.new) limit spare
-        (Broken P.called (P.failed plan.new) source_calls plan.old plan.new) (Broken R.called (R.failed cert.new) source_calls cert.old cert.new) (cert.new ≡ cert.old) (out.new ≡ out.old) result }
+        (Broken P.called (P.failed plan.new) source_calls plan.old plan.new) (plan.new ≡ plan.old)
+        (Broken R.called (R.failed cert.new) source_calls cert.old cert.new) (cert.new ≡ cert.old) (out.new ≡ out.old) result }
+    ensures mark { W.failed out.new ≡ mark_after (W.failed out.old) result }
     ensures plan_calls { CallsAtMost P.called source_calls plan.old plan.new }
     ensures cert_calls { CallsAtMost R.called source_calls cert.old cert.new }
 {
@@ -47,8 +51,12 @@ pub fn check_status<A: Allocator + Copy, P: Source, R: Source, W: Sink>(
 ) -> Result<u8, JobFault>
     requires limit { limit ≤ 62 }
     requires spare { spare ≤ 15 }
-    ensures { CheckStatusAnswers (P.rest plan.old) (P.rest plan.new) (R.rest cert.old) (R.rest cert.new) (W.taken out.old) (W.taken out.new) limit spare
-        (Broken P.called (P.failed plan.new) source_calls plan.old plan.new) (Broken R.called (R.failed cert.new) source_calls cert.old cert.new) (cert.new ≡ cert.old) (out.new ≡ out.old) result }
+    ensures answers { CheckStatusAnswers (P.rest plan.old) (P.rest plan.new) (R.rest cert.old) (R.rest cert.new) (W.taken out.old) (W.taken out.new) limit spare
+        (Broken P.called (P.failed plan.new) source_calls plan.old plan.new) (plan.new ≡ plan.old)
+        (Broken R.called (R.failed cert.new) source_calls cert.old cert.new) (cert.new ≡ cert.old) (out.new ≡ out.old) result }
+    ensures mark { W.failed out.new ≡ mark_after (W.failed out.old) result }
+    ensures plan_calls { CallsAtMost P.called source_calls plan.old plan.new }
+    ensures cert_calls { CallsAtMost R.called source_calls cert.old cert.new }
 {
     match check_job(alloc, plan, cert, limit, spare, out) {
         Ok(Verdict::Yes) => Ok(0),
@@ -58,6 +66,7 @@ pub fn check_status<A: Allocator + Copy, P: Source, R: Source, W: Sink>(
 }
 
 /// Reads a certificate of the plan, and writes the verdict.
+#[tactic(auto, using(crate::proofs::Marks::cert_unmarked))]
 fn check_cert<A: Allocator + Copy, R: Source, W: Sink>(
     alloc: A,
     plan: &Plan<A>,
@@ -69,7 +78,8 @@ fn check_cert<A: Allocator + Copy, R: Source, W: Sink>(
     requires limit { limit ≤ 62 }
     requires spare { spare ≤ 15 }
     ensures answers { CheckAnswers plan.now (R.rest cert.old) (R.rest cert.new) (W.taken out.old) (W.taken out.new) limit spare
-        (Broken R.called (R.failed cert.new) source_calls cert.old cert.new) (out.new ≡ out.old) result }
+        (Broken R.called (R.failed cert.new) source_calls cert.old cert.new) (cert.new ≡ cert.old) (out.new ≡ out.old) result }
+    ensures mark { W.failed out.new ≡ mark_after (W.failed out.old) result }
     ensures calls { CallsAtMost R.called source_calls cert.old cert.new }
 {
     match read_cert_from(alloc, cert, plan) {
@@ -88,7 +98,8 @@ fn tell_verdict<A: Allocator, W: Sink>(
 ) -> Result<Verdict, JobFault>
     requires limit { limit ≤ 62 }
     requires spare { spare ≤ 15 }
-    ensures { ToldVerdict plan.now cert.now limit spare (W.taken out.old) (W.taken out.new) result }
+    ensures told { ToldVerdict plan.now cert.now limit spare (W.taken out.old) (W.taken out.new) result }
+    ensures mark { W.failed out.new ≡ mark_after (W.failed out.old) result }
 {
     let verdict = check(plan, cert, limit, spare);
     match write_verdict(&verdict, plan, out) {

@@ -1,6 +1,7 @@
 // The job of `codes PLAN`.
 ghost use Rattle.std.specs.Prelude.{◌≡◌};
 ghost use Rattle.tx_text.specs.Calls.{Broken, CallsAtMost, source_calls};
+ghost use Rattle.tx_jobs.specs.JobFaults.{mark_after};
 ghost use Rattle.tx_jobs.specs.Jobs.{CodesJobAnswers, ToldCodes};
 
 use crate::job_fault::JobFault;
@@ -11,12 +12,14 @@ use tx_text::{NoMemory, Sink, Source, WriteFault};
 use tx_trie::{CodeTrie, write_codes};
 
 /// Reads a plan, and writes its codes and then the least pair of a code and a longer one that begins with it. Answers that pair.
+#[tactic(auto, using(crate::proofs::Marks::plan_unmarked))]
 pub fn codes_job<A: Allocator + Copy, P: Source, W: Sink>(
     alloc: A,
     plan: &mut P,
     out: &mut W,
 ) -> Result<Option<(CodeId, CodeId)>, JobFault>
-    ensures answers { CodesJobAnswers (P.rest plan.old) (P.rest plan.new) (W.taken out.old) (W.taken out.new) (Broken P.called (P.failed plan.new) source_calls plan.old plan.new) (out.new ≡ out.old) result }
+    ensures answers { CodesJobAnswers (P.rest plan.old) (P.rest plan.new) (W.taken out.old) (W.taken out.new) (Broken P.called (P.failed plan.new) source_calls plan.old plan.new) (plan.new ≡ plan.old) (out.new ≡ out.old) result }
+    ensures mark { W.failed out.new ≡ mark_after (W.failed out.old) result }
     ensures calls { CallsAtMost P.called source_calls plan.old plan.new }
 {
     match read_plan_from(alloc, plan) {
@@ -33,7 +36,8 @@ fn tell_codes<A: Allocator + Copy, W: Sink>(
     plan: &Plan<A>,
     out: &mut W,
 ) -> Result<Option<(CodeId, CodeId)>, JobFault>
-    ensures { ToldCodes plan.now (W.taken out.old) (W.taken out.new) (out.new ≡ out.old) result }
+    ensures told { ToldCodes plan.now (W.taken out.old) (W.taken out.new) (out.new ≡ out.old) result }
+    ensures mark { W.failed out.new ≡ mark_after (W.failed out.old) result }
 {
     match CodeTrie::build(alloc, plan) {
         Err(NoMemory) => Err(JobFault::NoMemory),

@@ -1,7 +1,8 @@
 // The job of the program without words.
 ghost use Rattle.std.specs.Prelude.{◌≡◌};
 ghost use Rattle.tx_pipe.specs.declared.two_texts.Part.TheVariants.{Plan};
-ghost use Rattle.tx_jobs.specs.Jobs.{PipeJobAnswers};
+ghost use Rattle.tx_jobs.specs.JobFaults.{mark_after};
+ghost use Rattle.tx_jobs.specs.PipeJobs.{PipeJobAnswers};
 
 use crate::job_fault::JobFault;
 use crate::simulate::simulate;
@@ -12,13 +13,15 @@ use tx_script::Summary;
 use tx_text::{Sink, Source};
 
 /// Reads a plan from an input, up to and with the first line whose one word is END, and then runs the script that follows, whose lines count from 1.
+#[tactic(auto, using(crate::proofs::Marks::plan_unmarked))]
 pub fn pipe_job<A: Allocator + Copy, R: Source, W: Sink>(
     alloc: A,
     input: &mut TwoTexts<R>,
     out: &mut W,
 ) -> Result<Summary, JobFault>
     requires { input.old.part ≡ Plan }
-    ensures { PipeJobAnswers R.rest R.failed input.old input.new (W.taken out.old) (W.taken out.new) (out.new ≡ out.old) result }
+    ensures answers { PipeJobAnswers R.rest R.failed R.called input.old input.new (W.taken out.old) (W.taken out.new) (out.new ≡ out.old) result }
+    ensures mark { W.failed out.new ≡ mark_after (W.failed out.old) result }
 {
     match read_plan_from(alloc, input) {
         Ok(plan) => {

@@ -1,6 +1,7 @@
 // The job of `run PLAN SCRIPT`.
 ghost use Rattle.std.specs.Prelude.{◌≡◌};
 ghost use Rattle.tx_text.specs.Calls.{Broken, CallsAtMost, source_calls};
+ghost use Rattle.tx_jobs.specs.JobFaults.{mark_after};
 ghost use Rattle.tx_jobs.specs.Jobs.{RunJobAnswers};
 
 use crate::job_fault::JobFault;
@@ -13,6 +14,7 @@ use tx_text::{Sink, Source};
 /// Reads a plan, and then runs a script over it: writes the replies and the tickets of its events, and at its end the line END EVENTS.
 ///
 /// Nothing of the script is read before the plan was read whole.
+#[tactic(auto, using(crate::proofs::Marks::plan_unmarked))]
 pub fn run_job<A: Allocator + Copy, P: Source, R: Source, W: Sink>(
     alloc: A,
     plan: &mut P,
@@ -20,7 +22,9 @@ pub fn run_job<A: Allocator + Copy, P: Source, R: Source, W: Sink>(
     out: &mut W,
 ) -> Result<Summary, JobFault>
     ensures answers { RunJobAnswers (P.rest plan.old) (P.rest plan.new) (record { rest_old = R.rest script.old; rest_new = R.rest script.new; taken_old = W.taken out.old; taken_new = W.taken out.new })
-        (Broken P.called (P.failed plan.new) source_calls plan.old plan.new) (Broken R.called (R.failed script.new) source_calls script.old script.new) ((script.new ≡ script.old) × (out.new ≡ out.old)) result }
+        (Broken P.called (P.failed plan.new) source_calls plan.old plan.new) (plan.new ≡ plan.old)
+        (Broken R.called (R.failed script.new) source_calls script.old script.new) ((script.new ≡ script.old) × (out.new ≡ out.old)) result }
+    ensures mark { W.failed out.new ≡ mark_after (W.failed out.old) result }
     ensures plan_calls { CallsAtMost P.called source_calls plan.old plan.new }
     ensures script_calls { CallsAtMost R.called source_calls script.old script.new }
 {

@@ -1,6 +1,7 @@
 // The run of a script over the plain network of a plan.
 ghost use Rattle.std.specs.Prelude.{◌≡◌};
 ghost use Rattle.tx_text.specs.Calls.{Broken, CallsAtMost, source_calls};
+ghost use Rattle.tx_jobs.specs.JobFaults.{mark_after};
 ghost use Rattle.tx_jobs.specs.Jobs.{Simulated};
 
 use crate::job_fault::JobFault;
@@ -11,6 +12,7 @@ use tx_script::{Summary, run};
 use tx_text::{NoMemory, Sink, Source};
 
 /// Runs a script over a network of the plan, from its opening state.
+#[tactic(auto, using(crate::proofs::Marks::run_marked))]
 pub(crate) fn simulate<A: Allocator + Copy, R: Source, W: Sink>(
     alloc: A,
     plan: &Plan<A>,
@@ -19,6 +21,7 @@ pub(crate) fn simulate<A: Allocator + Copy, R: Source, W: Sink>(
 ) -> Result<Summary, JobFault>
     ensures answers { Simulated plan.now (record { rest_old = R.rest script.old; rest_new = R.rest script.new; taken_old = W.taken out.old; taken_new = W.taken out.new })
         (Broken R.called (R.failed script.new) source_calls script.old script.new) ((script.new ≡ script.old) × (out.new ≡ out.old)) result }
+    ensures mark { W.failed out.new ≡ mark_after (W.failed out.old) result }
     ensures calls { CallsAtMost R.called source_calls script.old script.new }
 {
     match Plain::new(alloc, plan) {

@@ -9,6 +9,3 @@ mod statuses;
 
 pub use answer::LineAnswer;
 pub use book::LineBook;
-
-#[cfg(test)]
-mod tests;

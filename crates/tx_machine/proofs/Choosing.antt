@@ -1,17 +1,14 @@
 -- The first circuit that is found, number by number.
-use Rattle.std.proofs.Common.{◌≡◌, ℕ, zero, suc, ◌+◌, ◌-◌, ◌<◌, ◌≤◌, Bool, true, false, cond, List, [], ◌∷◌, ◌++◌, map, Option, Some, None, inl, inr, refl, ap, sym, ◌∙◌, subst, arith}
+use Rattle.std.proofs.Common.{◌≡◌, ℕ, zero, suc, ◌+◌, ◌-◌, ◌<◌, Bool, true, false, cond, List, [], ◌∷◌, ◌++◌, map, Option, Some, None, refl, ap, sym, ◌∙◌, subst, arith}
 use Rattle.std.specs.Prelude.{find, if◌then◌else◌, slice_get, nat_le, ◌&&◌, ◌==◌}
 use Rattle.std.specs.Option.{option_map_or}
-use Rattle.std.proofs.lemmas.Bool.{and_from}
 use Rattle.tx_plan.specs.Plan.{Plan, Group}
 use Rattle.tx_plan.specs.Circuits.{upward, downward, circuits_at, order_at, is_circuit, ends_of, count_of}
 use Rattle.tx_plan.specs.Routes.{route_list}
 use Rattle.tx_plan.specs.declared.circuit.Circuit.{Circuit}
 use Rattle.tx_state.specs.State.{State}
-use Rattle.tx_state.specs.InUse.{is_free_at, first_free, choice, is_down}
-use Rattle.tx_state.specs.Members.{Mem}
-use Rattle.tx_state.proofs.Lists.{mem_map, mem_append, find_mem}
-use Rattle.tx_state.proofs.Uses.{first_in-is}
+use Rattle.tx_state.specs.InUse.{first_free, choice}
+use Rattle.tx_state.proofs.Uses.{first_in-is, chosen}
 
 module _ (t : Circuit → Bool) (g : ℕ) where
   abbrev pub mk : ℕ → Circuit
@@ -56,29 +53,9 @@ module _ (t : Circuit → Bool) (g : ℕ) where
   down_less zero b h e f = absurd (omega arith)
   down_less (suc n) b h e f = ap (λ b. cond b (Some (mk (suc n))) (find t (map mk (downward n)))) (sym e ∙ f) ∙ ap (λ k. find t (map mk (downward k))) (let q : n ≡ suc n - 1 = omega arith in q)
 
-in_order : (up : Bool) (count n : ℕ) → Mem (if up then upward count else downward count) n → (1 ≤ n) × (n ≤ count)
-in_order true zero n m = elim m [ ]
-in_order true (suc k) n m = elim (mem_append (upward k) (suc k ∷ []) n m) [ inl o ↦ let r = in_order true k n o in (r.0, let q = r.1 in omega arith) | inr e ↦ elim e [ inl q ↦ (omega arith, omega arith) | inr b ↦ absurd b ] ]
-in_order false zero n m = elim m [ ]
-in_order false (suc k) n (inl e) = (omega arith, omega arith)
-in_order false (suc k) n (inr m) = let r = in_order false k n m in (r.0, let q = r.1 in omega arith)
-
 -- a circuit that is chosen is one of the plan's
 pub chosen_circuit : (p : Plan) (s : State) (place code : ℕ) (x : Circuit) → choice p s place code ≡ Some x → is_circuit p x ≡ true
-chosen_circuit p s place code x h =
-    let r = first_in-is (first_free p s place) (route_list p place code) x h in
-    elim (is_down s r.0) as (λ b. (if b then None else find (is_free_at p s place) (circuits_at p r.0 place)) ≡ Some x → is_circuit p x ≡ true) [
-      | true ↦ λ e. let bad : ⊥ = cc in absurd bad
-      | false ↦ λ e. let f = find_mem (is_free_at p s place) (circuits_at p r.0 place) x e in row r.0 (slice_get p.groups r.0) refl f.0
-    ] r.2
-  where
-    row : (g : ℕ) (o : Option Group) → slice_get p.groups g ≡ o → Mem (option_map_or (λ (r : Group). map (λ n. record { group = g; number = n }) (order_at r place)) o []) x → is_circuit p x ≡ true
-    row g None e m = elim m [ ]
-    row g (Some r) e m =
-        let q = mem_map (λ n. record { group = g; number = n }) (order_at r place) x m in
-        let i = in_order (r.a == place) r.count q.0 q.1 in
-        let a = i.0 in let b = i.1 in
-        subst (λ y. is_circuit p y ≡ true) q.2 (ap (λ o. option_map_or (λ (r : Group). nat_le 1 q.0 && nat_le q.0 r.count) o false) e ∙ and_from (nat_le 1 q.0) (nat_le q.0 r.count) (grind arith) (grind arith))
+chosen_circuit p s place code x h = let r = first_in-is (first_free p s place) (route_list p place code) x h in (chosen p s place r.0 x r.2).planned
 
 pub counted_circuit : (p : Plan) (x : Circuit) → (nat_le 1 x.number && nat_le x.number (option_map_or (λ (r : Group). r.count) (slice_get p.groups x.group) 0)) ≡ is_circuit p x
 counted_circuit p x = at (slice_get p.groups x.group)

@@ -1,5 +1,5 @@
 -- What was decided for a call, and what is done then.
-use Rattle.std.specs.Prelude.{◌≡◌, ℕ, Bool, true, not, length, Some}
+use Rattle.std.specs.Prelude.{◌≡◌, ℕ, true, not, length, Some}
 use Rattle.tx_plan.specs.Plan.{Plan}
 use Rattle.tx_plan.specs.Circuits.{is_circuit}
 use Rattle.tx_state.specs.declared.cause.Cause.TheVariants.{Service as ByService}

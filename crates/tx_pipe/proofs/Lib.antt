@@ -1,3 +1,4 @@
 mod Parting
 mod Giving
 pub mod Kept
+pub mod InputCount

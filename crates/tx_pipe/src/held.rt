@@ -1,7 +1,7 @@
 // The bytes that were read ahead.
 ghost use Rattle.std.specs.Prelude.{◌≡◌, ◌≤◌, [], drop, length, is_err, IfOk, OnErr};
 ghost use Rattle.std.specs.Io.KnownBytes.{prepend_known, IsAtEnd};
-ghost use Rattle.tx_text.specs.Calls.{Calls};
+ghost use Rattle.tx_pipe.specs.InputCalls.{input_answer};
 
 use std::marker::Model;
 use tx_text::{ReadFault, Source};
@@ -59,7 +59,7 @@ impl Held {
         ensures end { IfOk result (λ _. self.new ≡ [] → IsAtEnd (R.rest source.new)) }
         ensures none { OnErr result (self.new ≡ []) }
         ensures failed { R.failed source.new ≡ is_err result }
-        ensures call { Calls R.called source.old source.new }
+        ensures call { R.called 4096 (input_answer result self.new) source.old source.new }
     {
         self.from = 0;
         self.to = 0;

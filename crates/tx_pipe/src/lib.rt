@@ -6,6 +6,3 @@ mod line_so_far;
 mod two_texts;
 
 pub use two_texts::TwoTexts;
-
-#[cfg(test)]
-mod tests;

@@ -1,7 +1,8 @@
 // An input of two texts.
-ghost use Rattle.std.specs.Prelude.{◌≡◌, ◌≢◌, ◌<◌, ◌≤◌, Some, [], true, false, is_err, IfOk, OnErr};
+ghost use Rattle.std.specs.Prelude.{◌≡◌, ◌≢◌, ◌<◌, ◌≤◌, Some, [], true, false, min, length, is_err, IfOk, OnErr};
 ghost use Rattle.std.specs.Io.KnownBytes.{IsAtEnd};
-ghost use Rattle.tx_pipe.specs.Telling.{text_in_hand, text_behind, IsNext};
+ghost use Rattle.tx_pipe.specs.InputCalls.{Refilled};
+ghost use Rattle.tx_pipe.specs.Telling.{text_in_hand, text_behind, at_script, IsNext};
 
 use crate::held::Held;
 use crate::line_so_far::LineSoFar;
@@ -45,10 +46,7 @@ impl<R: Source> TwoTexts<R> {
 
     /// Goes on to the script, once the plan was read to its end.
     pub fn go_on(&mut self)
-        ensures source { self.new.source ≡ self.old.source }
-        ensures held { self.new.held ≡ self.old.held }
-        ensures part { self.new.part ≡ Part.Script }
-        ensures failed { self.new.failed ≡ self.old.failed }
+        ensures on { self.new ≡ at_script self.old }
         ensures script { self.old.part ≢ Part.Script → IsAtEnd (text_in_hand R.rest self.old) → text_in_hand R.rest self.new ≡ text_behind R.rest self.old }
     {
         self.part = Part::Script;
@@ -56,12 +54,14 @@ impl<R: Source> TwoTexts<R> {
 
     /// Reads the next piece where the last one was given whole.
     fn refill(&mut self) -> Result<(), ReadFault>
-        requires { self.old.failed ≡ false }
+        requires failed { self.old.failed ≡ false }
+        requires part { self.old.part ≢ Part.PlanOver }
         ensures part { self.new.part ≡ self.old.part }
         ensures line { self.new.line ≡ self.old.line }
         ensures hand { text_in_hand R.rest self.new ≡ text_in_hand R.rest self.old }
         ensures behind { text_behind R.rest self.new ≡ text_behind R.rest self.old }
         ensures end { IfOk result (λ _. self.new.held ≡ [] → IsAtEnd (R.rest self.new.source)) }
+        ensures input { Refilled R.called result self.old self.new }
         ensures mark { self.new.failed ≡ is_err result }
         ensures fails { OnErr result (R.failed self.new.source ≡ true) }
     {
@@ -80,7 +80,9 @@ impl<R: Source> TwoTexts<R> {
         ensures failed { self.new.failed ≡ self.old.failed }
         ensures room { result ≤ room }
         ensures part { self.old.part ≢ Part.Script → self.new.part ≢ Part.Script }
+        ensures script { self.old.part ≡ Part.Script → self.new.part ≡ Part.Script }
         ensures next { IsNext self.old.part self.old.line self.old.held self.new.part self.new.line result }
+        ensures all { self.new.part ≢ Part.PlanOver → result ≡ min room (length self.old.held) }
         ensures some { self.old.part ≢ Part.PlanOver → 0 < room → self.old.held ≢ [] → 0 < result }
     {
         let bytes = self.held.bytes();
@@ -106,7 +108,7 @@ impl<R: Source> Source for TwoTexts<R> {
 
     ghost failed = { λ s. s.failed };
 
-    ghost called = { λ n r a b. PipeCall R.rest R.failed r a b };
+    ghost called = { PipeCall R.rest R.failed R.called };
 
     fn read(&mut self, buf: &mut [u8]) -> Result<usize, ReadFault> {
         if self.failed {

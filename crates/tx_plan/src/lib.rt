@@ -25,8 +25,6 @@ mod routes;
 mod rows;
 mod seen;
 mod short;
-#[cfg(test)]
-mod tests;
 
 pub use builder::PlanBuilder;
 pub use circuit::Circuit;

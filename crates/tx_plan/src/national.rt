@@ -1,5 +1,5 @@
 // National numbers.
-ghost use Rattle.std.specs.Prelude.{◌≡◌, ◌≤◌, length, if◌then◌else◌, Some, None};
+ghost use Rattle.std.specs.Prelude.{◌≡◌, ◌≤◌, true, length, if◌then◌else◌, Some, None};
 ghost use Rattle.tx_plan.specs.Rules.{is_national};
 
 use crate::short::Short;
@@ -18,6 +18,11 @@ impl Model for National {
     ghost Value = { List ℕ };
 
     ghost view = { λ n. n.figures };
+
+    ghost use Rattle.std.specs.Prelude.{◌≡◌, true};
+    ghost use Rattle.tx_plan.specs.Rules.{is_national};
+
+    ghost invariant = { λ n. is_national n.figures ≡ true };
 
     ghost inverse = { λ t. record { figures = t } };
 }
@@ -38,6 +43,7 @@ impl National {
     pub fn bytes(&self) -> &[u8]
         ensures value { result.now ≡ self.now }
         ensures width { length result.now ≤ 9 }
+        ensures figures { is_national self.now ≡ true }
     {
         self.figures.bytes()
     }

@@ -1,12 +1,8 @@
 -- The names of a plan's exchanges, codes and groups lead back to their places.
-use Rattle.std.proofs.Common.{◌≡◌, ◌≢◌, ℕ, ◌<◌, Bool, true, false, not, List, length, Option, Some, None, refl, sym, ap, ◌∙◌, subst}
-use Rattle.std.specs.List.{slice_get, list_any, position}
-use Rattle.std.specs.Option.{option_map_or}
-use Rattle.std.specs.Str.{bytes_eq}
+use Rattle.std.proofs.Common.{◌≡◌, ℕ, ◌<◌, Bool, true, length, Option, Some}
 use Rattle.tx_text.specs.Words.{is_name}
 use Rattle.tx_plan.specs.Plan.{Plan, Code, Group, exchange_named, code_named, group_named, exchange_name, figures_of, group_name}
-use Rattle.tx_plan.specs.Rules.{IsPlan, IsCode, IsGroup, AllPairs, is_code}
-use Rattle.tx_plan.specs.Circuits.{may_seize, may_seize_row}
+use Rattle.tx_plan.specs.Rules.{IsPlan, IsCode, IsGroup, is_code}
 use Rattle.tx_plan.specs.Declaring.{has_exchange, has_code, has_group}
 use Rattle.tx_plantext.proofs.Places.{entry_at, all_at, place_back, place_passes}
 

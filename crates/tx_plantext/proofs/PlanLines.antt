@@ -1,25 +1,23 @@
 -- The lines of exchanges, codes, ranges and groups declare them.
-use Rattle.std.proofs.Common.{◌≡◌, ◌≢◌, ◌⊎◌, ℕ, ◌+◌, ◌<◌, ◌≤◌, ◌==◌, Bool, true, false, not, ◌&&◌, ◌||◌, nat_lt, nat_le, List, [], ◌∷◌, ◌++◌, map, length, Option, Some, None, unwrap_or, Result, Ok, codes, refl, sym, ap, ◌∙◌, subst, arith, inl, inr}
+use Rattle.std.proofs.Common.{◌≡◌, ◌≢◌, ◌⊎◌, ℕ, ◌<◌, ◌==◌, Bool, true, false, ◌&&◌, List, [], ◌∷◌, ◌++◌, length, Option, Some, unwrap_or, codes, refl, sym, ap, ◌∙◌, subst, arith, inl, inr}
 use Rattle.std.specs.List.{AllByRecursion, list_any}
-use Rattle.std.specs.Option.{option_map_or}
 use Rattle.std.specs.Fmt.{decimal}
 use Rattle.std.specs.Str.{bytes_eq}
-use Rattle.std.proofs.lemmas.Bool.{and_from, and_left, and_right, or_from, not_from_true, le-leb, lt-leb, ne_eqb, eqb-true, eq-eqb, cases_Bool, cases_eq}
-use Rattle.std.proofs.lemmas.Slice.Eq.{bytes_eq-Decides}
+use Rattle.std.proofs.lemmas.Bool.{and_from, and_left, and_right, or_from, not_from_true, le-leb, lt-leb, ne_eqb, eq-eqb, cases_eq}
 use Rattle.tx_text.specs.Words.{is_name}
 use Rattle.tx_plan.specs.declared.direction.Direction.{Direction}
 use Rattle.tx_plan.specs.declared.direction.Direction.TheVariants.{OneWay, BothWay}
 use Rattle.tx_plan.specs.declared.range.LineRange.{LineRange}
-use Rattle.tx_plan.specs.Plan.{Plan, Code, Group, Route, no_plan, exchange_named, code_named, exchange_name, figures_of}
+use Rattle.tx_plan.specs.Plan.{Plan, Code, Group, exchange_named, code_named, exchange_name, figures_of}
 use Rattle.tx_plan.specs.Lines.{at_most}
-use Rattle.tx_plan.specs.Rules.{IsPlan, AllPairs, IsCode, IsRange, IsGroup, AreSeparate, is_code, is_national}
-use Rattle.tx_plan.specs.Declaring.{first_true, exchange_refusals, code_refusals, lines_refusals, group_refusals, has_exchange, has_code, has_group, shares, overlaps, is_ordered, with_exchange, with_code, with_lines, with_group}
-use Rattle.tx_plantext.specs.PlanText.{declare, unless, direction_of, count_of, group_by}
+use Rattle.tx_plan.specs.Rules.{IsPlan, AllPairs, IsCode, IsRange, IsGroup, AreSeparate}
+use Rattle.tx_plan.specs.Declaring.{exchange_refusals, code_refusals, lines_refusals, group_refusals, has_exchange, has_code, has_group, shares, overlaps, is_ordered}
+use Rattle.tx_plantext.specs.PlanText.{declare, direction_of, count_of, group_by}
 use Rattle.tx_plantext.specs.PlanWritten.{exchange_words, code_words, range_words, group_words, direction_word}
 use Rattle.tx_plantext.proofs.Places.{all_between, apart_front, all_weaker, none_passes, length_front, bytes_apart}
 use Rattle.tx_plantext.proofs.WrittenWords.{IsShortWord, name_word, figures_word, count_word, count_back, line_of_short, fixed_word}
 use Rattle.tx_plantext.proofs.ListLines.{IsLineOf, none_true, unless-none}
-use Rattle.tx_plantext.proofs.Named.{IsNameOf, exchange_back, exchange_is_name, code_back, figures_are_code}
+use Rattle.tx_plantext.proofs.Named.{exchange_back, exchange_is_name, code_back, figures_are_code}
 
 module _ (v : ℕ) (p : Plan) (h : IsPlan p) where
   -- ---- what was declared before the next line of each kind

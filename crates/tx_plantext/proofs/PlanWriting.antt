@@ -1,7 +1,7 @@
 -- Writing a plan text, part by part.
-use Rattle.std.proofs.Common.{◌≡◌, ◌≢◌, ℕ, zero, suc, ◌+◌, ◌<◌, ◌≤◌, ◌==◌, ◌&&◌, Bool, true, false, nat_lt, List, [], ◌∷◌, ◌++◌, map, length, take, drop, get_or, codes, Option, None, Some, Result, Ok, Err, refl, sym, ap, ◌∙◌, subst, arith, append_assoc, append-nil, add-one, inl, inr}
+use Rattle.std.proofs.Common.{◌≡◌, ◌≢◌, ℕ, zero, suc, ◌+◌, ◌<◌, ◌≤◌, ◌==◌, ◌&&◌, Bool, false, nat_lt, List, [], ◌∷◌, ◌++◌, map, length, take, drop, get_or, codes, Option, None, Some, Result, Ok, Err, refl, sym, ap, ◌∙◌, subst, arith, append_assoc, append-nil, add-one, inl, inr}
 use Rattle.std.specs.Prelude.{if◌then◌else◌, IsErr, find}
-use Rattle.std.specs.List.{flat_map, slice_get, AllByRecursion}
+use Rattle.std.specs.List.{flat_map, slice_get}
 use Rattle.std.specs.Option.{option_map_or, option_map}
 use Rattle.std.specs.Fmt.{decimal}
 use Rattle.std.specs.Io.KnownBytes.{append_known}
@@ -12,8 +12,7 @@ use Rattle.tx_text.specs.declared.sink.WriteFault.{WriteFault}
 use Rattle.tx_text.specs.Ends.{StopsIn}
 use Rattle.tx_text.specs.Written.{joined, line_written}
 use Rattle.tx_plan.specs.declared.direction.Direction.{Direction}
-use Rattle.tx_plan.specs.declared.direction.Direction.TheVariants.{OneWay, BothWay}
-use Rattle.tx_plan.specs.Plan.{Plan, Code, Group, Route, exchange_name, figures_of, group_name, home_of}
+use Rattle.tx_plan.specs.Plan.{Plan, Route, exchange_name, figures_of, group_name, home_of}
 use Rattle.tx_plan.specs.Circuits.{direction_of, count_of, ends_of}
 use Rattle.tx_plan.specs.Routes.{route_list}
 use Rattle.tx_plan.specs.Rules.{IsPlan, AllPairs}

@@ -1,13 +1,14 @@
 -- The grammar of plan texts: what each line declares after those before it.
 use Rattle.std.specs.Prelude.{ℕ, Bool, true, false, ◌&&◌, ◌==◌, List, [], ◌∷◌, Option, None, Some, Result, Ok, Err, codes, unwrap_or, if◌then◌else◌}
 use Rattle.std.specs.Str.{bytes_eq}
+use Rattle.std.specs.Io.KnownBytes.{IsAtEnd}
 use Rattle.tx_text.specs.declared.frame.Kind.{Kind}
 use Rattle.tx_text.specs.declared.frame.Phase.TheVariants.{Start}
 use Rattle.tx_text.specs.Text.{lines_of}
 use Rattle.tx_text.specs.Words.{number_of}
-use Rattle.tx_text.specs.Told.{Ending, told}
-use Rattle.tx_text.specs.Frame.{header_of, framed}
-use Rattle.tx_text.specs.Said.{said}
+use Rattle.tx_text.specs.Told.{Ending, AtEnd, told}
+use Rattle.tx_text.specs.Frame.{Framed, header_of, framed, ReadsOn, EndsAs}
+use Rattle.tx_text.specs.Said.{said, declares_at, Answered}
 use Rattle.tx_plan.specs.declared.refusal.PlanRefusal.{PlanRefusal}
 use Rattle.tx_plan.specs.declared.refusal.PlanRefusal.TheVariants.{WrongCount, NoMemory}
 use Rattle.tx_plan.specs.declared.direction.Direction.{Direction}
@@ -99,14 +100,34 @@ declare v p (w ∷ ws) =
     else if bytes_eq w (codes "END") then wrong_count
     else Err UnknownWord
 
+-- the lines of a plan text within its frame, whichever way the text ends
+abbrev pub lines_within : Ending → List ℕ → Framed
+lines_within e text = framed (header_of (codes "PLAN") 2) Start 1 (told e (lines_of text))
+
 -- THE GRAMMAR: the plan that a text says, or its first fault, whichever way the text ends
 abbrev pub plan_of : Ending → List ℕ → Result Plan (ℕ × Kind PlanWord)
-plan_of e text = said declare 1 no_plan (framed (header_of (codes "PLAN") 2) Start 1 (told e (lines_of text)))
+plan_of e text = said declare 1 no_plan (lines_within e text)
+
+-- line n of a text declares something, and so does each line before it: where memory can be wanting
+abbrev pub declares_line : ℕ → Ending → List ℕ → Bool
+declares_line n e text = declares_at declare n 1 no_plan (lines_within e text)
+
+-- memory was wanting at line n, by the bytes that were read: it declares something, whatever follows
+abbrev pub WantingAt : Option (List ℕ) → Option (List ℕ) → ℕ → Type 0
+WantingAt old new n = ReadsOn old new (declares_line n) (λ _ _. true)
 
 -- want of memory
 abbrev pub is_memory : PlanWord → Bool
 is_memory (Refused NoMemory) = true
 is_memory w = false
+
+-- the whole text that was read says this plan
+abbrev pub SaysPlan : (old new : Option (List ℕ)) → Plan → Type 0
+SaysPlan old new p = EndsAs old new plan_of AtEnd (Ok p) × IsAtEnd new
+
+-- WHAT A READER OF PLAN TEXTS ANSWERS. Broken says that the source failed or met the bound on calls, unread that nothing was read.
+abbrev pub ReadsPlan : (old new : Option (List ℕ)) → (broken unread : Type 0) → Result Plan (ℕ × Kind PlanWord) → Type 0
+ReadsPlan old new broken unread result = Answered is_memory old new plan_of broken unread (WantingAt old new) result
 
 -- a refusal of the builder as a fault of the line's words
 abbrev pub word_told : Result (Unit {0}) PlanRefusal → Result (Unit {0}) PlanWord

@@ -1,7 +1,7 @@
 // What each line declares.
 ghost use Rattle.std.specs.Prelude.{◌≡◌};
 ghost use Rattle.tx_text.specs.Said.{Declared};
-ghost use Rattle.tx_plantext.specs.PlanText.{declare, exchange_line, code_line, lines_line, group_line, route_line, bar_line, direction_of, count_of, is_memory, word_told};
+ghost use Rattle.tx_plantext.specs.PlanText.{declare, exchange_line, code_line, lines_line, group_line, group_by, route_line, bar_line, direction_of, count_of, is_memory, word_told};
 
 use crate::fault::PlanWord;
 use std::alloc::Allocator;
@@ -72,8 +72,25 @@ fn lines_line<A: Allocator>(plan: &mut PlanBuilder<A>, words: Words<'_>) -> Resu
     told(plan.lines(code, low, high))
 }
 
-/// GROUP name a b direction count.
+/// The words after GROUP, where there are as many as there must be.
 #[tactic(auto, using(crate::proofs::Entries::declared_from))]
+fn group_by<A: Allocator>(
+    plan: &mut PlanBuilder<A>,
+    name: &[u8],
+    a: &[u8],
+    b: &[u8],
+    direction: Option<Direction>,
+    count: u32,
+) -> Result<(), PlanWord>
+    ensures { Declared is_memory (group_by plan.old name.now a.now b.now direction count) plan.new result }
+{
+    match direction {
+        Some(direction) => told(plan.group(name, a, b, direction, count)),
+        None => Err(PlanWord::UnknownWord),
+    }
+}
+
+/// GROUP name a b direction count.
 fn group_line<A: Allocator>(plan: &mut PlanBuilder<A>, words: Words<'_>) -> Result<(), PlanWord>
     ensures { Declared is_memory (group_line plan.old words.entry) plan.new result }
 {
@@ -96,11 +113,7 @@ fn group_line<A: Allocator>(plan: &mut PlanBuilder<A>, words: Words<'_>) -> Resu
     if words.next().is_some() {
         return Err(PlanWord::Refused(PlanRefusal::WrongCount));
     }
-    let count = count_of(count);
-    match direction_of(direction) {
-        Some(direction) => told(plan.group(name, a, b, direction, count)),
-        None => Err(PlanWord::UnknownWord),
-    }
+    group_by(plan, name, a, b, direction_of(direction), count_of(count))
 }
 
 /// ROUTE exchange code groups.

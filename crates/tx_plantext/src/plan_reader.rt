@@ -1,11 +1,11 @@
 // The readers of plan texts.
-ghost use Rattle.std.specs.Prelude.{◌≡◌, ◌^◌, ◌<◌, length, codes, None};
+ghost use Rattle.std.specs.Prelude.{◌≡◌, ◌^◌, ◌<◌, length, codes, None, true};
 ghost use Rattle.tx_text.specs.declared.frame.Phase.TheVariants.{Start};
 ghost use Rattle.tx_text.specs.Calls.{CallsAtMost, Broken, source_calls};
-ghost use Rattle.tx_text.specs.Said.{Answered, AnswersAs, told_fault};
+ghost use Rattle.tx_text.specs.Said.{AnswersAs, told_fault};
 ghost use Rattle.tx_text.specs.Told.{AtEnd, reading_of_calls};
 ghost use Rattle.tx_plan.specs.Plan.{no_plan};
-ghost use Rattle.tx_plantext.specs.PlanText.{plan_of, is_memory};
+ghost use Rattle.tx_plantext.specs.PlanText.{plan_of, is_memory, declares_line, ReadsPlan};
 
 use crate::declaring::declare;
 use crate::fault::{PlanFault, PlanWord};
@@ -25,7 +25,7 @@ pub fn read_plan_from<R: Source, A: Allocator + Copy>(
     alloc: A,
     source: &mut R,
 ) -> Result<Plan<A>, PlanFault>
-    ensures answer { Answered is_memory (R.rest source.old) (R.rest source.new) plan_of (Broken R.called (R.failed source.new) source_calls source.old source.new) (told_fault result) }
+    ensures answer { ReadsPlan (R.rest source.old) (R.rest source.new) (Broken R.called (R.failed source.new) source_calls source.old source.new) (source.new ≡ source.old) (told_fault result) }
     ensures calls { CallsAtMost R.called source_calls source.old source.new }
 {
     match FrameReader::new(alloc, KEY, VERSIONS) {
@@ -36,7 +36,7 @@ pub fn read_plan_from<R: Source, A: Allocator + Copy>(
 
 /// Reads a plan text that stands in memory.
 pub fn read_plan<A: Allocator + Copy>(alloc: A, text: &[u8]) -> Result<Plan<A>, PlanFault>
-    ensures { AnswersAs is_memory (plan_of AtEnd text.now) (told_fault result) }
+    ensures { AnswersAs is_memory (plan_of AtEnd text.now) (λ n. declares_line n AtEnd text.now ≡ true) (told_fault result) }
 {
     slices_are_read_whole();
     let mut source = SliceSource::new(text);
@@ -69,7 +69,7 @@ fn read_lines<R: Source, A: Allocator>(
     requires reader { frame.reader ≡ reading_of_calls frame.reader.left }
     requires phase { frame.phase ≡ Start }
     requires number { frame.number ≡ 1 }
-    ensures answer { Answered is_memory (R.rest source.old) (R.rest source.new) plan_of (Broken R.called (R.failed source.new) frame.entry.reader.left source.old source.new) (told_fault result) }
+    ensures answer { ReadsPlan (R.rest source.old) (R.rest source.new) (Broken R.called (R.failed source.new) frame.entry.reader.left source.old source.new) (source.new ≡ source.old) (told_fault result) }
     ensures calls { CallsAtMost R.called frame.entry.reader.left source.old source.new }
 {
     let mut plan = plan;

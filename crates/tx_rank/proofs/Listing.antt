@@ -12,7 +12,7 @@ use Rattle.tx_rank.specs.declared.finding.Finding.{Finding}
 use Rattle.tx_rank.specs.declared.finding.Finding.TheVariants.{Short}
 use Rattle.tx_rank.specs.Walks.{Walk, net_of, IsShort}
 use Rattle.tx_rank.specs.Heights.{RanksByHeight, AreHeights}
-use Rattle.tx_rank.specs.Findings.{IsTrueOf, IsLongest, long_findings, AreFindingsOfCode, AreFindingsBelow, pair_findings, AreFindings}
+use Rattle.tx_rank.specs.Findings.{IsTrueOf, IsLongIfAny, long_findings, AreFindingsOfCode, AreFindingsBelow, pair_findings, AreFindings}
 use Rattle.tx_rank.specs.Findings.AreFindingsOfCode.{looped, straight}
 use Rattle.tx_rank.specs.Nets.{Certifies}
 use Rattle.tx_rank.specs.Judged.{IsJudged}
@@ -54,7 +54,7 @@ module _ {A : Type 0} (p : Plan) (limit spare : ℕ) where
       shorts_true [] each = tt
       shorts_true (w ∷ ws) each = ((h, each w (inl refl)), shorts_true ws (λ v m. each v (inr m)))
 
-      long_true : (o : Option Walk) → IsLongest (net_of p c) limit o → AllTrue (long_findings c o)
+      long_true : (o : Option Walk) → IsLongIfAny (net_of p c) limit o → AllTrue (long_findings c o)
       long_true None l = tt
       long_true (Some w) l = ((h, l), tt)
 

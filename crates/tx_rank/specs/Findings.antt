@@ -28,9 +28,9 @@ pub record AreShorts (n : Net) (spare : ℕ) (walks : List Walk) : Type 0 where
   pub all : (x : ℕ) (steps : List (ℕ × ℕ)) → IsShort n spare x steps → Among (end_of x steps) (map end_at walks)
 
 -- a long walk, if there is one
-abbrev pub IsLongest : Net → ℕ → Option Walk → Type 0
-IsLongest n limit None = (x : ℕ) (steps : List (ℕ × ℕ)) → IsLong n limit x steps → ⊥
-IsLongest n limit (Some w) = IsLong n limit w.start w.steps
+abbrev pub IsLongIfAny : Net → ℕ → Option Walk → Type 0
+IsLongIfAny n limit None = (x : ℕ) (steps : List (ℕ × ℕ)) → IsLong n limit x steps → ⊥
+IsLongIfAny n limit (Some w) = IsLong n limit w.start w.steps
 
 module _ {A : Type 0} where
   abbrev pub long_findings : ℕ → Option Walk → List (Finding A)
@@ -42,7 +42,7 @@ module _ {A : Type 0} where
     looped : (w : Walk) → IsLoop n w.start w.steps → findings ≡ Loop code w ∷ [] → AreFindingsOfCode n code limit spare findings
     straight : ((x : ℕ) (steps : List (ℕ × ℕ)) → IsLoop n x steps → ⊥)
         → (shorts : List Walk) → AreShorts n spare shorts
-        → (long : Option Walk) → IsLongest n limit long
+        → (long : Option Walk) → IsLongIfAny n limit long
         → findings ≡ map (Short code) shorts ++ long_findings code long
         → AreFindingsOfCode n code limit spare findings
 

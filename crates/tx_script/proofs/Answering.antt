@@ -1,21 +1,21 @@
 -- The answer to one event.
-use Rattle.std.proofs.Common.{◌≡◌, ℕ, ◌+◌, ◌≤◌, Bool, List, [], ◌++◌, length, drop, Option, refl, sym, ap, ◌∙◌, subst, arith}
+use Rattle.std.proofs.Common.{◌≡◌, ℕ, ◌+◌, ◌≤◌, Bool, List, [], ◌++◌, length, drop, Option, inl, inr, sym, ap, ◌∙◌, subst, arith}
 use Rattle.std.specs.List.{flat_map}
 use Rattle.std.specs.Io.KnownBytes.{append_known}
 use Rattle.tx_text.specs.Ends.{StopsIn}
-use Rattle.tx_text.proofs.Writing.{stops_first, stops_later}
 use Rattle.tx_plan.specs.Plan.{Plan}
 use Rattle.tx_state.specs.declared.event.Event.{Event}
 use Rattle.tx_state.specs.declared.reply.Reply.{Reply}
 use Rattle.tx_state.specs.Ended.{Ended}
 use Rattle.tx_state.specs.State.{State}
 use Rattle.tx_state.specs.Step.{step}
-use Rattle.tx_state.specs.Runs.{Moment, moment}
+use Rattle.tx_state.specs.Runs.{moment}
 use Rattle.tx_tickets.specs.Texts.{reply_text, ticket_text}
 use Rattle.tx_state.specs.Sound.{is_refused}
 use Rattle.tx_script.specs.declared.answer.Answered.{Answered}
 use Rattle.tx_state.specs.Drained.{drained}
-use Rattle.tx_script.specs.Answered.{IsUntold, count_of}
+use Rattle.tx_script.specs.Answered.{count_of}
+use Rattle.tx_script.specs.Untold.{StopsAtTicket, IsUntold}
 use Rattle.tx_script.specs.Output.{tickets_made, moment_text}
 use Rattle.tx_script.proofs.Balance.{parties, step_within}
 
@@ -46,21 +46,22 @@ is_answer p q s e reply t same none h =
 
 module _ (p : Plan) (s : State) (e : Event) (reply : Reply) (t : State) (a b : Option (List ℕ)) where
   -- the write of the reply failed
-  pub untold_reply : IsAnswer p s e reply t → StopsIn a b (reply_text p reply) → IsUntold (moment p s e) (moment_text p (moment p s e)) t a b
-  untold_reply i stop = record {
-    taken = 0;
+  pub untold_reply : IsAnswer p s e reply t → StopsIn a b (reply_text p reply) → IsUntold p (moment p s e) t a b
+  untold_reply i stop = inl (record {
+    front = subst (λ r. StopsIn a b (reply_text p r)) (sym i.replied) stop;
     network = sym (ap (λ (l : List Ended). drained (moment p s e).after l) i.made ∙ ap (λ (u : State). drained u t.tickets) i.after);
-    front = subst (StopsIn a b) (sym i.text) (stops_first (flat_map (ticket_text p) t.tickets) stop);
-  }
+  })
 
   -- the write of a ticket failed
-  pub untold_tickets : (u : State) (c : Option (List ℕ)) → IsAnswer p s e reply t → b ≡ append_known a (reply_text p reply) → StopsIn b c (flat_map (ticket_text p) t.tickets) → (k : ℕ) × (u ≡ drained t (drop k t.tickets))
-      → IsUntold (moment p s e) (moment_text p (moment p s e)) u a c
-  untold_tickets u c i wrote stop left = record {
-    taken = left.0;
-    network = left.1 ∙ sym (ap (λ (l : List Ended). drained (moment p s e).after (drop left.0 l)) i.made ∙ ap (λ (v : State). drained v (drop left.0 t.tickets)) i.after);
-    front = subst (StopsIn a c) (sym i.text) (stops_later (reply_text p reply) wrote stop);
-  }
+  pub untold_tickets : (u : State) (c : Option (List ℕ)) → IsAnswer p s e reply t → b ≡ append_known a (reply_text p reply) → StopsAtTicket p t.tickets t u b c → IsUntold p (moment p s e) u a c
+  untold_tickets u c i wrote stop = inr (record {
+    written = stop.written;
+    hand = stop.hand;
+    left = stop.left;
+    whole = i.made ∙ stop.whole;
+    front = subst (λ z. StopsIn (append_known z (flat_map (ticket_text p) stop.written)) c (ticket_text p stop.hand)) (wrote ∙ ap (λ r. append_known a (reply_text p r)) (sym i.replied)) stop.front;
+    network = stop.network ∙ ap (λ (v : State). drained v stop.left) (sym i.after);
+  })
 
 -- what is counted of it
 pub counted_as : (p : Plan) (s : State) (e : Event) (reply : Reply) (t : State) → IsAnswer p s e reply t → (refused : Bool) (tickets : ℕ) → refused ≡ is_refused reply → tickets ≡ length t.tickets

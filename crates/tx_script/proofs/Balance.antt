@@ -1,5 +1,5 @@
 -- An event opens at most one call, and a call that ends leaves one ticket.
-use Rattle.std.proofs.Common.{◌≡◌, ℕ, ◌+◌, ◌≤◌, ◌==◌, Bool, true, false, not, ◌&&◌, List, [], ◌∷◌, ◌++◌, length, map, Option, Some, None, refl, ap, subst, sym, ◌∙◌, arith, length-append}
+use Rattle.std.proofs.Common.{◌≡◌, ℕ, ◌+◌, ◌≤◌, ◌==◌, Bool, true, false, not, ◌&&◌, [], ◌∷◌, length, map, Option, Some, None, refl, ap, ◌∙◌, arith, length-append}
 use Rattle.std.specs.Prelude.{if◌then◌else◌, filter}
 use Rattle.std.proofs.lemmas.List.{length-map}
 use Rattle.std.proofs.lemmas.List.Filters.{length-filter_both}
@@ -24,8 +24,8 @@ use Rattle.tx_state.specs.InUse.{choice, uses_group}
 use Rattle.tx_state.specs.Lines.{line_answer}
 use Rattle.tx_state.specs.Refusals.{refusal}
 use Rattle.tx_state.specs.Ending.{end_calls, ticket_of}
-use Rattle.tx_state.specs.Routing.{set_call, at_line, at_trunk, line_of, routed_for}
-use Rattle.tx_state.specs.Confirming.{carried_on, collide, second_time, confirmed_by, rival, confirmed}
+use Rattle.tx_state.specs.Routing.{at_line, at_trunk, line_of, routed_for}
+use Rattle.tx_state.specs.Confirming.{collide, second_time, confirmed_by, rival, confirmed}
 use Rattle.tx_state.specs.Step.{keyed_call, with_call, accepted, counted, unless_refused, step, cause_by}
 
 -- the open calls, and the tickets of those that ended

@@ -4,27 +4,32 @@ use Rattle.std.specs.Prelude.{slice_get}
 use Rattle.std.specs.List.{flat_map}
 use Rattle.std.specs.Io.KnownBytes.{append_known}
 use Rattle.std.proofs.lemmas.List.Concat.{flat_map-append}
-use Rattle.std.proofs.Math.Seq.{drop-append-add}
 use Rattle.tx_text.specs.Ends.{StopsIn}
-use Rattle.tx_text.proofs.Writing.{append_known-nil, append_known_twice, stops_first, stops_later}
+use Rattle.tx_text.proofs.Writing.{append_known-nil, append_known_twice}
+use Rattle.tx_plan.specs.Plan.{Plan}
 use Rattle.tx_state.specs.Ended.{Ended}
 use Rattle.tx_state.specs.State.{State, ticket_taken}
 use Rattle.tx_state.specs.Drained.{drained}
+use Rattle.tx_tickets.specs.Texts.{ticket_text}
+use Rattle.tx_script.specs.Untold.{StopsAtTicket}
 
 -- some of a network's tickets were taken and written, so many, and some are left
-pub record IsDraining (f : Ended → List ℕ) (s t : State) (a b : Option (List ℕ)) (n : ℕ) : Type 0 where
+pub record IsDraining (p : Plan) (s t : State) (a b : Option (List ℕ)) (n : ℕ) : Type 0 where
   pub done : List Ended
   pub left : List Ended
   pub whole : s.tickets ≡ done ++ left
   pub count : n ≡ length done
   pub state : t ≡ drained s left
-  pub wrote : b ≡ append_known a (flat_map f done)
+  pub wrote : b ≡ append_known a (flat_map (ticket_text p) done)
 
-module _ (f : Ended → List ℕ) (s : State) (a : Option (List ℕ)) where
-  pub drain_start : IsDraining f s s a a 0
+module _ (p : Plan) (s : State) (a : Option (List ℕ)) where
+  abbrev f : Ended → List ℕ
+  f = ticket_text p
+
+  pub drain_start : IsDraining p s s a a 0
   drain_start = record { done = []; left = s.tickets; whole = refl; count = refl; state = refl; wrote = append_known-nil a }
 
-  module _ (t : State) (b : Option (List ℕ)) (n : ℕ) (d : IsDraining f s t a b n) where
+  module _ (t : State) (b : Option (List ℕ)) (n : ℕ) (d : IsDraining p s t a b n) where
     left_is : t.tickets ≡ d.left
     left_is = ap (λ (u : State). u.tickets) d.state
 
@@ -57,15 +62,12 @@ module _ (f : Ended → List ℕ) (s : State) (a : Option (List ℕ)) where
       parts : s.tickets ≡ d.done ++ x ∷ rest
       parts = d.whole ∙ ap (λ l. d.done ++ l) split
 
-      text : flat_map f s.tickets ≡ flat_map f d.done ++ (f x ++ flat_map f rest)
-      text = ap (flat_map f) parts ∙ flat_map-append f d.done (x ∷ rest)
-
       now : (u : State) → u ≡ ticket_taken t → u ≡ drained s rest
       unfolding rest
       now u e = e ∙ ap (λ (v : State). record v { tickets = drop 1 v.tickets }) d.state
 
       -- one ticket more was written
-      pub drain_more : (u : State) (c : Option (List ℕ)) → u ≡ ticket_taken t → c ≡ append_known b (f x) → IsDraining f s u a c (n + 1)
+      pub drain_more : (u : State) (c : Option (List ℕ)) → u ≡ ticket_taken t → c ≡ append_known b (f x) → IsDraining p s u a c (n + 1)
       drain_more u c e w = record {
         done = d.done ++ x ∷ [];
         left = rest;
@@ -80,12 +82,8 @@ module _ (f : Ended → List ℕ) (s : State) (a : Option (List ℕ)) where
       drain_within = let l = length-append d.done (x ∷ rest) in let k = d.count in let w = ap length parts in omega arith
 
       -- a write failed in it
-      pub drain_stop : (c : Option (List ℕ)) → StopsIn b c (f x) → StopsIn a c (flat_map f s.tickets)
-      drain_stop c stop = subst (StopsIn a c) (sym text) (stops_later (flat_map f d.done) d.wrote (stops_first (flat_map f rest) stop))
-
-      pub drain_left : (u : State) → u ≡ ticket_taken t → (k : ℕ) × (u ≡ drained s (drop k s.tickets))
-      unfolding rest
-      drain_left u e = (length d.done + 1, now u e ∙ ap (drained s) (sym (ap (drop (length d.done + 1)) d.whole ∙ drop-append-add d.done d.left 1)))
+      pub drain_stop : (u : State) (c : Option (List ℕ)) → u ≡ ticket_taken t → StopsIn b c (f x) → StopsAtTicket p s.tickets s u a c
+      drain_stop u c e stop = record { written = d.done; hand = x; left = rest; whole = parts; front = subst (λ z. StopsIn z c (f x)) d.wrote stop; network = now u e }
 
       pub drain_smaller : (u : State) → u ≡ ticket_taken t → length u.tickets < length t.tickets
       drain_smaller u e = let i = ap (λ (v : State). length v.tickets) (now u e) in let l = ap length (left_is ∙ split) in omega arith

@@ -7,5 +7,4 @@ pub mod Scripts
 pub mod Moments
 pub mod Draining
 pub mod Answering
-pub mod NoRoom
 pub mod Running

@@ -1,5 +1,5 @@
 -- A run of one event more, over a network whose tickets are taken after each.
-use Rattle.std.proofs.Common.{◌≡◌, ℕ, ◌+◌, ◌≤◌, cond, List, [], ◌∷◌, ◌++◌, length, drop, Option, refl, sym, ap, ◌∙◌, append_assoc, append-nil, arith, length-append}
+use Rattle.std.proofs.Common.{◌≡◌, ℕ, ◌+◌, ◌≤◌, cond, List, [], ◌∷◌, ◌++◌, length, drop, Option, refl, sym, ap, ◌∙◌, append-nil, arith, length-append}
 use Rattle.std.specs.List.{flat_map, count_by, sum_by}
 use Rattle.std.proofs.lemmas.List.Concat.{flat_map-append}
 use Rattle.std.proofs.lemmas.List.Sums.{sum_by_push, sum_by-cons}
@@ -20,7 +20,7 @@ use Rattle.tx_script.specs.declared.tally.Tally.{Tally}
 use Rattle.tx_script.specs.declared.answer.Answered.{Answered}
 use Rattle.tx_script.specs.Answered.{count_of}
 use Rattle.tx_script.specs.Answers.{IsFresh, settled, next}
-use Rattle.tx_script.proofs.Balance.{parties, step_within}
+use Rattle.tx_script.proofs.Balance.{step_within}
 
 run_push : (p : Plan) (s : State) (es : List Event) (e : Event) → run p s (es ++ e ∷ []) ≡ run p s es ++ moment p (state_after p s es) e ∷ []
 run_push p s [] e = refl

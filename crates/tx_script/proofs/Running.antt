@@ -1,7 +1,7 @@
 -- A run that goes on from event to event, and the ways in which it ends.
-use Rattle.std.proofs.Common.{◌≡◌, ℕ, ◌+◌, ◌*◌, ◌^◌, ◌<◌, ◌≤◌, Bool, true, false, cond, List, [], ◌∷◌, ◌++◌, length, drop, Option, Some, None, Result, Ok, Err, codes, IfOk, IfErr, OnOk, OnErr, inl, inr, refl, sym, ap, ◌∙◌, subst, append-nil, arith, length-append}
+use Rattle.std.proofs.Common.{◌≡◌, ℕ, ◌+◌, ◌*◌, ◌^◌, ◌<◌, ◌≤◌, true, cond, List, [], ◌∷◌, ◌++◌, length, Option, Result, Ok, Err, codes, IfOk, IfErr, OnOk, OnErr, inl, inr, refl, sym, ap, ◌∙◌, subst, append-nil, arith, length-append}
 use Rattle.std.specs.Prelude.{if◌then◌else◌}
-use Rattle.std.specs.List.{count_by, sum_by}
+use Rattle.std.specs.List.{flat_map, count_by}
 use Rattle.std.specs.Io.KnownBytes.{append_known, IsAtEnd}
 use Rattle.std.proofs.lemmas.List.Sums.{count_by-le-length}
 use Rattle.tx_text.specs.declared.text_fault.TextFault.TheVariants.{LineTooLong, BadByte, NoMemory as TextNoMemory}
@@ -13,10 +13,12 @@ use Rattle.tx_text.specs.declared.frame.Kind.TheVariants.{Frame, Word}
 use Rattle.tx_text.specs.Calls.{source_calls}
 use Rattle.tx_text.specs.Ends.{StopsIn}
 use Rattle.tx_text.specs.Told.{Ending, AtEnd, reading_start, reading_size}
-use Rattle.tx_text.specs.Frame.{Framed, Done, Stop, Headed, Has, ReadsOn, EndsAs, Stands, Stopped, is_read}
+use Rattle.tx_text.specs.Frame.{Framed, Done, Stop, Headed, Has, ReadsOn, EndsAs, Stopped, is_read}
 use Rattle.tx_text.specs.declared.frame.Phase.TheVariants.{Start}
 use Rattle.tx_text.specs.declared.frame_reader.FrameReader.{FrameReader}
 use Rattle.tx_text.specs.Framing.{to_come}
+use Rattle.tx_text.specs.Said.{is_no_room}
+use Rattle.tx_text.proofs.NoRoom.{IsSaid, none_stops}
 use Rattle.tx_text.proofs.Writing.{append_known_twice}
 use Rattle.tx_plan.specs.Plan.{Plan}
 use Rattle.tx_state.specs.declared.event.Event.{Event}
@@ -25,6 +27,7 @@ use Rattle.tx_state.specs.Refusals.{refusal}
 use Rattle.tx_state.specs.Runs.{Moment, moment, run, state_after}
 use Rattle.tx_state.specs.Sound.{is_refused}
 use Rattle.tx_state.specs.Drained.{drained}
+use Rattle.tx_tickets.specs.Texts.{reply_text, ticket_text}
 use Rattle.tx_script.specs.declared.answer.Answered.{Answered}
 use Rattle.tx_script.specs.declared.run_fault.RunFault.{RunFault}
 use Rattle.tx_script.specs.declared.run_cause.RunCause.{RunCause}
@@ -33,13 +36,13 @@ use Rattle.tx_script.specs.declared.script_word.ScriptWord.{ScriptWord}
 use Rattle.tx_script.specs.declared.summary.Summary.{Summary}
 use Rattle.tx_script.specs.declared.tally.Tally.{Tally}
 use Rattle.tx_script.specs.Events.{event_of}
-use Rattle.tx_script.specs.Script.{whole, faulty, script_said, script_of}
-use Rattle.tx_script.specs.Output.{tickets_made, moment_text, events_text, end_text, output, summary_of}
-use Rattle.tx_script.specs.Answered.{count_of, Halted, IsUntold, IsUndone}
+use Rattle.tx_script.specs.Script.{faulty, script_said, script_of}
+use Rattle.tx_script.specs.Output.{tickets_made, moment_text, events_text, end_text}
+use Rattle.tx_script.specs.Answered.{count_of, Halted}
+use Rattle.tx_script.specs.Untold.{IsUntold}
 use Rattle.tx_script.specs.Answers.{IsFresh, Moved, settled, next, Ran, Begins, RunAnswers}
 use Rattle.tx_script.proofs.Scripts.{SaidSoFar, at_start, header_said, event_said, fault_said, whole_said, stop_said}
-use Rattle.tx_script.proofs.Moments.{IsSoFar, none_so_far, one_more, one_answered, few_tickets, length_run, made_same, after_same, text_same}
-use Rattle.tx_script.proofs.NoRoom.{never_stands}
+use Rattle.tx_script.proofs.Moments.{IsSoFar, none_so_far, one_more, one_answered, few_tickets, length_run, reply_same, made_same, after_same}
 
 -- Some events were read, answered and counted: a and b are what the source had to give before and has now, u and v what the sink had taken, s and t
 -- the network, T is what is to come, and size bounds it.
@@ -129,36 +132,45 @@ module _ (p : Plan) (a b : Option (List ℕ)) (s t : State) (u v : Option (List 
           (record { events = es; place = place; text = inl (fault_said p a b c es T on.said n ws U k q h); ran = ran n (Word k) })
 
       -- the frame is faulty, or the source failed
-      stop_by : (n : ℕ) (k : FrameFault) → Stopped a c (script_of p) broken (is_read k) (faulty es n (Frame k))
+      stop_by : (n : ℕ) (k : FrameFault) → (is_no_room k ≡ true → ⊥) → Stopped a c (script_of p) broken (is_read k) (faulty es n (Frame k))
           → RunAnswers p there broken untouched (Err (record { event = tally.answered + 1; cause = if is_read k then Read else OfScript (record { line = n; kind = Frame k }) }))
-      stop_by n (of_line line_read) q = record { events = es; line = n; place = place; text = q.0; failed = q.1; ran = ran n (Frame (of_line line_read)) }
-      stop_by n (of_line (Text LineTooLong)) q = record { events = es; place = place; text = q; ran = ran n (Frame (of_line (Text LineTooLong))) }
-      stop_by n (of_line (Text BadByte)) q = record { events = es; place = place; text = q; ran = ran n (Frame (of_line (Text BadByte))) }
-      stop_by n (of_line (Text TextNoMemory)) q = absurd (never_stands p a c es n q)
-      stop_by n (of_form x) q = record { events = es; place = place; text = q; ran = ran n (Frame (of_form x)) }
+      stop_by n (of_line line_read) none q = record { events = es; line = n; place = place; text = q.0; failed = q.1; ran = ran n (Frame (of_line line_read)) }
+      stop_by n (of_line (Text LineTooLong)) none q = record { events = es; place = place; text = q; ran = ran n (Frame (of_line (Text LineTooLong))) }
+      stop_by n (of_line (Text BadByte)) none q = record { events = es; place = place; text = q; ran = ran n (Frame (of_line (Text BadByte))) }
+      stop_by n (of_line (Text TextNoMemory)) none q = absurd (none refl)
+      stop_by n (of_form x) none q = record { events = es; place = place; text = q; ran = ran n (Frame (of_form x)) }
 
-      pub stop_answers : (n : ℕ) (k : FrameFault) → Stopped b c T broken (is_read k) (Stop n k)
+      pub stop_answers : (n : ℕ) (k : FrameFault) → ((e : Ending) (more : List ℕ) → IsSaid (T e more)) → Stopped b c T broken (is_read k) (Stop n k)
           → f ≡ record { event = tally.answered + 1; cause = if is_read k then Read else OfScript (record { line = n; kind = Frame k }) } → RunAnswers p there broken untouched (Err f)
-      stop_answers n k q i = subst (λ (z : RunFault). RunAnswers p there broken untouched (Err z)) (sym i) (stop_by n k (stop_said p a b c es T on.said n k broken q))
+      stop_answers n k said q i = subst (λ (z : RunFault). RunAnswers p there broken untouched (Err z)) (sym i) (stop_by n k (none_stops b c T n k broken (is_read k) said q) (stop_said p a b c es T on.said n k broken q))
 
   -- what was written and where the network stands after an event that was not answered whole, or after the last line
   module _ (c : Option (List ℕ)) (r : State) (w : Option (List ℕ)) (broken untouched : Type 0) where
     abbrev after : Moved
     after = record { rest_old = a; rest_new = c; taken_old = u; taken_new = w; state_old = s; state_new = r }
 
+    -- the tickets that were taken before are no matter
+    untold_by : (e : Event) → IsUntold p (moment p (settled p s es) e) r (append_known u (events_text p s es)) w → IsUntold p (next p s es e) r (append_known u (events_text p s es)) w
+    untold_by e (inl h) =
+        let t = state_after p s es in
+        inl (record {
+          front = subst (λ z. StopsIn (append_known u (events_text p s es)) w (reply_text p z)) (reply_same p t e) h.front;
+          network = h.network ∙ after_same p t e _ ∙ ap (drained (next p s es e).after) (made_same p t e);
+        })
+    untold_by e (inr h) =
+        let t = state_after p s es in
+        inr (record {
+          written = h.written;
+          hand = h.hand;
+          left = h.left;
+          whole = sym (made_same p t e) ∙ h.whole;
+          front = subst (λ z. StopsIn (append_known (append_known (append_known u (events_text p s es)) (reply_text p z)) (flat_map (ticket_text p) h.written)) w (ticket_text p h.hand)) (reply_same p t e) h.front;
+          network = h.network ∙ after_same p t e h.left;
+        })
+
     halted_by : (e : Event) → Begins p after (es ++ e ∷ []) → (cause : RunCause) → Halted p e (settled p s es) r (append_known u (events_text p s es)) w cause → RunAnswers p after broken untouched (Err (record { event = length es + 1; cause = cause }))
     halted_by e text Read h = absurd h
-    halted_by e text Write h =
-        let m = next p s es e in
-        inl (record {
-          events = es;
-          hand = e;
-          taken = h.taken;
-          place = refl;
-          text = text;
-          front = subst (StopsIn (append_known u (events_text p s es)) w) (text_same p (state_after p s es) e) h.front;
-          network = h.network ∙ after_same p (state_after p s es) e _ ∙ ap (λ l. drained m.after (drop h.taken l)) (made_same p (state_after p s es) e);
-        })
+    halted_by e text Write h = inl (record { events = es; hand = e; place = refl; text = text; untold = untold_by e h })
     halted_by e text (OfScript f) h = absurd h
     halted_by e text NoMemory h = record { events = es; hand = e; place = refl; text = text; wrote = h.written; network = h.network; asks = h.asks; unrefused = ap (λ (z : State). refusal p z e) h.network ∙ h.unrefused }
 

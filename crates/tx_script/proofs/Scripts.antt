@@ -1,5 +1,5 @@
 -- What was read so far, as the first events of a script.
-use Rattle.std.proofs.Common.{◌≡◌, ◌⊎◌, ℕ, List, [], ◌∷◌, ◌++◌, Option, Some, None, Result, Ok, Err, Bool, codes, refl, sym, ap, ◌∙◌, append_assoc, append-nil, subst, inl, inr}
+use Rattle.std.proofs.Common.{◌≡◌, ◌⊎◌, ℕ, List, [], ◌∷◌, ◌++◌, Option, Ok, Err, codes, refl, sym, ap, ◌∙◌, append_assoc, append-nil, subst, inl, inr}
 use Rattle.tx_text.specs.declared.frame.FrameFault.{FrameFault}
 use Rattle.tx_text.specs.declared.frame.Kind.{Kind}
 use Rattle.tx_text.specs.declared.frame.Kind.TheVariants.{Frame, Word}

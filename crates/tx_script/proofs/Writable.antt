@@ -1,14 +1,11 @@
 -- An event that a line says can be written.
-use Rattle.std.proofs.Common.{◌≡◌, ℕ, ◌+◌, ◌-◌, ◌^◌, ◌<◌, ◌≤◌, ◌==◌, Bool, true, false, cond, ◌&&◌, nat_le, nat_lt, List, [], ◌∷◌, length, Option, Some, None, Result, Ok, Err, IfOk, refl, sym, ap, ◌∙◌, subst, arith}
+use Rattle.std.proofs.Common.{◌≡◌, ℕ, ◌-◌, ◌^◌, ◌<◌, ◌≤◌, ◌==◌, Bool, true, false, cond, ◌&&◌, nat_le, nat_lt, List, [], ◌∷◌, length, Option, Some, None, Result, Ok, Err, refl, ap, subst, arith}
 use Rattle.std.specs.List.{position, position_or_len}
 use Rattle.std.specs.Str.{bytes_eq}
 use Rattle.std.specs.Str.Parse.{digits_value}
 use Rattle.std.proofs.lemmas.Bool.{and_parts, leb-true, ltb-true}
 use Rattle.std.proofs.lemmas.Bool.Decides.{nat_tests}
-use Rattle.tx_text.specs.Words.{number_of, figures_of, are_figures, is_numeral, words_of}
-use Rattle.tx_text.specs.Text.{bytes_fault}
-use Rattle.tx_text.specs.declared.text_fault.TextFault.{TextFault}
-use Rattle.tx_text.specs.declared.frame.Kind.{Kind}
+use Rattle.tx_text.specs.Words.{number_of, figures_of, are_figures, is_numeral}
 use Rattle.tx_plan.specs.Plan.{Plan, Code, Group, code_named, group_named}
 use Rattle.tx_plan.specs.Rules.{is_national}
 use Rattle.tx_plan.specs.declared.circuit.Circuit.{Circuit}
@@ -19,7 +16,7 @@ use Rattle.tx_state.specs.declared.party.Party.{Party}
 use Rattle.tx_script.specs.declared.verb.Verb.{Verb}
 use Rattle.tx_script.specs.declared.verb.Verb.TheVariants.{Key as KeyVerb, Route as RouteVerb, Confirm as ConfirmVerb, Clear as ClearVerb, Released as ReleasedVerb, Fail as FailVerb, Restore as RestoreVerb, Block as BlockVerb, Unblock as UnblockVerb, Out as OutVerb, In as InVerb, Fault as FaultVerb, Mend as MendVerb, Away as AwayVerb, Back as BackVerb, End as EndVerb}
 use Rattle.tx_script.specs.declared.script_word.ScriptWord.{ScriptWord}
-use Rattle.tx_script.specs.Events.{Said, call_number, party_of, national_of, from_one, circuit_number, cut_at_dot, spelt, named, counted, known, said_of, line_of, circuit_of, one_word, two_words, three_words, key_event, call_in, clear_event, circuit_in, group_in, line_in, end_event, verb_of, event_by, event_for, event_of, event_said, event_in, IsWritableCircuit, IsWritable, IsEvent}
+use Rattle.tx_script.specs.Events.{call_number, party_of, national_of, from_one, circuit_number, cut_at_dot, spelt, named, counted, known, said_of, line_of, circuit_of, one_word, two_words, three_words, key_event, call_in, clear_event, circuit_in, group_in, line_in, end_event, verb_of, event_by, event_for, event_of, IsWritableCircuit, IsWritable, IsEvent}
 
 -- ---- a step of what is said, backwards
 

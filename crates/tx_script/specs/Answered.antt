@@ -1,6 +1,5 @@
 -- What is told of the answer to one event.
-use Rattle.std.specs.Prelude.{◌≡◌, ℕ, true, List, drop, length, Option, None}
-use Rattle.tx_text.specs.Ends.{StopsIn}
+use Rattle.std.specs.Prelude.{◌≡◌, ℕ, true, List, length, Option, None}
 use Rattle.tx_plan.specs.Plan.{Plan}
 use Rattle.tx_state.specs.declared.event.Event.{Event}
 use Rattle.tx_state.specs.State.{State}
@@ -8,11 +7,11 @@ use Rattle.tx_state.specs.Refusals.{refusal}
 use Rattle.tx_state.specs.Step.{takes_memory}
 use Rattle.tx_state.specs.Runs.{Moment, moment}
 use Rattle.tx_state.specs.Sound.{is_refused}
-use Rattle.tx_state.specs.Drained.{drained}
 use Rattle.tx_script.specs.declared.answer.Answered.{Answered}
 use Rattle.tx_script.specs.declared.run_cause.RunCause.{RunCause}
 use Rattle.tx_script.specs.declared.run_cause.RunCause.TheVariants.{Read, Write, Script as OfScript, NoMemory}
-use Rattle.tx_script.specs.Output.{tickets_made, moment_text}
+use Rattle.tx_script.specs.Output.{tickets_made}
+use Rattle.tx_script.specs.Untold.{IsUntold}
 
 -- whether it was refused, and how many tickets it made
 abbrev pub count_of : Moment → Answered
@@ -25,15 +24,9 @@ pub record IsUndone (p : Plan) (e : Event) (s t : State) (a b : Option (List ℕ
   pub asks : takes_memory e ≡ true
   pub unrefused : refusal p s e ≡ None
 
--- it was done, some of its tickets were taken, and a front of its lines was written
-pub record IsUntold (m : Moment) (text : List ℕ) (t : State) (a b : Option (List ℕ)) : Type 0 where
-  pub taken : ℕ
-  pub network : t ≡ drained m.after (drop taken (tickets_made m))
-  pub front : StopsIn a b text
-
 -- why an event was not answered whole: s and a are the state and what was written before, t and b after
 abbrev pub Halted : Plan → Event → State → State → Option (List ℕ) → Option (List ℕ) → RunCause → Type 0
 Halted p e s t a b Read = ⊥
-Halted p e s t a b Write = IsUntold (moment p s e) (moment_text p (moment p s e)) t a b
+Halted p e s t a b Write = IsUntold p (moment p s e) t a b
 Halted p e s t a b (OfScript f) = ⊥
 Halted p e s t a b NoMemory = IsUndone p e s t a b

@@ -1,5 +1,5 @@
 -- What a run answers: what it read, what it wrote, and where it left the network.
-use Rattle.std.specs.Prelude.{◌≡◌, ◌⊎◌, ℕ, ◌+◌, Bool, true, false, List, [], ◌∷◌, ◌++◌, drop, length, Option, None, Result, Ok, Err}
+use Rattle.std.specs.Prelude.{◌≡◌, ◌⊎◌, ℕ, ◌+◌, Bool, true, false, List, [], ◌∷◌, ◌++◌, length, Option, None, Result, Ok, Err}
 use Rattle.std.specs.Io.KnownBytes.{append_known, IsAtEnd}
 use Rattle.tx_text.specs.declared.frame.Kind.{Kind}
 use Rattle.tx_text.specs.declared.frame.Kind.TheVariants.{Frame, Word}
@@ -22,7 +22,8 @@ use Rattle.tx_script.specs.declared.run_cause.RunCause.{RunCause}
 use Rattle.tx_script.specs.declared.run_cause.RunCause.TheVariants.{Read, Write, Script as OfScript, NoMemory}
 use Rattle.tx_script.specs.declared.summary.Summary.{Summary}
 use Rattle.tx_script.specs.Script.{Script, whole, faulty, after_events, script_of}
-use Rattle.tx_script.specs.Output.{tickets_made, moment_text, events_text, end_text, output, summary_of}
+use Rattle.tx_script.specs.Output.{events_text, end_text, output, summary_of}
+use Rattle.tx_script.specs.Untold.{IsUntold}
 
 -- a network as it was made: without calls and tickets
 pub record IsFresh (s : State) : Type 0 where
@@ -94,18 +95,15 @@ pub record RanOutOfMemory (p : Plan) (x : Moved) (event : ℕ) : Type 0 where
   pub asks : takes_memory hand ≡ true
   pub unrefused : refusal p x.state_new hand ≡ None
 
--- A write failed in the lines of this event: those of the events before it were written, and a front of its own. It was done, and some of its tickets
--- were taken.
+-- A write failed in the lines of this event, which was done: those of the events before it were written, and of its own a front and not all.
 pub record FailedInEvent (p : Plan) (x : Moved) (event : ℕ) : Type 0 where
   pub events : List Event
   pub hand : Event
-  pub taken : ℕ
   pub place : event ≡ length events + 1
   pub text : Begins p x (events ++ hand ∷ [])
-  pub front : StopsIn (append_known x.taken_old (events_text p x.state_old events)) x.taken_new (moment_text p (next p x.state_old events hand))
-  pub network : let m = next p x.state_old events hand in x.state_new ≡ drained m.after (drop taken (tickets_made m))
+  pub untold : IsUntold p (next p x.state_old events hand) x.state_new (append_known x.taken_old (events_text p x.state_old events)) x.taken_new
 
--- A write failed in the last line: the lines of all events were written, and a front of that line.
+-- A write failed in the last line: the lines of all events were written, and of that line a front and not all.
 pub record FailedAtEnd (p : Plan) (x : Moved) (event : ℕ) : Type 0 where
   pub events : List Event
   pub place : event ≡ length events + 1

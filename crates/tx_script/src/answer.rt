@@ -1,13 +1,13 @@
 // The answer to one event: its reply and its tickets.
-ghost use Rattle.std.specs.Prelude.{◌≡◌, ◌+◌, ◌<◌, ◌^◌, ℕ, [], true, OnOk, OnErr, IfOk, IfErr, drop, length};
+ghost use Rattle.std.specs.Prelude.{◌≡◌, ◌+◌, ◌<◌, ◌^◌, [], true, OnOk, OnErr, IfOk, IfErr, length};
 ghost use Rattle.std.specs.List.{flat_map};
 ghost use Rattle.std.specs.Io.KnownBytes.{append_known};
-ghost use Rattle.tx_text.specs.Ends.{StopsIn};
 ghost use Rattle.tx_state.specs.Drained.{drained};
 ghost use Rattle.tx_state.specs.Runs.{moment};
 ghost use Rattle.tx_state.specs.Sound.{is_refused};
 ghost use Rattle.tx_tickets.specs.Texts.{ticket_text};
-ghost use Rattle.tx_script.specs.Output.{tickets_made, moment_text};
+ghost use Rattle.tx_script.specs.Output.{moment_text};
+ghost use Rattle.tx_script.specs.Untold.{StopsAtTicket};
 ghost use Rattle.tx_script.specs.Answers.{mark_by};
 ghost use Rattle.tx_script.specs.Answered.{count_of, Halted};
 
@@ -69,8 +69,7 @@ fn write_tickets<B: Allocator, N: Network, W: Sink>(
     ensures count { IfOk result (λ n. n ≡ length (N.state net.old).tickets) }
     ensures ok { OnOk result (W.taken sink.new ≡ append_known (W.taken sink.old) (flat_map (ticket_text plan.now) (N.state net.old).tickets)) }
     ensures taken { OnOk result (N.state net.new ≡ drained (N.state net.old) []) }
-    ensures err { OnErr result (StopsIn (W.taken sink.old) (W.taken sink.new) (flat_map (ticket_text plan.now) (N.state net.old).tickets)) }
-    ensures left { OnErr result ((k : ℕ) × (N.state net.new ≡ drained (N.state net.old) (drop k (N.state net.old).tickets))) }
+    ensures err { OnErr result (StopsAtTicket plan.now (N.state net.old).tickets (N.state net.old) (N.state net.new) (W.taken sink.old) (W.taken sink.new)) }
     ensures mark { OnErr result (W.failed sink.new ≡ true) }
     ensures unmarked { OnOk result (W.failed sink.new ≡ W.failed sink.old) }
 {

@@ -1,10 +1,12 @@
 // The line of an event.
-ghost use Rattle.std.specs.Prelude.{◌≡◌, ◌++◌, true, OnOk, OnErr, codes, decimal};
+ghost use Rattle.std.specs.Prelude.{◌≡◌, ◌++◌, true, Ok, OnOk, OnErr, codes, decimal};
 ghost use Rattle.std.specs.Io.KnownBytes.{append_known};
 ghost use Rattle.tx_text.specs.Ends.{StopsIn};
+ghost use Rattle.tx_text.specs.Words.{are_figures};
 ghost use Rattle.tx_plan.specs.Plan.{group_name};
+ghost use Rattle.tx_plan.specs.Rules.{is_national};
 ghost use Rattle.tx_tickets.specs.Texts.{circuit_text, line_text};
-ghost use Rattle.tx_script.specs.Events.{IsWritable, event_text, party_word};
+ghost use Rattle.tx_script.specs.Events.{IsWritable, event_in, event_line, event_text, party_word};
 
 use itoa::Buffer;
 use std::alloc::Allocator;
@@ -12,18 +14,22 @@ use tx_plan::{Circuit, GroupId, Line, Plan};
 use tx_state::{Event, Party};
 use tx_text::{Figures, Sink, WriteFault, write_parts};
 
-/// Writes the line of an event, as `KEY 41 10001 4110002`, with its LF. The plan has the event's ids, and its circuit has a number from 1 to 240.
+/// Writes the line of an event, as `KEY 41 10001 4110002`, with its LF. The plan has the event's ids, and its circuit has a number from 1 to 240. The
+/// line reads back as the event.
+#[tactic(auto, using(crate::proofs::EventLines::events_back))]
 pub fn write_event<A: Allocator, W: Sink>(
     event: &Event,
     plan: &Plan<A>,
     sink: &mut W,
 ) -> Result<(), WriteFault>
     requires { IsWritable plan.now event.now }
+    ensures says { event_in plan.now (event_line plan.now event.now) ≡ Ok event.now }
     ensures ok { OnOk result (W.taken sink.new ≡ append_known (W.taken sink.old) (event_text plan.now event.now)) }
     ensures err { OnErr result (StopsIn (W.taken sink.old) (W.taken sink.new) (event_text plan.now event.now)) }
     ensures mark { OnErr result (W.failed sink.new ≡ true) }
     ensures unmarked { OnOk result (W.failed sink.new ≡ W.failed sink.old) }
 {
+    plan.rules();
     match event {
         Event::Key { line, keyed } => write_key(line, keyed, plan, sink),
         Event::Route(call) => write_call(b"ROUTE ", *call, b"\n", sink),
@@ -50,6 +56,8 @@ fn write_key<A: Allocator, W: Sink>(
     plan: &Plan<A>,
     sink: &mut W,
 ) -> Result<(), WriteFault>
+    ensures national { is_national line.now.national ≡ true }
+    ensures keyed { are_figures 1 12 keyed.now ≡ true }
     ensures ok { OnOk result (W.taken sink.new ≡ append_known (W.taken sink.old) (codes "KEY " ++ (line_text plan.now line.now ++ (codes " " ++ (keyed.now ++ codes "\n"))))) }
     ensures err { OnErr result (StopsIn (W.taken sink.old) (W.taken sink.new) (codes "KEY " ++ (line_text plan.now line.now ++ (codes " " ++ (keyed.now ++ codes "\n"))))) }
     ensures mark { OnErr result (W.failed sink.new ≡ true) }
@@ -136,6 +144,7 @@ fn write_line<A: Allocator, W: Sink>(
     plan: &Plan<A>,
     sink: &mut W,
 ) -> Result<(), WriteFault>
+    ensures national { is_national line.now.national ≡ true }
     ensures ok { OnOk result (W.taken sink.new ≡ append_known (W.taken sink.old) (first.now ++ (line_text plan.now line.now ++ codes "\n"))) }
     ensures err { OnErr result (StopsIn (W.taken sink.old) (W.taken sink.new) (first.now ++ (line_text plan.now line.now ++ codes "\n"))) }
     ensures mark { OnErr result (W.failed sink.new ≡ true) }

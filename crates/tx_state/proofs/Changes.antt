@@ -9,7 +9,7 @@ use Rattle.tx_plan.specs.Orders.{circuit_cmp, same_circuit}
 use Rattle.tx_plan.proofs.Named.{same_circuit-is, same_circuit-itself, in_insert, in_remove, in_retain, in_union, by_cmp-is}
 use Rattle.tx_plan.specs.Plan.{Plan}
 use Rattle.tx_plan.specs.Lines.{is_line}
-use Rattle.tx_plan.specs.Circuits.{other_end}
+use Rattle.tx_plan.specs.Circuits.{is_circuit, other_end}
 use Rattle.tx_plan.specs.declared.circuit.Circuit.{Circuit}
 use Rattle.tx_plan.specs.declared.line.Line.{Line}
 use Rattle.tx_state.specs.declared.cause.Cause.{Cause}
@@ -43,6 +43,7 @@ module _ (p : Plan) (s : State) (h : Holds p s) where
         joined = tt;
         once = tt;
         own = λ x m e. m;
+        planned = λ x e. absurd (not_standing e);
         calling = λ x e. absurd (not_standing e);
         connected = λ l e. let bad : ⊥ = cc in absurd bad;
         lines = (refl, tt);
@@ -115,6 +116,7 @@ module _ (p : Plan) (s : State) (h : Holds p s) where
           joined = kept.joined;
           once = kept.once;
           own = λ x m e. let bad : ⊥ = cc in bad;
+          planned = λ x e. let bad : ⊥ = cc in absurd bad;
           calling = λ x e. let bad : ⊥ = cc in absurd bad;
           connected = λ m e. let same : l ≡ m = cc in subst (IsKeyedLine p (in_phase (Connected l) c)) same (record { known = right.known; at_home = right.at_home; keyed = right.keyed });
           lines = (or_no (or_parts _ _ (free c in')).0, (refl, tt));
@@ -138,14 +140,15 @@ module _ (p : Plan) (s : State) (h : Holds p s) where
         or_no e = ap (λ b. b || false) e
 
     -- A CALL THAT SEIZES A CIRCUIT
-    pub seize_keeps : (x : Circuit) (y : ℕ) → c.phase ≡ Standing → other_end p x.group (place_of p c) ≡ Some y → IsFree p s (place_of p c) x → Inv p (set_call c.number (in_phase (Calling x)) s.calls) s.releasing s.numbers
-    seize_keeps x y stands to free =
+    pub seize_keeps : (x : Circuit) (y : ℕ) → c.phase ≡ Standing → is_circuit p x ≡ true → other_end p x.group (place_of p c) ≡ Some y → IsFree p s (place_of p c) x → Inv p (set_call c.number (in_phase (Calling x)) s.calls) s.releasing s.numbers
+    seize_keeps x y stands known to free =
         inv_set p s.calls s.releasing s.numbers h c in' (in_phase (Calling x)) refl
         (record {
           known = kept.known;
           joined = kept.joined;
           once = kept.once;
           own = λ z m e. let same : x ≡ z = cc in free.carried c in' (subst (Mem (circuits_carried c)) (sym same) m);
+          planned = λ z e. let same : x ≡ z = cc in subst (λ w. is_circuit p w ≡ true) same known;
           calling = λ z e. let same : x ≡ z = cc in (y, ap (λ (w : Circuit). other_end p w.group (place_of p c)) (sym same) ∙ to);
           connected = λ l e. let bad : ⊥ = cc in absurd bad;
           lines = (refl, tt);
@@ -165,9 +168,10 @@ module _ (p : Plan) (s : State) (h : Holds p s) where
         inv_set p s.calls s.releasing s.numbers h c in' (carried_on x far) refl
         (record {
           known = kept.known;
-          joined = joins_more p (start_of p c) c.hops hop kept.joined to;
+          joined = joins_more p (start_of p c) c.hops hop kept.joined (kept.planned x calls) to;
           once = subst (NoneTwice same_circuit) (sym (map_push (λ (h : Hop). h.circuit) c.hops hop)) (none_twice_push same_circuit (circuits_carried c) x kept.once (λ y m. new y m));
           own = λ z m e. not_standing e;
+          planned = λ z e. absurd (not_standing e);
           calling = λ z e. absurd (not_standing e);
           connected = λ l e. let bad : ⊥ = cc in absurd bad;
           lines = (refl, tt);
@@ -208,6 +212,7 @@ module _ (p : Plan) where
     joined = k.joined;
     once = k.once;
     own = λ x m e. not_standing e;
+    planned = λ x e. absurd (not_standing e);
     calling = λ x e. absurd (not_standing e);
     connected = λ l e. let bad : ⊥ = cc in absurd bad;
     lines = (refl, tt);

@@ -75,7 +75,7 @@ module _ (p : Plan) (s : State) (h : Holds p s) (e : Event) (c' : Call) where
     after_trunk code q stands keyed open' away (Some x) a m' =
         let r = first_in-is (first_free p s (place_of p c)) (route_list p (place_of p c) code) x a in
         let f = chosen p s (place_of p c) r.0 x r.2 in
-        after_set c m (in_phase (Calling x)) (λ i. seizes_one x code q stands keyed open' away (subst (Mem (route_list p (place_of p c) code)) (sym f.0) r.1) i) m'
+        after_set c m (in_phase (Calling x)) (λ i. seizes_one x code q stands keyed open' away (subst (Mem (route_list p (place_of p c) code)) (sym f.group) r.1) i) m'
 
     after_route : e ≡ Route c.number → c.phase ≡ Standing → (o : Option ℕ) → code_of p c.keyed ≡ o → Mem (routed_for p s c o).1.calls c' → Came p s e c'
     after_route q stands None k m' = after_end (ByService Np) (is_numbered c.number) m'

@@ -1,11 +1,14 @@
 -- A run of one event more.
-use Rattle.std.proofs.Common.{◌≡◌, ℕ, zero, suc, ◌+◌, ◌<◌, List, [], ◌∷◌, ◌++◌, take, length, get_or, append_assoc, sym, ap, ◌∙◌, arith}
+use Rattle.std.proofs.Common.{◌≡◌, ℕ, zero, suc, ◌+◌, ◌<◌, true, List, [], ◌∷◌, ◌++◌, take, drop, length, get_or, append_assoc, take-append-drop, None, sym, ap, ◌∙◌, arith}
+use Rattle.std.proofs.lemmas.List.{drop_more}
 use Rattle.tx_plan.specs.Plan.{Plan}
 use Rattle.tx_state.specs.declared.event.Event.{Event}
 use Rattle.tx_state.specs.declared.reply.Reply.{Reply}
 use Rattle.tx_state.specs.State.{State}
-use Rattle.tx_state.specs.Step.{step}
+use Rattle.tx_state.specs.Refusals.{refusal}
+use Rattle.tx_state.specs.Step.{step, takes_memory}
 use Rattle.tx_state.specs.Runs.{replies, state_after}
+use Rattle.tx_state.specs.Driven.{StopsAt}
 
 -- after the first events and the one at that place
 pub record IsOneMore (p : Plan) (s : State) (events : List Event) (at : ℕ) (e : Event) : Type 0 where
@@ -31,3 +34,17 @@ driven_more p q s u t events at e reply old items new l h plan was here stepped 
           ∙ ap (λ rs. old ++ rs) (sym i.replies) ∙ ap (λ n. old ++ replies p s (take n events)) more,
       sym (ap (λ n. n.1) made) ∙ sym i.state ∙ ap (λ n. state_after p s (take n events)) more,
     )
+
+-- memory was wanting at the next event
+pub driven_stop : (p q : Plan) (s u t : State) (events : List Event) (at : ℕ) (e : Event) (old items : List Reply) → at < length events → e ≡ get_or events at e → q ≡ p
+    → items ≡ old ++ replies p s (take at events) → u ≡ state_after p s (take at events) → t ≡ u → (takes_memory e ≡ true) × (refusal q u e ≡ None) → StopsAt p s events old t items
+driven_stop p q s u t events at e old items l h plan was here same memory = record {
+  done = take at events;
+  hand = e;
+  left = drop (at + 1) events;
+  whole = sym (take-append-drop at events) ∙ ap (λ es. take at events ++ es) (drop_more events at e l ∙ ap (λ f. f ∷ drop (at + 1) events) (sym h));
+  replies = was;
+  state = same ∙ here;
+  asks = memory.0;
+  unrefused = ap (λ v. refusal p v e) same ∙ ap (λ k. refusal k u e) (sym plan) ∙ memory.1;
+}

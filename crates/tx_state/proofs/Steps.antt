@@ -150,7 +150,7 @@ module _ (p : Plan) (ok : IsPlan p) (s : State) (h : Holds p s) where
         let r = first_in-is (first_free p s (place_of p c)) (route_list p (place_of p c) code) x a in
         let f = chosen p s (place_of p c) r.0 x r.2 in
         let to = listed_leads p ok (place_of p c) code r.0 r.1 in
-        seize_keeps p s h c m x to.0 stands (ap (λ g. other_end p g (place_of p c)) f.0 ∙ to.1) f.1
+        seize_keeps p s h c m x to.0 stands f.planned (ap (λ g. other_end p g (place_of p c)) f.group ∙ to.1) f.free
 
     route_keeps : c.phase ≡ Standing → (o : Option ℕ) → code_of p c.keyed ≡ o → Holds p (routed_for p s c o).1
     route_keeps stands None e = end_keeps p s h (ByService Np) (is_numbered c.number)

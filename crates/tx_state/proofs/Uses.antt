@@ -1,14 +1,14 @@
 -- What the tests of the machine say of calls, circuits and lines.
-use Rattle.std.proofs.Common.{◌≡◌, ◌≢◌, ℕ, ◌==◌, Bool, true, false, not, ◌||◌, List, [], ◌∷◌, ◌++◌, ◌⊎◌, inl, inr, map, Option, Some, None, refl, sym, ap, ◌∙◌, eqb-true, eq-eqb}
-use Rattle.std.proofs.lemmas.Bool.{false≢true, or_parts, and_parts, and_from, not-true, both_ways}
-use Rattle.std.specs.Prelude.{if◌then◌else◌, find, slice_get, is_some, option_and_then}
+use Rattle.std.proofs.Common.{◌≡◌, ◌≢◌, ℕ, zero, suc, ◌≤◌, ◌==◌, Bool, true, false, not, ◌&&◌, ◌||◌, List, [], ◌∷◌, ◌++◌, ◌⊎◌, inl, inr, map, Option, Some, None, refl, sym, ap, ◌∙◌, subst, eqb-true, eq-eqb, arith}
+use Rattle.std.proofs.lemmas.Bool.{false≢true, or_parts, and_parts, and_from, not-true, both_ways, le-leb}
+use Rattle.std.specs.Prelude.{if◌then◌else◌, find, slice_get, is_some, nat_le, option_and_then}
 use Rattle.std.specs.Option.{option_map_or}
 use Rattle.std.specs.List.{list_any}
 use Rattle.std.specs.FinSet as set
 use Rattle.tx_plan.specs.Orders.{same_circuit, same_line, same_line-itself}
 use Rattle.tx_plan.proofs.Named.{same_circuit-is, same_circuit-itself}
 use Rattle.tx_plan.specs.Plan.{Plan, Group}
-use Rattle.tx_plan.specs.Circuits.{far_end, other_end, circuits_at, order_at}
+use Rattle.tx_plan.specs.Circuits.{far_end, other_end, is_circuit, circuits_at, order_at, upward, downward}
 use Rattle.tx_plan.specs.declared.circuit.Circuit.{Circuit}
 use Rattle.tx_plan.specs.declared.line.Line.{Line}
 use Rattle.tx_state.specs.declared.hop.Hop.{Hop}
@@ -18,7 +18,7 @@ use Rattle.tx_state.specs.InUse.{circuits_carried, carries, is_calling_on, seize
 use Rattle.tx_state.specs.Lines.{is_connected_to, takes_part, lines_of}
 use Rattle.tx_state.specs.Members.{NoneTwice, Mem}
 use Rattle.tx_state.specs.Passed.{Joins}
-use Rattle.tx_state.proofs.Lists.{none_any, find_mem, mem_map}
+use Rattle.tx_state.proofs.Lists.{none_any, find_mem, mem_map, mem_append}
 
 pub not_carried : (c : Call) (x : Circuit) → carries c x ≡ false → Mem (circuits_carried c) x → ⊥
 not_carried c x n m =
@@ -79,18 +79,38 @@ first_in-none look (y ∷ gs) g h m = at (look y) refl h m (first_in-none look g
     at None e h (inr m) rest = rest h m
     at (Some x) e h m rest = cc
 
-pub group_at : (p : Plan) (g place : ℕ) (x : Circuit) → Mem (circuits_at p g place) x → x.group ≡ g
-group_at p g place x m = at (slice_get p.groups g) m
-  where
-    at : (o : Option Group) → Mem (option_map_or (λ (r : Group). map (λ n. record { group = g; number = n }) (order_at r place)) o []) x → x.group ≡ g
-    at None m = elim m [ ]
-    at (Some r) m = let q = mem_map (λ n. record { group = g; number = n }) (order_at r place) x m in ap (λ (y : Circuit). y.group) (sym q.2)
+in_order : (up : Bool) (count n : ℕ) → Mem (if up then upward count else downward count) n → (1 ≤ n) × (n ≤ count)
+in_order true zero n m = elim m [ ]
+in_order true (suc k) n m = elim (mem_append (upward k) (suc k ∷ []) n m) [ inl o ↦ let r = in_order true k n o in (r.0, let q = r.1 in omega arith) | inr e ↦ elim e [ inl q ↦ (omega arith, omega arith) | inr b ↦ absurd b ] ]
+in_order false zero n m = elim m [ ]
+in_order false (suc k) n (inl e) = (omega arith, omega arith)
+in_order false (suc k) n (inr m) = let r = in_order false k n m in (r.0, let q = r.1 in omega arith)
 
-pub chosen : (p : Plan) (s : State) (place g : ℕ) (x : Circuit) → first_free p s place g ≡ Some x → (x.group ≡ g) × IsFree p s place x
+-- the circuits of a group are circuits of the plan
+group_at : (p : Plan) (g place : ℕ) (x : Circuit) → Mem (circuits_at p g place) x → (x.group ≡ g) × (is_circuit p x ≡ true)
+group_at p g place x m = at (slice_get p.groups g) refl m
+  where
+    at : (o : Option Group) → slice_get p.groups g ≡ o → Mem (option_map_or (λ (r : Group). map (λ n. record { group = g; number = n }) (order_at r place)) o []) x → (x.group ≡ g) × (is_circuit p x ≡ true)
+    at None e m = elim m [ ]
+    at (Some r) e m =
+        let q = mem_map (λ n. record { group = g; number = n }) (order_at r place) x m in
+        let i = in_order (r.a == place) r.count q.0 q.1 in
+        (ap (λ (y : Circuit). y.group) (sym q.2), subst (λ y. is_circuit p y ≡ true) q.2 (ap (λ o. option_map_or (λ (r : Group). nat_le 1 q.0 && nat_le q.0 r.count) o false) e ∙ and_from (nat_le 1 q.0) (nat_le q.0 r.count) (le-leb 1 q.0 i.0) (le-leb q.0 r.count i.1)))
+
+-- a circuit that an exchange may choose
+pub record IsChosen (p : Plan) (s : State) (place g : ℕ) (x : Circuit) : Type 0 where
+  pub group : x.group ≡ g
+  pub planned : is_circuit p x ≡ true
+  pub free : IsFree p s place x
+
+pub chosen : (p : Plan) (s : State) (place g : ℕ) (x : Circuit) → first_free p s place g ≡ Some x → IsChosen p s place g x
 chosen p s place g x h =
-    elim (is_down s g) as (λ b. (if b then None else find (is_free_at p s place) (circuits_at p g place)) ≡ Some x → (x.group ≡ g) × IsFree p s place x) [
+    elim (is_down s g) as (λ b. (if b then None else find (is_free_at p s place) (circuits_at p g place)) ≡ Some x → IsChosen p s place g x) [
       | true ↦ λ e. let bad : ⊥ = cc in absurd bad
-      | false ↦ λ e. let r = find_mem (is_free_at p s place) (circuits_at p g place) x e in (group_at p g place x r.0, is_free p s place x r.1)
+      | false ↦ λ e.
+          let r = find_mem (is_free_at p s place) (circuits_at p g place) x e in
+          let q = group_at p g place x r.0 in
+          record { group = q.0; planned = q.1; free = is_free p s place x r.1 }
     ] h
 
 -- ends of a group
@@ -140,9 +160,9 @@ pub last_more : (x : ℕ) (hops : List Hop) (h : Hop) → last_exchange x (hops 
 last_more x [] h = refl
 last_more x (k ∷ hops) h = last_more k.far hops h
 
-pub joins_more : (p : Plan) (x : ℕ) (hops : List Hop) (h : Hop) → Joins p x hops → other_end p h.circuit.group (last_exchange x hops) ≡ Some h.far → Joins p x (hops ++ h ∷ [])
-joins_more p x [] h j e = (e, tt)
-joins_more p x (k ∷ hops) h j e = (j.0, joins_more p k.far hops h j.1 e)
+pub joins_more : (p : Plan) (x : ℕ) (hops : List Hop) (h : Hop) → Joins p x hops → is_circuit p h.circuit ≡ true → other_end p h.circuit.group (last_exchange x hops) ≡ Some h.far → Joins p x (hops ++ h ∷ [])
+joins_more p x [] h j c e = (c, e, tt)
+joins_more p x (k ∷ hops) h j c e = (j.0, j.1, joins_more p k.far hops h j.2 c e)
 
 pub map_push : {A B : Type 0} (f : A → B) (xs : List A) (x : A) → map f (xs ++ x ∷ []) ≡ map f xs ++ f x ∷ []
 map_push f [] x = refl

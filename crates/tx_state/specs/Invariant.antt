@@ -6,7 +6,7 @@ use Rattle.tx_plan.specs.Orders.{circuit_cmp, same_circuit, same_line}
 use Rattle.tx_plan.specs.Plan.{Plan}
 use Rattle.tx_plan.specs.Lines.{is_line}
 use Rattle.tx_plan.specs.Codes.{code_of}
-use Rattle.tx_plan.specs.Circuits.{other_end}
+use Rattle.tx_plan.specs.Circuits.{is_circuit, other_end}
 use Rattle.tx_plan.specs.declared.circuit.Circuit.{Circuit}
 use Rattle.tx_plan.specs.declared.line.Line.{Line}
 use Rattle.tx_state.specs.Members.{Mem, NoneTwice}
@@ -19,12 +19,13 @@ use Rattle.tx_state.specs.Passed.{Joins, IsLower, Falls}
 use Rattle.tx_state.specs.Safe.{IsKeyedLine}
 
 -- Of each call alone: its line is a line of the plan; its hops join; it carries no circuit twice, and none that it has seized; a circuit that it has
--- seized leads on from where it stands; it is connected to the line that was keyed, and not to its own.
+-- seized is one of the plan and leads on from where it stands; it is connected to the line that was keyed, and not to its own.
 pub record IsKept (p : Plan) (c : Call) : Type 0 where
   pub known : is_line p c.line ≡ true
   pub joined : Joins p (start_of p c) c.hops
   pub once : NoneTwice same_circuit (circuits_carried c)
   pub own : (x : Circuit) → Mem (circuits_carried c) x → c.phase ≡ Calling x → ⊥
+  pub planned : (x : Circuit) → c.phase ≡ Calling x → is_circuit p x ≡ true
   pub calling : (x : Circuit) → c.phase ≡ Calling x → (y : ℕ) × (other_end p x.group (place_of p c) ≡ Some y)
   pub connected : (l : Line) → c.phase ≡ Connected l → IsKeyedLine p c l
   pub lines : NoneTwice same_line (lines_of c)

@@ -1,15 +1,15 @@
 -- The exchanges that a call passes (ITU-T F.68 for transits).
-use Rattle.std.specs.Prelude.{◌≡◌, ℕ, ◌<◌, Bool, false, not, ◌||◌, ◌==◌, List, [], ◌∷◌, map, filter, Option, Some, None}
+use Rattle.std.specs.Prelude.{◌≡◌, ℕ, ◌<◌, Bool, true, false, not, ◌||◌, ◌==◌, List, [], ◌∷◌, map, filter, Option, Some, None}
 use Rattle.tx_plan.specs.Plan.{Plan, home_of}
 use Rattle.tx_plan.specs.Codes.{code_of}
-use Rattle.tx_plan.specs.Circuits.{other_end}
+use Rattle.tx_plan.specs.Circuits.{is_circuit, other_end}
 use Rattle.tx_state.specs.declared.hop.Hop.{Hop}
 use Rattle.tx_state.specs.Call.{Call, start_of}
 
--- from the exchange x on, the circuit of each hop joins the exchange before it to the one after it
+-- from the exchange x on, the circuit of each hop is one of the plan, and joins the exchange before it to the one after it
 abbrev pub Joins : Plan → ℕ → List Hop → Type 0
 Joins p x [] = Unit {0}
-Joins p x (h ∷ hops) = (other_end p h.circuit.group x ≡ Some h.far) × Joins p h.far hops
+Joins p x (h ∷ hops) = (is_circuit p h.circuit ≡ true) × (other_end p h.circuit.group x ≡ Some h.far) × Joins p h.far hops
 
 -- the exchange where a call starts, and those that its hops lead to
 abbrev pub passed : Plan → Call → List ℕ

@@ -32,7 +32,7 @@ OfConnected (Connected l) Holds = Holds l
 
 -- WHAT HOLDS IN EVERY RUN OF EVERY PLAN
 
--- each hop's circuit joins the exchange before it to the one after it, and no circuit is carried twice, by one call or by two
+-- each hop's circuit is one of the plan and joins the exchange before it to the one after it, and no circuit is carried twice, by one call or by two
 pub record JoinsAndCarriesOnce (p : Plan) (s : State) : Type 0 where
   pub joined : AllByRecursion (λ c. Joins p (start_of p c) c.hops) s.calls
   pub once : NoneTwice same_circuit (flat_map circuits_carried s.calls)
@@ -57,8 +57,8 @@ RanksFall p ranks limit s = AllByRecursion (FallsInRank p ranks limit) s.calls
 
 -- SAFE
 
--- each hop's circuit joins the exchange before it to the one after it, no exchange is passed twice, there are at most limit transits, and a connected
--- call stands at the home of the one line of the plan whose full number was keyed
+-- each hop's circuit is one of the plan and joins the exchange before it to the one after it, no exchange is passed twice, there are at most limit
+-- transits, and a connected call stands at the home of the one line of the plan whose full number was keyed
 pub record IsSafeCall (p : Plan) (limit : ℕ) (c : Call) : Type 0 where
   pub joined : Joins p (start_of p c) c.hops
   pub once : NoneTwice (λ x y. x == y) (passed p c)

@@ -1,7 +1,7 @@
 // Lists of events, applied in turn.
-ghost use Rattle.std.specs.Prelude.{◌≡◌, ◌++◌, OnOk, OnErr};
+ghost use Rattle.std.specs.Prelude.{◌≡◌, ◌+◌, ◌<◌, ◌++◌, ◌⊎◌, OnOk, OnErr, length, vec_len, vec_capacity};
 ghost use Rattle.tx_state.specs.Runs.{replies as replies_to, state_after};
-ghost use Rattle.tx_state.specs.Driven.{StopsAfter};
+ghost use Rattle.tx_state.specs.Driven.{StopsAt};
 
 use crate::event::Event;
 use crate::network::Network;
@@ -10,8 +10,8 @@ use crate::room::put;
 use std::alloc::Allocator;
 use tx_text::NoMemory;
 
-/// Applies the events in turn, and appends the replies. Where no memory is left, the replies of the events applied so far were appended, and the
-/// network stands after these.
+/// Applies the events in turn, and appends the replies. Memory is wanting for the room of all replies, before anything is done, or at an event that
+/// takes memory and would not be refused: then the replies of the events before it were appended, and the network stands after these.
 pub fn drive<N: Network, B: Allocator>(
     net: &mut N,
     events: &[Event],
@@ -19,7 +19,8 @@ pub fn drive<N: Network, B: Allocator>(
 ) -> Result<(), NoMemory>
     ensures plan { N.plan net.new ≡ N.plan net.old }
     ensures ok { OnOk result ((replies.new.items ≡ replies.old.items ++ replies_to (N.plan net.old) (N.state net.old) events.now) × (N.state net.new ≡ state_after (N.plan net.old) (N.state net.old) events.now)) }
-    ensures err { OnErr result (StopsAfter (N.plan net.old) (N.state net.old) events.now replies.old.items (N.state net.new) replies.new.items) }
+    ensures err { OnErr result (((vec_capacity replies.old < vec_len replies.old + length events.now) × (net.new ≡ net.old) × (replies.new.items ≡ replies.old.items))
+        ⊎ StopsAt (N.plan net.old) (N.state net.old) events.now replies.old.items (N.state net.new) replies.new.items) }
 {
     replies.reserve(events.len())?;
     let mut at = 0;

@@ -9,7 +9,7 @@ ghost use Rattle.tx_state.specs.Excused.{IsExcused};
 ghost use Rattle.tx_state.specs.Sound.{IsSound, HasFewRoutes};
 ghost use Rattle.tx_state.specs.Drained.{AppendsTickets};
 
-/// In every run of any plan each hop's circuit joins the exchange before it to the one after it, and no circuit is carried twice.
+/// In every run of any plan each hop's circuit is one of the plan and joins the exchange before it to the one after it, and no circuit is carried twice.
 pub fn hops_join_and_carry_once()
     ensures { (p : Plan) → IsPlan p → InEveryState p (JoinsAndCarriesOnce p) }
 {}

@@ -58,9 +58,9 @@ pub stopped_with : {X : Type 0} (a c : Option (List ℕ)) (F : Ending → List �
 stopped_with a c F B D true x f h = (h.0, f h.1)
 stopped_with a c F B D false x f h = h
 
-pub stopped_by_with : {S W : Type 0} (a c : Option (List ℕ)) (F : Ending → List ℕ → Result S (ℕ × Kind W)) (B D : Type 0) (b : Bool) (n : ℕ) (k : FrameFault) → (B → D) → StoppedBy a c F B b n k → StoppedBy a c F D b n k
-stopped_by_with a c F B D true n k f h = tt
-stopped_by_with a c F B D false n k f h = stopped_with a c F B D (is_read k) _ f h
+pub stopped_by_with : {S W : Type 0} (a c : Option (List ℕ)) (F : Ending → List ℕ → Result S (ℕ × Kind W)) (B D U : Type 0) (b : Bool) (n : ℕ) (k : FrameFault) → (B → D) → StoppedBy a c F B U b n k → StoppedBy a c F D U b n k
+stopped_by_with a c F B D U true n k f h = h
+stopped_by_with a c F B D U false n k f h = stopped_with a c F B D (is_read k) _ f h
 
 -- ---- slices
 

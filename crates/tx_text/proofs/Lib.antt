@@ -10,8 +10,10 @@ pub mod FeedSteps
 pub mod ReaderFields
 pub mod ReadingOn
 pub mod Framing
+pub mod NoRoom
 pub mod Checking
 pub mod Saying
+pub mod Wanting
 pub mod Sizes
 pub mod CallCounts
 pub mod Frames

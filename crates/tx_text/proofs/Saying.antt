@@ -1,5 +1,6 @@
 -- Readers of framed texts: one line after another.
-use Rattle.std.proofs.Common.{◌≡◌, ℕ, List, [], Option, Result, Ok, Err, Bool, true, false, ap, inl}
+use Rattle.std.proofs.Common.{◌≡◌, ℕ, List, [], Option, Result, Ok, Err, Bool, true, false, refl, ap, inl}
+use Rattle.std.specs.Result.{is_ok}
 use Rattle.tx_text.specs.declared.frame.FrameFault.{FrameFault}
 use Rattle.tx_text.specs.declared.frame.Kind.{Kind}
 use Rattle.tx_text.specs.declared.frame.Kind.TheVariants.{Frame, Word}
@@ -7,6 +8,7 @@ use Rattle.tx_text.specs.Told.{Ending, AtEnd}
 use Rattle.tx_text.specs.Frame.{Framed, Done, Stop, Headed, Has, ReadsOn, EndsAs, Stopped, is_read}
 use Rattle.tx_text.specs.Said.{said, step_on, DeclaredBy, RefusedBy, StoppedBy, is_no_room}
 use Rattle.tx_text.proofs.ReadingOn.{moves-nil}
+use Rattle.tx_text.proofs.NoRoom.{IsSaid, none_stops}
 use Rattle.tx_text.proofs.Framing.{on_then, end_then, map_on, map_end, stopped_map}
 
 module _ {S W : Type 0} (declare : ℕ → S → List (List ℕ) → Result S W) where
@@ -34,11 +36,11 @@ module _ {S W : Type 0} (declare : ℕ → S → List (List ℕ) → Result S W)
   unfolding said
   refused_on a b c F T U v s x n ws p q h = on_then p (on_then (map_on (said declare v s) q) (record { read = []; moves = moves-nil c; gives = λ e more. ap (λ o. step_on declare n o (λ z. said declare v z (U e more))) h }))
 
-  pub refused : (a b c : Option (List ℕ)) (F : Says) (T U : Ending → List ℕ → Framed) (v : ℕ) (s : S) (x : W) (n : ℕ) (ws : List (List ℕ)) (memory : Bool)
-      → ReadsOn a b F (λ e more. said declare v s (T e more)) → ReadsOn b c T (λ e more. Has n ws (U e more)) → DeclaredBy (declare v s ws) memory x
-      → RefusedBy a c F memory n x
-  refused a b c F T U v s x n ws true p q h = tt
-  refused a b c F T U v s x n ws false p q h = inl (refused_on a b c F T U v s x n ws p q h)
+  pub refused : (a b c : Option (List ℕ)) (F : Says) (T U : Ending → List ℕ → Framed) (wanted : ℕ → Type 0) (v : ℕ) (s : S) (x : W) (n : ℕ) (ws : List (List ℕ)) (memory : Bool)
+      → ReadsOn a b F (λ e more. said declare v s (T e more)) → ReadsOn b c T (λ e more. Has n ws (U e more)) → DeclaredBy (declare v s ws) memory x → (is_ok (declare v s ws) ≡ true → wanted n)
+      → RefusedBy a c F wanted memory n x
+  refused a b c F T U wanted v s x n ws true p q h w = w h
+  refused a b c F T U wanted v s x n ws false p q h w = inl (refused_on a b c F T U v s x n ws p q h)
 
   -- the text is whole
   pub done_on : (a b c : Option (List ℕ)) (F : Says) (T : Ending → List ℕ → Framed) (v : ℕ) (s : S)
@@ -52,10 +54,10 @@ module _ {S W : Type 0} (declare : ℕ → S → List (List ℕ) → Result S W)
   unfolding said
   stopped_on a b c F T v s n k broken p q = stopped_map a b c F T (Stop n k) (said declare v s) broken (is_read k) p q
 
-  at_stop : (a c : Option (List ℕ)) (F : Says) (n : ℕ) (k : FrameFault) (broken : Type 0) (b : Bool) → Stopped a c F broken (is_read k) (Err (n, Frame k)) → StoppedBy a c F broken b n k
-  at_stop a c F n k broken true h = tt
-  at_stop a c F n k broken false h = h
+  at_stop : (a c : Option (List ℕ)) (F : Says) (n : ℕ) (k : FrameFault) (broken untouched : Type 0) (b : Bool) → (b ≡ true → ⊥) → Stopped a c F broken (is_read k) (Err (n, Frame k)) → StoppedBy a c F broken untouched b n k
+  at_stop a c F n k broken untouched true none h = absurd (none refl)
+  at_stop a c F n k broken untouched false none h = h
 
-  pub stopped_by : (a b c : Option (List ℕ)) (F : Says) (T : Ending → List ℕ → Framed) (v : ℕ) (s : S) (n : ℕ) (k : FrameFault) (broken : Type 0)
-      → ReadsOn a b F (λ e more. said declare v s (T e more)) → Stopped b c T broken (is_read k) (Stop n k) → StoppedBy a c F broken (is_no_room k) n k
-  stopped_by a b c F T v s n k broken p q = at_stop a c F n k broken (is_no_room k) (stopped_on a b c F T v s n k broken p q)
+  pub stopped_by : (a b c : Option (List ℕ)) (F : Says) (T : Ending → List ℕ → Framed) (v : ℕ) (s : S) (n : ℕ) (k : FrameFault) (broken untouched : Type 0) → ((e : Ending) (more : List ℕ) → IsSaid (T e more))
+      → ReadsOn a b F (λ e more. said declare v s (T e more)) → Stopped b c T broken (is_read k) (Stop n k) → StoppedBy a c F broken untouched (is_no_room k) n k
+  stopped_by a b c F T v s n k broken untouched h p q = at_stop a c F n k broken untouched (is_no_room k) (none_stops b c T n k broken (is_read k) h q) (stopped_on a b c F T v s n k broken p q)

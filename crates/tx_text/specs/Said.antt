@@ -1,5 +1,6 @@
 -- What a text says, line by line, and what its reader answers.
-use Rattle.std.specs.Prelude.{◌≡◌, ℕ, Bool, true, false, List, Option, Result, Ok, Err}
+use Rattle.std.specs.Prelude.{◌≡◌, ℕ, ◌==◌, Bool, true, false, ◌||◌, List, Option, Result, Ok, Err}
+use Rattle.std.specs.Result.{is_ok}
 use Rattle.std.specs.Io.KnownBytes.{IsAtEnd}
 use Rattle.tx_text.specs.declared.text_fault.TextFault.TheVariants.{NoMemory as TextNoMemory}
 use Rattle.tx_text.specs.declared.line_fault.LineFault.TheVariants.{Text}
@@ -24,9 +25,21 @@ module _ {S W : Type 0} (declare : ℕ → S → List (List ℕ) → Result S W)
   said v s (Headed w t) = said w s t
   said v s (Has n ws t) = step_on n (declare v s ws) (λ r. said v r t)
 
--- what declaring did, where memory tells the want of it
+  -- what holds after a line, if that declares something
+  abbrev pub goes_on : Result S W → (S → Bool) → Bool
+  goes_on (Ok s) k = k s
+  goes_on (Err x) k = false
+
+  -- line n declares something, and so does each line before it
+  unfoldable pub declares_at : ℕ → ℕ → S → Framed → Bool
+  declares_at n v s Done = false
+  declares_at n v s (Stop m x) = false
+  declares_at n v s (Headed w t) = declares_at n w s t
+  declares_at n v s (Has m ws t) = goes_on (declare v s ws) (λ r. (m == n) || declares_at n v r t)
+
+-- what declaring did: memory can be wanting only for a line that declares something
 abbrev pub DeclaredBy : {S W : Type 0} → Result S W → Bool → W → Type 0
-DeclaredBy r true x = Unit {0}
+DeclaredBy r true x = is_ok r ≡ true
 DeclaredBy r false x = r ≡ Err x
 
 -- Declaring a line did what it declares, or told its fault, or memory was wanting.
@@ -34,45 +47,47 @@ abbrev pub Declared : {S W U : Type 0} → (W → Bool) → Result S W → S →
 Declared memory r new (Ok x) = r ≡ Ok new
 Declared memory r new (Err x) = DeclaredBy r (memory x) x
 
+-- In what follows `wanted n` is what is so where memory was wanting at line n, and `untouched` says that nothing was read.
+
 -- what the reader answers
-abbrev pub RefusedBy : {S W : Type 0} → Option (List ℕ) → Option (List ℕ) → (Ending → List ℕ → Result S (ℕ × Kind W)) → Bool → ℕ → W → Type 0
-RefusedBy old new F true n x = Unit {0}
-RefusedBy old new F false n x = Stands old new F (Err (n, Word x))
+abbrev pub RefusedBy : {S W : Type 0} → Option (List ℕ) → Option (List ℕ) → (Ending → List ℕ → Result S (ℕ × Kind W)) → (ℕ → Type 0) → Bool → ℕ → W → Type 0
+RefusedBy old new F wanted true n x = wanted n
+RefusedBy old new F wanted false n x = Stands old new F (Err (n, Word x))
 
 -- no memory for the reader itself
 abbrev pub is_no_room : FrameFault → Bool
 is_no_room (Line (Text TextNoMemory)) = true
 is_no_room k = false
 
--- A fault of the frame is the one that the text has, unless the reader had no memory.
-abbrev pub StoppedBy : {S W : Type 0} → Option (List ℕ) → Option (List ℕ) → (Ending → List ℕ → Result S (ℕ × Kind W)) → Type 0 → Bool → ℕ → FrameFault → Type 0
-StoppedBy old new F broken true n k = Unit {0}
-StoppedBy old new F broken false n k = Stopped old new F broken (is_read k) (Err (n, Frame k))
+-- A fault of the frame is the one that the text has, unless the reader had no memory: then it is told of line 1, before anything is read.
+abbrev pub StoppedBy : {S W : Type 0} → Option (List ℕ) → Option (List ℕ) → (Ending → List ℕ → Result S (ℕ × Kind W)) → (broken untouched : Type 0) → Bool → ℕ → FrameFault → Type 0
+StoppedBy old new F broken untouched true n k = (n ≡ 1) × untouched
+StoppedBy old new F broken untouched false n k = Stopped old new F broken (is_read k) (Err (n, Frame k))
 
 -- A fault is the one that the text has, unless memory was wanting.
-abbrev pub Refused : {S W : Type 0} → (W → Bool) → Option (List ℕ) → Option (List ℕ) → (Ending → List ℕ → Result S (ℕ × Kind W)) → Type 0 → ℕ → Kind W → Type 0
-Refused memory old new F broken n (Frame k) = StoppedBy old new F broken (is_no_room k) n k
-Refused memory old new F broken n (Word x) = RefusedBy old new F (memory x) n x
+abbrev pub Refused : {S W : Type 0} → (W → Bool) → Option (List ℕ) → Option (List ℕ) → (Ending → List ℕ → Result S (ℕ × Kind W)) → (broken untouched : Type 0) → (ℕ → Type 0) → ℕ → Kind W → Type 0
+Refused memory old new F broken untouched wanted n (Frame k) = StoppedBy old new F broken untouched (is_no_room k) n k
+Refused memory old new F broken untouched wanted n (Word x) = RefusedBy old new F wanted (memory x) n x
 
--- An Ok is what the whole text says, at the source's end; a fault is the one that the text has.
-abbrev pub Answered : {S W : Type 0} → (W → Bool) → Option (List ℕ) → Option (List ℕ) → (Ending → List ℕ → Result S (ℕ × Kind W)) → Type 0 → Result S (ℕ × Kind W) → Type 0
-Answered memory old new F broken (Ok s) = EndsAs old new F AtEnd (Ok s) × IsAtEnd new
-Answered memory old new F broken (Err x) = Refused memory old new F broken x.0 x.1
+-- An Ok is what the whole text says, at the source's end; a fault is the one that the text has, unless memory was wanting.
+abbrev pub Answered : {S W : Type 0} → (W → Bool) → Option (List ℕ) → Option (List ℕ) → (Ending → List ℕ → Result S (ℕ × Kind W)) → (broken untouched : Type 0) → (ℕ → Type 0) → Result S (ℕ × Kind W) → Type 0
+Answered memory old new F broken untouched wanted (Ok s) = EndsAs old new F AtEnd (Ok s) × IsAtEnd new
+Answered memory old new F broken untouched wanted (Err x) = Refused memory old new F broken untouched wanted x.0 x.1
 
 -- A fault is the one that the text has, unless memory was wanting.
-abbrev pub FaultsBy : {S W : Type 0} → Result S (ℕ × Kind W) → Bool → ℕ → Kind W → Type 0
-FaultsBy x true n k = Unit {0}
-FaultsBy x false n k = x ≡ Err (n, k)
+abbrev pub FaultsBy : {S W : Type 0} → Result S (ℕ × Kind W) → Type 0 → Bool → ℕ → Kind W → Type 0
+FaultsBy x wanting true n k = wanting
+FaultsBy x wanting false n k = x ≡ Err (n, k)
 
 -- The same of a fault of the frame, and of one of the words of a line.
-abbrev pub FaultsAs : {S W : Type 0} → (W → Bool) → Result S (ℕ × Kind W) → ℕ → Kind W → Type 0
-FaultsAs memory x n (Frame k) = FaultsBy x (is_no_room k) n (Frame k)
-FaultsAs memory x n (Word w) = FaultsBy x (memory w) n (Word w)
+abbrev pub FaultsAs : {S W : Type 0} → (W → Bool) → Result S (ℕ × Kind W) → (ℕ → Type 0) → ℕ → Kind W → Type 0
+FaultsAs memory x wanted n (Frame k) = FaultsBy x (n ≡ 1) (is_no_room k) n (Frame k)
+FaultsAs memory x wanted n (Word w) = FaultsBy x (wanted n) (memory w) n (Word w)
 
 -- A reader answers what the whole text says, unless memory was wanting.
-abbrev pub AnswersAs : {S W : Type 0} → (W → Bool) → Result S (ℕ × Kind W) → Result S (ℕ × Kind W) → Type 0
-AnswersAs memory x (Ok s) = x ≡ Ok s
-AnswersAs memory x (Err f) = FaultsAs memory x f.0 f.1
+abbrev pub AnswersAs : {S W : Type 0} → (W → Bool) → Result S (ℕ × Kind W) → (ℕ → Type 0) → Result S (ℕ × Kind W) → Type 0
+AnswersAs memory x wanted (Ok s) = x ≡ Ok s
+AnswersAs memory x wanted (Err f) = FaultsAs memory x wanted f.0 f.1
 
 -- an answer, by the line and the kind of its fault
 abbrev pub told_fault : {S W : Type 0} → Result S (FaultAt W) → Result S (ℕ × Kind W)

@@ -19,6 +19,11 @@ impl Model for Figures {
 
     ghost view = { λ n. n.text };
 
+    ghost use Rattle.std.specs.Prelude.{◌≡◌, true};
+    ghost use Rattle.tx_text.specs.Words.{are_figures};
+
+    ghost invariant = { λ n. are_figures 1 12 n.text ≡ true };
+
     ghost inverse = { λ d. record { text = d } };
 }
 
@@ -35,7 +40,8 @@ impl Figures {
     }
 
     pub fn bytes(&self) -> &[u8]
-        ensures { result.now ≡ self.now }
+        ensures value { result.now ≡ self.now }
+        ensures figures { are_figures 1 12 self.now ≡ true }
     {
         self.text.bytes()
     }

@@ -51,6 +51,3 @@ pub use source::{ReadFault, Source};
 pub use split::words;
 pub use text_fault::TextFault;
 pub use to_write::ToWrite;
-
-#[cfg(test)]
-mod tests;

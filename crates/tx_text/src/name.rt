@@ -20,6 +20,11 @@ impl Model for Name {
 
     ghost view = { λ n. n.text };
 
+    ghost use Rattle.std.specs.Prelude.{◌≡◌, true};
+    ghost use Rattle.tx_text.specs.Words.{is_name};
+
+    ghost invariant = { λ n. is_name n.text ≡ true };
+
     ghost inverse = { λ d. record { text = d } };
 }
 

@@ -9,6 +9,3 @@ mod trie;
 
 pub use codes_writer::write_codes;
 pub use trie::CodeTrie;
-
-#[cfg(test)]
-mod tests;

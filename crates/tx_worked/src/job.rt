@@ -1,9 +1,15 @@
 // A job, and what it does.
+ghost use Rattle.std.specs.Prelude.{◌≤◌};
+
 use refusing::Refusing;
 use std::alloc::Allocator;
-use tx_jobs::{JobFault, check_status, codes_job, pipe_job, run_job};
+use tx_audit::Audited;
+use tx_cert::write_cert;
+use tx_jobs::{
+    JobFault, audit_job, check_status, codes_job, pipe_job, run_checked_status, run_job,
+};
 use tx_pipe::TwoTexts;
-use tx_text::{MemorySink, MemorySource, NoMemory, Sink};
+use tx_text::{MemorySink, MemorySource, NoMemory, Sink, Source};
 
 /// Room enough for what any job of the cases writes.
 pub(crate) const ROOM: usize = 20_000;
@@ -15,50 +21,57 @@ pub(crate) enum Job {
     Run,
     Codes,
     Check { limit: u8, spare: u8 },
+    /// An audit, with its certificate behind the report.
+    Audit { limit: u8, spare: u8 },
+    /// A run after a Yes of the checker.
+    Checked { limit: u8, spare: u8 },
 }
 
-/// A job and its texts. The pipe's one text, and that of the codes, is the first.
+/// A job and its texts, in the order in which they are read.
 #[derive(Clone, Copy)]
 pub(crate) struct Task<'a> {
     pub job: Job,
     pub first: &'a [u8],
     pub second: &'a [u8],
+    pub third: &'a [u8],
 }
 
-/// How the sources of a task give their bytes: so many a call, and the calls that fail.
+/// One of the sources of a task.
+#[derive(Clone, Copy, Debug, PartialEq, Eq)]
+pub(crate) enum End {
+    First,
+    Second,
+    Third,
+}
+
+/// How the sources of a task give their bytes: so many a call, and the call of one of them that fails.
 #[derive(Clone, Copy)]
 pub(crate) struct Ends {
     pub piece: usize,
-    pub first_fails: Option<u64>,
-    pub second_fails: Option<u64>,
+    pub fails: Option<(End, u64)>,
 }
 
 impl Ends {
     /// Sources that never fail.
     pub(crate) fn pieces(piece: usize) -> Ends {
+        Ends { piece, fails: None }
+    }
+
+    /// Sources of one byte a call of which one fails at a call.
+    pub(crate) fn failing(end: End, call: u64) -> Ends {
         Ends {
-            piece,
-            first_fails: None,
-            second_fails: None,
+            piece: 1,
+            fails: Some((end, call)),
         }
     }
 
-    /// Sources of one byte a call of which the first fails at a call.
-    pub(crate) fn first_fails(call: u64) -> Ends {
-        Ends {
-            piece: 1,
-            first_fails: Some(call),
-            second_fails: None,
-        }
-    }
-
-    /// Sources of one byte a call of which the second fails at a call.
-    pub(crate) fn second_fails(call: u64) -> Ends {
-        Ends {
-            piece: 1,
-            first_fails: None,
-            second_fails: Some(call),
-        }
+    /// A source over one of the texts.
+    fn source<'a>(&self, end: End, text: &'a [u8]) -> MemorySource<'a> {
+        let fails_at = match self.fails {
+            Some((failing, call)) if failing == end => Some(call),
+            _ => None,
+        };
+        MemorySource::new(text, self.piece.max(1), fails_at)
     }
 }
 
@@ -88,9 +101,8 @@ fn do_job<A: Allocator + Copy, W: Sink>(
     ends: Ends,
     out: &mut W,
 ) -> Result<u8, JobFault> {
-    let piece = ends.piece.max(1);
-    let mut first = MemorySource::new(task.first, piece, ends.first_fails);
-    let mut second = MemorySource::new(task.second, piece, ends.second_fails);
+    let mut first = ends.source(End::First, task.first);
+    let mut second = ends.source(End::Second, task.second);
     match task.job {
         Job::Pipe => pipe_job(alloc, &mut TwoTexts::new(first), out).map(|_| 0),
         Job::Run => run_job(alloc, &mut first, &mut second, out).map(|_| 0),
@@ -105,6 +117,46 @@ fn do_job<A: Allocator + Copy, W: Sink>(
             spare.min(15),
             out,
         ),
+        Job::Audit { limit, spare } => {
+            do_audit(alloc, &mut first, limit.min(62), spare.min(15), out)
+        }
+        Job::Checked { limit, spare } => run_checked_status(
+            alloc,
+            &mut first,
+            &mut second,
+            limit.min(62),
+            spare.min(15),
+            &mut ends.source(End::Third, task.third),
+            out,
+        ),
+    }
+}
+
+/// Audits a plan, and writes the certificate behind a report of YES.
+fn do_audit<A: Allocator + Copy, P: Source, W: Sink>(
+    alloc: A,
+    plan: &mut P,
+    limit: u8,
+    spare: u8,
+    out: &mut W,
+) -> Result<u8, JobFault>
+    requires limit { limit ≤ 62 }
+    requires spare { spare ≤ 15 }
+{
+    let audited = audit_job(alloc, plan, limit, spare, out)?;
+    let status = keep(&audited, out);
+    drop(audited);
+    status
+}
+
+/// Writes the certificate, if one was found.
+fn keep<A: Allocator, W: Sink>(audited: &Audited<A>, out: &mut W) -> Result<u8, JobFault> {
+    match audited {
+        Audited::Sound(plan, cert) => match write_cert(cert, plan, out) {
+            Ok(()) => Ok(0),
+            Err(_) => Err(JobFault::Write),
+        },
+        Audited::Unsound(_, _) => Ok(1),
     }
 }
 

@@ -119,7 +119,7 @@ pub(crate) fn count_calls<A: Allocator + Copy, W: Sink>(
 /// The task with a front of its last text.
 fn cut(task: Task<'_>, length: usize) -> Task<'_> {
     match task.job {
-        Job::Pipe | Job::Codes => Task {
+        Job::Pipe | Job::Codes | Job::Audit { .. } => Task {
             first: task.first.split_at(length.min(task.first.len())).0,
             ..task
         },
@@ -127,13 +127,18 @@ fn cut(task: Task<'_>, length: usize) -> Task<'_> {
             second: task.second.split_at(length.min(task.second.len())).0,
             ..task
         },
+        Job::Checked { .. } => Task {
+            third: task.third.split_at(length.min(task.third.len())).0,
+            ..task
+        },
     }
 }
 
 fn last_text(task: Task<'_>) -> &[u8] {
     match task.job {
-        Job::Pipe | Job::Codes => task.first,
+        Job::Pipe | Job::Codes | Job::Audit { .. } => task.first,
         Job::Run | Job::Check { .. } => task.second,
+        Job::Checked { .. } => task.third,
     }
 }
 

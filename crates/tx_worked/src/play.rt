@@ -122,7 +122,7 @@ fn play_job<A: Allocator + Copy, W: Sink>(
         return play_both(alloc, texts, each_end, out);
     }
     match job_of(kind, numbers) {
-        Some(job) => play_task(alloc, Task { job, first, second }, each_end, out),
+        Some(job) => play_task(alloc, task_of(job, first, second), each_end, out),
         None => Ok(write_broken(b"no such kind of case", 0, out)?),
     }
 }
@@ -139,12 +139,32 @@ fn job_of(word: &[u8], numbers: Words<'_>) -> Option<Job> {
     if word == b"codes".as_slice() {
         return Some(Job::Codes);
     }
+    let limit = next_number(&mut numbers, 62).min(62) as u8;
+    let spare = next_number(&mut numbers, 15).min(15) as u8;
     if word == b"check".as_slice() {
-        let limit = next_number(&mut numbers, 62).min(62) as u8;
-        let spare = next_number(&mut numbers, 15).min(15) as u8;
         return Some(Job::Check { limit, spare });
     }
+    if word == b"audit".as_slice() {
+        return Some(Job::Audit { limit, spare });
+    }
+    if word == b"checked".as_slice() {
+        return Some(Job::Checked { limit, spare });
+    }
     None
+}
+
+/// A job and its texts. That of a checked run has its second and third text in one.
+fn task_of<'a>(job: Job, first: &'a [u8], rest: &'a [u8]) -> Task<'a> {
+    let (second, third) = match job {
+        Job::Checked { .. } => two_texts(rest),
+        _ => (rest, b"".as_slice()),
+    };
+    Task {
+        job,
+        first,
+        second,
+        third,
+    }
 }
 
 fn play_task<A: Allocator + Copy, W: Sink>(
@@ -172,14 +192,10 @@ fn play_both<A: Allocator + Copy, W: Sink>(
 ) -> Result<(), Stop> {
     let (first, second) = plan_and_script(input);
     let job = Job::Run;
-    let run = Task { job, first, second };
+    let run = task_of(job, first, second);
     let whole = done(alloc, run, Ends::pieces(7), ROOM)?;
     try_pieces(alloc, run, &whole, out)?;
-    let pipe = Task {
-        job: Job::Pipe,
-        first: input,
-        second: b"",
-    };
+    let pipe = task_of(Job::Pipe, input, b"");
     play_task(alloc, pipe, each_end, out)?;
     try_pieces(alloc, pipe, &whole, out)?;
     if each_end {
@@ -200,7 +216,7 @@ fn play_prefixes<A: Allocator + Copy, W: Sink>(
     let (first, second) = two_texts(texts);
     let word = words.next().unwrap_or(b"".as_slice());
     match job_of(word, words) {
-        Some(job) => list_prefixes(alloc, Task { job, first, second }, out),
+        Some(job) => list_prefixes(alloc, task_of(job, first, second), out),
         None => Ok(write_broken(b"no such job", 0, out)?),
     }
 }

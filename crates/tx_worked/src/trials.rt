@@ -1,5 +1,5 @@
 // The laws of a job: however its sources cut the text, wherever an end fails, and whichever request for memory is refused.
-use crate::job::{Did, Ends, Job, ROOM, Task, done, done_without};
+use crate::job::{Did, End, Ends, Job, ROOM, Task, done, done_without};
 use crate::told::{Stop, write_broken, write_count};
 use std::alloc::Allocator;
 use tx_jobs::{JobFault, write_fault};
@@ -34,29 +34,11 @@ pub(crate) fn try_pieces<A: Allocator + Copy, W: Sink>(
     Ok(())
 }
 
-/// How many calls of the first source a task makes, at one byte a call. Each of them, where it fails, has to make it a read fault.
-fn first_reads<A: Allocator + Copy, W: Sink>(
+/// How many calls of a source a task makes, at one byte a call. Each of them, where it fails, has to make it a read fault.
+fn reads<A: Allocator + Copy, W: Sink>(
     alloc: A,
     task: Task<'_>,
-    whole: &Did<A>,
-    out: &mut W,
-) -> Result<u64, Stop> {
-    for made in 0..MANY {
-        let did = done(alloc, task, Ends::first_fails(made.saturating_add(1)), ROOM)?;
-        if !did.stopped(JobFault::Read, whole) {
-            if !did.is_as(whole) {
-                write_broken(b"first source, calls before it fails:", made, out)?;
-            }
-            return Ok(made);
-        }
-    }
-    Ok(MANY)
-}
-
-/// The same of the second source.
-fn second_reads<A: Allocator + Copy, W: Sink>(
-    alloc: A,
-    task: Task<'_>,
+    end: End,
     whole: &Did<A>,
     out: &mut W,
 ) -> Result<u64, Stop> {
@@ -64,12 +46,12 @@ fn second_reads<A: Allocator + Copy, W: Sink>(
         let did = done(
             alloc,
             task,
-            Ends::second_fails(made.saturating_add(1)),
+            Ends::failing(end, made.saturating_add(1)),
             ROOM,
         )?;
         if !did.stopped(JobFault::Read, whole) {
             if !did.is_as(whole) {
-                write_broken(b"second source, calls before it fails:", made, out)?;
+                write_broken(b"calls of a source before it fails:", made, out)?;
             }
             return Ok(made);
         }
@@ -130,13 +112,22 @@ fn name(job: Job) -> &'static [u8] {
         Job::Run => b"run",
         Job::Codes => b"codes",
         Job::Check { .. } => b"check",
+        Job::Audit { .. } => b"audit",
+        Job::Checked { .. } => b"checked",
     }
 }
 
-fn has_two_sources(job: Job) -> bool {
+fn has_second_source(job: Job) -> bool {
     match job {
-        Job::Run | Job::Check { .. } => true,
-        Job::Pipe | Job::Codes => false,
+        Job::Run | Job::Check { .. } | Job::Checked { .. } => true,
+        Job::Pipe | Job::Codes | Job::Audit { .. } => false,
+    }
+}
+
+fn has_third_source(job: Job) -> bool {
+    match job {
+        Job::Checked { .. } => true,
+        _ => false,
     }
 }
 
@@ -154,11 +145,15 @@ pub(crate) fn try_ends<A: Allocator + Copy, W: Sink>(
     };
     write_parts(&[b"-- ", name(task.job)], out)?;
     write_count(b": status ", u64::from(status), b", ", out)?;
-    let first = first_reads(alloc, task, whole, out)?;
+    let first = reads(alloc, task, End::First, whole, out)?;
     write_count(b"", first, b"", out)?;
-    if has_two_sources(task.job) {
-        let second = second_reads(alloc, task, whole, out)?;
+    if has_second_source(task.job) {
+        let second = reads(alloc, task, End::Second, whole, out)?;
         write_count(b" and ", second, b"", out)?;
+    }
+    if has_third_source(task.job) {
+        let third = reads(alloc, task, End::Third, whole, out)?;
+        write_count(b" and ", third, b"", out)?;
     }
     write_count(
         b" reads, ",

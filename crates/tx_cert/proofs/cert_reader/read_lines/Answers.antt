@@ -1,10 +1,11 @@
-use Rattle.std.proofs.Common.{◌≡◌, ◌⊎◌, ℕ, true, List, Option, Result, Ok, Err, None, sym, ap, ◌∙◌, subst, inl, inr}
+use Rattle.std.proofs.Common.{◌≡◌, ℕ, List, Ok, Err, ap, ◌∙◌, subst}
 use Rattle.tx_text.specs.Framing.{to_come, number_of_line, words_of_line}
-use Rattle.tx_text.specs.Said.{DeclaredBy, is_no_room}
+use Rattle.tx_text.specs.Said.{is_no_room}
 use Rattle.tx_text.proofs.CallCounts.{went_none, went_on, calls_on, broken_on, stopped_by_with}
 use Rattle.tx_text.proofs.Saying.{headed_on, declared_on, refused, done_on, stopped_by}
+use Rattle.tx_text.proofs.NoRoom.{come_said}
 use Rattle.tx_cert.specs.CertText.{declare, cert_of, is_memory}
-use Rattle.tx_cert.proofs.Reading.{at_start, went_past, any_version, refused_by}
+use Rattle.tx_cert.proofs.Reading.{at_start, went_past, any_version, refused_by, no_memory}
 use Rattle.tx_cert.proofs.cert_reader.read_lines.Goals as goal
 
 pub lines-init : goal.lines-init
@@ -54,7 +55,9 @@ returns-in-Err-declare-clause-gives g c =
     let x = c.in-Err-declare.fault in
     let q = rw c.in-Ok-Line.field-0-is at c.in-Ok-Line.ensures.gives in
     let d : declare p 1 c.lines.cert ws ≡ Err x = subst (λ (w : List (List ℕ)). declare p 1 c.lines.cert w ≡ Err x) c.words.ensures c.in-Err-declare.ensures.err in
-    rw c.number.ensures (refused (declare p) _ _ _ (cert_of p) (to_come c.lines.frame) (to_come v) i.says.0 c.lines.cert x n ws (is_memory x) i.says.1 q (refused_by _ x (any_version p i.says.0 1 c.lines.cert ws ∙ d)))
+    let none = no_memory x c.in-Err-declare.ensures.memory in
+    let e = any_version p i.says.0 1 c.lines.cert ws ∙ d in
+    rw c.number.ensures (refused (declare p) _ _ _ (cert_of p) (to_come c.lines.frame) (to_come v) (λ n. (n ≡ 1) × (c.advance.new.source ≡ c.args.source.now)) i.says.0 c.lines.cert x n ws (is_memory x) i.says.1 q (refused_by _ x none e) (λ ok. cc))
 
 pub returns-in-Ok-End-clause-gives : goal.returns-in-Ok-End-clause-gives
 returns-in-Ok-End-clause-gives g c =
@@ -74,8 +77,8 @@ returns-in-Err-clause-gives g c =
     let x = c.in-Err.stop in
     let called = g.R.Source.called in
     let failed = g.R.Source.failed c.advance.new.source in
-    stopped_by_with _ _ (cert_of p) _ _ (is_no_room x.fault) x.line x.fault (broken_on called failed c.args.frame.reader.left c.lines.frame.reader.left _ _ _ i.went)
-    (stopped_by (declare p) _ _ _ (cert_of p) (to_come c.lines.frame) i.says.0 c.lines.cert x.line x.fault _ i.says.1 c.in-Err.ensures.gives)
+    stopped_by_with _ _ (cert_of p) _ _ _ (is_no_room x.fault) x.line x.fault (broken_on called failed c.args.frame.reader.left c.lines.frame.reader.left _ _ _ i.went)
+    (stopped_by (declare p) _ _ _ (cert_of p) (to_come c.lines.frame) i.says.0 c.lines.cert x.line x.fault _ _ (come_said c.lines.frame) i.says.1 c.in-Err.ensures.gives)
 
 pub returns-in-Err-declare-clause-calls : goal.returns-in-Err-declare-clause-calls
 returns-in-Err-declare-clause-calls g c = calls_on g.R.Source.called _ c.lines.frame.reader.left _ _ _ c.lines.invariant.went c.advance.ensures.calls

@@ -1,5 +1,5 @@
 use Rattle.std.proofs.Common.{length, arith, rules}
-use Rattle.tx_text.proofs.Writing.{append_known-nil, on_err}
+use Rattle.tx_text.proofs.Writing.{on_err}
 use Rattle.tx_cert.specs.Certificate.{rank_at}
 use Rattle.tx_cert.specs.CertText.{rank_lines}
 use Rattle.tx_cert.proofs.Ranges.{wrote_more, stops_in_range}

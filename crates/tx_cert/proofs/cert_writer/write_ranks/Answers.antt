@@ -1,6 +1,6 @@
 use Rattle.std.proofs.Common.{length, arith, rules}
 use Rattle.std.specs.List.{range_with_len}
-use Rattle.tx_text.proofs.Writing.{append_known-nil, on_err}
+use Rattle.tx_text.proofs.Writing.{on_err}
 use Rattle.tx_cert.specs.CertText.{code_lines}
 use Rattle.tx_cert.proofs.Ranges.{wrote_more, stops_in_range}
 use Rattle.tx_cert.proofs.cert_writer.write_ranks.Goals as goal

@@ -33,7 +33,7 @@ returns-in_err-tickets-clause-halted g c =
     let reply = c.in_ok-reply.reply in
     let a = is_answer p (g.N.Network.plan c.args.net.now) s c.args.event reply t c.requires.plan c.requires.taken c.in_ok-reply.ensures.step in
     let e = err_from_is_err_and c.from_residual-in_err-tickets.result c.from_residual-in_err-tickets.ensures.1 in
-    rw (e.1, e.2) (untold_tickets p s c.args.event reply t _ _ _ _ a c.in_ok-write_reply.ensures.ok c.in_err-tickets.ensures.err c.in_err-tickets.ensures.left)
+    rw (e.1, e.2) (untold_tickets p s c.args.event reply t _ _ _ _ a c.in_ok-write_reply.ensures.ok c.in_err-tickets.ensures.err)
 
 pub returns-clause-wrote : goal.returns-clause-wrote
 returns-clause-wrote g c =

@@ -1,12 +1,11 @@
 use Rattle.std.proofs.Common.{◌∙◌, refl, sym, arith}
 use Rattle.std.proofs.Math.Facts.{Fits-of_lt}
 use Rattle.tx_text.proofs.Writing.{on_err}
-use Rattle.tx_tickets.specs.Texts.{ticket_text}
-use Rattle.tx_script.proofs.Draining.{drain_start, drain_end, drain_more, drain_stop, drain_left, drain_within, drain_smaller}
+use Rattle.tx_script.proofs.Draining.{drain_start, drain_end, drain_more, drain_stop, drain_within, drain_smaller}
 use Rattle.tx_script.proofs.answer.write_tickets.Goals as goal
 
 pub loop-ticket-init : goal.loop-ticket-init
-loop-ticket-init g c = record { plan = refl; draining = drain_start (ticket_text c.args.plan.now) (g.N.Network.state c.args.net.now) (g.W.Sink.taken c.args.sink.now); mark = refl }
+loop-ticket-init g c = record { plan = refl; draining = drain_start c.args.plan.now (g.N.Network.state c.args.net.now) (g.W.Sink.taken c.args.sink.now); mark = refl }
 
 pub loop-ticket-preserved : goal.loop-ticket-preserved
 loop-ticket-preserved g c =
@@ -18,10 +17,8 @@ loop-ticket-preserved g c =
     }
 
 pub returns-in_err-write_ticket-clause-err : goal.returns-in_err-write_ticket-clause-err
-returns-in_err-write_ticket-clause-err g c = on_err c.from_residual.result (drain_stop _ _ _ _ _ _ c.loop-ticket.invariant.draining _ (sym c.in-Some.ensures.first) _ c.in_err-write_ticket.ensures.err)
-
-pub returns-in_err-write_ticket-clause-left : goal.returns-in_err-write_ticket-clause-left
-returns-in_err-write_ticket-clause-left g c = on_err c.from_residual.result (drain_left _ _ _ _ _ _ c.loop-ticket.invariant.draining _ (sym c.in-Some.ensures.first) _ c.next_ticket.ensures.rest)
+returns-in_err-write_ticket-clause-err g c =
+    on_err c.from_residual.result (drain_stop _ _ _ _ _ _ c.loop-ticket.invariant.draining _ (sym c.in-Some.ensures.first) _ _ c.next_ticket.ensures.rest c.in_err-write_ticket.ensures.err)
 
 pub overflow_add-count : goal.overflow_add-count
 overflow_add-count g c =

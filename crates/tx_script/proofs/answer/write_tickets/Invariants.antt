@@ -1,12 +1,11 @@
 use Rattle.std.proofs.Common.{◌≡◌, length}
-use Rattle.tx_tickets.specs.Texts.{ticket_text}
 use Rattle.tx_script.proofs.Draining.{IsDraining}
 use Rattle.tx_script.proofs.answer.write_tickets.Given as goal
 
 abbrev pub invariant-loop-ticket : goal.invariant-loop-ticket
 invariant-loop-ticket g l = record {
   plan : g.N.Network.plan l.net ≡ g.N.Network.plan l.fn.net;
-  draining : IsDraining (ticket_text l.plan) (g.N.Network.state l.fn.net) (g.N.Network.state l.net) (g.W.Sink.taken l.fn.sink) (g.W.Sink.taken l.sink) l.count;
+  draining : IsDraining l.plan (g.N.Network.state l.fn.net) (g.N.Network.state l.net) (g.W.Sink.taken l.fn.sink) (g.W.Sink.taken l.sink) l.count;
   mark : g.W.Sink.failed l.sink ≡ g.W.Sink.failed l.fn.sink;
 }
 

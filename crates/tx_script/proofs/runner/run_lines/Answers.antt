@@ -3,7 +3,8 @@ use Rattle.tx_text.specs.declared.frame.Kind.TheVariants.{Word}
 use Rattle.tx_text.specs.Calls.{source_calls}
 use Rattle.tx_text.specs.Frame.{is_read}
 use Rattle.tx_text.specs.Framing.{to_come, number_of_line, words_of_line}
-use Rattle.tx_text.specs.Told.{Reading, reading_size}
+use Rattle.tx_text.specs.Told.{Reading}
+use Rattle.tx_text.proofs.NoRoom.{come_said}
 use Rattle.tx_text.proofs.CallCounts.{went_none, went_on, went_same, calls_on, broken_on, stopped_with}
 use Rattle.tx_script.specs.declared.run_cause.RunCause.{RunCause}
 use Rattle.tx_script.specs.declared.run_cause.RunCause.TheVariants.{Script}
@@ -107,7 +108,7 @@ returns-in-Err-clause-answers g c =
     let called = g.R.Source.called in
     let failed = g.R.Source.failed c.advance.new.source in
     let q = stopped_with _ _ _ _ _ (is_read x.fault) _ (broken_on called failed source_calls c.lines.frame.reader.left _ _ _ c.lines.invariant.went) c.in-Err.ensures.gives in
-    stop_answers _ _ _ _ _ _ _ _ _ _ c.lines.invariant.runs _ _ _ c.stopped-in-Err.result x.line x.fault q (c.stopped-in-Err.ensures ∙ ap (λ (z : RunCause). record { event = c.lines.tally.answered + 1; cause = z }) c.frame_cause.ensures)
+    stop_answers _ _ _ _ _ _ _ _ _ _ c.lines.invariant.runs _ _ _ c.stopped-in-Err.result x.line x.fault (come_said c.lines.frame) q (c.stopped-in-Err.ensures ∙ ap (λ (z : RunCause). record { event = c.lines.tally.answered + 1; cause = z }) c.frame_cause.ensures)
 
 pub returns-in-Err-answer-clause-calls : goal.returns-in-Err-answer-clause-calls
 returns-in-Err-answer-clause-calls g c = calls_on g.R.Source.called source_calls c.lines.frame.reader.left _ _ _ c.lines.invariant.went c.advance.ensures.calls

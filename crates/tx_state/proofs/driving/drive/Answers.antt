@@ -1,5 +1,6 @@
-use Rattle.std.proofs.Common.{◌∙◌, arith}
-use Rattle.tx_state.proofs.RunOn.{driven_more}
+use Rattle.std.proofs.Common.{◌∙◌, arith, inr}
+use Rattle.tx_text.proofs.Writing.{on_err}
+use Rattle.tx_state.proofs.RunOn.{driven_more, driven_stop}
 use Rattle.tx_state.proofs.driving.drive.Goals as goal
 
 pub loop-at-preserved : goal.loop-at-preserved
@@ -12,3 +13,9 @@ loop-at-preserved g c =
     let len = c.put.ensures.len in
     let room = c.put.ensures.capacity in
     (omega arith, a.plan ∙ v.1, r.0, r.1, omega arith)
+
+pub returns-in_err-reply-clause-err : goal.returns-in_err-reply-clause-err
+returns-in_err-reply-clause-err g c =
+    let v = c.loop-at.invariant in
+    let a = c.in_err-reply.ensures in
+    on_err c.from_residual-in_err-reply.result (inr (driven_stop _ _ _ _ _ c.args.events.now c.loop-at.at c.index-events-at.result _ _ c.loop-at-test.true c.index-events-at.is v.1 v.2 v.3 a.err a.memory))

@@ -1,5 +1,4 @@
 use Rattle.std.proofs.Common.{arith}
-use Rattle.tx_cert.specs.Certificate.{Certificate}
 use Rattle.tx_cert.proofs.Whole.{whole_set}
 use Rattle.tx_cert.proofs.cert.Cert.set.Goals as goal
 

@@ -13,7 +13,7 @@ returns-then-eq-clause-done g c =
     let v = c.args.self.now in
     let d = call_seen c.args.call.now in
     let plan = ap (λ (n : Net). n.plan) c.self.view_is in
-    let code : code_of v.plan d.keyed ≡ Some c.in-Some.code = (λ i. code_of (sym plan i) (sym c.bytes-keyed.ensures i)) ∙ sym c.in-Some.ensures in
+    let code : code_of v.plan d.keyed ≡ Some c.in-Some.code = (λ i. code_of (sym plan i) (sym c.bytes-keyed.ensures.value i)) ∙ sym c.in-Some.ensures in
     let place : c.place_of-place.result ≡ place_of v.plan d = c.place_of-place.ensures ∙ ap (λ p. place_of p d) plan in
     let barred : (is_first d.hops && is_barred v.plan (place_of v.plan d) c.in-Some.code) ≡ false = (λ i. is_first (sym c.deref.ensures.value i) && is_barred (sym plan i) (sym place i) c.in-Some.code) ∙ (λ i. sym c.is_first.ensures i && sym c.is_barred.ensures i) ∙ sym c.both-barred.ensures ∙ c.if-barred.false in
     let here : (home_of v.plan c.in-Some.code == place_of v.plan d) ≡ true = (λ i. home_of (sym plan i) c.in-Some.code == sym place i) ∙ ap (λ h. h == c.place_of-place.result) (sym c.home-home.ensures) ∙ sym c.eq.ensures ∙ c.if-eq.true in

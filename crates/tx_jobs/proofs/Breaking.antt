@@ -1,0 +1,37 @@
+-- Answers that tell more of why a text could not be read to its end.
+use Rattle.std.proofs.Common.{ℕ, List, Option, Result, Ok, Err, inl, inr}
+use Rattle.tx_text.specs.declared.frame.Kind.{Kind}
+use Rattle.tx_text.specs.declared.frame.Kind.TheVariants.{Frame, Word}
+use Rattle.tx_text.specs.Said.{is_no_room}
+use Rattle.tx_text.proofs.CallCounts.{stopped_by_with}
+use Rattle.tx_plan.specs.Plan.{Plan}
+use Rattle.tx_plantext.specs.declared.fault.PlanWord.{PlanWord}
+use Rattle.tx_plantext.specs.PlanText.{plan_of, ReadsPlan}
+use Rattle.tx_script.specs.declared.summary.Summary.{Summary}
+use Rattle.tx_script.specs.declared.run_fault.RunFault.{RunFault}
+use Rattle.tx_script.specs.declared.run_cause.RunCause.{RunCause}
+use Rattle.tx_script.specs.declared.run_cause.RunCause.TheVariants.{Read, Write, Script as OfScript, NoMemory}
+use Rattle.tx_script.specs.Answers.{Moved, Stopped, RunAnswers}
+use Rattle.tx_audit.specs.CheckedRuns.{Bytes}
+use Rattle.tx_jobs.specs.declared.job_fault.JobFault.{JobFault}
+use Rattle.tx_jobs.specs.Jobs.{Simulated}
+
+module _ (B D : Type 0) (f : B → D) where
+  pub refused_with : (old new : Option (List ℕ)) (U : Type 0) (n : ℕ) (k : Kind PlanWord) → ReadsPlan old new B U (Err (n, k)) → ReadsPlan old new D U (Err (n, k))
+  refused_with old new U n (Frame k) h = stopped_by_with old new plan_of B D U (is_no_room k) n k f h
+  refused_with old new U n (Word w) h = h
+
+  module _ (p : Plan) where
+    stopped_with : (x : Moved) (U : Type 0) (event : ℕ) (cause : RunCause) → Stopped p x B U event cause → Stopped p x D U event cause
+    stopped_with x U event Read h = record { events = h.events; line = h.line; place = h.place; text = h.text; failed = f h.failed; ran = h.ran }
+    stopped_with x U event Write h = h
+    stopped_with x U event (OfScript s) h = h
+    stopped_with x U event NoMemory h = h
+
+    ran_with : (x : Moved) (U : Type 0) (answer : Result Summary RunFault) → RunAnswers p x B U answer → RunAnswers p x D U answer
+    ran_with x U (Ok summary) h = h
+    ran_with x U (Err q) h = stopped_with x U q.event q.cause h
+
+    pub simulated_with : (x : Bytes) (U : Type 0) (result : Result Summary JobFault) → Simulated p x B U result → Simulated p x D U result
+    simulated_with x U result (inl h) = inl (record { answer = h.answer; ran = record { state = h.ran.state; ran = ran_with _ _ h.answer h.ran.ran }; told = h.told })
+    simulated_with x U result (inr h) = inr h

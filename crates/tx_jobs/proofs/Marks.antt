@@ -1,0 +1,76 @@
+-- Refused texts and the sink's mark.
+use Rattle.std.proofs.Common.{◌≡◌, Bool, refl}
+use Rattle.tx_text.specs.declared.text_fault.TextFault.TheVariants.{LineTooLong, BadByte, NoMemory as TextNoMemory}
+use Rattle.tx_text.specs.declared.line_fault.LineFault.TheVariants.{Text, Read as LineRead}
+use Rattle.tx_text.specs.declared.frame.FrameFault.TheVariants.{Line, Form}
+use Rattle.tx_text.specs.declared.frame.FaultAt.{FaultAt}
+use Rattle.tx_text.specs.declared.frame.Kind.{Kind}
+use Rattle.tx_text.specs.declared.frame.Kind.TheVariants.{Frame, Word}
+use Rattle.tx_plan.specs.declared.refusal.PlanRefusal.TheVariants.{WrongCount, BadName, BadCode, BadNumber, Duplicate, Unknown, RangeOrder, Overlap, SameEnds, NotOutgoing, RepeatedGroup, RouteAtHome, TooMany, BarAtHome, NoMemory as PlanNoMemory}
+use Rattle.tx_plantext.specs.declared.fault.PlanWord.{PlanWord}
+use Rattle.tx_plantext.specs.declared.fault.PlanWord.TheVariants.{UnknownWord, Refused}
+use Rattle.tx_cert.specs.declared.fault.CertWord.{CertWord}
+use Rattle.tx_cert.specs.declared.fault.CertWord.TheVariants.{UnknownWord as CertUnknownWord, WrongCount as CertWrongCount, UnknownName, BadNumber as CertBadNumber, Duplicate as CertDuplicate, NoMemory as CertNoMemory}
+use Rattle.tx_script.specs.declared.script_word.ScriptWord.{ScriptWord}
+use Rattle.tx_script.specs.declared.run_cause.RunCause.{RunCause}
+use Rattle.tx_script.specs.declared.run_cause.RunCause.TheVariants.{Read as RunRead, Write as RunWrite, Script as RunScript, NoMemory as RunNoMemory}
+use Rattle.tx_script.specs.Answers.{mark_by as run_mark_by}
+use Rattle.tx_jobs.specs.JobFaults.{plan_fault_by, cert_fault_by, script_fault_by, cause_fault, mark_by}
+
+plan_by : (old : Bool) (f : FaultAt PlanWord) (k : Kind PlanWord) → mark_by old (plan_fault_by f k) ≡ old
+plan_by old f (Frame (Line LineRead)) = refl
+plan_by old f (Frame (Line (Text LineTooLong))) = refl
+plan_by old f (Frame (Line (Text BadByte))) = refl
+plan_by old f (Frame (Line (Text TextNoMemory))) = refl
+plan_by old f (Frame (Form k)) = refl
+plan_by old f (Word UnknownWord) = refl
+plan_by old f (Word (Refused r)) = elim r as (λ r. mark_by old (plan_fault_by f (Word (Refused r))) ≡ old) [
+  | WrongCount ↦ refl
+  | BadName ↦ refl
+  | BadCode ↦ refl
+  | BadNumber ↦ refl
+  | Duplicate ↦ refl
+  | Unknown ↦ refl
+  | RangeOrder ↦ refl
+  | Overlap ↦ refl
+  | SameEnds ↦ refl
+  | NotOutgoing ↦ refl
+  | RepeatedGroup ↦ refl
+  | RouteAtHome ↦ refl
+  | TooMany ↦ refl
+  | BarAtHome ↦ refl
+  | PlanNoMemory ↦ refl
+]
+
+pub plan_unmarked : (old : Bool) (f : FaultAt PlanWord) → mark_by old (plan_fault_by f f.kind) ≡ old
+plan_unmarked old f = plan_by old f f.kind
+
+cert_by : (old : Bool) (f : FaultAt CertWord) (k : Kind CertWord) → mark_by old (cert_fault_by f k) ≡ old
+cert_by old f (Frame (Line LineRead)) = refl
+cert_by old f (Frame (Line (Text LineTooLong))) = refl
+cert_by old f (Frame (Line (Text BadByte))) = refl
+cert_by old f (Frame (Line (Text TextNoMemory))) = refl
+cert_by old f (Frame (Form k)) = refl
+cert_by old f (Word CertUnknownWord) = refl
+cert_by old f (Word CertWrongCount) = refl
+cert_by old f (Word UnknownName) = refl
+cert_by old f (Word CertBadNumber) = refl
+cert_by old f (Word CertDuplicate) = refl
+cert_by old f (Word CertNoMemory) = refl
+
+pub cert_unmarked : (old : Bool) (f : FaultAt CertWord) → mark_by old (cert_fault_by f f.kind) ≡ old
+cert_unmarked old f = cert_by old f f.kind
+
+script_by : (old : Bool) (f : FaultAt ScriptWord) (k : Kind ScriptWord) → mark_by old (script_fault_by f k) ≡ old
+script_by old f (Frame (Line LineRead)) = refl
+script_by old f (Frame (Line (Text LineTooLong))) = refl
+script_by old f (Frame (Line (Text BadByte))) = refl
+script_by old f (Frame (Line (Text TextNoMemory))) = refl
+script_by old f (Frame (Form k)) = refl
+script_by old f (Word w) = refl
+
+pub run_marked : (old : Bool) (c : RunCause) → mark_by old (cause_fault c) ≡ run_mark_by old c
+run_marked old RunRead = refl
+run_marked old RunWrite = refl
+run_marked old RunNoMemory = refl
+run_marked old (RunScript f) = script_by old f f.kind

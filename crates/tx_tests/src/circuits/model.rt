@@ -1,0 +1,179 @@
+// A group of three circuits that is scanned each time.
+ghost use Rattle.std.specs.Prelude.{◌<◌};
+
+use super::calls::{ALFA, BETA, Call, circuit, next};
+use std::alloc::Allocator;
+use tx_circuits::CircuitTable;
+use tx_plan::{ExchangeId, GroupId};
+
+#[derive(Clone, Copy, PartialEq, Eq)]
+struct Held {
+    by_alfa: bool,
+    by_beta: bool,
+    carried: bool,
+    releasing: bool,
+    out: bool,
+}
+
+/// Three circuits between ALFA and BETA.
+#[derive(Clone, Copy)]
+pub struct Model {
+    circuits: [Held; 3],
+    failed: bool,
+    blocked: bool,
+}
+
+const IDLE: Held = Held {
+    by_alfa: false,
+    by_beta: false,
+    carried: false,
+    releasing: false,
+    out: false,
+};
+
+impl Held {
+    // What the table tells of a circuit.
+    fn told<A: Allocator>(table: &CircuitTable<A>, number: u32) -> Held {
+        let x = circuit(number);
+        Held {
+            by_alfa: table.is_seized(&x, ExchangeId::at(ALFA)),
+            by_beta: table.is_seized(&x, ExchangeId::at(BETA)),
+            carried: table.is_carried(&x),
+            releasing: table.is_releasing(&x),
+            out: table.is_out(&x),
+        }
+    }
+
+    fn by(self, exchange: u16) -> bool {
+        if exchange == ALFA {
+            return self.by_alfa;
+        }
+        self.by_beta
+    }
+
+    fn is_free(self, exchange: u16) -> bool {
+        !self.by(exchange) && !self.carried && !self.releasing && !self.out
+    }
+
+    fn with_seized(self, exchange: u16, to: bool) -> Held {
+        if exchange == ALFA {
+            return Held {
+                by_alfa: to,
+                ..self
+            };
+        }
+        Held {
+            by_beta: to,
+            ..self
+        }
+    }
+
+    // Whether a call may be made.
+    fn allows(self, call: &Call) -> bool {
+        match *call {
+            Call::Seize(_, x) => self.is_free(x),
+            Call::Withdraw(_, x) => self.by(x),
+            Call::Hold(_) => self.by_alfa != self.by_beta,
+            Call::Release(_) => !self.by_alfa && !self.by_beta && !self.releasing,
+            Call::Released(_) => self.releasing,
+            Call::PutOut(_) => !self.out,
+            Call::PutIn(_) => self.out,
+            _ => false,
+        }
+    }
+
+    // What holds it after a call.
+    fn after(self, call: &Call) -> Held {
+        match *call {
+            Call::Seize(_, x) => self.with_seized(x, true),
+            Call::Withdraw(_, x) => self.with_seized(x, false),
+            Call::Hold(_) => Held {
+                carried: true,
+                out: self.out,
+                ..IDLE
+            },
+            Call::Release(_) => Held {
+                carried: false,
+                releasing: true,
+                ..self
+            },
+            Call::Released(_) => Held {
+                releasing: false,
+                ..self
+            },
+            Call::PutOut(_) => Held { out: true, ..self },
+            Call::PutIn(_) => Held { out: false, ..self },
+            _ => self,
+        }
+    }
+}
+
+impl Model {
+    pub fn new() -> Model {
+        Model {
+            circuits: [IDLE; 3],
+            failed: false,
+            blocked: false,
+        }
+    }
+
+    /// Makes a call, and tells whether it may be made.
+    pub fn apply(&mut self, call: &Call) -> bool {
+        let number = call.number();
+        if 0 < number && number < 4 {
+            return self.apply_to((number - 1) as usize, call);
+        }
+        let (failed, blocked) = (self.failed, self.blocked);
+        match *call {
+            Call::Fail => self.fail(),
+            Call::Restore => self.failed = false,
+            Call::Block => self.blocked = true,
+            _ => self.blocked = false,
+        }
+        self.failed != failed || self.blocked != blocked
+    }
+
+    fn fail(&mut self) {
+        for held in self.circuits.iter_mut() {
+            *held = Held {
+                out: held.out,
+                ..IDLE
+            };
+        }
+        self.failed = true;
+    }
+
+    fn apply_to(&mut self, place: usize, call: &Call) -> bool
+        requires { place < 3 }
+    {
+        let held = self.circuits[place];
+        self.circuits[place] = held.after(call);
+        held.allows(call)
+    }
+
+    // The number that an exchange takes next: ALFA the least, BETA the greatest; 0 for none.
+    fn next(&self, exchange: u16) -> u32 {
+        let mut found = 0;
+        if self.failed || self.blocked {
+            return found;
+        }
+        for place in 0..3u32 {
+            if self.circuits[place as usize].is_free(exchange) && (found == 0 || exchange == BETA) {
+                found = place + 1;
+            }
+        }
+        found
+    }
+
+    /// Whether the table tells the same.
+    pub fn agrees<A: Allocator>(&self, table: &CircuitTable<A>) -> bool {
+        let group = GroupId::at(0);
+        self.failed == table.is_failed(group)
+            && self.blocked == table.is_blocked(group)
+            && self.circuits[0] == Held::told(table, 1)
+            && self.circuits[1] == Held::told(table, 2)
+            && self.circuits[2] == Held::told(table, 3)
+            && self.next(ALFA) == next(table, ALFA)
+            && self.next(BETA) == next(table, BETA)
+    }
+}

@@ -1,0 +1,179 @@
+// Commands, and the words that ask for them.
+ghost use Rattle.std.specs.Prelude.{◌≡◌, ◌≤◌, [], Ok, IfOk, IfSome};
+ghost use Rattle.tx_words.specs.Commands.{IsInRange};
+
+use crate::fault::WordsFault;
+use crate::grammar::grammar;
+use clap::ArgMatches;
+use clap::error::ErrorKind;
+use std::alloc::{AllocError, Global};
+
+/// What the words ask for.
+#[derive(Debug, Drop)]
+pub enum Command {
+    /// No words: a plan and a script on standard input.
+    Pipe,
+    /// `run PLAN SCRIPT`, after a Yes to a certificate if there is one.
+    Run {
+        plan: String,
+        script: String,
+        checked: Option<(String, u8, u8)>,
+    },
+    /// `check PLAN CERT --limit L --spare K`: at most L transits, with K groups to spare.
+    Check {
+        plan: String,
+        cert: String,
+        limit: u8,
+        spare: u8,
+    },
+    /// `codes PLAN`.
+    Codes {
+        plan: String,
+    },
+    /// `audit PLAN --limit L --spare K`: the certificate goes to a file, if one is named.
+    Audit {
+        plan: String,
+        limit: u8,
+        spare: u8,
+        cert: Option<String>,
+    },
+}
+
+fn text(alloc: Global, matches: &ArgMatches<'_>, id: &str) -> Result<Option<String>, AllocError> {
+    match matches.get_str(id) {
+        Some(word) => Ok(Some(String::from_str(alloc, word)?)),
+        None => Ok(None),
+    }
+}
+
+/// The number of an option, tested once more against its range.
+fn number(matches: &ArgMatches<'_>, id: &str, most: u8) -> Option<u8>
+    ensures { IfSome result (λ n. n ≤ most) }
+{
+    match matches.get_one::<u8>(id) {
+        Some(n) if n <= most => Some(n),
+        _ => None,
+    }
+}
+
+/// The words of `check` behind the plan.
+fn check_of(
+    alloc: Global,
+    plan: String,
+    matches: &ArgMatches<'_>,
+) -> Result<Option<Command>, WordsFault>
+    ensures { IfOk result (λ c. IfSome c IsInRange) }
+{
+    let limit = number(matches, "limit", 62);
+    let spare = number(matches, "spare", 15);
+    let cert = text(alloc, matches, "cert")?;
+    match (cert, limit, spare) {
+        (Some(cert), Some(limit), Some(spare)) => Ok(Some(Command::Check {
+            plan,
+            cert,
+            limit,
+            spare,
+        })),
+        _ => Ok(None),
+    }
+}
+
+/// The words of `audit` behind the plan.
+fn audit_of(
+    alloc: Global,
+    plan: String,
+    matches: &ArgMatches<'_>,
+) -> Result<Option<Command>, WordsFault>
+    ensures { IfOk result (λ c. IfSome c IsInRange) }
+{
+    let limit = number(matches, "limit", 62);
+    let spare = number(matches, "spare", 15);
+    let cert = text(alloc, matches, "cert")?;
+    match (limit, spare) {
+        (Some(limit), Some(spare)) => Ok(Some(Command::Audit {
+            plan,
+            limit,
+            spare,
+            cert,
+        })),
+        _ => Ok(None),
+    }
+}
+
+/// The words of `run` behind the plan.
+fn run_of(
+    alloc: Global,
+    plan: String,
+    matches: &ArgMatches<'_>,
+) -> Result<Option<Command>, WordsFault>
+    ensures { IfOk result (λ c. IfSome c IsInRange) }
+{
+    let Some(script) = text(alloc, matches, "script")? else {
+        return Ok(None);
+    };
+    let limit = number(matches, "limit", 62);
+    let spare = number(matches, "spare", 15);
+    let cert = text(alloc, matches, "cert")?;
+    let checked = match (cert, limit, spare) {
+        (Some(cert), Some(limit), Some(spare)) => Some((cert, limit, spare)),
+        (None, None, None) => None,
+        _ => return Err(WordsFault::Together),
+    };
+    Ok(Some(Command::Run {
+        plan,
+        script,
+        checked,
+    }))
+}
+
+/// The command of a subcommand's words, or None where a word that it needs is missing, which the grammar rules out.
+fn command_of(
+    alloc: Global,
+    name: &str,
+    matches: &ArgMatches<'_>,
+) -> Result<Option<Command>, WordsFault>
+    ensures { IfOk result (λ c. IfSome c IsInRange) }
+{
+    let Some(plan) = text(alloc, matches, "plan")? else {
+        return Ok(None);
+    };
+    if name == "codes" {
+        return Ok(Some(Command::Codes { plan }));
+    }
+    if name == "check" {
+        return check_of(alloc, plan, matches);
+    }
+    if name == "audit" {
+        return audit_of(alloc, plan, matches);
+    }
+    run_of(alloc, plan, matches)
+}
+
+/// Why words without a command are refused.
+fn no_command(grammar: &mut clap::Command<'_>) -> Result<WordsFault, AllocError> {
+    let e = grammar.error(ErrorKind::MissingSubcommand, "a command is missing")?;
+    Ok(WordsFault::of_clap(e))
+}
+
+/// Reads the words after the program's name.
+pub fn read_command(alloc: Global, words: &[&str]) -> Result<Command, WordsFault>
+    ensures in_range { IfOk result IsInRange }
+    ensures pipe { words.now ≡ [] → result ≡ Ok Command.Pipe }
+{
+    if words.is_empty() {
+        return Ok(Command::Pipe);
+    }
+    let mut grammar = grammar(alloc)?;
+    let matches = match grammar.try_get_matches_from_mut(words) {
+        Ok(matches) => matches,
+        Err(e) => return Err(WordsFault::of_clap(e)),
+    };
+    let found = match matches.subcommand() {
+        Some((name, matches)) => command_of(alloc, name, matches)?,
+        None => None,
+    };
+    match found {
+        Some(command) => Ok(command),
+        None => Err(no_command(&mut grammar)?),
+    }
+}
