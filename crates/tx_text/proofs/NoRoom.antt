@@ -1,5 +1,5 @@
 -- No text says that there was no memory for its reader.
-use Rattle.std.proofs.Common.{◌≡◌, ℕ, ◌+◌, Bool, true, false, List, [], ◌∷◌, Option, Some, None, inl, inr, refl, sym, ap, ◌∙◌}
+use Rattle.std.proofs.Common.{◌≡◌, ℕ, ◌+◌, Bool, true, false, List, [], ◌∷◌, Option, Some, None, inl, inr, refl, sym, ◌∙◌}
 use Rattle.std.specs.Prelude.{if◌then◌else◌, nat_lt, length}
 use Rattle.std.specs.List.{list_all}
 use Rattle.std.proofs.lemmas.Bool.{true≢false}
@@ -8,14 +8,14 @@ use Rattle.tx_text.specs.declared.text_fault.TextFault.TheVariants.{LineTooLong,
 use Rattle.tx_text.specs.declared.line_fault.LineFault.TheVariants.{Text, Read}
 use Rattle.tx_text.specs.declared.frame.FormFault.{FormFault}
 use Rattle.tx_text.specs.declared.frame.FrameFault.{FrameFault}
-use Rattle.tx_text.specs.declared.frame.FrameFault.TheVariants.{Line as of_line, Form as of_form}
+use Rattle.tx_text.specs.declared.frame.FrameFault.TheVariants.{Line as of_line}
 use Rattle.tx_text.specs.declared.frame.Phase.{Phase}
 use Rattle.tx_text.specs.declared.frame.Phase.TheVariants.{Start, Body, Ended}
-use Rattle.tx_text.specs.Text.{Line, is_text_byte, bytes_fault, without_cr, lines_from}
+use Rattle.tx_text.specs.Text.{Line, is_text_byte, bytes_fault, without_cr}
 use Rattle.tx_text.specs.Feed.{begun_fault}
 use Rattle.tx_text.specs.Words.{words_of}
-use Rattle.tx_text.specs.Told.{Ending, AtEnd, Cut, Told, Closed, Faulty, Then, or_fault, told_line, told_end, told, told_at, reading_place}
-use Rattle.tx_text.specs.Frame.{Framed, Done, Stop, Headed, Has, is_end, headed, looked_by, last_fault, ended_by, as_said, framed_line, header_of, framed, Stands, Stopped, is_read}
+use Rattle.tx_text.specs.Told.{Ending, AtEnd, Cut, Told, Closed, Faulty, Then, or_fault, told_line, told, told_at, reading_place}
+use Rattle.tx_text.specs.Frame.{Framed, Done, Stop, Headed, Has, is_end, headed, looked_by, last_fault, ended_by, as_said, framed_line, header_of, framed, Stopped}
 use Rattle.tx_text.specs.Framing.{to_come}
 use Rattle.tx_text.specs.declared.frame_reader.FrameReader.{FrameReader}
 use Rattle.tx_text.specs.Said.{is_no_room}
