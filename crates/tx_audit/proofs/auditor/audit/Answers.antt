@@ -15,6 +15,21 @@ returns-in-Err-write_report-clause-answers g c =
     let f = all_found c.in-Ok.plan c.args.limit c.args.spare findings (rw c.in-Ok-Fails.field-0-is at c.in-Ok-Fails.ensures.fails) (rw c.in-Ok-Fails.field-0-is at c.in-Ok-Fails.ensures.each) (rw c.in-Ok-Fails.field-0-is at c.in-Ok-Fails.ensures.listed) in
     record { plan = c.in-Ok.plan; rules = c.rules.ensures; read = c.in-Ok.ensures.answer; findings = findings; found = f.0; cleared = λ none. none_given findings f.1 none; wrote = (rw c.deref.ensures.value at c.in-Err-write_report.ensures).0 }
 
+pub returns-in-Ok-confirm-clause-answers : goal.returns-in-Ok-confirm-clause-answers
+returns-in-Ok-confirm-clause-answers g c =
+    let r = c.in-Ok-Found.ensures in
+    let e = c.in-Ok-confirm.ensures in
+    let f = (rw c.in-Ok-Found.field-0-is at r.found).0 tt in
+    (record { rules = c.rules.ensures; read = c.in-Ok.ensures.answer; found = f; wrote = e.wrote.0 },
+    record {
+      fits = rw c.in-Ok-Found.field-0-is at r.fits;
+      heights = rw c.in-Ok-Found.field-0-is at r.heights;
+      certified = rw c.in-Ok-Found.field-0-is at r.certified;
+      yes = e.yes;
+      sound = e.sound;
+      few_routes = e.few_routes;
+    })
+
 pub returns-in-Err-confirm-clause-answers : goal.returns-in-Err-confirm-clause-answers
 returns-in-Err-confirm-clause-answers g c =
     let r = c.in-Ok-Found.ensures in
