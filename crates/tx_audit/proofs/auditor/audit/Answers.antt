@@ -19,16 +19,17 @@ pub returns-in-Ok-confirm-clause-answers : goal.returns-in-Ok-confirm-clause-ans
 returns-in-Ok-confirm-clause-answers g c =
     let r = c.in-Ok-Found.ensures in
     let e = c.in-Ok-confirm.ensures in
-    let f = (rw c.in-Ok-Found.field-0-is at r.found).0 tt in
-    (record { rules = c.rules.ensures; read = c.in-Ok.ensures.answer; found = f; wrote = e.wrote.0 },
-    record {
-      fits = rw c.in-Ok-Found.field-0-is at r.fits;
-      heights = rw c.in-Ok-Found.field-0-is at r.heights;
-      certified = rw c.in-Ok-Found.field-0-is at r.certified;
-      yes = e.yes;
-      sound = e.sound;
-      few_routes = e.few_routes;
-    })
+    let f = (rw c.in-Ok-Found.field-0-is at r.found).0 tt in (
+      record { rules = c.rules.ensures; read = c.in-Ok.ensures.answer; found = f; wrote = e.wrote.0 },
+      record {
+        fits = rw c.in-Ok-Found.field-0-is at r.fits;
+        heights = rw c.in-Ok-Found.field-0-is at r.heights;
+        certified = rw c.in-Ok-Found.field-0-is at r.certified;
+        yes = e.yes;
+        sound = e.sound;
+        few_routes = e.few_routes;
+      },
+    )
 
 pub returns-in-Err-confirm-clause-answers : goal.returns-in-Err-confirm-clause-answers
 returns-in-Err-confirm-clause-answers g c =
