@@ -77,6 +77,6 @@ mark_by old (PlanRefused f) = old
 mark_by old Write = true
 mark_by old NoMemory = old
 
-abbrev pub mark_after : {A : Type 0} → Bool → Result (Audited A) AuditFault → Bool
-mark_after old (Ok audited) = old
+abbrev pub mark_after : {X : Type 0} → Bool → Result X AuditFault → Bool
+mark_after old (Ok x) = old
 mark_after old (Err f) = mark_by old f

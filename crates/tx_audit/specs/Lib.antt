@@ -1,3 +1,4 @@
 pub mod Report
 pub mod Audits
 pub mod CheckedRuns
+pub mod Ranked

@@ -1,9 +1,11 @@
 // What an audit comes to.
+ghost use Rattle.std.specs.Prelude.{◌≡◌};
+
 use std::alloc::{Allocator, Global};
 use tx_cert::Cert;
 use tx_plan::Plan;
 use tx_plantext::PlanFault;
-use tx_rank::Finding;
+use tx_rank::{Finding, Ranking};
 
 /// The plan that was read, and what was found of it.
 #[derive(Drop)]
@@ -12,6 +14,20 @@ pub enum Audited<A: Allocator = Global> {
     Sound(Plan<A>, Cert<A>),
     /// All that is wrong with the plan.
     Unsound(Plan<A>, Vec<Finding<A>, A>),
+}
+
+impl<A: Allocator> Audited<A> {
+    ghost use Rattle.tx_audit.specs.Ranked.{audited_of};
+
+    /// The plan, with what its ranking came to.
+    pub(crate) fn of(plan: Plan<A>, ranking: Ranking<A>) -> Audited<A>
+        ensures { result ≡ audited_of plan ranking }
+    {
+        match ranking {
+            Ranking::Found(cert) => Audited::Sound(plan, cert),
+            Ranking::Fails(findings) => Audited::Unsound(plan, findings),
+        }
+    }
 }
 
 /// Why an audit stopped.

@@ -4,10 +4,10 @@ ghost use Rattle.tx_text.specs.Calls.{Broken, CallsAtMost, source_calls};
 ghost use Rattle.tx_plan.specs.Certified.{IsCertified};
 ghost use Rattle.tx_plantext.specs.Wrote.{Wrote};
 ghost use Rattle.tx_cert.specs.Certificate.{IsCertificateOf, ranks_of};
-ghost use Rattle.tx_state.specs.Sound.{IsSound, HasFewRoutes};
-ghost use Rattle.tx_check.specs.declared.verdict.Verdict.TheVariants.{Yes};
-ghost use Rattle.tx_check.specs.Checks.{check_faults, ranks_for, verdict_of};
+ghost use Rattle.tx_rank.specs.Rankings.{OnFound};
 ghost use Rattle.tx_audit.specs.Audits.{AuditAnswers, mark_after};
+ghost use Rattle.tx_audit.specs.CheckedRuns.{IsAllowed};
+ghost use Rattle.tx_audit.specs.Ranked.{RankAnswers, findings_of};
 ghost use Rattle.tx_audit.specs.Report.{report};
 
 use crate::audited::{AuditFault, Audited};
@@ -37,21 +37,58 @@ pub fn audit<A: Allocator + Copy, R: Source, W: Sink>(
     ensures mark { W.failed out.new ≡ mark_after (W.failed out.old) result }
     ensures calls { CallsAtMost R.called source_calls source.old source.new }
 {
-    let plan = match read_plan_from(alloc, source) {
-        Ok(plan) => plan,
-        Err(fault) => return Err(AuditFault::Plan(fault)),
-    };
-    plan.rules();
-    match rank(alloc, &plan, limit, spare) {
+    match read_plan_from(alloc, source) {
+        Ok(plan) => {
+            plan.rules();
+            match rank_and_report(alloc, &plan, limit, spare, out) {
+                Ok(ranking) => Ok(Audited::of(plan, ranking)),
+                Err(fault) => Err(fault),
+            }
+        }
+        Err(fault) => Err(AuditFault::Plan(fault)),
+    }
+}
+
+/// Ranks a plan, and reports what that came to.
+fn rank_and_report<A: Allocator + Copy, W: Sink>(
+    alloc: A,
+    plan: &Plan<A>,
+    limit: u8,
+    spare: u8,
+    out: &mut W,
+) -> Result<Ranking<A>, AuditFault>
+    requires limit { limit ≤ 62 }
+    requires spare { spare ≤ 15 }
+    ensures answers { RankAnswers plan.now limit spare (W.taken out.old) (W.taken out.new) (out.new ≡ out.old) result }
+    ensures mark { W.failed out.new ≡ mark_after (W.failed out.old) result }
+{
+    match rank(alloc, plan, limit, spare) {
+        Ok(ranking) => match report_ranking(plan, &ranking, limit, spare, out) {
+            Ok(()) => Ok(ranking),
+            Err(WriteFault) => Err(AuditFault::Write),
+        },
         Err(NoMemory) => Err(AuditFault::NoMemory),
-        Ok(Ranking::Found(cert)) => match confirm(&plan, &cert, limit, spare, out) {
-            Ok(()) => Ok(Audited::Sound(plan, cert)),
-            Err(WriteFault) => Err(AuditFault::Write),
-        },
-        Ok(Ranking::Fails(findings)) => match write_report(&plan, &findings, limit, spare, out) {
-            Ok(()) => Ok(Audited::Unsound(plan, findings)),
-            Err(WriteFault) => Err(AuditFault::Write),
-        },
+    }
+}
+
+/// Reports what a ranking came to; a certificate after the checker said Yes to it.
+fn report_ranking<A: Allocator, W: Sink>(
+    plan: &Plan<A>,
+    ranking: &Ranking<A>,
+    limit: u8,
+    spare: u8,
+    out: &mut W,
+) -> Result<(), WriteFault>
+    requires limit { limit ≤ 62 }
+    requires spare { spare ≤ 15 }
+    requires fits { OnFound (IsCertificateOf plan.now) ranking.now }
+    requires certified { OnFound (λ cert. IsCertified plan.now (ranks_of cert) limit spare) ranking.now }
+    ensures confirmed { OnFound (λ cert. IsAllowed plan.now cert limit spare) ranking.now }
+    ensures wrote { Wrote (W.taken out.old) (W.taken out.new) (W.failed out.old) (W.failed out.new) (report plan.now limit spare (findings_of ranking.now)) result }
+{
+    match ranking {
+        Ranking::Found(cert) => confirm(plan, cert, limit, spare, out),
+        Ranking::Fails(findings) => write_report(plan, findings, limit, spare, out),
     }
 }
 
@@ -67,9 +104,7 @@ fn confirm<A: Allocator, W: Sink>(
     requires spare { spare ≤ 15 }
     requires fits { IsCertificateOf plan.now cert.now }
     requires certified { IsCertified plan.now (ranks_of cert.now) limit spare }
-    ensures yes { verdict_of (check_faults plan.now (ranks_for plan.now cert.now) limit spare) ≡ Yes }
-    ensures sound { IsSound plan.now limit spare }
-    ensures few_routes { HasFewRoutes plan.now limit }
+    ensures confirmed { IsAllowed plan.now cert.now limit spare }
     ensures wrote { Wrote (W.taken out.old) (W.taken out.new) (W.failed out.old) (W.failed out.new) (report {A = A} plan.now limit spare []) result }
 {
     match check(plan, cert, limit, spare) {

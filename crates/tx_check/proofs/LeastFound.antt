@@ -11,9 +11,9 @@ use Rattle.std.proofs.lemmas.Bool.{ltb-true, ltb-false}
 use Rattle.std.proofs.lemmas.Option.{slice_get_within}
 use Rattle.tx_plan.specs.Plan.{Plan, Code, figures_of, code_named}
 use Rattle.tx_plan.specs.Codes.{is_prefix, after}
-use Rattle.tx_plan.specs.Ambiguous.{ambiguous_of}
+use Rattle.tx_plan.specs.Ambiguous.{ambiguous_of, IsAmbiguousAt}
 use Rattle.tx_plan.specs.Rules.{IsPlan}
-use Rattle.tx_plan.proofs.Ambiguity.{IsAmbiguousAt, ambiguous-none, ambiguous-some}
+use Rattle.tx_plan.proofs.Ambiguity.{ambiguous-none, ambiguous-some}
 use Rattle.tx_cert.proofs.Names.{entry_at, code_back}
 use Rattle.tx_check.specs.LeastPair.{begins, places_cmp, comes_first, lesser_of, with_pair, IsLeastOf, SeenBelow, IsLeastBelow}
 

@@ -1,5 +1,5 @@
 -- What jobs answer: what their calls do, one after another, and the fault of the first that fails.
-use Rattle.std.specs.Prelude.{◌≡◌, ◌⊎◌, ℕ, List, Option, Result, Ok, Err}
+use Rattle.std.specs.Prelude.{◌≡◌, ◌⊎◌, ℕ, List, Option, None, Some, Result, Ok, Err}
 use Rattle.tx_text.specs.declared.frame.FaultAt.{FaultAt}
 use Rattle.tx_plan.specs.Plan.{Plan}
 use Rattle.tx_plan.specs.Rules.{IsPlan}
@@ -63,3 +63,17 @@ ToldCodes p old new untouched (Err other) = ⊥
 abbrev pub CodesJobAnswers : (old new taken_old taken_new : Option (List ℕ)) → (broken unread untouched : Type 0) → Result (Option (ℕ × ℕ)) JobFault → Type 0
 CodesJobAnswers old new taken_old taken_new broken unread untouched result =
     PlanRead old new (λ p. ToldCodes p taken_old taken_new untouched result) ⊎ PlanRefused old new broken unread untouched result
+
+-- 1 where a code begins another, else 0
+abbrev pub status_of_codes : Option (ℕ × ℕ) → ℕ
+status_of_codes None = 0
+status_of_codes (Some pair) = 1
+
+abbrev pub told_codes_status : Result (Option (ℕ × ℕ)) JobFault → Result ℕ JobFault
+told_codes_status (Ok pair) = Ok (status_of_codes pair)
+told_codes_status (Err fault) = Err fault
+
+-- the same, told as an exit status
+abbrev pub CodesStatusAnswers : (old new taken_old taken_new : Option (List ℕ)) → (broken unread untouched : Type 0) → Result ℕ JobFault → Type 0
+CodesStatusAnswers old new taken_old taken_new broken unread untouched result =
+    (answer : Result (Option (ℕ × ℕ)) JobFault) × CodesJobAnswers old new taken_old taken_new broken unread untouched answer × (result ≡ told_codes_status answer)

@@ -1,7 +1,8 @@
 -- What the program without words answers: one input of two texts, a plan and then a script.
-use Rattle.std.specs.Prelude.{◌≡◌, ◌⊎◌, ℕ, Bool, true, List, Option, Result}
+use Rattle.std.specs.Prelude.{◌≡◌, ◌⊎◌, ℕ, Bool, true, false, List, [], Option, Some, Result}
 use Rattle.tx_text.specs.declared.source.ReadFault.{ReadFault}
 use Rattle.tx_text.specs.Calls.{Gave, CallsAtMost, source_calls}
+use Rattle.tx_pipe.specs.declared.two_texts.Part.TheVariants.{Plan}
 use Rattle.tx_pipe.specs.declared.two_texts.TwoTexts.{TwoTexts}
 use Rattle.tx_pipe.specs.InputCalls.{FailedLast, calls_of_input}
 use Rattle.tx_pipe.specs.Telling.{text_in_hand, text_behind, at_script, PipeCall}
@@ -43,7 +44,22 @@ pub record PipeRefused {R : Type 0} (rest : R → Option (List ℕ)) (failed : R
   pub plan_calls : PipeCalls rest failed called old new
   pub answers : PlanRefused (text_in_hand rest old) (text_in_hand rest new) (PipeBroken rest failed called old old new) (new ≡ old) silent result
 
--- the program without words
-abbrev pub PipeJobAnswers : {R : Type 0} → (R → Option (List ℕ)) → (R → Bool) → (ℕ → Result ℕ ReadFault → R → R → Type 0) → (old new : TwoTexts R) → (taken_old taken_new : Option (List ℕ)) → Type 0 → Result Summary JobFault → Type 0
-PipeJobAnswers rest failed called old new taken_old taken_new silent result =
+-- What is told of an input of two texts, before and after.
+abbrev pub TwoTextsAnswers : {R : Type 0} → (R → Option (List ℕ)) → (R → Bool) → (ℕ → Result ℕ ReadFault → R → R → Type 0) → (old new : TwoTexts R) → (taken_old taken_new : Option (List ℕ)) → Type 0 → Result Summary JobFault → Type 0
+TwoTextsAnswers rest failed called old new taken_old taken_new silent result =
     PipeRan rest failed called old new taken_old taken_new silent result ⊎ PipeRefused rest failed called old new silent result
+
+-- The input of two texts over this source, of which nothing was read yet.
+pub record BeginsOver {R : Type 0} (input : R) (texts : TwoTexts R) : Type 0 where
+  pub source : texts.source ≡ input
+  pub held : texts.held ≡ []
+  pub line : texts.line ≡ Some []
+  pub part : texts.part ≡ Plan
+  pub failed : texts.failed ≡ false
+
+-- The program without words: its input was read as two texts, which end says.
+pub record PipeJobAnswers {R : Type 0} (rest : R → Option (List ℕ)) (failed : R → Bool) (called : ℕ → Result ℕ ReadFault → R → R → Type 0) (input : R) (taken_old taken_new : Option (List ℕ)) (silent : Type 0) (result : Result Summary JobFault) : Type 0 where
+  pub begin : TwoTexts R
+  pub over : BeginsOver input begin
+  pub end : TwoTexts R
+  pub answers : TwoTextsAnswers rest failed called begin end taken_old taken_new silent result

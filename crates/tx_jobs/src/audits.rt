@@ -2,7 +2,7 @@
 ghost use Rattle.std.specs.Prelude.{◌≡◌, ◌≤◌};
 ghost use Rattle.tx_text.specs.Calls.{Broken, CallsAtMost, source_calls};
 ghost use Rattle.tx_jobs.specs.JobFaults.{mark_after};
-ghost use Rattle.tx_jobs.specs.AuditJobs.{AuditJobAnswers};
+ghost use Rattle.tx_jobs.specs.AuditJobs.{AuditJobAnswers, status_of_audit};
 
 use crate::job_fault::JobFault;
 use std::alloc::Allocator;
@@ -29,5 +29,15 @@ pub fn audit_job<A: Allocator + Copy, P: Source, W: Sink>(
         Err(AuditFault::Plan(fault)) => Err(JobFault::of_plan(fault)),
         Err(AuditFault::Write) => Err(JobFault::Write),
         Err(AuditFault::NoMemory) => Err(JobFault::NoMemory),
+    }
+}
+
+/// The exit status of an audit: 0 after a Yes, 1 after a No.
+pub fn audit_status<A: Allocator>(audited: &Audited<A>) -> u8
+    ensures { result ≡ status_of_audit audited.now }
+{
+    match audited {
+        Audited::Sound(_, _) => 0,
+        Audited::Unsound(_, _) => 1,
     }
 }

@@ -12,10 +12,10 @@ mod scripted;
 mod simulate;
 
 pub use allowed::{run_checked_job, run_checked_status};
-pub use audits::audit_job;
+pub use audits::{audit_job, audit_status};
 pub use fault_line::write_fault;
 pub use job_fault::JobFault;
 pub use judged::{check_job, check_status};
-pub use listed::codes_job;
+pub use listed::{codes_job, codes_status};
 pub use piped::pipe_job;
 pub use scripted::run_job;

@@ -2,7 +2,7 @@
 ghost use Rattle.std.specs.Prelude.{◌≡◌};
 ghost use Rattle.tx_text.specs.Calls.{Broken, CallsAtMost, source_calls};
 ghost use Rattle.tx_jobs.specs.JobFaults.{mark_after};
-ghost use Rattle.tx_jobs.specs.Jobs.{CodesJobAnswers, ToldCodes};
+ghost use Rattle.tx_jobs.specs.Jobs.{CodesJobAnswers, CodesStatusAnswers, ToldCodes};
 
 use crate::job_fault::JobFault;
 use std::alloc::Allocator;
@@ -28,6 +28,23 @@ pub fn codes_job<A: Allocator + Copy, P: Source, W: Sink>(
             tell_codes(alloc, &plan, out)
         }
         Err(fault) => Err(JobFault::of_plan(fault)),
+    }
+}
+
+/// The same, and answers the exit status: 0 where no code begins another, else 1.
+pub fn codes_status<A: Allocator + Copy, P: Source, W: Sink>(
+    alloc: A,
+    plan: &mut P,
+    out: &mut W,
+) -> Result<u8, JobFault>
+    ensures answers { CodesStatusAnswers (P.rest plan.old) (P.rest plan.new) (W.taken out.old) (W.taken out.new) (Broken P.called (P.failed plan.new) source_calls plan.old plan.new) (plan.new ≡ plan.old) (out.new ≡ out.old) result }
+    ensures mark { W.failed out.new ≡ mark_after (W.failed out.old) result }
+    ensures calls { CallsAtMost P.called source_calls plan.old plan.new }
+{
+    match codes_job(alloc, plan, out) {
+        Ok(None) => Ok(0),
+        Ok(Some(_)) => Ok(1),
+        Err(fault) => Err(fault),
     }
 }
 

@@ -2,7 +2,7 @@
 ghost use Rattle.std.specs.Prelude.{◌≡◌};
 ghost use Rattle.tx_pipe.specs.declared.two_texts.Part.TheVariants.{Plan};
 ghost use Rattle.tx_jobs.specs.JobFaults.{mark_after};
-ghost use Rattle.tx_jobs.specs.PipeJobs.{PipeJobAnswers};
+ghost use Rattle.tx_jobs.specs.PipeJobs.{PipeJobAnswers, TwoTextsAnswers};
 
 use crate::job_fault::JobFault;
 use crate::simulate::simulate;
@@ -13,14 +13,27 @@ use tx_script::Summary;
 use tx_text::{Sink, Source};
 
 /// Reads a plan from an input, up to and with the first line whose one word is END, and then runs the script that follows, whose lines count from 1.
+pub fn pipe_job<A: Allocator + Copy, R: Source + Drop, W: Sink>(
+    alloc: A,
+    input: R,
+    out: &mut W,
+) -> Result<Summary, JobFault>
+    ensures answers { PipeJobAnswers R.rest R.failed R.called input (W.taken out.old) (W.taken out.new) (out.new ≡ out.old) result }
+    ensures mark { W.failed out.new ≡ mark_after (W.failed out.old) result }
+{
+    let mut texts = TwoTexts::new(input);
+    run_two_texts(alloc, &mut texts, out)
+}
+
+/// Reads a plan, and then runs the script that stands behind it in the same input.
 #[tactic(auto, using(crate::proofs::Marks::plan_unmarked))]
-pub fn pipe_job<A: Allocator + Copy, R: Source, W: Sink>(
+fn run_two_texts<A: Allocator + Copy, R: Source, W: Sink>(
     alloc: A,
     input: &mut TwoTexts<R>,
     out: &mut W,
 ) -> Result<Summary, JobFault>
     requires { input.old.part ≡ Plan }
-    ensures answers { PipeJobAnswers R.rest R.failed R.called input.old input.new (W.taken out.old) (W.taken out.new) (out.new ≡ out.old) result }
+    ensures answers { TwoTextsAnswers R.rest R.failed R.called input.old input.new (W.taken out.old) (W.taken out.new) (out.new ≡ out.old) result }
     ensures mark { W.failed out.new ≡ mark_after (W.failed out.old) result }
 {
     match read_plan_from(alloc, input) {

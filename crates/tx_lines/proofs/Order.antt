@@ -124,11 +124,24 @@ module _ (ranges : List LineRange) (ordered : IsInOrder ranges) (code : ℕ) (nu
       itself : (n : ℕ) → nat_cmp n n ≡ Equal
       itself n = ap (λ t. cond t Less (cond (n == n) Equal Greater)) (let q : nat_lt n n ≡ false = grind (arith, nat_tests) in q) ∙ ap (λ t. cond t Equal Greater) (eq-eqb n n refl)
 
-  -- it starts by the number
+  -- of the code and of the width, it starts by the number where its low end is not above that
+  starts_as : (r : LineRange) → r.code ≡ code → length r.low ≡ length number → starts_by r ≡ at_most r.low number
+  starts_as r e w =
+      ap is_le (tie r.code code (ordering_then (nat_cmp (length r.low) (length number)) (slice_cmp nat_cmp r.low number)) e
+      ∙ tie (length r.low) (length number) (slice_cmp nat_cmp r.low number) w)
+
   has_starts : (r : LineRange) → Has r → starts_by r ≡ true
-  has_starts r h =
-      ap is_le (tie r.code code (ordering_then (nat_cmp (length r.low) (length number)) (slice_cmp nat_cmp r.low number)) h.code_is
-      ∙ tie (length r.low) (length number) (slice_cmp nat_cmp r.low number) (sym h.width)) ∙ h.low
+  has_starts r h = starts_as r h.code_is (sym h.width) ∙ h.low
+
+  -- so of a range that starts by the number the low end need not be asked
+  low_told : (r : LineRange) → starts_by r ≡ true → ((r.code == code) && ((length number == length r.low) && at_most number r.high)) ≡ matches r
+  low_told r s = elim (r.code == code) as (λ b. (r.code == code) ≡ b → (b && ((length number == length r.low) && at_most number r.high)) ≡ (b && in_range number r)) [
+    | false ↦ λ e. refl
+    | true ↦ λ e. elim (length number == length r.low) as (λ b. (length number == length r.low) ≡ b → (b && at_most number r.high) ≡ (b && (at_most r.low number && at_most number r.high))) [
+      | false ↦ λ f. refl
+      | true ↦ λ f. ap (λ b. b && at_most number r.high) (sym s ∙ starts_as r (eqb-true r.code code e) (sym (eqb-true (length number) (length r.low) f)))
+    ] refl
+  ] refl
 
   module _ (n : ℕ) (point : IsPartitionPoint (λ y. starts_by y ≡ true) (λ y. starts_by y ≡ false) ranges n) where
     before : (j : ℕ) (q : LineRange) → slice_get ranges j ≡ Some q → Has q → j < n
@@ -142,9 +155,12 @@ module _ (ranges : List LineRange) (ordered : IsInOrder ranges) (code : ℕ) (nu
     pub none_starts : n ≡ 0 → false ≡ list_any matches ranges
     none_starts z = none_true (list_any matches ranges) (λ t. let a = any_at matches ranges t in let l = before a.0 a.1 a.2 (has a.1 a.3) in omega arith)
 
-    pub last_start : (m : ℕ) → n ≡ m + 1 → (r : LineRange) → slice_get ranges m ≡ Some r → matches r ≡ list_any matches ranges
-    last_start m e r at = same_truth (matches r) (list_any matches ranges) (at_any matches ranges m r at) back
+    pub last_start : (m : ℕ) → n ≡ m + 1 → (r : LineRange) → slice_get ranges m ≡ Some r → ((r.code == code) && ((length number == length r.low) && at_most number r.high)) ≡ list_any matches ranges
+    last_start m e r at = low_told r down ∙ same_truth (matches r) (list_any matches ranges) (at_any matches ranges m r at) back
       where
+        down : starts_by r ≡ true
+        down = ap starts_by (sym (get_or_from_slice_get ranges m r r at)) ∙ point.0 m r (omega arith) (let last = slice_get_within ranges m r at in omega arith)
+
         back : list_any matches ranges ≡ true → matches r ≡ true
         back t =
             let a = any_at matches ranges t in
@@ -154,7 +170,6 @@ module _ (ranges : List LineRange) (ordered : IsInOrder ranges) (code : ℕ) (nu
             let last = slice_get_within ranges m r at in
             let up : is_le (place_cmp (start_of q) (start_of r)) ≡ true =
             (λ i. is_le (place_cmp (start_of (sym (get_or_from_slice_get ranges a.0 q q a.2) i)) (start_of (sym (get_or_from_slice_get ranges m r q at) i)))) ∙ rises a.0 m q (omega arith) last in
-            let down : starts_by r ≡ true = ap starts_by (sym (get_or_from_slice_get ranges m r r at)) ∙ point.0 m r (omega arith) (omega arith) in
             let up' : is_le (place_cmp (code, q.low) (r.code, r.low)) ≡ true = ap (λ c. is_le (place_cmp (c, q.low) (r.code, r.low))) (sym h.code_is) ∙ up in
             let b = between code r.code q.low r.low number up' down (sym h.width) in
             let one = ordered.apart a.0 m q r a.2 at (h.code_is ∙ sym b.0) (sym h.width ∙ sym b.1) (le_trans nat_list_cmp_total r.low number q.high b.3 h.high) (le_trans nat_list_cmp_total q.low r.low r.high b.2 (ordered.upward m r at)) in

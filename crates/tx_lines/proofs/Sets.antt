@@ -1,20 +1,18 @@
 -- What the sets of lines contain, before and after a status is written.
-use Rattle.std.proofs.Common.{◌≡◌, ℕ, inl, inr, Bool, true, false, not, ◌||◌, ◌&&◌, cond, List, [], ◌∷◌, map, Option, Some, None, refl, sym, ap, subst, ◌∙◌}
+use Rattle.std.proofs.Common.{◌≡◌, ◌≤◌, ℕ, arith, inl, inr, Bool, true, false, not, ◌||◌, ◌&&◌, cond, List, [], ◌∷◌, map, Option, Some, None, refl, sym, ap, subst, ◌∙◌}
 use Rattle.std.proofs.lemmas.Bool.{or_cases, and_parts, false≢true}
-use Rattle.std.proofs.lemmas.Cmp.{tied_itself}
 use Rattle.std.proofs.lemmas.Option.{slice_get-map, get_or_from_slice_get}
 use Rattle.std.proofs.lemmas.List.Quantifiers.{position-Some}
-use Rattle.std.specs.Prelude.{filter, slice_get, unwrap_or, if◌then◌else◌, Result, Ok, Err, OnErr, IsOk}
+use Rattle.std.specs.Prelude.{filter, slice_get, is_some, unwrap_or, if◌then◌else◌, Result, Ok, Err, OnErr, IsOk}
 use Rattle.std.specs.List.{list_any}
 use Rattle.std.specs.Option.{option_map, option_map_or}
-use Rattle.std.specs.Ordering.{is_eq, eq_by_cmp}
-use Rattle.std.specs.Cmp.{Equal-is}
+use Rattle.std.specs.Ordering.{eq_by_cmp}
 use Rattle.std.specs.FinSet as set
 use Rattle.std.specs.Map.{lookup}
 use Rattle.indexmap.specs.IndexMap as index
 use Rattle.indexmap.specs.IndexMap.{IndexMap}
 use Rattle.tx_plan.specs.Orders.{same_line, line_cmp, same_line-is, same_line-itself}
-use Rattle.tx_plan.proofs.Named.{lines_total, exact_lines}
+use Rattle.tx_plan.proofs.Named.{lines_total, exact_lines, line_tie}
 use Rattle.tx_plan.specs.declared.line.Line.{Line}
 use Rattle.tx_lines.specs.declared.status.Status.{Status}
 use Rattle.tx_lines.specs.declared.status.Mark.{Mark}
@@ -28,10 +26,10 @@ same_bool false true f g = g refl
 same_bool false false f g = refl
 
 tie-is : (l m : Line) → eq_by_cmp line_cmp l m ≡ true → l ≡ m
-tie-is l m e = exact_lines l m ((Equal-is (line_cmp l m)).0 e)
+tie-is l m e = sym (same_line-is m l (sym (line_tie l m) ∙ e))
 
 is-tie : (l m : Line) → l ≡ m → eq_by_cmp line_cmp l m ≡ true
-is-tie l m e = ap (λ z. eq_by_cmp line_cmp l z) (sym e) ∙ ap is_eq (tied_itself lines_total l)
+is-tie l m e = line_tie l m ∙ ap (same_line m) e ∙ same_line-itself m
 
 kept_passes : (p : Line → Bool) (ks : List Line) (l : Line) → list_any (eq_by_cmp line_cmp l) (filter p ks) ≡ true → p l ≡ true
 kept_passes p [] l h = absurd (false≢true h)
@@ -151,6 +149,14 @@ module _ {S : Type 0} where
   no_entry m line none =
       let f : (k : Mark) → set.contains (with_status (has k) m) line ≡ false = λ k. contains_status (has k) m line ∙ ap (λ o. option_map_or (has k) o false) none in
       λ i. f Faulty i || (f Away i || f Engaged i)
+
+  -- a line of one of the sets has an entry, which takes no place
+  pub entry_place : (m : IndexMap Line Status S) (line : Line) → (if is_some (index.get same_line m line) then 0 else 1) ≤ (if is_marked (sets_of m) line then 0 else 1)
+  entry_place m line = by (index.get same_line m line) refl
+    where
+      by : (o : Option Status) → index.get same_line m line ≡ o → (if is_some o then 0 else 1) ≤ (if is_marked (sets_of m) line then 0 else 1)
+      by (Some s) e = omega arith
+      by None e = subst (λ b. 1 ≤ (if b then 0 else 1)) (sym (no_entry m line e)) (omega arith)
 
 -- a mark that is taken from a line without marks
 pub none_left : (mark k : Mark) → false ≡ has k (with_mark mark false unmarked)

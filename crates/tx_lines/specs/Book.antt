@@ -25,6 +25,10 @@ is_line_of ranges = is_line_at (record no_plan { ranges = ranges })
 abbrev pub has_status : Book → Line → Bool
 has_status b l = set.contains b.faulty l || (set.contains b.away l || set.contains b.engaged l)
 
+-- the room that a mark takes: a place, unless the line has a status already
+abbrev pub place_taken : Book → Line → ℕ
+place_taken b l = if has_status b l then 0 else 1
+
 -- a set with a line put in or taken out
 abbrev pub switched : Bool → set.FinSet line_cmp → Line → set.FinSet line_cmp
 switched on s l = if on then set.insert s l else set.remove s l

@@ -3,11 +3,11 @@ ghost use Rattle.std.specs.Prelude.{◌≡◌, ℕ, ◌+◌, ◌<◌, ◌≤◌,
 ghost use Rattle.std.specs.FinSet as set;
 ghost use Rattle.tx_plan.specs.Lines.{is_line_at};
 ghost use Rattle.tx_plan.specs.Orders.{line_cmp};
-ghost use Rattle.tx_lines.specs.Book.{Book, is_line_of, has_status, switched, answer_of};
+ghost use Rattle.tx_lines.specs.Book.{Book, is_line_of, has_status, place_taken, switched, answer_of};
 
 use crate::answer::LineAnswer;
 use crate::ranges::Ranges;
-use crate::status::Mark;
+use crate::status::{Mark, Status};
 use crate::statuses::Statuses;
 use std::alloc::{Allocator, Global};
 use std::marker::Model;
@@ -16,7 +16,7 @@ use tx_text::NoMemory;
 
 /// The lines of a plan, and which of them are faulty, away or engaged.
 ///
-/// A line's first status takes a place of the book's room, which `reserve_one` makes; no other call takes memory.
+/// A line's first status takes a place of the book's room, which `reserve_one` makes; a further one takes none. No other call takes memory.
 #[derive(Drop)]
 pub struct LineBook<A: Allocator = Global> {
     ranges: Ranges<A>,
@@ -51,6 +51,7 @@ impl<A: Allocator + Copy> LineBook<A> {
 
 impl<A: Allocator> LineBook<A> {
     /// The line of a code and a national number, if the number lies in a range of the code.
+    #[inline(always)]
     pub fn find(&self, code: CodeId, national: &[u8]) -> Option<Line>
         ensures { result ≡ (if is_line_of self.now.ranges code national.now then Some (record { code = code; national = national.now }) else None) }
     {
@@ -60,6 +61,24 @@ impl<A: Allocator> LineBook<A> {
         } else {
             None
         }
+    }
+
+    /// Whether the line lies in a range of its code.
+    #[inline(always)]
+    pub fn has(&self, line: &Line) -> bool
+        ensures { result ≡ is_line_of self.now.ranges line.now.code line.now.national }
+    {
+        self.ranges.has(line.code, line.national.bytes())
+    }
+
+    /// All that is known of the line, looked up once.
+    #[inline(always)]
+    pub fn status(&self, line: &Line) -> Status
+        ensures faulty { result.faulty ≡ set.contains self.now.faulty line.now }
+        ensures away { result.away ≡ set.contains self.now.away line.now }
+        ensures engaged { result.engaged ≡ set.contains self.now.engaged line.now }
+    {
+        self.statuses.of(line)
     }
 
     /// Makes room for one more line with a status.
@@ -75,7 +94,7 @@ impl<A: Allocator> LineBook<A> {
     pub fn set_fault(&mut self, line: &Line, faulty: bool)
         requires { faulty ≡ true → has_status self.old line.now ≡ false → 0 < self.old.room }
         ensures lines { self.new ≡ record self.old { faulty = switched faulty self.old.faulty line.now; room = self.new.room } }
-        ensures room { self.old.room ≤ self.new.room + (if faulty then 1 else 0) }
+        ensures room { self.old.room ≤ self.new.room + (if faulty then place_taken self.old line.now else 0) }
     {
         if faulty {
             self.statuses.mark(line, Mark::Faulty);
@@ -88,7 +107,7 @@ impl<A: Allocator> LineBook<A> {
     pub fn set_away(&mut self, line: &Line, away: bool)
         requires { away ≡ true → has_status self.old line.now ≡ false → 0 < self.old.room }
         ensures lines { self.new ≡ record self.old { away = switched away self.old.away line.now; room = self.new.room } }
-        ensures room { self.old.room ≤ self.new.room + (if away then 1 else 0) }
+        ensures room { self.old.room ≤ self.new.room + (if away then place_taken self.old line.now else 0) }
     {
         if away {
             self.statuses.mark(line, Mark::Away);
@@ -98,15 +117,17 @@ impl<A: Allocator> LineBook<A> {
     }
 
     /// The line takes part in a call.
+    #[inline(always)]
     pub fn engage(&mut self, line: &Line)
         requires { has_status self.old line.now ≡ false → 0 < self.old.room }
         ensures lines { self.new ≡ record self.old { engaged = set.insert self.old.engaged line.now; room = self.new.room } }
-        ensures room { self.old.room ≤ self.new.room + 1 }
+        ensures room { self.old.room ≤ self.new.room + place_taken self.old line.now }
     {
         self.statuses.mark(line, Mark::Engaged);
     }
 
     /// The line takes part in no call.
+    #[inline(always)]
     pub fn free(&mut self, line: &Line)
         ensures lines { self.new ≡ record self.old { engaged = set.remove self.old.engaged line.now; room = self.new.room } }
         ensures room { self.old.room ≤ self.new.room }
@@ -136,6 +157,7 @@ impl<A: Allocator> LineBook<A> {
     }
 
     /// What a home exchange finds for a code and a national number.
+    #[inline(always)]
     pub fn answer(&self, code: CodeId, national: &[u8]) -> LineAnswer
         ensures { result ≡ answer_of self.now code national.now }
     {

@@ -9,3 +9,4 @@ mod statuses;
 
 pub use answer::LineAnswer;
 pub use book::LineBook;
+pub use status::Status;

@@ -44,6 +44,7 @@ impl<A: Allocator> Ranges<A> {
     }
 
     /// Whether a number lies in a range of the code.
+    #[inline(always)]
     pub fn has(&self, code: CodeId, number: &[u8]) -> bool
         ensures { result ≡ list_any (λ r. (r.code == code) && in_range number.now r) self.now }
     {
@@ -54,10 +55,11 @@ impl<A: Allocator> Ranges<A> {
             return false;
         }
         let range = &self.ranges[after - 1];
-        has(range, code, number)
+        reaches(range, code, number)
     }
 }
 
+#[inline(always)]
 fn compare(code: CodeId, low: &[u8], other: CodeId, number: &[u8]) -> Ordering
     ensures { result ≡ place_cmp (code, low.now) (other, number.now) }
 {
@@ -75,30 +77,19 @@ fn compare_starts(a: &LineRange, b: &LineRange) -> Ordering
 }
 
 /// Whether the range starts at the number of the code or before it.
+#[inline(always)]
 fn starts_by(range: &LineRange, code: CodeId, number: &[u8]) -> bool
     ensures { result ≡ is_le (place_cmp (start_of range.now) (code, number.now)) }
 {
     compare(range.code, range.low.bytes(), code, number).is_le()
 }
 
-fn at_most(low: &[u8], high: &[u8]) -> bool
-    ensures { result ≡ at_most low.now high.now }
+/// Whether a number that does not lie before the range lies in it, and the range is of the code.
+#[inline(always)]
+fn reaches(range: &LineRange, code: CodeId, number: &[u8]) -> bool
+    ensures { result ≡ ((range.now.code == code) && ((length number.now == length range.now.low) && at_most number.now range.now.high)) }
 {
-    low.cmp(high).is_le()
-}
-
-/// Whether the number lies in the range, and the range is of the code.
-fn has(range: &LineRange, code: CodeId, number: &[u8]) -> bool
-    ensures { result ≡ ((range.now.code == code) && in_range number.now range.now) }
-{
-    range.code == code && is_in(number, range)
-}
-
-/// Whether the number has the range's width and lies in it.
-fn is_in(number: &[u8], range: &LineRange) -> bool
-    ensures { result ≡ in_range number.now range.now }
-{
-    number.len() == range.low.bytes().len()
-        && at_most(range.low.bytes(), number)
-        && at_most(number, range.high.bytes())
+    range.code == code
+        && number.len() == range.low.bytes().len()
+        && number.cmp(range.high.bytes()).is_le()
 }

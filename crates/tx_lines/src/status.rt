@@ -10,7 +10,7 @@ pub enum Mark {
     Engaged,
 }
 
-/// The marks that a line has.
+/// What is known of a line: the marks that it has.
 #[derive(Clone, Copy, Debug, PartialEq, Eq)]
 pub struct Status {
     pub faulty: bool,

@@ -1,5 +1,5 @@
 // Lines with a status, in an index.
-ghost use Rattle.std.specs.Prelude.{◌≡◌, ℕ, ◌+◌, ◌<◌, ◌≤◌, Some, None, true, false, slice_get, unwrap_or, OnOk};
+ghost use Rattle.std.specs.Prelude.{◌≡◌, ℕ, ◌+◌, ◌<◌, ◌≤◌, if◌then◌else◌, Some, None, true, false, is_some, slice_get, unwrap_or, OnOk};
 ghost use Rattle.std.specs.FinSet as set;
 ghost use Rattle.indexmap.specs.IndexMap.{Updates, get, spare, index_map_len};
 ghost use Rattle.tx_plan.specs.Orders.{same_line};
@@ -58,6 +58,7 @@ impl<A: Allocator> Statuses<A> {
     }
 
     /// The marks of a line.
+    #[inline(always)]
     pub fn of(&self, line: &Line) -> Status
         ensures faulty { result.faulty ≡ set.contains self.now.faulty line.now }
         ensures away { result.away ≡ set.contains self.now.away line.now }
@@ -73,7 +74,7 @@ impl<A: Allocator> Statuses<A> {
     pub fn mark(&mut self, line: &Line, mark: Mark)
         requires { is_marked self.old line.now ≡ false → 0 < self.old.room }
         ensures lines { self.new ≡ with_marked mark (set.insert (marked mark self.old) line.now) self.new.room self.old }
-        ensures room { self.old.room ≤ self.new.room + 1 }
+        ensures room { self.old.room ≤ self.new.room + (if is_marked self.old line.now then 0 else 1) }
     {
         set_mark(&mut self.entries, line, mark);
     }
@@ -91,6 +92,7 @@ impl<A: Allocator> Statuses<A> {
 }
 
 /// Sets a mark of a line.
+#[tactic(auto, using(crate::proofs::Entries::write_room))]
 fn set_mark<A: Allocator>(
     entries: &mut IndexMap<Line, Status, BuildHasherDefault<FoldHasher>, A>,
     line: &Line,
@@ -98,7 +100,7 @@ fn set_mark<A: Allocator>(
 )
     requires { get same_line entries.old line.now ≡ None → 0 < spare entries.old }
     ensures updates { Updates same_line entries.old entries.new line.now (Some (with_mark mark true (unwrap_or (get same_line entries.old line.now) unmarked))) }
-    ensures room { spare entries.old ≤ spare entries.new + 1 }
+    ensures room { spare entries.old ≤ spare entries.new + (if is_some (get same_line entries.old line.now) then 0 else 1) }
 {
     let status = entries.entry(*line).unwrap().or_insert(UNMARKED);
     *status = with_mark(*status, mark, true);

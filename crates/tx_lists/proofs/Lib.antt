@@ -1,6 +1,5 @@
 pub mod Views
 pub mod Sweeps
-pub mod Texts
 pub mod Sweeping
 pub mod Longest
 pub mod Giving

@@ -4,8 +4,9 @@ use Rattle.std.specs.Prelude.{slice_set}
 use Rattle.std.proofs.lemmas.List.{length-set}
 use Rattle.tx_state.specs.Call.{Call}
 use Rattle.tx_state.specs.Members.{Mem}
-use Rattle.tx_lists.specs.Seen.{call_seen, changed, change_at, HasRoom, IsReady}
-use Rattle.tx_lists.specs.declared.open_call.OpenCall.{OpenCall}
+use Rattle.tx_network.specs.Seen.{call_seen}
+use Rattle.tx_lists.specs.Seen.{changed, change_at, HasRoom, IsReady}
+use Rattle.tx_network.specs.declared.open_call.OpenCall.{OpenCall}
 use Rattle.tx_lists.specs.declared.change.Change.{Change}
 use Rattle.tx_lists.proofs.Sweeps.{step_seen, mem_set, mem_take_set, mem_get}
 

@@ -1,15 +1,12 @@
--- Open calls as the definitions see them.
+-- Room of open calls, and what changes of them come to.
 use Rattle.std.specs.Prelude.{◌≡◌, ℕ, ◌<◌, true, false, ◌||◌, ◌==◌, [], ◌∷◌, ◌++◌, vec_len, vec_capacity, if◌then◌else◌}
 use Rattle.tx_state.specs.declared.phase.Phase.TheVariants.{Standing}
 use Rattle.tx_state.specs.Call.{Call, is_calling, is_numbered}
 use Rattle.tx_state.specs.Routing.{in_phase}
 use Rattle.tx_state.specs.Confirming.{thrown_back}
-use Rattle.tx_lists.specs.declared.open_call.OpenCall.{OpenCall}
+use Rattle.tx_network.specs.declared.open_call.OpenCall.{OpenCall}
 use Rattle.tx_lists.specs.declared.change.Change.{Change}
 use Rattle.tx_lists.specs.declared.change.Change.TheVariants.{To, Carry, ThrowBack}
-
-abbrev pub call_seen : {A : Type 0} → OpenCall A → Call
-call_seen c = record { number = c.number; line = c.line; keyed = c.keyed; keyed_at = c.keyed_at; hops = c.hops.items; phase = c.phase; collided = c.collided }
 
 -- a call that seizes a circuit has room for a hop
 abbrev pub HasRoom : {A : Type 0} → OpenCall A → Type 0

@@ -2,16 +2,16 @@
 ghost use Rattle.std.specs.Prelude.{◌≡◌, ◌≤◌, ◌<◌, ◌==◌, not, ◌&&◌, OnOk, MatchOption, Some, None, find, map, length, vec_len, vec_capacity};
 ghost use Rattle.std.specs.List.{list_any};
 ghost use Rattle.tx_plan.specs.Orders.{same_line, same_circuit};
-ghost use Rattle.tx_state.specs.Confirming.{far_of};
 ghost use Rattle.tx_state.specs.InUse.{seizes_from, carries, seizes};
 ghost use Rattle.tx_state.specs.Lines.{takes_part};
 ghost use Rattle.tx_state.specs.Call.{place_of, call_of};
 ghost use Rattle.tx_state.specs.Routing.{set_call};
 ghost use Rattle.tx_state.specs.Members.{Mem};
-ghost use Rattle.tx_lists.specs.Seen.{call_seen, changed, change_at, thrown_at, HasRoom, IsReady};
+ghost use Rattle.tx_network.specs.Seen.{call_seen};
+ghost use Rattle.tx_lists.specs.Seen.{changed, change_at, thrown_at, HasRoom, IsReady};
 
-use crate::open_call::OpenCall;
 use std::alloc::Allocator;
+use tx_network::{OpenCall, place_of};
 use tx_plan::{Circuit, ExchangeId, Line, Plan};
 use tx_state::{Hop, Phase};
 
@@ -80,16 +80,6 @@ pub fn seizes<A: Allocator>(call: &OpenCall<A>, circuit: &Circuit) -> bool
     }
 }
 
-/// Where the call stands.
-pub fn place_of<A: Allocator>(plan: &Plan<A>, call: &OpenCall<A>) -> ExchangeId
-    ensures { result ≡ place_of plan.now (call_seen call.now) }
-{
-    match call.hops.last() {
-        Some(hop) => hop.far,
-        None => plan.home(call.line.code),
-    }
-}
-
 /// Whether the call seizes the circuit from the exchange.
 fn seizes_from<A: Allocator>(
     plan: &Plan<A>,
@@ -114,16 +104,6 @@ pub fn seized_from<A: Allocator>(
     calls
         .iter()
         .any(|call| seizes_from(plan, call, circuit, place))
-}
-
-/// The exchange that the circuit leads to from where the call stands.
-pub fn far_of<A: Allocator>(plan: &Plan<A>, call: &OpenCall<A>, circuit: &Circuit) -> ExchangeId
-    ensures { result ≡ far_of plan.now (call_seen call.now) circuit.now }
-{
-    match plan.other_end(circuit.group, place_of(plan, call)) {
-        Some(far) => far,
-        None => ExchangeId::at(0),
-    }
 }
 
 /// Another call than that of the number that seizes the circuit from the exchange.

@@ -8,11 +8,12 @@ ghost use Rattle.tx_state.specs.Lines.{takes_part};
 ghost use Rattle.tx_state.specs.Call.{place_of, call_of};
 ghost use Rattle.tx_state.specs.Routing.{set_call};
 ghost use Rattle.tx_state.specs.Members.{Mem};
-ghost use Rattle.tx_lists.specs.Seen.{call_seen, changed, change_at, thrown_at, HasRoom, IsReady};
+ghost use Rattle.tx_network.specs.Seen.{call_seen};
+ghost use Rattle.tx_lists.specs.Seen.{changed, change_at, thrown_at, HasRoom, IsReady};
 
 use crate::change::Change;
-use crate::open_call::OpenCall;
 use std::alloc::Allocator;
+use tx_network::OpenCall;
 use tx_state::{Phase, put};
 use tx_text::NoMemory;
 

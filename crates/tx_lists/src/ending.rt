@@ -6,14 +6,14 @@ ghost use Rattle.tx_state.specs.InUse.{seizes, circuits_used};
 ghost use Rattle.tx_state.specs.Call.{circuit_called};
 ghost use Rattle.tx_state.specs.Members.{Mem};
 ghost use Rattle.tx_marks.specs.Marks.{HasMark};
-ghost use Rattle.tx_lists.specs.Seen.{call_seen};
+ghost use Rattle.tx_network.specs.Seen.{call_seen};
 ghost use Rattle.tx_lists.specs.GivenUp.{ends_by, with_more, is_given, AreMarked};
 
 use crate::calls::seizes;
 use crate::ends::Ends;
-use crate::open_call::OpenCall;
 use std::alloc::Allocator;
 use tx_marks::CircuitMarks;
+use tx_network::OpenCall;
 use tx_plan::{Circuit, GroupId, Plan};
 use tx_state::{Cause, Hop, Path, Phase, Ticket, put};
 

@@ -4,14 +4,8 @@ ghost use Rattle.std.specs.Option.{option_map};
 ghost use Rattle.tx_plan.specs.Codes.{code_of, after, is_prefix};
 
 use std::alloc::Allocator;
+use tx_network::after;
 use tx_plan::{CodeId, Plan};
-
-/// What is left of the text after the front, if it begins with it.
-fn after<'t>(front: &[u8], text: &'t [u8]) -> Option<&'t [u8]>
-    ensures { option_map (λ rest. rest.now) result ≡ after front.now text.now }
-{
-    text.strip_prefix(front)
-}
 
 /// Whether the text begins the figures and is longer than the best so far.
 fn is_longer(text: &[u8], keyed: &[u8], first: bool, width: usize) -> bool
@@ -52,14 +46,4 @@ pub fn code_of<A: Allocator>(plan: &Plan<A>, keyed: &[u8]) -> Option<CodeId>
         }
     }
     best
-}
-
-/// What is left of the text after the front, or nothing.
-pub fn rest_after<'t>(front: &[u8], text: &'t [u8]) -> &'t [u8]
-    ensures { result.now ≡ unwrap_or (after front.now text.now) [] }
-{
-    match after(front, text) {
-        Some(rest) => rest,
-        None => &text[..0],
-    }
 }

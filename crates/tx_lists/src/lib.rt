@@ -8,13 +8,11 @@ mod ending;
 mod ends;
 mod keyed;
 mod lines;
-mod open_call;
 
-pub use calls::{call_of, carried_by, engaged_in, far_of, place_of, rival_of, seized_from};
+pub use calls::{call_of, carried_by, engaged_in, rival_of, seized_from};
 pub use change::Change;
 pub use changing::{change_numbered, reserve_hop, throw_back};
 pub use ending::{count_ending, end_calls};
 pub use ends::Ends;
-pub use keyed::{code_of, rest_after};
+pub use keyed::code_of;
 pub use lines::{has_line, take_line};
-pub use open_call::OpenCall;

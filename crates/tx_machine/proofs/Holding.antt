@@ -11,10 +11,11 @@ use Rattle.tx_state.specs.Step.{keyed_call}
 use Rattle.tx_state.specs.Members.{Mem}
 use Rattle.tx_state.proofs.Lists.{mem_append, mem_filter, mem_map}
 use Rattle.tx_lists.proofs.Sweeps.{mem_mapped}
-use Rattle.tx_lists.specs.Seen.{call_seen, HasRoom, IsReady}
+use Rattle.tx_network.specs.Seen.{call_seen}
+use Rattle.tx_lists.specs.Seen.{HasRoom, IsReady}
 use Rattle.tx_lists.specs.GivenUp.{AreMarked}
 use Rattle.tx_machine.specs.Whole.{AreHeld}
-use Rattle.tx_lists.specs.declared.open_call.OpenCall.{OpenCall}
+use Rattle.tx_network.specs.declared.open_call.OpenCall.{OpenCall}
 
 pub held_none : (groups numbers : ℕ) → AreHeld groups numbers []
 held_none groups numbers = record { marked = λ c m. elim m [ ]; one = λ c d m n e. elim m [ ]; given = λ c m. elim m [ ] }

@@ -3,10 +3,10 @@
 
 mod confirm;
 mod ending;
+mod facts;
 mod looking;
 mod meeting;
 mod plain;
-mod refusals;
 mod route;
 mod routing;
 mod setting;

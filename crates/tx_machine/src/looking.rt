@@ -1,70 +1,15 @@
 // What the plain network looks at.
 ghost use Rattle.std.specs.Prelude.{◌≡◌, ◌<◌, ◌≤◌, ◌+◌, ◌-◌, Some, None, ◌&&◌, find, map, is_some, true, false};
-ghost use Rattle.tx_state.specs.Refusals.{is_group};
 ghost use Rattle.tx_state.specs.InUse.{first_in, is_free_at, first_free, choice, is_down};
-ghost use Rattle.tx_state.specs.Lines.{is_engaged};
-ghost use Rattle.tx_plan.specs.Circuits.{is_circuit, upward, downward};
-ghost use Rattle.tx_plan.specs.Lines.{is_line};
-ghost use Rattle.std.specs.FinSet as set;
+ghost use Rattle.tx_plan.specs.Circuits.{upward, downward};
 
 use crate::plain::Plain;
 use crate::truth::none_of;
 use std::alloc::Allocator;
-use tx_lists::{carried_by, engaged_in, has_line, seized_from};
-use tx_plan::{Circuit, CodeId, ExchangeId, GroupId, Line};
+use tx_lists::{carried_by, seized_from};
+use tx_plan::{Circuit, CodeId, ExchangeId, GroupId};
 
 impl<'p, A: Allocator + Copy> Plain<'p, A> {
-    /// Whether the line takes part in an open call.
-    pub(crate) fn is_engaged(&self, line: &Line) -> bool
-        ensures { result ≡ is_engaged self.now.state line.now }
-    {
-        engaged_in(&self.calls, line)
-    }
-
-    /// Whether the line is out of order.
-    pub(crate) fn is_faulty(&self, line: &Line) -> bool
-        ensures { result ≡ set.contains self.now.state.faulty line.now }
-    {
-        has_line(&self.faulty, line)
-    }
-
-    /// Whether the line is away.
-    pub(crate) fn is_away(&self, line: &Line) -> bool
-        ensures { result ≡ set.contains self.now.state.away line.now }
-    {
-        has_line(&self.away, line)
-    }
-
-    /// Whether the plan has the line.
-    pub(crate) fn has_line(&self, line: &Line) -> bool
-        ensures { result ≡ is_line self.now.plan line.now }
-    {
-        let plan = self.plan;
-        match plan.line_at(line.code, line.national.bytes()) {
-            Some(_) => true,
-            None => false,
-        }
-    }
-
-    /// Whether the plan has the circuit.
-    #[tactic(auto, using(crate::proofs::Choosing::counted_circuit))]
-    pub(crate) fn has_circuit(&self, circuit: &Circuit) -> bool
-        ensures { result ≡ is_circuit self.now.plan circuit.now }
-    {
-        let plan = self.plan;
-        let count = plan.group_count(circuit.group);
-        1 <= circuit.number && circuit.number <= count
-    }
-
-    /// Whether the plan has the group.
-    pub(crate) fn has_group(&self, group: GroupId) -> bool
-        ensures { result ≡ is_group self.now.plan group }
-    {
-        let plan = self.plan;
-        let groups = plan.groups();
-        group.index() < groups
-    }
-
     /// Whether the group is failed or blocked.
     pub(crate) fn is_down(&self, group: GroupId) -> bool
         ensures { result ≡ is_down self.now.state group }

@@ -6,8 +6,8 @@ ghost use Rattle.tx_state.specs.Refusals.{refusal};
 
 use std::alloc::{Allocator, Global};
 use std::marker::Model;
-use tx_lists::OpenCall;
 use tx_marks::{CircuitMarks, GroupMarks};
+use tx_network::{OpenCall, refusal};
 use tx_plan::{Line, Plan};
 use tx_state::{Event, Network, Refusal, Reply, Ticket};
 use tx_text::NoMemory;
@@ -94,7 +94,7 @@ impl<'p, A: Allocator + Copy> Plain<'p, A> {
         ensures err { OnErr result (self.new ≡ self.old) }
         ensures memory { OnErr result ((takes_memory event.now ≡ true) × (refusal self.old.plan self.old.state event.now ≡ None)) }
     {
-        let refusal = self.refusal(event);
+        let refusal = refusal(self, event);
         match refusal {
             Some(refusal) => Ok(Reply::Refused(refusal)),
             None => self.accept(event),

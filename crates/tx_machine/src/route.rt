@@ -7,7 +7,7 @@ ghost use Rattle.tx_state.specs.Routing.{at_line, at_trunk, line_of, routed, set
 ghost use Rattle.tx_state.specs.InUse.{choice};
 ghost use Rattle.tx_state.specs.Lines.{line_answer, is_engaged};
 ghost use Rattle.tx_plan.specs.Circuits.{is_circuit};
-ghost use Rattle.tx_lists.specs.Seen.{call_seen};
+ghost use Rattle.tx_network.specs.Seen.{call_seen};
 ghost use Rattle.tx_machine.specs.Decided.{routing_done, IsPlanned};
 ghost use Rattle.tx_state.specs.declared.event.Event.TheVariants.{Route};
 ghost use Rattle.tx_state.specs.declared.phase.Phase.TheVariants.{Calling};
@@ -16,9 +16,8 @@ use crate::plain::Plain;
 use crate::routing::Routing;
 use crate::truth::both;
 use std::alloc::Allocator;
-use tx_lists::{
-    Change, Ends, OpenCall, call_of, change_numbered, code_of, place_of, reserve_hop, rest_after,
-};
+use tx_lists::{Change, Ends, call_of, change_numbered, code_of, reserve_hop};
+use tx_network::{Facts, OpenCall, place_of, rest_after};
 use tx_plan::{Circuit, CodeId, ExchangeId, Line};
 use tx_state::{Cause, Hop, Phase, Reply, Service};
 use tx_text::NoMemory;

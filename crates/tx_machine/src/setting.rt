@@ -6,7 +6,8 @@ ghost use Rattle.tx_state.specs.declared.event.Event.TheVariants.{Key, LineFault
 
 use crate::plain::Plain;
 use std::alloc::Allocator;
-use tx_lists::{OpenCall, take_line};
+use tx_lists::take_line;
+use tx_network::OpenCall;
 use tx_plan::{Circuit, GroupId, Line};
 use tx_state::{Phase, Reply, put};
 use tx_text::{Figures, NoMemory};

@@ -11,9 +11,10 @@ use Rattle.std.specs.Cmp.Lexicographic.{slice_cmp, nat_list_cmp_total}
 use Rattle.std.proofs.lemmas.Cmp.{on_total, then_total}
 use Rattle.std.proofs.lemmas.Map.Lookups.{exact_pairs, exact_bytes}
 use Rattle.std.proofs.lemmas.Bool.{false≢true}
-use Rattle.tx_plan.proofs.Among.{Among, among_map, map_among, among_flat, flat_among, among_filter, filter_among, among_places, places_among}
+use Rattle.tx_plan.specs.Among.{Among}
+use Rattle.tx_plan.proofs.Among.{among_map, map_among, among_flat, flat_among, among_filter, filter_among, among_places, places_among}
 use Rattle.tx_plan.specs.Plan.{Code}
-use Rattle.tx_plan.specs.Ambiguous.{CodePair, is_ambiguous, code_pairs, pair_cmp, lesser, least, ambiguous_of}
+use Rattle.tx_plan.specs.Ambiguous.{CodePair, pair_at, is_ambiguous, IsAmbiguousAt, code_pairs, pair_cmp, lesser, least, ambiguous_of}
 
 -- THE LEAST PAIR
 
@@ -54,24 +55,15 @@ least_is (q ∷ ps) p (inr h) low =
       | inr l ↦ ap (λ o. if is_le o then Some q else Some p) (pairs_total.antisymm q p ∙ ap ordering_reverse l)
     ])
 
-abbrev pub pair_at : ℕ → ℕ → Code → Code → CodePair
-pair_at i j c d = record { first = (i, c); second = (j, d) }
-
 module _ (codes : List Code) where
-  -- an ambiguous pair of the codes, by its places
-  pub record IsAmbiguousAt (i j : ℕ) (c d : Code) : Type 0 where
-    pub first : slice_get codes i ≡ Some c
-    pub second : slice_get codes j ≡ Some d
-    pub begins : is_ambiguous (pair_at i j c d) ≡ true
-
-  listed : (i j : ℕ) (c d : Code) → IsAmbiguousAt i j c d → Among (pair_at i j c d) (filter is_ambiguous (code_pairs codes))
+  listed : (i j : ℕ) (c d : Code) → IsAmbiguousAt codes i j c d → Among (pair_at i j c d) (filter is_ambiguous (code_pairs codes))
   listed i j c d h =
       let a : Among (i, c) (enumerate_from 0 codes) = subst (λ k. Among (k, c) (enumerate_from 0 codes)) (let z : 0 + i ≡ i = omega arith in z) (among_places 0 i c codes h.first) in
       let b : Among (j, d) (enumerate_from 0 codes) = subst (λ k. Among (k, d) (enumerate_from 0 codes)) (let z : 0 + j ≡ j = omega arith in z) (among_places 0 j d codes h.second) in
       among_filter is_ambiguous _ (code_pairs codes)
       (among_flat (λ x. map (λ y. record { first = x; second = y }) (enumerate_from 0 codes)) (i, c) _ (enumerate_from 0 codes) a (among_map (λ y. record { first = (i, c); second = y }) (j, d) (enumerate_from 0 codes) b)) h.begins
 
-  unlisted : (p : CodePair) → Among p (filter is_ambiguous (code_pairs codes)) → IsAmbiguousAt p.first.0 p.second.0 p.first.1 p.second.1
+  unlisted : (p : CodePair) → Among p (filter is_ambiguous (code_pairs codes)) → IsAmbiguousAt codes p.first.0 p.second.0 p.first.1 p.second.1
   unlisted p h =
       let f = filter_among is_ambiguous p (code_pairs codes) h in
       let s = flat_among (λ x. map (λ y. record { first = x; second = y }) (enumerate_from 0 codes)) p (enumerate_from 0 codes) f.0 in
@@ -88,10 +80,10 @@ module _ (codes : List Code) where
   abbrev places : CodePair → ℕ × ℕ
   places p = (p.first.0, p.second.0)
 
-  pub ambiguous-none : ((i j : ℕ) (c d : Code) → IsAmbiguousAt i j c d → ⊥) → ambiguous_of codes ≡ None
+  pub ambiguous-none : ((i j : ℕ) (c d : Code) → IsAmbiguousAt codes i j c d → ⊥) → ambiguous_of codes ≡ None
   ambiguous-none h = ap (option_map places) (least_none (filter is_ambiguous (code_pairs codes)) (λ p k. h p.first.0 p.second.0 p.first.1 p.second.1 (unlisted p k)))
 
-  pub none-ambiguous : ambiguous_of codes ≡ None → (i j : ℕ) (c d : Code) → IsAmbiguousAt i j c d → ⊥
+  pub none-ambiguous : ambiguous_of codes ≡ None → (i j : ℕ) (c d : Code) → IsAmbiguousAt codes i j c d → ⊥
   none-ambiguous e i j c d h = none (filter is_ambiguous (code_pairs codes)) e (pair_at i j c d) (listed i j c d h)
     where
       some : (p : CodePair) (o : Option CodePair) → option_map places (lesser p o) ≡ None → ⊥
@@ -108,13 +100,13 @@ module _ (codes : List Code) where
   AreDistinct = (i j : ℕ) (c d : Code) → slice_get codes i ≡ Some c → slice_get codes j ≡ Some d → c.figures ≡ d.figures → i ≡ j
 
   -- an ambiguous pair with none before it is the least
-  pub ambiguous-some : AreDistinct → (i j : ℕ) (c d : Code) → IsAmbiguousAt i j c d
-      → ((k l : ℕ) (e f : Code) → IsAmbiguousAt k l e f → is_lt (pair_cmp (pair_at k l e f) (pair_at i j c d)) ≡ false)
+  pub ambiguous-some : AreDistinct → (i j : ℕ) (c d : Code) → IsAmbiguousAt codes i j c d
+      → ((k l : ℕ) (e f : Code) → IsAmbiguousAt codes k l e f → is_lt (pair_cmp (pair_at k l e f) (pair_at i j c d)) ≡ false)
       → ambiguous_of codes ≡ Some (i, j)
   ambiguous-some differ i j c d h low =
       ap (option_map places) (least_is (filter is_ambiguous (code_pairs codes)) (pair_at i j c d) (listed i j c d h) (λ q k. by q (unlisted q k)))
     where
-      by : (q : CodePair) → IsAmbiguousAt q.first.0 q.second.0 q.first.1 q.second.1 → (q ≡ pair_at i j c d) ⊎ (pair_cmp (pair_at i j c d) q ≡ Less)
+      by : (q : CodePair) → IsAmbiguousAt codes q.first.0 q.second.0 q.first.1 q.second.1 → (q ≡ pair_at i j c d) ⊎ (pair_cmp (pair_at i j c d) q ≡ Less)
       by q a = at (pair_cmp q (pair_at i j c d)) refl
         where
           at : (o : Ordering) → pair_cmp q (pair_at i j c d) ≡ o → (q ≡ pair_at i j c d) ⊎ (pair_cmp (pair_at i j c d) q ≡ Less)

@@ -52,8 +52,20 @@ in_union s xs y h =
 pub by_cmp-is : (x y : Circuit) → eq_by_cmp circuit_cmp x y ≡ true → x ≡ y
 by_cmp-is x y e = exact_circuits x y ((Equal-is (circuit_cmp x y)).0 e)
 
+-- two circuits tie in the order of the sets where they are one
+pub circuit_tie : (x y : Circuit) → eq_by_cmp circuit_cmp y x ≡ same_circuit x y
+circuit_tie x y = same_from_decides (eq_by_cmp circuit_cmp y x) (same_circuit x y)
+    (λ e. sym (by_cmp-is y x e), λ e. ap (λ z. eq_by_cmp circuit_cmp y z) e ∙ ap is_eq (tied_itself circuits_total y))
+    (same_circuit-is x y, λ e. ap (λ z. same_circuit z y) e ∙ same_circuit-itself y)
+
 pub exact_lines : (l m : Line) → line_cmp l m ≡ Equal → l ≡ m
 exact_lines l m h = ap (λ (p : ℕ × List ℕ). record { code = p.0; national = p.1 }) (exact_pairs nat_cmp (slice_cmp nat_cmp) exact_unsigned exact_bytes (l.code, l.national) (m.code, m.national) h)
+
+-- two lines tie in the order of the sets where they are one
+pub line_tie : (l m : Line) → eq_by_cmp line_cmp l m ≡ same_line m l
+line_tie l m = same_from_decides (eq_by_cmp line_cmp l m) (same_line m l)
+    (λ e. sym (exact_lines l m ((Equal-is (line_cmp l m)).0 e)), λ e. ap (λ z. eq_by_cmp line_cmp l z) e ∙ ap is_eq (tied_itself lines_total l))
+    (same_line-is m l, λ e. ap (λ z. same_line z l) e ∙ same_line-itself l)
 
 -- one more at the end of a list is one more in its set
 pub line_put : (ls : List Line) (l : Line) → from_list {R = line_cmp} (ls ++ l ∷ []) ≡ insert (from_list ls) l
@@ -63,11 +75,6 @@ line_put ls l = from_list_push lines_total exact_lines ls l
 pub in_lines : (ls : List Line) (l : Line) → contains (from_list {R = line_cmp} ls) l ≡ list_any (λ m. same_line m l) ls
 in_lines ls l = contains-from_list lines_total ls l ∙ agree ls
   where
-    alike : (m : Line) → eq_by_cmp line_cmp l m ≡ same_line m l
-    alike m = same_from_decides (eq_by_cmp line_cmp l m) (same_line m l)
-        (λ e. sym (exact_lines l m ((Equal-is (line_cmp l m)).0 e)), λ e. ap (λ z. eq_by_cmp line_cmp l z) e ∙ ap is_eq (tied_itself lines_total l))
-        (same_line-is m l, λ e. ap (λ z. same_line z l) e ∙ same_line-itself l)
-
     agree : (ls : List Line) → list_any (eq_by_cmp line_cmp l) ls ≡ list_any (λ m. same_line m l) ls
     agree [] = refl
-    agree (m ∷ ls) = λ i. alike m i || agree ls i
+    agree (m ∷ ls) = λ i. line_tie l m i || agree ls i

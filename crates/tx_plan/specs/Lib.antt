@@ -1,4 +1,5 @@
 pub mod Plan
+pub mod Among
 pub mod Lines
 pub mod Codes
 pub mod Ambiguous

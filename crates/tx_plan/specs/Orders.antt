@@ -1,5 +1,5 @@
 -- When two circuits, two lines or two pairs are one, and orders for sets.
-use Rattle.std.specs.Prelude.{◌≡◌, ℕ, Bool, true, false, ◌&&◌, ◌==◌, List, ◌++◌, refl}
+use Rattle.std.specs.Prelude.{◌≡◌, ℕ, Bool, true, false, ◌&&◌, ◌==◌, List, [], ◌∷◌, ◌++◌, refl}
 use Rattle.std.specs.Ordering.{ordering_then, nat_cmp}
 use Rattle.std.specs.declared.cmp.Ordering.{Ordering}
 use Rattle.std.specs.Cmp.{IsEquivalence}
@@ -11,6 +11,7 @@ use Rattle.std.proofs.Common.{ap, sym, ◌∙◌, eqb-true, eq-eqb}
 use Rattle.std.proofs.lemmas.Bool.{and_parts, and_from}
 use Rattle.std.proofs.lemmas.Cmp.{nat_eq_equiv, on_equiv, and_equiv}
 use Rattle.std.proofs.lemmas.Slice.Eq.{bytes_eq-Decides}
+use Rattle.tx_text.specs.Padded.{padded_to}
 use Rattle.tx_plan.specs.declared.circuit.Circuit.{Circuit}
 use Rattle.tx_plan.specs.declared.line.Line.{Line}
 use Rattle.tx_plan.specs.declared.pair.Pair.{Pair}
@@ -67,3 +68,7 @@ same_pair-is x y h = let r = and_parts (x.exchange == y.exchange) (x.code == y.c
 
 abbrev pub pair_bytes : Pair → List (List ℕ)
 pair_bytes x = fed.u16 x.exchange ++ fed.u16 x.code
+
+-- the bytes of a line that are hashed: its code, and its figures with zeros behind them up to nine
+abbrev pub line_bytes : Line → List (List ℕ)
+line_bytes l = fed.u16 l.code ++ padded_to 9 l.national ∷ []

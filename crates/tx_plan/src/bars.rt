@@ -35,6 +35,7 @@ impl<A: Allocator + Copy> Bars<A> {
 }
 
 impl<A: Allocator> Bars<A> {
+    #[inline(always)]
     pub fn len(&self) -> usize
         ensures { result ≡ length self.now }
     {
@@ -42,6 +43,7 @@ impl<A: Allocator> Bars<A> {
     }
 
     /// Whether the pair is barred.
+    #[inline(always)]
     pub fn has(&self, pair: &Pair) -> bool
         ensures { result ≡ list_any (λ b. (b.exchange == pair.now.exchange) && (b.code == pair.now.code)) self.now }
     {
@@ -49,6 +51,7 @@ impl<A: Allocator> Bars<A> {
     }
 
     /// The pair at a place.
+    #[inline(always)]
     pub fn at(&self, place: usize) -> Option<&Pair>
         ensures { option_copied result ≡ slice_get self.now place }
     {
@@ -56,6 +59,7 @@ impl<A: Allocator> Bars<A> {
     }
 
     /// Appends a bar.
+    #[inline(always)]
     pub fn add(&mut self, pair: Pair) -> Result<(), NoMemory>
         requires { list_any (λ b. (b.exchange == pair.exchange) && (b.code == pair.code)) self.old ≡ false }
         ensures ok { OnOk result (self.new ≡ self.old ++ pair ∷ []) }

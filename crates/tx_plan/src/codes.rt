@@ -6,10 +6,9 @@ ghost use Rattle.std.specs.Str.{bytes_eq};
 
 use crate::ids::ExchangeId;
 use crate::rows::Rows;
-use crate::short::Short;
 use std::alloc::{Allocator, Global};
 use std::marker::Model;
-use tx_text::NoMemory;
+use tx_text::{NoMemory, Short};
 
 /// The figures of codes, and their homes.
 #[derive(Drop)]
@@ -38,6 +37,7 @@ impl<A: Allocator + Copy> Codes<A> {
 }
 
 impl<A: Allocator> Codes<A> {
+    #[inline(always)]
     pub fn len(&self) -> usize
         ensures { result ≡ length self.now }
     {
@@ -45,16 +45,18 @@ impl<A: Allocator> Codes<A> {
     }
 
     /// The place of a code's figures.
+    #[inline(always)]
     pub fn find(&self, figures: &[u8]) -> Option<usize>
         requires { length figures.now ≤ 3 }
         ensures place { result ≡ position (λ c. bytes_eq figures.now c.figures) self.now }
         ensures found { is_some result ≡ list_any (λ c. bytes_eq figures.now c.figures) self.now }
         ensures within { IfSome result (λ i. i < length self.now) }
     {
-        self.rows.find(&Short::of(figures))
+        self.rows.find(&Short::new(figures))
     }
 
     /// The figures of the code at a place.
+    #[inline(always)]
     pub fn figures(&self, place: usize) -> &[u8]
         ensures { result.now ≡ option_map_or (λ c. c.figures) (slice_get self.now place) [] }
     {
@@ -65,6 +67,7 @@ impl<A: Allocator> Codes<A> {
     }
 
     /// The home of the code at a place.
+    #[inline(always)]
     pub fn home(&self, place: usize) -> ExchangeId
         ensures { result ≡ option_map_or (λ c. c.home) (slice_get self.now place) 0 }
     {
@@ -75,6 +78,7 @@ impl<A: Allocator> Codes<A> {
     }
 
     /// Appends a code.
+    #[inline(always)]
     pub fn add(&mut self, figures: Short<3>, home: ExchangeId) -> Result<(), NoMemory>
         requires { list_any (λ c. bytes_eq figures c.figures) self.old ≡ false }
         ensures ok { OnOk result (self.new ≡ self.old ++ record { figures = figures; home = home } ∷ []) }

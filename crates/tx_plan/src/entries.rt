@@ -19,12 +19,12 @@ use crate::range::LineRange;
 use crate::ranges::at_most;
 use crate::refusal::PlanRefusal;
 use crate::seen::{Seen, see};
-use crate::short::Short;
 use std::alloc::Allocator;
-use tx_text::{Words, are_figures, is_name};
+use tx_text::{Short, Words, are_figures, is_name};
 
 /// The exchange of a name, and whether it was declared.
 #[tactic(auto, using(crate::proofs::Lists::found_any))]
+#[inline(always)]
 fn exchange_of<A: Allocator>(plan: &Plan<A>, name: &[u8]) -> Option<ExchangeId>
     ensures place { result ≡ exchange_named plan.now name.now }
     ensures found { is_some result ≡ has_exchange plan.now name.now }
@@ -34,6 +34,7 @@ fn exchange_of<A: Allocator>(plan: &Plan<A>, name: &[u8]) -> Option<ExchangeId>
 
 /// The code of these figures, and whether it was declared.
 #[tactic(auto, using(crate::proofs::Lists::found_any))]
+#[inline(always)]
 fn code_of<A: Allocator>(plan: &Plan<A>, figures: &[u8]) -> Option<CodeId>
     ensures place { result ≡ code_named plan.now figures.now }
     ensures found { is_some result ≡ has_code plan.now figures.now }
@@ -43,6 +44,7 @@ fn code_of<A: Allocator>(plan: &Plan<A>, figures: &[u8]) -> Option<CodeId>
 
 /// The group of a name, and whether it was declared.
 #[tactic(auto, using(crate::proofs::Lists::found_any))]
+#[inline(always)]
 pub(crate) fn group_of<A: Allocator>(plan: &Plan<A>, name: &[u8]) -> Option<GroupId>
     ensures place { result ≡ group_named plan.now name.now }
     ensures found { is_some result ≡ has_group plan.now name.now }
@@ -71,7 +73,7 @@ pub(crate) fn exchange_entry<A: Allocator>(
     if plan.exchanges() >= 256 {
         return Err(PlanRefusal::TooMany);
     }
-    Ok(Short::of(name))
+    Ok(Short::new(name))
 }
 
 /// The figures and the home of a new code, or why it is refused.
@@ -100,10 +102,11 @@ pub(crate) fn code_entry<A: Allocator>(
     if plan.codes() >= 1100 {
         return Err(PlanRefusal::TooMany);
     }
-    Ok((Short::of(code), home))
+    Ok((Short::new(code), home))
 }
 
 /// Whether low and high have one width, and low is not above high.
+#[inline(always)]
 fn is_ordered(low: &[u8], high: &[u8]) -> bool
     ensures { result ≡ is_ordered low.now high.now }
 {
@@ -150,6 +153,7 @@ pub(crate) fn range_entry<A: Allocator>(
 }
 
 /// Whether each is a name.
+#[inline(always)]
 fn are_names(name: &[u8], a: &[u8], b: &[u8]) -> bool
     ensures gives { not result ≡ (not (is_name name.now) || (not (is_name a.now) || not (is_name b.now))) }
     ensures short { result ≡ true → length name.now ≤ 8 }
@@ -158,6 +162,7 @@ fn are_names(name: &[u8], a: &[u8], b: &[u8]) -> bool
 }
 
 /// Whether a group may have so many circuits.
+#[inline(always)]
 fn is_count(count: u32) -> bool
     ensures { result ≡ (nat_le 1 count && nat_le count 240) }
 {
@@ -165,6 +170,7 @@ fn is_count(count: u32) -> bool
 }
 
 /// The exchanges of two names.
+#[inline(always)]
 fn ends_named<A: Allocator>(plan: &Plan<A>, a: &[u8], b: &[u8]) -> Option<(ExchangeId, ExchangeId)>
     ensures found { is_some result ≡ not (not (has_exchange plan.now a.now) || not (has_exchange plan.now b.now)) }
     ensures ends { IfSome result (λ e. e ≡ (exchange_at plan.now a.now, exchange_at plan.now b.now)) }
@@ -217,10 +223,11 @@ pub(crate) fn group_entry<A: Allocator>(
         direction,
         count,
     };
-    Ok((Short::of(name), row))
+    Ok((Short::new(name), row))
 }
 
 /// The exchange and the code of two words.
+#[inline(always)]
 fn pair_of<A: Allocator>(plan: &Plan<A>, exchange: &[u8], code: &[u8]) -> Option<Pair>
     ensures pair { result ≡ pair_named plan.now exchange.now code.now }
     ensures named { IfSome result (λ x. x ≡ record { exchange = exchange_at plan.now exchange.now; code = code_at plan.now code.now }) }
@@ -267,6 +274,7 @@ pub(crate) fn bar_entry<A: Allocator>(
 }
 
 /// What the words of a route refuse by themselves.
+#[inline(always)]
 fn route_words(exchange: &[u8], code: &[u8], groups: &Words<'_>, bad: bool) -> Option<PlanRefusal>
     requires { bad ≡ list_any (λ g. not (is_name g)) groups.now }
     ensures { result ≡ first_true (route_word_refusals exchange.now code.now groups.now) }
@@ -285,6 +293,7 @@ fn route_words(exchange: &[u8], code: &[u8], groups: &Words<'_>, bad: bool) -> O
 
 /// Why the groups are refused to a declared pair, all of them being declared.
 #[tactic(auto, using(crate::proofs::SeenWords::differ_as_words))]
+#[inline(always)]
 fn route_groups<A: Allocator>(
     plan: &Plan<A>,
     pair: &Pair,
@@ -317,6 +326,7 @@ fn route_groups<A: Allocator>(
 }
 
 /// Why a route is refused to a declared pair.
+#[inline(always)]
 fn route_row<A: Allocator>(
     plan: &Plan<A>,
     pair: &Pair,
@@ -338,6 +348,7 @@ fn route_row<A: Allocator>(
 }
 
 /// The pair and the groups of a new route, or why it is refused.
+#[inline(always)]
 pub(crate) fn route_entry<A: Allocator>(
     plan: &Plan<A>,
     exchange: &[u8],

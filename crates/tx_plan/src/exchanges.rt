@@ -5,10 +5,9 @@ ghost use Rattle.std.specs.Option.{option_map_or};
 ghost use Rattle.std.specs.Str.{bytes_eq};
 
 use crate::keys::Keys;
-use crate::short::Short;
 use std::alloc::{Allocator, Global};
 use std::marker::Model;
-use tx_text::NoMemory;
+use tx_text::{NoMemory, Short};
 
 /// The names of exchanges.
 #[derive(Drop)]
@@ -35,6 +34,7 @@ impl<A: Allocator + Copy> Exchanges<A> {
 }
 
 impl<A: Allocator> Exchanges<A> {
+    #[inline(always)]
     pub fn len(&self) -> usize
         ensures { result ≡ length self.now }
     {
@@ -42,16 +42,18 @@ impl<A: Allocator> Exchanges<A> {
     }
 
     /// The place of a name.
+    #[inline(always)]
     pub fn find(&self, name: &[u8]) -> Option<usize>
         requires { length name.now ≤ 8 }
         ensures place { result ≡ position (bytes_eq name.now) self.now }
         ensures found { is_some result ≡ list_any (bytes_eq name.now) self.now }
         ensures within { IfSome result (λ i. i < length self.now) }
     {
-        self.names.find(&Short::of(name))
+        self.names.find(&Short::new(name))
     }
 
     /// The name at a place.
+    #[inline(always)]
     pub fn name(&self, place: usize) -> &[u8]
         ensures { result.now ≡ option_map_or (λ name. name) (slice_get self.now place) [] }
     {
@@ -62,6 +64,7 @@ impl<A: Allocator> Exchanges<A> {
     }
 
     /// Appends a name.
+    #[inline(always)]
     pub fn add(&mut self, name: Short<8>) -> Result<(), NoMemory>
         requires { list_any (bytes_eq name) self.old ≡ false }
         ensures ok { OnOk result (self.new ≡ self.old ++ name ∷ []) }

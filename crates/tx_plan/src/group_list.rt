@@ -24,6 +24,7 @@ impl Model for GroupList {
 }
 
 impl GroupList {
+    #[inline(always)]
     pub fn new() -> GroupList
         ensures { result ≡ [] }
     {
@@ -34,6 +35,7 @@ impl GroupList {
     }
 
     /// Appends a group, unless there are 16.
+    #[inline(always)]
     pub fn keep(&mut self, group: GroupId) -> bool
         ensures kept { result ≡ nat_lt (length self.old) 16 }
         ensures list { self.new ≡ (if nat_lt (length self.old) 16 then self.old ++ group ∷ [] else self.old) }
@@ -47,6 +49,7 @@ impl GroupList {
     }
 
     /// Whether no group stands there twice.
+    #[inline(always)]
     pub fn none_twice(&self) -> bool
         ensures { result ≡ differ self.now }
     {
@@ -64,6 +67,7 @@ impl GroupList {
         }
     }
 
+    #[inline(always)]
     pub fn groups(&self) -> &[GroupId]
         ensures { result.now ≡ self.now }
     {
@@ -72,8 +76,14 @@ impl GroupList {
 }
 
 /// Whether the group is one of the groups.
+#[inline(always)]
 fn is_among(group: GroupId, groups: &[GroupId]) -> bool
     ensures { result ≡ list_any (λ g. g == group) groups.now }
 {
-    groups.iter().any(|other| *other == group)
+    for other in groups {
+        if *other == group {
+            return true;
+        }
+    }
+    false
 }

@@ -7,10 +7,9 @@ ghost use Rattle.tx_plan.specs.Tables.{row_of};
 
 use crate::group_row::GroupRow;
 use crate::rows::Rows;
-use crate::short::Short;
 use std::alloc::{Allocator, Global};
 use std::marker::Model;
-use tx_text::NoMemory;
+use tx_text::{NoMemory, Short};
 
 /// The names of groups, and what is declared of each.
 #[derive(Drop)]
@@ -39,6 +38,7 @@ impl<A: Allocator + Copy> Groups<A> {
 }
 
 impl<A: Allocator> Groups<A> {
+    #[inline(always)]
     pub fn len(&self) -> usize
         ensures { result ≡ length self.now }
     {
@@ -46,16 +46,18 @@ impl<A: Allocator> Groups<A> {
     }
 
     /// The place of a group's name.
+    #[inline(always)]
     pub fn find(&self, name: &[u8]) -> Option<usize>
         requires { length name.now ≤ 8 }
         ensures place { result ≡ position (λ g. bytes_eq name.now g.name) self.now }
         ensures found { is_some result ≡ list_any (λ g. bytes_eq name.now g.name) self.now }
         ensures within { IfSome result (λ i. i < length self.now) }
     {
-        self.rows.find(&Short::of(name))
+        self.rows.find(&Short::new(name))
     }
 
     /// The name of the group at a place.
+    #[inline(always)]
     pub fn name(&self, place: usize) -> &[u8]
         ensures { result.now ≡ option_map_or (λ g. g.name) (slice_get self.now place) [] }
     {
@@ -66,6 +68,7 @@ impl<A: Allocator> Groups<A> {
     }
 
     /// The group at a place.
+    #[inline(always)]
     pub fn at(&self, place: usize) -> Option<&GroupRow>
         ensures { option_copied result ≡ option_map row_of (slice_get self.now place) }
     {
@@ -73,6 +76,7 @@ impl<A: Allocator> Groups<A> {
     }
 
     /// Appends a group.
+    #[inline(always)]
     pub fn add(&mut self, name: Short<8>, row: GroupRow) -> Result<(), NoMemory>
         requires { list_any (λ g. bytes_eq name g.name) self.old ≡ false }
         ensures ok { OnOk result (self.new ≡ self.old ++ record { name = name; a = row.a; b = row.b; direction = row.direction; count = row.count } ∷ []) }

@@ -21,6 +21,7 @@ impl Model for ExchangeId {
 
 impl ExchangeId {
     /// Its place.
+    #[inline(always)]
     pub(crate) fn place(self) -> u16
         ensures { result ≡ self }
     {
@@ -28,6 +29,7 @@ impl ExchangeId {
     }
 
     /// The exchange at a place.
+    #[inline(always)]
     pub fn at(place: u16) -> ExchangeId
         ensures { result ≡ place }
     {
@@ -35,6 +37,7 @@ impl ExchangeId {
     }
 
     /// The exchange of an index.
+    #[inline(always)]
     pub(crate) fn of(index: usize) -> ExchangeId
         requires { index < 65536 }
         ensures { result ≡ index }
@@ -45,6 +48,7 @@ impl ExchangeId {
     }
 
     /// Its place, from 0, in the order of declaration.
+    #[inline(always)]
     pub fn index(self) -> usize
         ensures { result ≡ self }
     {
@@ -70,6 +74,7 @@ impl Model for CodeId {
 
 impl CodeId {
     /// Its place.
+    #[inline(always)]
     pub(crate) fn place(self) -> u16
         ensures { result ≡ self }
     {
@@ -77,6 +82,7 @@ impl CodeId {
     }
 
     /// The code at a place.
+    #[inline(always)]
     pub fn at(place: u16) -> CodeId
         ensures { result ≡ place }
     {
@@ -84,6 +90,7 @@ impl CodeId {
     }
 
     /// The code of an index.
+    #[inline(always)]
     pub(crate) fn of(index: usize) -> CodeId
         requires { index < 65536 }
         ensures { result ≡ index }
@@ -94,6 +101,7 @@ impl CodeId {
     }
 
     /// Its place, from 0, in the order of declaration.
+    #[inline(always)]
     pub fn index(self) -> usize
         ensures { result ≡ self }
     {
@@ -119,6 +127,7 @@ impl Model for GroupId {
 
 impl GroupId {
     /// The group at a place.
+    #[inline(always)]
     pub fn at(place: u16) -> GroupId
         ensures { result ≡ place }
     {
@@ -126,6 +135,7 @@ impl GroupId {
     }
 
     /// The group of an index.
+    #[inline(always)]
     pub(crate) fn of(index: usize) -> GroupId
         requires { index < 65536 }
         ensures { result ≡ index }
@@ -136,6 +146,7 @@ impl GroupId {
     }
 
     /// Its place, from 0, in the order of declaration.
+    #[inline(always)]
     pub fn index(self) -> usize
         ensures { result ≡ self }
     {

@@ -34,6 +34,7 @@ impl<K: Eq + Hash + Drop, A: Allocator + Copy> Keys<K, A> {
 }
 
 impl<K: Eq + Hash + Drop, A: Allocator> Keys<K, A> {
+    #[inline(always)]
     pub fn len(&self) -> usize
         ensures { result ≡ length self.now }
     {
@@ -41,6 +42,7 @@ impl<K: Eq + Hash + Drop, A: Allocator> Keys<K, A> {
     }
 
     /// The place of a key.
+    #[inline(always)]
     pub fn find(&self, key: &K) -> Option<usize>
         ensures place { result ≡ position (K.eq key.now) self.now }
         ensures found { is_some result ≡ list_any (K.eq key.now) self.now }
@@ -50,6 +52,7 @@ impl<K: Eq + Hash + Drop, A: Allocator> Keys<K, A> {
     }
 
     /// The key at a place.
+    #[inline(always)]
     pub fn at(&self, place: usize) -> Option<&K>
         ensures { option_copied result ≡ slice_get self.now place }
     {
@@ -57,6 +60,7 @@ impl<K: Eq + Hash + Drop, A: Allocator> Keys<K, A> {
     }
 
     /// Appends a key.
+    #[inline(always)]
     pub fn add(&mut self, key: K) -> Result<(), NoMemory>
         requires { list_any (K.eq key) self.old ≡ false }
         ensures ok { OnOk result (self.new ≡ self.old ++ key ∷ []) }

@@ -24,7 +24,6 @@ mod refusal;
 mod routes;
 mod rows;
 mod seen;
-mod short;
 
 pub use builder::PlanBuilder;
 pub use circuit::Circuit;

@@ -19,8 +19,9 @@ impl PartialEq for Line {
 
     ghost laws = { partial_equiv_from_equiv same_line_equiv };
 
+    #[inline(always)]
     fn eq(&self, other: &Line) -> bool {
-        self.code == other.code && self.national.bytes() == other.national.bytes()
+        self.code == other.code && self.national == other.national
     }
 }
 
@@ -31,15 +32,16 @@ impl Eq for Line {
 }
 
 impl Hash for Line {
-    ghost use Rattle.std.specs.Prelude.{[], ◌∷◌};
     ghost use Rattle.std.proofs.Common.{ap};
-    ghost use Rattle.tx_plan.specs.Orders.{same_line-is};
+    ghost use Rattle.tx_plan.specs.Orders.{same_line-is, line_bytes};
 
-    ghost hash_input = { λ l. l.national ∷ [] };
+    ghost hash_input = { line_bytes };
 
-    ghost respects_eq = { λ x y h. ap (λ l. l.national ∷ []) (same_line-is x y h) };
+    ghost respects_eq = { λ l m h. ap line_bytes (same_line-is l m h) };
 
+    #[inline(always)]
     fn hash<H: Hasher>(&self, state: &mut H) {
-        state.write(self.national.bytes());
+        state.write_u16(self.code.place());
+        state.write(self.national.padded());
     }
 }

@@ -1,13 +1,13 @@
 // National numbers.
 ghost use Rattle.std.specs.Prelude.{◌≡◌, ◌≤◌, true, length, if◌then◌else◌, Some, None};
+ghost use Rattle.tx_text.specs.Padded.{padded_to};
 ghost use Rattle.tx_plan.specs.Rules.{is_national};
 
-use crate::short::Short;
 use std::marker::Model;
-use tx_text::are_figures;
+use tx_text::{Short, are_figures};
 
 /// A national number: 1 to 9 figures, leading zeros count.
-#[derive(Clone, Copy, Debug)]
+#[derive(Clone, Copy, Debug, PartialEq, Eq)]
 pub struct National {
     figures: Short<9>,
 }
@@ -29,22 +29,32 @@ impl Model for National {
 
 impl National {
     /// The number that the text spells, if it is 1 to 9 figures.
+    #[inline(always)]
     pub fn read(text: &[u8]) -> Option<National>
         ensures { result ≡ (if is_national text.now then Some text.now else None) }
     {
         if !are_figures(text, 1, 9) {
             return None;
         }
-        let figures = Short::of(text);
+        let figures = Short::new(text);
         Some(National { figures })
     }
 
     /// Its figures.
+    #[inline(always)]
     pub fn bytes(&self) -> &[u8]
         ensures value { result.now ≡ self.now }
         ensures width { length result.now ≤ 9 }
         ensures figures { is_national self.now ≡ true }
     {
         self.figures.bytes()
+    }
+
+    /// Its figures, and zeros behind them up to nine bytes.
+    #[inline(always)]
+    pub(crate) fn padded(&self) -> &[u8; 9]
+        ensures { result.now ≡ padded_to 9 self.now }
+    {
+        self.figures.padded()
     }
 }

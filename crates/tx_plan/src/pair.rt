@@ -17,6 +17,7 @@ impl PartialEq for Pair {
 
     ghost laws = { partial_equiv_from_equiv same_pair_equiv };
 
+    #[inline(always)]
     fn eq(&self, other: &Pair) -> bool {
         self.exchange == other.exchange && self.code == other.code
     }
@@ -36,6 +37,7 @@ impl Hash for Pair {
 
     ghost respects_eq = { λ x y h. ap pair_bytes (same_pair-is x y h) };
 
+    #[inline(always)]
     fn hash<H: Hasher>(&self, state: &mut H) {
         state.write_u16(self.exchange.place());
         state.write_u16(self.code.place());

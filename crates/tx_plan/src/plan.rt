@@ -50,6 +50,7 @@ impl<A: Allocator> Model for Plan<A> {
 /// Counts, and entries by their places.
 impl<A: Allocator> Plan<A> {
     /// Its lists obey the rules. Does nothing: its callers' proofs name it.
+    #[inline(always)]
     pub fn rules(&self)
         ensures { IsPlan self.now }
     {
@@ -57,6 +58,7 @@ impl<A: Allocator> Plan<A> {
     }
 
     /// How many exchanges.
+    #[inline(always)]
     pub fn exchanges(&self) -> usize
         ensures { result ≡ length self.now.exchanges }
     {
@@ -64,6 +66,7 @@ impl<A: Allocator> Plan<A> {
     }
 
     /// How many codes.
+    #[inline(always)]
     pub fn codes(&self) -> usize
         ensures { result ≡ length self.now.codes }
     {
@@ -71,6 +74,7 @@ impl<A: Allocator> Plan<A> {
     }
 
     /// How many ranges.
+    #[inline(always)]
     pub fn ranges(&self) -> usize
         ensures { result ≡ length self.now.ranges }
     {
@@ -78,6 +82,7 @@ impl<A: Allocator> Plan<A> {
     }
 
     /// How many groups.
+    #[inline(always)]
     pub fn groups(&self) -> usize
         ensures { result ≡ length self.now.groups }
     {
@@ -85,6 +90,7 @@ impl<A: Allocator> Plan<A> {
     }
 
     /// How many routes.
+    #[inline(always)]
     pub fn routes(&self) -> usize
         ensures { result ≡ length self.now.routes }
     {
@@ -92,6 +98,7 @@ impl<A: Allocator> Plan<A> {
     }
 
     /// How many bars.
+    #[inline(always)]
     pub fn bars(&self) -> usize
         ensures { result ≡ length self.now.bars }
     {
@@ -99,6 +106,7 @@ impl<A: Allocator> Plan<A> {
     }
 
     /// The exchange at a place, from 0.
+    #[inline(always)]
     pub fn exchange_at(&self, place: usize) -> Option<ExchangeId>
         ensures { result ≡ (if nat_lt place (length self.now.exchanges) then Some place else None) }
     {
@@ -110,6 +118,7 @@ impl<A: Allocator> Plan<A> {
     }
 
     /// The code at a place, from 0.
+    #[inline(always)]
     pub fn code_at(&self, place: usize) -> Option<CodeId>
         ensures { result ≡ (if nat_lt place (length self.now.codes) then Some place else None) }
     {
@@ -121,6 +130,7 @@ impl<A: Allocator> Plan<A> {
     }
 
     /// The group at a place, from 0.
+    #[inline(always)]
     pub fn group_at(&self, place: usize) -> Option<GroupId>
         ensures { result ≡ (if nat_lt place (length self.now.groups) then Some place else None) }
     {
@@ -132,6 +142,7 @@ impl<A: Allocator> Plan<A> {
     }
 
     /// The range at a place, from 0.
+    #[inline(always)]
     pub fn range_at(&self, place: usize) -> Option<LineRange>
         ensures { result ≡ slice_get self.now.ranges place }
     {
@@ -139,6 +150,7 @@ impl<A: Allocator> Plan<A> {
     }
 
     /// The exchange and the code of the route at a place, from 0. `list` has its groups.
+    #[inline(always)]
     pub fn route_at(&self, place: usize) -> Option<(ExchangeId, CodeId)>
         ensures { result ≡ option_map (λ r. (r.exchange, r.code)) (slice_get self.now.routes place) }
     {
@@ -149,6 +161,7 @@ impl<A: Allocator> Plan<A> {
     }
 
     /// The exchange and the code of the bar at a place, from 0.
+    #[inline(always)]
     pub fn bar_at(&self, place: usize) -> Option<(ExchangeId, CodeId)>
         ensures { result ≡ option_map (λ b. (b.exchange, b.code)) (slice_get self.now.bars place) }
     {
@@ -162,6 +175,7 @@ impl<A: Allocator> Plan<A> {
 /// Names, and what they name.
 impl<A: Allocator> Plan<A> {
     /// The exchange of a name.
+    #[inline(always)]
     pub fn exchange_named(&self, name: &[u8]) -> Option<ExchangeId>
         ensures { result ≡ exchange_named self.now name.now }
     {
@@ -176,6 +190,7 @@ impl<A: Allocator> Plan<A> {
     }
 
     /// The code of these figures.
+    #[inline(always)]
     pub fn code_named(&self, figures: &[u8]) -> Option<CodeId>
         ensures { result ≡ code_named self.now figures.now }
     {
@@ -190,6 +205,7 @@ impl<A: Allocator> Plan<A> {
     }
 
     /// The group of a name.
+    #[inline(always)]
     pub fn group_named(&self, name: &[u8]) -> Option<GroupId>
         ensures { result ≡ group_named self.now name.now }
     {
@@ -204,6 +220,7 @@ impl<A: Allocator> Plan<A> {
     }
 
     /// The name of an exchange, or nothing.
+    #[inline(always)]
     pub fn exchange_name(&self, exchange: ExchangeId) -> &[u8]
         ensures { result.now ≡ exchange_name self.now exchange }
     {
@@ -211,6 +228,7 @@ impl<A: Allocator> Plan<A> {
     }
 
     /// The figures of a code, or nothing.
+    #[inline(always)]
     pub fn code_figures(&self, code: CodeId) -> &[u8]
         ensures { result.now ≡ figures_of self.now code }
     {
@@ -218,6 +236,7 @@ impl<A: Allocator> Plan<A> {
     }
 
     /// The name of a group, or nothing.
+    #[inline(always)]
     pub fn group_name(&self, group: GroupId) -> &[u8]
         ensures { result.now ≡ group_name self.now group }
     {
@@ -228,6 +247,7 @@ impl<A: Allocator> Plan<A> {
 /// Lines, origins and routes.
 impl<A: Allocator> Plan<A> {
     /// The home of a code, or the first exchange.
+    #[inline(always)]
     pub fn home(&self, code: CodeId) -> ExchangeId
         ensures { result ≡ home_of self.now code }
     {
@@ -235,6 +255,7 @@ impl<A: Allocator> Plan<A> {
     }
 
     /// The line of a code and a national number, if that lies in a range of the code (ITU-T F.69).
+    #[inline(always)]
     pub fn line_at(&self, code: CodeId, national: &[u8]) -> Option<Line>
         ensures { result ≡ (if is_line_at self.now code national.now then Some (record { code = code; national = national.now }) else None) }
     {
@@ -247,6 +268,7 @@ impl<A: Allocator> Plan<A> {
     }
 
     /// The groups that the exchange tries for the code, in order; none where no route is declared.
+    #[inline(always)]
     pub fn list(&self, exchange: ExchangeId, code: CodeId) -> &[GroupId]
         ensures { result.now ≡ route_list self.now exchange code }
     {
@@ -254,6 +276,7 @@ impl<A: Allocator> Plan<A> {
     }
 
     /// Whether a route is declared for the pair.
+    #[inline(always)]
     pub(crate) fn has_route(&self, pair: &Pair) -> bool
         ensures { result ≡ has_route self.now pair.now.exchange pair.now.code }
     {
@@ -261,6 +284,7 @@ impl<A: Allocator> Plan<A> {
     }
 
     /// Whether a range of the code shares a number with those from low to high, of one width.
+    #[inline(always)]
     pub(crate) fn overlaps(&self, code: CodeId, low: &[u8], high: &[u8]) -> bool
         ensures { result ≡ overlaps self.now (Some code) low.now high.now }
     {
@@ -268,6 +292,7 @@ impl<A: Allocator> Plan<A> {
     }
 
     /// Whether calls that start at the exchange for the code are not admitted.
+    #[inline(always)]
     pub fn is_barred(&self, exchange: ExchangeId, code: CodeId) -> bool
         ensures { result ≡ is_barred self.now exchange code }
     {
@@ -275,6 +300,7 @@ impl<A: Allocator> Plan<A> {
     }
 
     /// Whether calls may start at the exchange: it is the home of a code that has a range.
+    #[inline(always)]
     pub fn is_origin(&self, exchange: ExchangeId) -> bool
         ensures { result ≡ is_origin self.now exchange }
     {
@@ -285,6 +311,7 @@ impl<A: Allocator> Plan<A> {
     }
 
     /// Whether calls for the code may start at the exchange.
+    #[inline(always)]
     pub fn is_origin_for(&self, exchange: ExchangeId, code: CodeId) -> bool
         ensures { result ≡ is_origin_for self.now exchange code }
     {
@@ -295,6 +322,7 @@ impl<A: Allocator> Plan<A> {
 /// Groups of circuits.
 impl<A: Allocator> Plan<A> {
     /// From which ends the group may be seized, or `OneWay`.
+    #[inline(always)]
     pub fn direction(&self, group: GroupId) -> Direction
         ensures { result ≡ direction_of self.now group }
     {
@@ -305,6 +333,7 @@ impl<A: Allocator> Plan<A> {
     }
 
     /// How many circuits the group has, 1 to 240, or 0.
+    #[inline(always)]
     pub fn group_count(&self, group: GroupId) -> u32
         ensures value { result ≡ count_of self.now group }
         ensures few { result ≤ 240 }
@@ -316,6 +345,7 @@ impl<A: Allocator> Plan<A> {
     }
 
     /// The ends of the group, the first one first, or the first exchange twice.
+    #[inline(always)]
     pub fn ends(&self, group: GroupId) -> (ExchangeId, ExchangeId)
         ensures { result ≡ ends_of self.now group }
     {
@@ -326,6 +356,7 @@ impl<A: Allocator> Plan<A> {
     }
 
     /// The exchange across the group, if the exchange is an end of it.
+    #[inline(always)]
     pub fn other_end(&self, group: GroupId, exchange: ExchangeId) -> Option<ExchangeId>
         ensures { result ≡ other_end self.now group exchange }
     {
@@ -340,6 +371,7 @@ impl<A: Allocator> Plan<A> {
     }
 
     /// Whether the exchange may seize the group: its first end may, and of a both-way group the other end too.
+    #[inline(always)]
     pub fn may_seize(&self, group: GroupId, exchange: ExchangeId) -> bool
         ensures { result ≡ may_seize self.now group exchange }
     {

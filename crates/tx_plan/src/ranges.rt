@@ -35,6 +35,7 @@ impl<A: Allocator> Ranges<A> {
         }
     }
 
+    #[inline(always)]
     pub fn len(&self) -> usize
         ensures { result ≡ length self.now }
     {
@@ -42,6 +43,7 @@ impl<A: Allocator> Ranges<A> {
     }
 
     /// The range at a place.
+    #[inline(always)]
     pub fn at(&self, place: usize) -> Option<&LineRange>
         ensures { option_copied result ≡ slice_get self.now place }
     {
@@ -49,6 +51,7 @@ impl<A: Allocator> Ranges<A> {
     }
 
     /// All of them.
+    #[inline(always)]
     pub fn as_slice(&self) -> &[LineRange]
         ensures { result.now ≡ self.now }
     {
@@ -56,6 +59,7 @@ impl<A: Allocator> Ranges<A> {
     }
 
     /// Whether a national number lies in a range of the code.
+    #[inline(always)]
     pub fn has(&self, code: CodeId, number: &[u8]) -> bool
         ensures { result ≡ list_any (λ r. (r.code == code) && in_range number.now r) self.now }
     {
@@ -65,6 +69,7 @@ impl<A: Allocator> Ranges<A> {
     }
 
     /// Whether a number from low to high lies in a range of the code, where both have one width.
+    #[inline(always)]
     pub fn overlaps(&self, code: CodeId, low: &[u8], high: &[u8]) -> bool
         ensures { result ≡ list_any (shares code low.now high.now) self.now }
     {
@@ -74,6 +79,7 @@ impl<A: Allocator> Ranges<A> {
     }
 
     /// Appends a range.
+    #[inline(always)]
     pub fn add(&mut self, range: LineRange) -> Result<(), NoMemory>
         ensures ok { OnOk result (self.new ≡ self.old ++ range ∷ []) }
         ensures err { OnErr result (self.new ≡ self.old) }
@@ -86,6 +92,7 @@ impl<A: Allocator> Ranges<A> {
 }
 
 /// Whether the one text of figures is not above the other, figure by figure.
+#[inline(always)]
 pub(crate) fn at_most(low: &[u8], high: &[u8]) -> bool
     ensures { result ≡ at_most low.now high.now }
 {
@@ -93,6 +100,7 @@ pub(crate) fn at_most(low: &[u8], high: &[u8]) -> bool
 }
 
 /// Whether the number has the range's width and lies in it.
+#[inline(always)]
 fn is_in(number: &[u8], range: &LineRange) -> bool
     ensures { result ≡ in_range number.now range.now }
 {
@@ -102,6 +110,7 @@ fn is_in(number: &[u8], range: &LineRange) -> bool
 }
 
 /// Whether a range of the code shares a number with those from low to high, of one width.
+#[inline(always)]
 fn shares(code: CodeId, low: &[u8], high: &[u8], range: &LineRange) -> bool
     ensures { result ≡ shares code low.now high.now range.now }
 {

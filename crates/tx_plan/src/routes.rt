@@ -38,6 +38,7 @@ impl<A: Allocator + Copy> Routes<A> {
 }
 
 impl<A: Allocator> Routes<A> {
+    #[inline(always)]
     pub fn len(&self) -> usize
         ensures { result ≡ length self.now }
     {
@@ -45,6 +46,7 @@ impl<A: Allocator> Routes<A> {
     }
 
     /// Whether there is a route for the pair.
+    #[inline(always)]
     pub fn has(&self, pair: &Pair) -> bool
         ensures { result ≡ list_any (λ r. (r.exchange == pair.now.exchange) && (r.code == pair.now.code)) self.now }
     {
@@ -52,6 +54,7 @@ impl<A: Allocator> Routes<A> {
     }
 
     /// The groups of the pair's route.
+    #[inline(always)]
     pub fn list(&self, pair: &Pair) -> &[GroupId]
         ensures { result.now ≡ option_map_or (λ r. r.groups) (find (λ r. (r.exchange == pair.now.exchange) && (r.code == pair.now.code)) self.now) [] }
     {
@@ -62,6 +65,7 @@ impl<A: Allocator> Routes<A> {
     }
 
     /// The pair of the route at a place.
+    #[inline(always)]
     pub fn pair_at(&self, place: usize) -> Option<&Pair>
         ensures { option_copied result ≡ option_map (λ r. record { exchange = r.exchange; code = r.code }) (slice_get self.now place) }
     {
@@ -69,6 +73,7 @@ impl<A: Allocator> Routes<A> {
     }
 
     /// Appends a route.
+    #[inline(always)]
     pub fn add(&mut self, pair: Pair, groups: GroupList) -> Result<(), NoMemory>
         requires { list_any (λ r. (r.exchange == pair.exchange) && (r.code == pair.code)) self.old ≡ false }
         ensures ok { OnOk result (self.new ≡ self.old ++ record { exchange = pair.exchange; code = pair.code; groups = groups } ∷ []) }

@@ -35,6 +35,7 @@ impl<K: Eq + Hash + Drop, V: Drop, A: Allocator + Copy> Rows<K, V, A> {
 }
 
 impl<K: Eq + Hash + Drop, V: Drop, A: Allocator> Rows<K, V, A> {
+    #[inline(always)]
     pub fn len(&self) -> usize
         ensures { result ≡ length self.now }
     {
@@ -42,6 +43,7 @@ impl<K: Eq + Hash + Drop, V: Drop, A: Allocator> Rows<K, V, A> {
     }
 
     /// The place of a key.
+    #[inline(always)]
     pub fn find(&self, key: &K) -> Option<usize>
         ensures place { result ≡ position (K.eq key.now) (keys_of self.now) }
         ensures found { is_some result ≡ list_any (K.eq key.now) (keys_of self.now) }
@@ -51,6 +53,7 @@ impl<K: Eq + Hash + Drop, V: Drop, A: Allocator> Rows<K, V, A> {
     }
 
     /// The value of a key.
+    #[inline(always)]
     pub fn get(&self, key: &K) -> Option<&V>
         ensures { option_copied result ≡ lookup (K.eq key.now) self.now }
     {
@@ -58,6 +61,7 @@ impl<K: Eq + Hash + Drop, V: Drop, A: Allocator> Rows<K, V, A> {
     }
 
     /// The key at a place.
+    #[inline(always)]
     pub fn key_at(&self, place: usize) -> Option<&K>
         ensures { option_copied result ≡ option_map (λ e. e.0) (slice_get self.now place) }
     {
@@ -66,6 +70,7 @@ impl<K: Eq + Hash + Drop, V: Drop, A: Allocator> Rows<K, V, A> {
     }
 
     /// The value at a place.
+    #[inline(always)]
     pub fn value_at(&self, place: usize) -> Option<&V>
         ensures { option_copied result ≡ option_map (λ e. e.1) (slice_get self.now place) }
     {
@@ -74,6 +79,7 @@ impl<K: Eq + Hash + Drop, V: Drop, A: Allocator> Rows<K, V, A> {
     }
 
     /// Appends a key with its value.
+    #[inline(always)]
     pub fn add(&mut self, key: K, value: V) -> Result<(), NoMemory>
         requires { list_any (K.eq key) (keys_of self.old) ≡ false }
         ensures ok { OnOk result (self.new ≡ self.old ++ (key, value) ∷ []) }

@@ -31,6 +31,7 @@ pub(crate) struct Seen {
 
 impl Seen {
     /// Takes in the next word.
+    #[inline(always)]
     fn note<A: Allocator>(&mut self, plan: &Plan<A>, pair: &Option<Pair>, word: &[u8])
         ensures bad { self.new.bad ≡ (self.old.bad || not (is_name word.now)) }
         ensures unknown { self.new.unknown ≡ (self.old.unknown || not (has_group plan.now word.now)) }
@@ -49,6 +50,7 @@ impl Seen {
 }
 
 /// Whether the pair's exchange may not seize the group.
+#[inline(always)]
 fn is_closed<A: Allocator>(plan: &Plan<A>, pair: &Option<Pair>, group: Option<GroupId>) -> bool
     ensures { result ≡ holds_at pair.now (λ x c. option_map_or (λ i. not (may_seize plan.now i x)) group false) }
 {
@@ -62,6 +64,7 @@ fn is_closed<A: Allocator>(plan: &Plan<A>, pair: &Option<Pair>, group: Option<Gr
 }
 
 /// What the words come to for a pair.
+#[inline(always)]
 pub(crate) fn see<A: Allocator>(plan: &Plan<A>, pair: &Option<Pair>, words: Words<'_>) -> Seen
     ensures { IsSeen plan.now pair.now words.entry result }
 {

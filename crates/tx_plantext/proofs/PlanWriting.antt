@@ -40,13 +40,26 @@ wrote_first a b f g s t (Err y) x w bad = (stops_first t w.0, w.1)
 pub text_is : (a b : Option (List ℕ)) (f g : Bool) (s t : List ℕ) (r : Outcome) → s ≡ t → Wrote a b f g t r → Wrote a b f g s r
 text_is a b f g s t r e w = subst (λ (l : List ℕ). Wrote a b f g l r) (sym e) w
 
--- ---- the lines of a list
+-- ---- the texts of a list
 
 take_all : {A : Type 0} (xs : List A) (n : ℕ) → length xs ≤ n → take n xs ≡ xs
 take_all [] zero h = refl
 take_all [] (suc n) h = refl
 take_all (x ∷ xs) zero h = absurd (omega (arith, h))
 take_all (x ∷ xs) (suc n) h = ap (λ l. x ∷ l) (take_all xs n (omega (arith, h)))
+
+module _ {A : Type 0} (text : A → List ℕ) where
+  -- one of them was not written
+  pub texts_stopped : (xs : List A) (i : ℕ) (x : A) (a b c : Option (List ℕ)) (f g h : Bool) (r : Outcome) (fault : WriteFault) → i < length xs → x ≡ get_or xs i x
+      → Wrote a b f g (flat_map text (take i xs)) (Ok tt) → Wrote b c g h (text x) (Err fault) → IsErr r → Wrote a c f h (flat_map text xs) r
+  texts_stopped xs i x a b c f g h (Ok y) fault lt is v w bad = absurd (false≢true bad)
+  texts_stopped xs i x a b c f g h (Err y) fault lt is v w bad = (stops_at text xs i x lt is v.0 w.0, w.1)
+
+  -- all of them were written
+  pub texts_done : (xs : List A) (i : ℕ) (a b : Option (List ℕ)) (f g : Bool) → length xs ≤ i → Wrote a b f g (flat_map text (take i xs)) (Ok tt) → Wrote a b f g (flat_map text xs) (Ok tt)
+  texts_done xs i a b f g all v = subst (λ (l : List A). Wrote a b f g (flat_map text l) (Ok tt)) (take_all xs i all) v
+
+-- ---- the lines of a list
 
 module _ {A : Type 0} (words : A → List (List ℕ)) where
   lines_cut : (xs : List A) (i : ℕ) → lines_of_list words xs ≡ lines_of_list words (take i xs) ++ (line_at words xs i ++ lines_of_list words (drop (suc i) xs))

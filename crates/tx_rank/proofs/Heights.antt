@@ -1,7 +1,7 @@
 -- Ranks of a pass after which each ranked exchange but the home lists a group are heights.
 use Rattle.std.proofs.Common.{◌≡◌, ◌≢◌, ℕ, zero, suc, true, false, eqb, List, [], ◌∷◌, length, Option, Some, refl, ap, arith, eqb-true}
 use Rattle.std.proofs.lemmas.Bool.{eqb-false}
-use Rattle.tx_plan.proofs.Among.{Among}
+use Rattle.tx_plan.specs.Among.{Among}
 use Rattle.tx_rank.specs.Walks.{Net, Goes, end_of}
 use Rattle.tx_rank.specs.Heights.{IsHeight, RanksByHeight}
 use Rattle.tx_rank.specs.Marks.{AreSettled}

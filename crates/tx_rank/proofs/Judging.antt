@@ -1,6 +1,6 @@
 -- What the ranking of one code adds to the findings, in each case.
 use Rattle.std.proofs.Common.{◌≡◌, ℕ, List, [], ◌∷◌, ◌++◌, map, Option, Some, None, refl, sym, ap, ◌∙◌, append_assoc, append-nil}
-use Rattle.tx_plan.proofs.Among.{Among}
+use Rattle.tx_plan.specs.Among.{Among}
 use Rattle.tx_rank.specs.declared.finding.Finding.{Finding}
 use Rattle.tx_rank.specs.declared.finding.Finding.TheVariants.{Loop, Short, Long}
 use Rattle.tx_rank.specs.Walks.{Net, Walk, end_of, IsLoop, IsShort, IsLong}

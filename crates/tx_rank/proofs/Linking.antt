@@ -5,7 +5,8 @@ use Rattle.std.proofs.Math.ListN.{set, length-set}
 use Rattle.std.proofs.lemmas.Bool.{eqb-false}
 use Rattle.std.proofs.lemmas.Option.{slice_get-get_or}
 use Rattle.std.proofs.lemmas.List.{length-replicate, take_all}
-use Rattle.tx_plan.proofs.Among.{Among, among_cases}
+use Rattle.tx_plan.specs.Among.{Among}
+use Rattle.tx_plan.proofs.Among.{among_cases}
 use Rattle.tx_rank.specs.Walks.{Net, Goes, end_of}
 use Rattle.tx_rank.specs.Links.{IsLink, AreLinks, LinksAll, StaysLinked, LinksBelow, IsLinked}
 use Rattle.tx_rank.proofs.Looks.{among_at, take_next}

@@ -3,7 +3,8 @@ use Rattle.std.proofs.Common.{◌≡◌, ℕ, zero, suc, ◌+◌, ◌<◌, ◌�
 use Rattle.std.specs.Prelude.{slice_get}
 use Rattle.std.proofs.lemmas.List.{take_more}
 use Rattle.std.proofs.lemmas.Option.{slice_get_within, slice_get-get_or, get_or_from_slice_get}
-use Rattle.tx_plan.proofs.Among.{Among, among_left, among_right, among_cases}
+use Rattle.tx_plan.specs.Among.{Among}
+use Rattle.tx_plan.proofs.Among.{among_left, among_right, among_cases}
 use Rattle.tx_rank.specs.Walks.{Net}
 use Rattle.tx_rank.specs.Nets.{IsNet}
 use Rattle.tx_rank.specs.Marks.{rank_in, IsOnward, IsTop}

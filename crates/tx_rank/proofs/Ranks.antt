@@ -1,6 +1,6 @@
 -- What ranks that fall along each step say of all walks.
 use Rattle.std.proofs.Common.{◌≡◌, ◌≢◌, ℕ, suc, ◌+◌, ◌≤◌, true, List, [], ◌∷◌, length, inl, inr, Option, Some, sym, ap, ◌∙◌, arith}
-use Rattle.tx_plan.proofs.Among.{Among}
+use Rattle.tx_plan.specs.Among.{Among}
 use Rattle.tx_rank.specs.Walks.{Net, AllDiffer, Goes, end_of, before_end, passed, IsLoop}
 use Rattle.tx_rank.specs.Heights.{IsReached}
 use Rattle.tx_rank.specs.Nets.{LeadsBelow}

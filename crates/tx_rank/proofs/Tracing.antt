@@ -3,7 +3,8 @@ use Rattle.std.proofs.Common.{◌≡◌, ◌≢◌, ℕ, suc, ◌+◌, ◌-◌, 
 use Rattle.std.proofs.lemmas.Bool.{false≢true}
 use Rattle.std.specs.Prelude.{slice_get, reverse}
 use Rattle.std.proofs.lemmas.List.{reverse-append}
-use Rattle.tx_plan.proofs.Among.{Among, among_cases}
+use Rattle.tx_plan.specs.Among.{Among}
+use Rattle.tx_plan.proofs.Among.{among_cases}
 use Rattle.tx_rank.specs.Walks.{Net, Goes, end_of}
 use Rattle.tx_rank.specs.Marks.{AreSettled, IsLower}
 use Rattle.tx_rank.specs.Links.{IsLink, LinksBelow}

@@ -5,7 +5,8 @@ use Rattle.std.specs.Prelude.{slice_get}
 use Rattle.std.proofs.lemmas.Option.{slice_get_within}
 use Rattle.std.proofs.Math.ListN.{set, length-set}
 use Rattle.std.specs.Option.{option_and_then}
-use Rattle.tx_plan.proofs.Among.{Among, among_left, among_right, among_cases}
+use Rattle.tx_plan.specs.Among.{Among}
+use Rattle.tx_plan.proofs.Among.{among_left, among_right, among_cases}
 use Rattle.tx_rank.specs.Walks.{Net, AllDiffer, end_of, before_end, passed, IsWalk, IsLoop}
 use Rattle.tx_rank.specs.Marks.{rank_of, cost_of, rank_in, cost, IsSettled, IsMarked, IsInHand, Grew, NoneOpen, IsOnward, IsTop, IsStep, IsEnd}
 use Rattle.tx_rank.specs.declared.mark.Mark.{Mark}

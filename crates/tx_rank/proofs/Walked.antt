@@ -2,7 +2,7 @@
 use Rattle.std.proofs.Common.{◌≡◌, ◌≢◌, ℕ, ◌+◌, ◌<◌, ◌≤◌, true, false, eqb, eqb-true, leb, List, [], ◌∷◌, length, inl, Option, Some, refl, sym, ap, ◌∙◌, arith}
 use Rattle.std.proofs.lemmas.Bool.{eqb-false}
 use borrow.Author.Tests.{leb-true, leb-false}
-use Rattle.tx_plan.proofs.Among.{Among}
+use Rattle.tx_plan.specs.Among.{Among}
 use Rattle.tx_rank.specs.Walks.{Net, AllDiffer, end_of, passed, IsWalk, IsLoop, IsShort, IsLong}
 use Rattle.tx_rank.specs.Heights.{RanksByHeight}
 use Rattle.tx_rank.specs.Nets.{Certifies}

@@ -2,7 +2,8 @@
 use Rattle.std.proofs.Common.{◌≡◌, ◌≢◌, ℕ, zero, suc, List, [], ◌∷◌, ◌++◌, length, inl, inr, Some, refl, sym, ap, subst, arith}
 use Rattle.std.specs.Prelude.{slice_get}
 use Rattle.std.specs.List.{AllByRecursion}
-use Rattle.tx_plan.proofs.Among.{Among, among_left, among_right, among_cases}
+use Rattle.tx_plan.specs.Among.{Among}
+use Rattle.tx_plan.proofs.Among.{among_left, among_right, among_cases}
 use Rattle.tx_rank.specs.Walks.{Net, AllDiffer, Goes, end_of, before_end, passed}
 
 -- NOTHING TWICE

@@ -1,6 +1,6 @@
 -- A step that leads to each exchange, so that walks are found from their ends.
 use Rattle.std.specs.Prelude.{◌≡◌, ◌≢◌, ℕ, ◌<◌, List, length, Option, Some, slice_get}
-use Rattle.tx_plan.proofs.Among.{Among}
+use Rattle.tx_plan.specs.Among.{Among}
 use Rattle.tx_rank.specs.Walks.{Net}
 
 -- the group leads from a ranked exchange p, which is not the home, to y

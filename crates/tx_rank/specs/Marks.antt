@@ -1,7 +1,7 @@
 -- The marks of a ranking pass, and what holds of them and of the walk in hand.
 use Rattle.std.specs.Prelude.{◌≡◌, ◌≢◌, ℕ, suc, ◌+◌, ◌*◌, ◌<◌, ◌≤◌, true, List, [], ◌∷◌, length, Option, Some, None, ◌⊎◌, slice_get}
 use Rattle.std.specs.Option.{option_and_then}
-use Rattle.tx_plan.proofs.Among.{Among}
+use Rattle.tx_plan.specs.Among.{Among}
 use Rattle.tx_rank.specs.Walks.{Net, AllDiffer, passed, IsWalk, IsLoop}
 use Rattle.tx_rank.specs.Heights.{IsReached}
 use Rattle.tx_rank.specs.Nets.{LeadsBelow}

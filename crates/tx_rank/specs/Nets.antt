@@ -1,6 +1,6 @@
 -- What holds of the network that calls for one code see, and what ranks of its exchanges certify.
 use Rattle.std.specs.Prelude.{◌≡◌, ◌≢◌, ℕ, ◌+◌, ◌<◌, ◌≤◌, true, length, Option, Some}
-use Rattle.tx_plan.proofs.Among.{Among}
+use Rattle.tx_plan.specs.Among.{Among}
 use Rattle.tx_rank.specs.Walks.{Net}
 
 -- the rules of a plan, as far as the walks need them

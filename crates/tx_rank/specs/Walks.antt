@@ -4,7 +4,7 @@ use Rattle.tx_plan.specs.Plan.{Plan, home_of}
 use Rattle.tx_plan.specs.Rules.{AllPairs}
 use Rattle.tx_plan.specs.Routes.{route_list, is_origin_for}
 use Rattle.tx_plan.specs.Circuits.{other_end}
-use Rattle.tx_plan.proofs.Among.{Among}
+use Rattle.tx_plan.specs.Among.{Among}
 
 -- The network as calls for one code see it: how many exchanges there are, the home of the code, the groups that each exchange tries, where a group
 -- leads from an exchange, and where calls may start.

@@ -1,6 +1,6 @@
 // How the ranking reads the routes of one code.
 ghost use Rattle.std.specs.Prelude.{◌≡◌, ◌<◌, Some};
-ghost use Rattle.tx_plan.proofs.Among.{Among};
+ghost use Rattle.tx_plan.specs.Among.{Among};
 ghost use Rattle.tx_rank.specs.Walks.{Net};
 ghost use Rattle.tx_rank.specs.Nets.{IsNet};
 

@@ -35,7 +35,7 @@ use Rattle.tx_state.specs.Members.{Mem}
 use Rattle.tx_state.proofs.Lists.{mem_filter, find_mem}
 use Rattle.tx_state.proofs.Invariant.{set_cases, inv_opening}
 use Rattle.tx_state.specs.Invariant.{Holds, IsRanked}
-use Rattle.tx_state.proofs.Steps.{tests_false, step_keeps}
+use Rattle.tx_state.proofs.Steps.{tests_false, stands, step_keeps}
 use Rattle.tx_state.proofs.Moves.{Moves, stays, connects, seizes_one, goes_on, falls_back, came, after_accepted}
 use Rattle.tx_state.proofs.Ranks.{AllRanked, step_ranked, hops_within, ranked_place}
 
@@ -225,11 +225,6 @@ module _ (p : Plan) (ok : IsPlan p) (ranks : Ranks) (limit spare : ℕ) (cert : 
         | inl t ↦ first_room c (is_first-is c.hops (and_parts _ _ t).0) st
         | inr f ↦ room c r st code e f
       ]
-
-  stands : (phase : Phase) → not (is_standing phase) ≡ false → phase ≡ Standing
-  stands Standing e = refl
-  stands (Calling x) e = absurd (true≢false e)
-  stands (Connected l) e = absurd (true≢false e)
 
   -- a Route of call n
   route_step : (s : State) → Holds p s → AllRanked p ranks limit spare cert s.calls → refusal p s (Route n) ≡ None → (k : ℕ) → IsCounted limit s.calls s.numbers n k → IsCounted limit (accepted p s (Route n)).1.calls (accepted p s (Route n)).1.numbers n (k + 1)

@@ -37,20 +37,20 @@ use Rattle.tx_state.specs.Invariant.{Holds}
 use Rattle.tx_state.proofs.Ranks.{AllRanked, ranked_place, code_within}
 
 -- THE CIRCUITS OF A GROUP
-in_downward : (n k : ℕ) → 0 < k → k ≤ n → Mem (downward n) k
+pub in_downward : (n k : ℕ) → 0 < k → k ≤ n → Mem (downward n) k
 in_downward zero k l h = absurd (omega arith)
 in_downward (suc n) k l h = elim (cases_eq (suc n) k) [ inl e ↦ inl e | inr e ↦ inr (in_downward n k l (omega arith)) ]
 
-in_upward : (n k : ℕ) → 0 < k → k ≤ n → Mem (upward n) k
+pub in_upward : (n k : ℕ) → 0 < k → k ≤ n → Mem (upward n) k
 in_upward zero k l h = absurd (omega arith)
 in_upward (suc n) k l h = elim (cases_eq (suc n) k) [ inl e ↦ mem_right (upward n) (suc n ∷ []) k (inl e) | inr e ↦ mem_left (upward n) (suc n ∷ []) k (in_upward n k l (omega arith)) ]
 
-map_mem : {A B : Type 0} (f : A → B) (xs : List A) (x : A) → Mem xs x → Mem (map f xs) (f x)
+pub map_mem : {A B : Type 0} (f : A → B) (xs : List A) (x : A) → Mem xs x → Mem (map f xs) (f x)
 map_mem f [] x m = elim m [ ]
 map_mem f (y ∷ xs) x (inl e) = inl (ap f e)
 map_mem f (y ∷ xs) x (inr m) = inr (map_mem f xs x m)
 
-circuit_listed : (p : Plan) (x : Circuit) (g place : ℕ) → is_circuit p x ≡ true → x.group ≡ g → Mem (circuits_at p g place) x
+pub circuit_listed : (p : Plan) (x : Circuit) (g place : ℕ) → is_circuit p x ≡ true → x.group ≡ g → Mem (circuits_at p g place) x
 circuit_listed p x g place h e = subst (λ k. Mem (circuits_at p k place) x) e (at (slice_get p.groups x.group) h)
   where
     at : (o : Option Group) → option_map_or (λ r. nat_le 1 x.number && nat_le x.number r.count) o false ≡ true → Mem (option_map_or (λ (r : Group). map (λ n. record { group = x.group; number = n }) (order_at r place)) o []) x

@@ -11,3 +11,5 @@ pub mod Sound
 pub mod Counts
 pub mod Appending
 pub mod RunOn
+pub mod Playing
+pub mod OneCall

@@ -31,7 +31,7 @@ use Rattle.tx_state.proofs.Lists.{mem_append, mem_filter, mem_map, find_mem}
 use Rattle.tx_state.proofs.Uses.{first_in-is, chosen, calling_on}
 use Rattle.tx_state.proofs.Invariant.{set_cases}
 use Rattle.tx_state.specs.Invariant.{Holds}
-use Rattle.tx_state.proofs.Steps.{tests_false}
+use Rattle.tx_state.proofs.Steps.{tests_false, stands}
 
 -- from c the step with this event makes c'
 pub data Moves (p : Plan) (e : Event) (c c' : Call) : Type 0 where
@@ -136,11 +136,6 @@ module _ (p : Plan) (s : State) (h : Holds p s) (e : Event) (c' : Call) where
       at : (o : Option Call) → call_of n s.calls ≡ o → Mem (with_call o s act).1.calls c' → Came p s e c'
       at None q m' = same_calls m'
       at (Some c) q m' = let f = find_mem (λ c. c.number == n) s.calls c q in each c f.0 q (eqb-true _ _ f.1) m'
-
-stands : (phase : Phase) → not (is_standing phase) ≡ false → phase ≡ Standing
-stands Standing e = refl
-stands (Calling x) e = absurd (true≢false e)
-stands (Connected l) e = absurd (true≢false e)
 
 pub after_accepted : (p : Plan) (s : State) → Holds p s → (e : Event) → refusal p s e ≡ None → (c' : Call) → Mem (accepted p s e).1.calls c' → Came p s e c'
 after_accepted p s h (Key line keyed) none c' m =

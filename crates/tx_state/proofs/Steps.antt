@@ -99,7 +99,9 @@ code_begins p keyed i h = at (longest (codes_before p keyed)) refl h
         subst (λ o. is_prefix (option_map_or (λ c. c.figures) o []) keyed ≡ true) (sym row) m.1
 
 -- ROUTES
-row_of : (rs : List RouteRow) (x c g : ℕ) → Mem (option_map_or (λ r. r.groups) (find (λ r. (r.exchange == x) && (r.code == c)) rs) []) g → (r : RouteRow) × Mem rs r × (r.exchange ≡ x) × Mem r.groups g
+
+-- the route whose list has a group
+pub row_of : (rs : List RouteRow) (x c g : ℕ) → Mem (option_map_or (λ r. r.groups) (find (λ r. (r.exchange == x) && (r.code == c)) rs) []) g → (r : RouteRow) × Mem rs r × (r.exchange ≡ x) × Mem r.groups g
 row_of rs x c g m = at (find (λ r. (r.exchange == x) && (r.code == c)) rs) refl m
   where
     at : (o : Option RouteRow) → find (λ r. (r.exchange == x) && (r.code == c)) rs ≡ o → Mem (option_map_or (λ r. r.groups) o []) g → (r : RouteRow) × Mem rs r × (r.exchange ≡ x) × Mem r.groups g
@@ -107,11 +109,15 @@ row_of rs x c g m = at (find (λ r. (r.exchange == x) && (r.code == c)) rs) refl
     at (Some r) e m = let f = find_mem (λ r. (r.exchange == x) && (r.code == c)) rs r e in (r, f.0, eqb-true _ _ (and_parts _ _ f.1).0, m)
 
 -- the groups of a list may be seized where it is used
-pub listed_leads : (p : Plan) → IsPlan p → (x c g : ℕ) → Mem (route_list p x c) g → (y : ℕ) × (other_end p g x ≡ Some y)
-listed_leads p ok x c g m =
+pub listed_may : (p : Plan) → IsPlan p → (x c g : ℕ) → Mem (route_list p x c) g → may_seize p g x ≡ true
+listed_may p ok x c g m =
     let r = row_of p.routes x c g m in
     let may = all_mem (λ g. may_seize p g r.0.exchange ≡ true) r.0.groups g (all_mem (IsRoute p) p.routes r.0 ok.routes r.1).outgoing r.3 in
-    at (slice_get p.groups g) (subst (λ x. may_seize p g x ≡ true) r.2 may)
+    subst (λ x. may_seize p g x ≡ true) r.2 may
+
+-- and so they lead on from there
+pub listed_leads : (p : Plan) → IsPlan p → (x c g : ℕ) → Mem (route_list p x c) g → (y : ℕ) × (other_end p g x ≡ Some y)
+listed_leads p ok x c g m = at (slice_get p.groups g) (listed_may p ok x c g m)
   where
     at : (o : Option Group) → option_map_or (λ r. (r.a == x) || (is_both r.direction && (r.b == x))) o false ≡ true → (y : ℕ) × (option_and_then (λ r. far_end r x) o ≡ Some y)
     at None h = absurd (false≢true h)
@@ -134,6 +140,12 @@ free_line p s l h =
         ]
       ]
     ] h
+
+-- a phase that is no other than standing
+pub stands : (phase : Phase) → not (is_standing phase) ≡ false → phase ≡ Standing
+stands Standing e = refl
+stands (Calling x) e = absurd (true≢false e)
+stands (Connected l) e = absurd (true≢false e)
 
 -- THE EVENTS
 module _ (p : Plan) (ok : IsPlan p) (s : State) (h : Holds p s) where
@@ -186,11 +198,6 @@ module _ (p : Plan) (ok : IsPlan p) (s : State) (h : Holds p s) where
     confirm_keeps (Calling x) e = meet_keeps x e _ refl
     confirm_keeps (Connected l) e = h
 
-  stands : (phase : Phase) → not (is_standing phase) ≡ false → phase ≡ Standing
-  stands Standing e = refl
-  stands (Calling x) e = absurd (true≢false e)
-  stands (Connected l) e = absurd (true≢false e)
-
   -- an event on a call
   with_keeps : (n : ℕ) (act : Call → Reply × State) → ((c : Call) → Mem s.calls c → call_of n s.calls ≡ Some c → Holds p (act c).1) → Holds p (with_call (call_of n s.calls) s act).1
   with_keeps n act each = at (call_of n s.calls) refl
@@ -205,7 +212,7 @@ accepted_keeps p ok s h (Key line keyed) none =
     key_keeps p s h line keyed _ (not-false _ t.0) t.1.0
 accepted_keeps p ok s h (Route n) none =
     let t = tests_false (refusals p s (Route n) ++ _ ∷ []) none in
-    with_keeps p ok s h n _ (λ c m e. route_keeps p ok s h c m (stands p ok s h c.phase (subst (λ o. is_other is_standing o ≡ false) e t.1.0)) _ refl)
+    with_keeps p ok s h n _ (λ c m e. route_keeps p ok s h c m (stands c.phase (subst (λ o. is_other is_standing o ≡ false) e t.1.0)) _ refl)
 accepted_keeps p ok s h (Confirm n) none = with_keeps p ok s h n _ (λ c m e. confirm_keeps p ok s h c m _ refl)
 accepted_keeps p ok s h (Clear n party) none = end_keeps p s h (cause_by party) (is_numbered n)
 accepted_keeps p ok s h (Released x) none = release_keeps p s h x

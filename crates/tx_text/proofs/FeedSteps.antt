@@ -18,7 +18,7 @@ short-nil : begun_fault [] ≡ None
 unfolding begun_fault without_cr
 short-nil = refl
 
-nothing_begun : (f : Feed) → f.begun ≡ [] → IsFeed f
+pub nothing_begun : (f : Feed) → f.begun ≡ [] → IsFeed f
 nothing_begun f h = record { no_lf = rw h (All-nil (λ b. is_lf b ≡ false)); short = rw h short-nil }
 
 -- what a call gives and leaves
@@ -73,7 +73,7 @@ same_ahead f piece h e more =
     let rest : drop (length (front_of piece)) piece ≡ [] = drop_all _ piece (omega (arith, ap length n)) in
     rw (rest, n, append-nil) refl
 
-says_by : (f : Feed) (piece : List ℕ) → IsFeed f → f.fault ≡ None → (p : Option TextFault) (b : Bool) → piece_fault f piece ≡ p → has_lf piece ≡ b
+pub says_by : (f : Feed) (piece : List ℕ) → IsFeed f → f.fault ≡ None → (p : Option TextFault) (b : Bool) → piece_fault f piece ≡ p → has_lf piece ≡ b
     → Says (place_of f piece) (leaves_by f (front_of piece) None p b) (unfed (gives_by None p b (length (front_of piece))) piece) (lined (gives_by None p b (length (front_of piece))))
 says_by f piece i z (Some x) true h k = let g : bytes_fault (without_cr (f.begun ++ front_of piece)) ≡ Some x = rw k at h in λ e more. feed-faulty f piece x i k g e more
 says_by f piece i z (Some x) false h k = let g : begun_fault (f.begun ++ front_of piece) ≡ Some x = rw k at h in λ e more. begun-faulty f piece x i g k e more

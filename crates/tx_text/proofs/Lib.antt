@@ -1,5 +1,4 @@
 pub mod WordLists
-pub mod Padding
 pub mod Writing
 pub mod Places
 pub mod LineFaults
@@ -7,6 +6,7 @@ pub mod FeederFields
 pub mod TextLines
 pub mod Feeding
 pub mod FeedSteps
+pub mod InPieces
 pub mod ReaderFields
 pub mod ReadingOn
 pub mod Framing
@@ -20,3 +20,4 @@ pub mod Frames
 pub mod Numbers
 pub mod ReadBack
 pub mod SliceAnswers
+mod ReadCalls

@@ -93,7 +93,7 @@ line_back e n s ws rest h =
 
 module _ (header : List (List ℕ) → Option ℕ) where
   -- in the body of a text
-  has_back : (e : Ending) (n s : ℕ) (ws : List (List ℕ)) (rest : List ℕ) → IsWrittenLine ws → 0 < length ws → is_end ws ≡ false
+  pub has_back : (e : Ending) (n s : ℕ) (ws : List (List ℕ)) (rest : List ℕ) → IsWrittenLine ws → 0 < length ws → is_end ws ≡ false
       → framed header Body n (told e (lines_from n s (joined ws ++ 10 ∷ rest))) ≡ Has n ws (framed header Body (n + 1) (told e (lines_from (n + 1) (s + length (joined ws) + 1) rest)))
   unfolding framed
   has_back e n s [] rest h some end = absurd (omega (arith, some))
@@ -101,7 +101,7 @@ module _ (header : List (List ℕ) → Option ℕ) where
       ap (framed header Body n) (line_back e n s (w ∷ ws) rest h) ∙ rw (words_joined w ws h.words, end) refl
 
   -- the header comes first
-  head_back : (e : Ending) (n s v : ℕ) (ws : List (List ℕ)) (rest : List ℕ) → IsWrittenLine ws → 0 < length ws → header ws ≡ Some v
+  pub head_back : (e : Ending) (n s v : ℕ) (ws : List (List ℕ)) (rest : List ℕ) → IsWrittenLine ws → 0 < length ws → header ws ≡ Some v
       → framed header Start n (told e (lines_from n s (joined ws ++ 10 ∷ rest))) ≡ Headed v (framed header Body (n + 1) (told e (lines_from (n + 1) (s + length (joined ws) + 1) rest)))
   unfolding framed
   head_back e n s v [] rest h some k = absurd (omega (arith, some))
@@ -125,7 +125,7 @@ module _ (header : List (List ℕ) → Option ℕ) where
   }
 
   -- at its END
-  end_back : (n s : ℕ) → framed header Body n (told AtEnd (lines_from n s (codes "END\n"))) ≡ Done
+  pub end_back : (n s : ℕ) → framed header Body n (told AtEnd (lines_from n s (codes "END\n"))) ≡ Done
   unfolding framed told words_of
   end_back n s = ap (framed header Body n) (line_back AtEnd n s (codes "END" ∷ []) [] end_written) ∙ ap (λ (ls : List Line). framed header Ended (n + 1) (told AtEnd ls)) (lines_nil (n + 1) (s + 3 + 1))
 

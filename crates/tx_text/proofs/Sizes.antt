@@ -1,5 +1,5 @@
 -- Each line that is given leaves less to read.
-use Rattle.std.proofs.Common.{◌≡◌, ℕ, ◌+◌, ◌<◌, Bool, true, false, List, [], length, Option, None, Some, Result, Ok, Err, IfOk, IfSome, refl, ap, arith, subst}
+use Rattle.std.proofs.Common.{◌≡◌, ℕ, ◌+◌, ◌<◌, Bool, true, false, List, [], length, Option, None, Some, Result, Ok, Err, IfOk, IfSome, OnOk, refl, ap, arith, subst}
 use Rattle.std.proofs.lemmas.List.{length-drop, length-take-le}
 use Rattle.std.proofs.lemmas.Bool.{ltb-true}
 use Rattle.std.specs.List.{position_or_len}
@@ -11,6 +11,10 @@ use Rattle.tx_text.specs.Told.{Reading, reading_size, fed_on, lined, unfed}
 pub if_ok : {T E : Type 0} {P : T → Type 0} (r : Result T E) → ((x : T) → P x) → IfOk r P
 if_ok (Ok x) h = h x
 if_ok (Err e) h = tt
+
+pub on_ok : {T E P : Type 0} (r : Result T E) → P → OnOk r P
+on_ok (Ok x) h = h
+on_ok (Err e) h = tt
 
 shorter : (piece : List ℕ) (o p : Option TextFault) (lf : Bool) (n : ℕ) → (lf ≡ true → n < length piece) → lined (gives_by o p lf n) ≡ Ok true → length (unfed (gives_by o p lf n) piece) < length piece
 shorter piece (Some x) p lf n h e = absurd (cc)

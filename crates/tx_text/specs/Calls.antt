@@ -1,5 +1,5 @@
 -- The calls of a source's `read`, one after another.
-use Rattle.std.specs.Prelude.{◌≡◌, ◌⊎◌, ℕ, zero, suc, ◌+◌, ◌<◌, Bool, true, Result, Ok}
+use Rattle.std.specs.Prelude.{◌≡◌, ◌⊎◌, ℕ, zero, suc, ◌+◌, ◌<◌, min, Bool, true, Result, Ok}
 use Rattle.tx_text.specs.declared.source.ReadFault.{ReadFault}
 
 -- how many calls a text may take that comes from a source
@@ -9,6 +9,10 @@ source_calls = 4294967295
 -- how many calls a text may take that stands in memory: more than any such text is long
 abbrev pub slice_calls : ℕ
 slice_calls = 2251799813685249
+
+-- a count of calls and one more, up to the greatest number of 64 bits
+abbrev pub one_call_more : ℕ → ℕ
+one_call_more n = min (n + 1) 18446744073709551615
 
 module _ {S : Type 0} (called : ℕ → Result ℕ ReadFault → S → S → Type 0) where
   -- One call for 4,096 bytes leads from the first value to the second, and it gave some.

@@ -3,10 +3,12 @@ pub mod Words
 pub mod Padded
 pub mod Ends
 pub mod Calls
+pub mod ReadCalls
 pub mod Slices
 pub mod Memory
 pub mod Feed
 pub mod Feeder
+pub mod Pieces
 pub mod TextLine
 pub mod Told
 pub mod Reader

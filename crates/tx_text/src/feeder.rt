@@ -61,6 +61,7 @@ impl<A: Allocator> LineFeeder<A> {
     }
 
     /// Lets the completed line go.
+    #[inline(always)]
     fn begin(&mut self)
         ensures { self.new ≡ record self.old { line = None } }
     {
@@ -70,6 +71,7 @@ impl<A: Allocator> LineFeeder<A> {
         }
     }
 
+    #[inline(always)]
     fn fail(&mut self, fault: TextFault)
         ensures { self.new ≡ faulted self.old fault }
     {
@@ -79,6 +81,7 @@ impl<A: Allocator> LineFeeder<A> {
     }
 
     /// Takes the bytes of a piece up to and with the first LF.
+    #[inline(always)]
     pub fn feed(&mut self, piece: &[u8]) -> Result<Fed, TextFault>
         requires { self.old.start + length self.old.begun + length piece.now < 2 ^ 64 - 1 }
         ensures gives { result ≡ feed_gives self.old piece.now }
@@ -109,6 +112,7 @@ impl<A: Allocator> LineFeeder<A> {
     }
 
     /// Adds bytes to the line that has begun, and tells what is wrong with it then.
+    #[inline(always)]
     fn add(&mut self, front: &[u8], line: bool) -> Option<TextFault>
         requires begun { self.old.line ≡ None }
         requires fed { self.old.start + length self.old.begun + length front.now < 2 ^ 64 - 1 }
@@ -127,6 +131,7 @@ impl<A: Allocator> LineFeeder<A> {
     }
 
     /// The text came to its end: tells whether an unfinished line stands, and completes it.
+    #[inline(always)]
     pub fn finish(&mut self) -> Result<bool, TextFault>
         ensures gives { result ≡ finish_gives self.old }
         ensures leaves { self.new ≡ finish_leaves self.old }
@@ -147,6 +152,7 @@ impl<A: Allocator> LineFeeder<A> {
     }
 
     /// The line that the last call of `feed` or `finish` completed.
+    #[inline(always)]
     pub fn line(&self) -> TextLine<'_>
         requires { IsSome self.now.line }
         ensures line { self.now.line ≡ Some (line_of result) }
@@ -166,6 +172,7 @@ impl<A: Allocator> LineFeeder<A> {
     }
 
     /// Completes the line that has begun, at the end of the text.
+    #[inline(always)]
     fn complete_rest(&mut self)
         requires begun { self.old.line ≡ None }
         requires some { 0 < length self.old.begun }
@@ -179,6 +186,7 @@ impl<A: Allocator> LineFeeder<A> {
     }
 
     /// Completes the line that has begun, at an LF.
+    #[inline(always)]
     fn complete_line(&mut self)
         requires begun { self.old.line ≡ None }
         requires fed { self.old.start + length self.old.begun + 1 < 2 ^ 64 - 1 }
@@ -194,6 +202,7 @@ impl<A: Allocator> LineFeeder<A> {
 
 /// Adds bytes to a line that has begun, unless it is too long then, whatever bytes follow.
 #[tactic(auto, unfolding(crate::specs::Feed::begun_fault))]
+#[inline(always)]
 fn hold<A: Allocator>(held: &mut Vec<u8, A>, front: &[u8]) -> Option<TextFault>
     requires room { 513 ≤ vec_capacity held.old }
     requires short { vec_len held.old ≤ 513 }

@@ -28,6 +28,7 @@ impl Model for Figures {
 }
 
 impl Figures {
+    #[inline(always)]
     pub fn read(text: &[u8]) -> Option<Figures>
         ensures { result ≡ figures_of text.now }
     {
@@ -39,6 +40,7 @@ impl Figures {
         }
     }
 
+    #[inline(always)]
     pub fn bytes(&self) -> &[u8]
         ensures value { result.now ≡ self.now }
         ensures figures { are_figures 1 12 self.now ≡ true }
@@ -47,12 +49,14 @@ impl Figures {
     }
 }
 
+#[inline(always)]
 pub(crate) fn is_figure(byte: u8) -> bool
     ensures { result ≡ is_figure byte }
 {
     b'0' <= byte && byte <= b'9'
 }
 
+#[inline(always)]
 fn all_figures(text: &[u8]) -> bool
     ensures { result ≡ list_all is_figure text.now }
 {
@@ -60,6 +64,7 @@ fn all_figures(text: &[u8]) -> bool
 }
 
 /// Whether the text has so many figures, and nothing else.
+#[inline(always)]
 pub fn are_figures(text: &[u8], least: usize, most: usize) -> bool
     ensures gives { result ≡ are_figures least most text.now }
     ensures short { result ≡ true → length text.now ≤ most }

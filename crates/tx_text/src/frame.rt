@@ -74,6 +74,7 @@ pub(crate) enum LineForm {
 }
 
 /// Whether the words are the one word END.
+#[inline(always)]
 pub fn is_end(words: Words<'_>) -> bool
     ensures { result ≡ is_end words.entry }
 {
@@ -84,6 +85,7 @@ pub fn is_end(words: Words<'_>) -> bool
     }
 }
 
+#[inline(always)]
 fn header(key: &[u8], most: u8, words: Words<'_>) -> Option<u8>
     ensures { result ≡ header_of key.now most words.entry }
 {
@@ -103,20 +105,21 @@ fn header(key: &[u8], most: u8, words: Words<'_>) -> Option<u8>
 }
 
 /// What a finished line is.
+#[inline(always)]
 pub(crate) fn look(key: &[u8], most: u8, phase: Phase, line: &[u8]) -> LineForm
     ensures { result ≡ looked (header_of key.now most) phase (words_of line.now) }
 {
     let mut all = words(line);
-    if all.next().is_none() {
+    let Some(first) = all.next() else {
         return LineForm::Blank;
-    }
+    };
     match phase {
         Phase::Start => match header(key, most, words(line)) {
             Some(version) => LineForm::Header(version),
             None => LineForm::Bad(FormFault::NoHeader),
         },
         Phase::Body => {
-            if is_end(words(line)) {
+            if first == b"END".as_slice() && all.next().is_none() {
                 LineForm::End
             } else {
                 LineForm::Plain
@@ -127,6 +130,7 @@ pub(crate) fn look(key: &[u8], most: u8, phase: Phase, line: &[u8]) -> LineForm
 }
 
 /// What is wrong where the text ends.
+#[inline(always)]
 pub(crate) fn closing(phase: Phase) -> Option<FormFault>
     ensures { result ≡ closing phase }
 {
@@ -138,6 +142,7 @@ pub(crate) fn closing(phase: Phase) -> Option<FormFault>
 }
 
 /// What is wrong where the text ends with this unfinished line.
+#[inline(always)]
 pub(crate) fn last_fault(phase: Phase, line: &[u8]) -> Option<FormFault>
     ensures { result ≡ last_fault phase (words_of line.now) }
 {
@@ -160,6 +165,7 @@ pub(crate) fn last_fault(phase: Phase, line: &[u8]) -> Option<FormFault>
 }
 
 /// What to answer where the text ends.
+#[inline(always)]
 pub(crate) fn end_as(number: u64, fault: Option<FormFault>) -> Result<Step, Stop>
     ensures { result ≡ end_as number fault }
 {

@@ -1,5 +1,5 @@
 // The lines that the frame of a text leaves to its reader.
-ghost use Rattle.std.specs.Prelude.{◌≡◌, ◌⊎◌, ◌<◌, true, IfOk, IfErr, IsSome, None, [], ℕ};
+ghost use Rattle.std.specs.Prelude.{◌≡◌, ◌⊎◌, ◌<◌, true, IfOk, IfErr, OnOk, IsSome, None, [], ℕ};
 ghost use Rattle.tx_text.specs.Calls.{Went, CallsAtMost, Broken};
 ghost use Rattle.tx_text.specs.Told.{reading_start, slice_start, reading_size};
 ghost use Rattle.tx_text.specs.Framing.{to_come, GoesOn, number_of_line, words_of_line};
@@ -58,6 +58,7 @@ impl<'k, A: Allocator> FrameReader<'k, A> {
     }
 
     /// Goes on to the header, to the next line or to the end.
+    #[inline(always)]
     pub fn advance<R: Source>(&mut self, source: &mut R) -> Result<Step, Stop>
         requires { self.old.reader.feed.fault ≡ None }
         ensures fault { IfOk result (λ _. self.new.reader.feed.fault ≡ None) }
@@ -66,6 +67,7 @@ impl<'k, A: Allocator> FrameReader<'k, A> {
         ensures line { result ≡ Ok Step.Line → IsSome self.new.reader.feed.line }
         ensures went { IfOk result (λ s. (s ≡ Step.End) ⊎ Went R.called self.old.reader.left self.new.reader.left source.old source.new) }
         ensures calls { CallsAtMost R.called self.old.reader.left source.old source.new }
+        ensures unmarked { OnOk result (R.failed source.new ≡ R.failed source.old) }
         ensures falls { IfOk result (λ s. (s ≡ Step.End) ⊎ (reading_size self.new.reader < reading_size self.old.reader)) }
     {
         'lines: loop {
@@ -105,6 +107,7 @@ impl<'k, A: Allocator> FrameReader<'k, A> {
     }
 
     /// The number of the line that stands.
+    #[inline(always)]
     pub fn number(&self) -> u64
         requires { IsSome self.now.reader.feed.line }
         ensures { result ≡ number_of_line self.now.reader.feed.line }
@@ -113,6 +116,7 @@ impl<'k, A: Allocator> FrameReader<'k, A> {
     }
 
     /// The words of the line that stands.
+    #[inline(always)]
     pub fn words(&self) -> Words<'_>
         requires { IsSome self.now.reader.feed.line }
         ensures { result ≡ words_of_line self.now.reader.feed.line }

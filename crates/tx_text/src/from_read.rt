@@ -4,35 +4,53 @@ ghost use Rattle.std.specs.Prelude.{◌≡◌, false};
 use crate::source::{ReadFault, Source};
 use std::io::Read;
 
-/// A reader. An error is a failure, and stays one.
+/// A reader. An error is a failure, and stays one. The calls are counted.
 #[derive(Drop)]
 pub struct FromRead<R> {
     reader: R,
+    calls: u64,
     failed: bool,
 }
 
 impl<R: Read> FromRead<R> {
+    ghost use Rattle.tx_text.specs.ReadCalls.{TellsWhy};
+
+    #[tactic(auto, using(crate::proofs::ReadCalls::tells_why))]
+    #[inline(always)]
     pub fn new(reader: R) -> FromRead<R>
         ensures reader { result.reader ≡ reader }
+        ensures calls { result.calls ≡ 0 }
         ensures failed { result.failed ≡ false }
+        ensures why { TellsWhy result }
     {
         FromRead {
             reader,
+            calls: 0,
             failed: false,
         }
+    }
+
+    /// How often it was called, up to the greatest number of a `u64`.
+    pub fn calls(&self) -> u64
+        ensures { result ≡ self.now.calls }
+    {
+        self.calls
     }
 }
 
 impl<R: Read> Source for FromRead<R> {
     ghost use Rattle.std.specs.Prelude.{None};
+    ghost use Rattle.tx_text.specs.ReadCalls.{counted};
 
     ghost rest = { λ _. None };
 
     ghost failed = { λ s. s.failed };
 
-    ghost called = { λ _ _ _ _. Unit {0} };
+    ghost called = { counted };
 
+    #[inline(always)]
     fn read(&mut self, buf: &mut [u8]) -> Result<usize, ReadFault> {
+        self.calls = self.calls.saturating_add(1);
         if !self.failed {
             if let Ok(n) = self.reader.read(buf) {
                 return Ok(n);

@@ -8,6 +8,7 @@ use memchr::memchr;
 
 /// The line without a CR at its end.
 #[tactic(auto, unfolding(crate::specs::Text::without_cr))]
+#[inline(always)]
 pub fn without_cr(line: &[u8]) -> &[u8]
     ensures { result.now ≡ without_cr line.now }
 {
@@ -19,12 +20,14 @@ pub fn without_cr(line: &[u8]) -> &[u8]
     }
 }
 
+#[inline(always)]
 fn is_text_byte(byte: u8) -> bool
     ensures { result ≡ is_text_byte byte }
 {
     byte == b'\t' || (b' ' <= byte && byte <= b'~')
 }
 
+#[inline(always)]
 fn is_text(line: &[u8]) -> bool
     ensures { result ≡ list_all is_text_byte line.now }
 {
@@ -38,6 +41,7 @@ fn is_text(line: &[u8]) -> bool
 
 /// What is wrong with the bytes of a line, given without its LF and the CR before it.
 #[tactic(auto, unfolding(crate::specs::Text::bytes_fault))]
+#[inline(always)]
 pub fn bytes_fault(line: &[u8]) -> Option<TextFault>
     ensures { result ≡ bytes_fault line.now }
 {
@@ -51,6 +55,7 @@ pub fn bytes_fault(line: &[u8]) -> Option<TextFault>
 }
 
 /// Where the first LF stands, or the length.
+#[inline(always)]
 pub(crate) fn lf_or_len(piece: &[u8]) -> usize
     ensures within { result ≤ length piece.now }
     ensures place { result ≡ position_or_len is_lf piece.now }

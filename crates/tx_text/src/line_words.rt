@@ -6,6 +6,7 @@ ghost use Rattle.tx_text.specs.Words.{words_of, is_blank, is_word_byte};
 
 use std::marker::Model;
 
+#[inline(always)]
 fn is_blank(byte: u8) -> bool
     ensures { result ≡ is_blank byte }
 {
@@ -13,6 +14,7 @@ fn is_blank(byte: u8) -> bool
 }
 
 /// How many blanks stand at the front.
+#[inline(always)]
 fn count_blanks(text: &[u8]) -> usize
     ensures within { result ≤ length text.now }
     ensures count { result ≡ prefix_len is_blank text.now }
@@ -41,6 +43,7 @@ impl<'a> Model for Words<'a> {
 }
 
 impl<'a> Words<'a> {
+    #[inline(always)]
     pub(crate) fn new(line: &'a [u8]) -> Words<'a>
         ensures { result ≡ words_of line.now }
     {
@@ -48,6 +51,7 @@ impl<'a> Words<'a> {
     }
 
     /// The same words once more.
+    #[inline(always)]
     pub fn again(&self) -> Words<'a>
         ensures { result ≡ self.now }
     {
@@ -62,6 +66,7 @@ impl<'a> Iterator for Words<'a> {
 
     ghost remaining = { item_count (λ s. s) };
 
+    #[inline(always)]
     fn next(&mut self) -> Option<&'a [u8]> {
         let (word, rest) = first_word(self.rest)?;
         self.rest = rest;
@@ -70,6 +75,7 @@ impl<'a> Iterator for Words<'a> {
 }
 
 /// How long the word at the front is.
+#[inline(always)]
 fn word_len(text: &[u8]) -> usize
     ensures within { result ≤ length text.now }
     ensures count { result ≡ prefix_len is_word_byte text.now }
@@ -83,6 +89,7 @@ fn word_len(text: &[u8]) -> usize
 }
 
 /// The first word, and what stands behind it.
+#[inline(always)]
 fn first_word(text: &[u8]) -> Option<(&[u8], &[u8])>
     ensures { MatchOption result (words_of text.now ≡ [])
         (λ x. words_of text.now ≡ x.0.now ∷ words_of x.1.now) }

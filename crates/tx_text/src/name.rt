@@ -29,6 +29,7 @@ impl Model for Name {
 }
 
 impl Name {
+    #[inline(always)]
     pub fn read(text: &[u8]) -> Option<Name>
         ensures { result ≡ name_of text.now }
     {
@@ -40,6 +41,7 @@ impl Name {
         }
     }
 
+    #[inline(always)]
     pub fn bytes(&self) -> &[u8]
         ensures { result.now ≡ self.now }
     {
@@ -47,6 +49,7 @@ impl Name {
     }
 }
 
+#[inline(always)]
 fn is_letter(byte: u8) -> bool
     ensures { result ≡ is_letter byte }
 {
@@ -54,6 +57,7 @@ fn is_letter(byte: u8) -> bool
 }
 
 /// Whether the text is a name.
+#[inline(always)]
 pub fn is_name(text: &[u8]) -> bool
     ensures gives { result ≡ is_name text.now }
     ensures short { result ≡ true → length text.now ≤ 8 }
@@ -64,6 +68,7 @@ pub fn is_name(text: &[u8]) -> bool
     }
 }
 
+#[inline(always)]
 fn are_signs(text: &[u8]) -> bool
     ensures { result ≡ list_all (λ x. is_letter x || is_figure x) text.now }
 {

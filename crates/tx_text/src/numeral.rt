@@ -6,6 +6,7 @@ ghost use Rattle.tx_text.specs.Words.{are_figures, is_numeral, number_of};
 use crate::figures::are_figures;
 
 /// The number that the text is the decimal form of, if it is at most `max`.
+#[inline(always)]
 pub fn number(text: &[u8], max: u32) -> Option<u32>
     ensures { result ≡ number_of max text.now }
 {
@@ -19,6 +20,7 @@ pub fn number(text: &[u8], max: u32) -> Option<u32>
     Some(value as u32)
 }
 
+#[inline(always)]
 fn is_numeral(text: &[u8]) -> bool
     ensures gives { result ≡ is_numeral text.now }
     ensures form { result ≡ true → are_figures 1 10 text.now ≡ true }
@@ -27,6 +29,7 @@ fn is_numeral(text: &[u8]) -> bool
 }
 
 /// The value of at most ten figures.
+#[inline(always)]
 fn value_of(text: &[u8]) -> u64
     requires { are_figures 1 10 text.now ≡ true }
     ensures { result ≡ digits_value 10 text.now }

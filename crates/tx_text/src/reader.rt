@@ -1,5 +1,5 @@
 // Lines of a text that comes from a source.
-ghost use Rattle.std.specs.Prelude.{◌≡◌, ◌+◌, ◌-◌, ◌^◌, ◌<◌, ◌≤◌, ◌⊎◌, [], length, take, drop, true, false, IfOk, IfErr, IfSome, OnErr, Ok, Err, IsSome, Some, None};
+ghost use Rattle.std.specs.Prelude.{◌≡◌, ◌+◌, ◌-◌, ◌^◌, ◌<◌, ◌≤◌, ◌⊎◌, [], length, take, drop, true, false, IfOk, IfErr, IfSome, OnOk, OnErr, Ok, Err, IsSome, Some, None};
 ghost use Rattle.std.specs.Io.KnownBytes.{prepend_known, IsAtEnd};
 ghost use Rattle.tx_text.specs.Calls.{slice_calls, Gives, Went, Calls, CallsAtMost, Broken};
 ghost use Rattle.tx_text.specs.Feed.{feed_gives, finish_gives, finish_leaves};
@@ -76,6 +76,7 @@ impl<A: Allocator> TextReader<A> {
     }
 
     /// Feeds the bytes that were read, and tells whether that completed a line.
+    #[inline(always)]
     fn feed(&mut self) -> Result<bool, LineFault>
         ensures known { IsFeed self.old.feed }
         ensures known_after { IsFeed self.new.feed }
@@ -92,6 +93,7 @@ impl<A: Allocator> TextReader<A> {
     }
 
     /// Goes on to the next line of the source's text, and tells whether there is one.
+    #[inline(always)]
     pub fn advance<R: Source>(&mut self, source: &mut R) -> Result<bool, LineFault>
         requires { self.old.feed.fault ≡ None }
         ensures fault { IfOk result (λ _. self.new.feed.fault ≡ None) }
@@ -99,6 +101,7 @@ impl<A: Allocator> TextReader<A> {
             self.new.feed.line (Broken R.called (R.failed source.new) self.old.left source.old source.new) result }
         ensures went { result ≡ Ok true → IfSome self.new.feed.line (λ l. l.finished ≡ true → Went R.called self.old.left self.new.left source.old source.new) }
         ensures calls { CallsAtMost R.called self.old.left source.old source.new }
+        ensures unmarked { OnOk result (R.failed source.new ≡ R.failed source.old) }
         ensures falls { IfOk result (λ b. b ≡ true → reading_size self.new < reading_size self.old) }
     {
         'pieces: loop {
@@ -119,6 +122,7 @@ impl<A: Allocator> TextReader<A> {
     }
 
     /// The text came to its end.
+    #[inline(always)]
     fn finish(&mut self) -> Result<bool, LineFault>
         requires { self.old.piece ≡ [] }
         ensures gives { result ≡ ended_as (finish_gives self.old.feed) }
@@ -131,6 +135,7 @@ impl<A: Allocator> TextReader<A> {
     }
 
     /// The line that the last call of `advance` gave.
+    #[inline(always)]
     pub fn line(&self) -> TextLine<'_>
         requires { IsSome self.now.feed.line }
         ensures line { self.now.feed.line ≡ Some (line_of result) }
@@ -140,6 +145,7 @@ impl<A: Allocator> TextReader<A> {
     }
 
     /// Reads the next piece, and tells whether it has any byte.
+    #[inline(always)]
     fn fill<R: Source>(&mut self, source: &mut R) -> Result<bool, LineFault>
         requires fed { self.old.piece ≡ [] }
         requires left { 0 < self.old.left }
@@ -150,6 +156,7 @@ impl<A: Allocator> TextReader<A> {
         ensures end { result ≡ Ok false → (self.new.piece ≡ []) × IsAtEnd (R.rest source.new) }
         ensures gave { result ≡ Ok true → Gives R.called source.old source.new }
         ensures call { Calls R.called source.old source.new }
+        ensures unmarked { OnOk result (R.failed source.new ≡ R.failed source.old) }
         ensures err { IfErr result (λ e. (e ≡ LineFault.Read) × (self.new.piece ≡ []) × (R.failed source.new ≡ true)) }
     {
         self.left -= 1;
@@ -166,6 +173,7 @@ impl<A: Allocator> TextReader<A> {
 }
 
 /// The bytes from one place up to another.
+#[inline(always)]
 fn part(piece: &[u8], from: usize, to: usize) -> &[u8]
     requires order { from ≤ to }
     requires within { to ≤ length piece.now }

@@ -1,24 +1,23 @@
 // Short texts that are kept in place.
-ghost use Rattle.std.specs.Prelude.{◌≡◌, ◌≤◌, length};
+ghost use Rattle.std.specs.Prelude.{◌≡◌, ◌≤◌, ◌-◌, ◌++◌, length, replicate};
 
+use std::hash::{Hash, Hasher};
 use std::marker::Model;
 
-/// At most N bytes.
-#[derive(Clone, Copy, Debug, PartialEq, Eq, Hash)]
-pub(crate) struct Short<const N: usize> {
+/// A text of at most N bytes, where N is at most 255. Behind the text stand zeros, so that all its bytes can be compared and hashed at once.
+#[derive(Clone, Copy, Debug)]
+pub struct Short<const N: usize> {
     bytes: [u8; N],
-    len: usize,
+    len: u8,
 }
 
 impl<const N: usize> Model for Short<N> {
-    ghost use Rattle.std.specs.Prelude.{ℕ, List, ◌-◌, ◌++◌, length, take, replicate};
+    ghost use Rattle.std.specs.Prelude.{ℕ, List, ◌-◌, ◌++◌, length, take, replicate, refl};
+    ghost use Rattle.tx_text.specs.Padded.{IsPadded};
 
     ghost Value = { List ℕ };
 
     ghost view = { λ s. take s.len s.bytes };
-
-    ghost use Rattle.tx_text.specs.Padded.{IsPadded};
-    ghost use Rattle.std.specs.Prelude.{refl};
 
     ghost invariant = { λ s. IsPadded N s.len s.bytes };
 
@@ -27,20 +26,81 @@ impl<const N: usize> Model for Short<N> {
     ghost inverse_ok = { λ a h. Prim.rw (h.short, ← h.padded) refl };
 }
 
+impl<const N: usize> PartialEq for Short<N> {
+    ghost use Rattle.std.specs.Prelude.{bytes_eq};
+    ghost use Rattle.std.specs.Cmp.{partial_equiv_from_equiv};
+    ghost use Rattle.std.specs.Cmp.Lexicographic.{nat_list_eq_equiv};
+
+    ghost eq = { bytes_eq };
+
+    ghost laws = { partial_equiv_from_equiv nat_list_eq_equiv };
+
+    #[inline(always)]
+    fn eq(&self, other: &Short<N>) -> bool {
+        self.len == other.len && self.bytes == other.bytes
+    }
+}
+
+impl<const N: usize> Eq for Short<N> {
+    ghost use Rattle.std.specs.Cmp.Lexicographic.{nat_list_eq_equiv};
+
+    ghost laws = { nat_list_eq_equiv };
+}
+
+impl<const N: usize> Hash for Short<N> {
+    ghost use Rattle.std.specs.Prelude.{[], ◌∷◌};
+    ghost use Rattle.std.proofs.Common.{ap};
+    ghost use Rattle.std.specs.Cmp.Lexicographic.{bytes_decides};
+    ghost use Rattle.tx_text.specs.Padded.{padded_to};
+
+    ghost hash_input = { λ n. padded_to N n ∷ [] };
+
+    ghost respects_eq = { λ x y h. ap (λ n. padded_to N n ∷ []) ((bytes_decides x y).0 h) };
+
+    #[inline(always)]
+    fn hash<H: Hasher>(&self, state: &mut H) {
+        state.write(&self.bytes);
+    }
+}
+
 impl<const N: usize> Short<N> {
-    pub(crate) fn new(text: &[u8]) -> Short<N>
-        requires { length text.now ≤ N }
+    ghost use Rattle.tx_text.specs.Padded.{padded_to};
+
+    /// The text, which has room.
+    #[inline(always)]
+    pub fn new(text: &[u8]) -> Short<N>
+        requires text { length text.now ≤ N }
+        requires room { N ≤ 255 }
         ensures { result ≡ text.now }
     {
+        // As many steps as there are places, so that a short text is made in registers.
         let mut bytes = [0; N];
         let len = text.len();
-        bytes[..len].copy_from_slice(text);
-        Short { bytes, len }
+        for i in 0..N {
+            if i < len {
+                bytes[i] = text[i];
+            }
+        }
+        Short {
+            bytes,
+            len: len as u8,
+        }
     }
 
-    pub(crate) fn bytes(&self) -> &[u8]
-        ensures { result.now ≡ self.now }
+    /// The text.
+    #[inline(always)]
+    pub fn bytes(&self) -> &[u8]
+        ensures value { result.now ≡ self.now }
+        ensures width { length result.now ≤ N }
     {
-        &self.bytes[..self.len]
+        &self.bytes[..usize::from(self.len)]
+    }
+
+    /// The text, and zeros behind it up to its room.
+    #[inline(always)]
+    pub fn padded(&self) -> &[u8; N]
+        ensures { result.now ≡ padded_to N self.now }
+    {
+        &self.bytes
     }
 }

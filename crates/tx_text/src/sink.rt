@@ -32,6 +32,7 @@ pub trait Sink {
 }
 
 /// Writes all the bytes, or stops where the sink fails.
+#[inline(always)]
 pub fn write_bytes<W: Sink>(bytes: &[u8], sink: &mut W) -> Result<(), WriteFault>
     ensures ok { OnOk result (W.taken sink.new ≡ append_known (W.taken sink.old) bytes.now) }
     ensures err { OnErr result (StopsIn (W.taken sink.old) (W.taken sink.new) bytes.now) }
@@ -48,6 +49,7 @@ pub fn write_bytes<W: Sink>(bytes: &[u8], sink: &mut W) -> Result<(), WriteFault
 }
 
 /// Writes the parts of a text, one after another.
+#[inline(always)]
 pub fn write_parts<W: Sink>(parts: &[&[u8]], sink: &mut W) -> Result<(), WriteFault>
     ensures ok { OnOk result (W.taken sink.new ≡ append_known (W.taken sink.old) (flat_map (λ p. p.now) parts.now)) }
     ensures err { OnErr result (StopsIn (W.taken sink.old) (W.taken sink.new) (flat_map (λ p. p.now) parts.now)) }

@@ -12,6 +12,7 @@ pub struct ToWrite<W> {
 }
 
 impl<W: Write> ToWrite<W> {
+    #[inline(always)]
     pub fn new(writer: W) -> ToWrite<W>
         ensures writer { result.writer ≡ writer }
         ensures failed { result.failed ≡ false }
@@ -32,6 +33,7 @@ impl<W: Write> Sink for ToWrite<W> {
 
     ghost called = { λ _ _ _ _. Unit {0} };
 
+    #[inline(always)]
     fn write(&mut self, bytes: &[u8]) -> Result<usize, WriteFault> {
         if !self.failed {
             if let Ok(n) = self.writer.write(bytes) {

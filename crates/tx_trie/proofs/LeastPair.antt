@@ -11,8 +11,8 @@ use Rattle.std.specs.declared.cmp.Ordering.TheVariants.{Less, Equal, Greater}
 use Rattle.std.specs.Cmp.Lexicographic.{slice_cmp, nat_list_cmp_total}
 use Rattle.tx_plan.specs.Plan.{Code}
 use Rattle.tx_plan.specs.Codes.{is_prefix}
-use Rattle.tx_plan.specs.Ambiguous.{pair_cmp, ambiguous_of}
-use Rattle.tx_plan.proofs.Ambiguity.{pair_at, IsAmbiguousAt, ambiguous-none, ambiguous-some}
+use Rattle.tx_plan.specs.Ambiguous.{pair_at, pair_cmp, ambiguous_of, IsAmbiguousAt}
+use Rattle.tx_plan.proofs.Ambiguity.{ambiguous-none, ambiguous-some}
 use Rattle.tx_trie.specs.declared.node.Node.{Node}
 use Rattle.tx_trie.specs.Nodes.{IsTrie, look}
 use Rattle.tx_trie.specs.Least.{IsLeastPair, IsLeastBelow}

@@ -9,7 +9,8 @@ use Rattle.tx_text.specs.Words.{is_figure}
 use Rattle.tx_plan.specs.Plan.{Code}
 use Rattle.tx_plan.specs.Codes.{is_prefix, codes_before, longer, longest, code_of}
 use Rattle.tx_plan.specs.Rules.{is_code}
-use Rattle.tx_plan.proofs.Among.{Among, among_filter, filter_among, among_places, places_among}
+use Rattle.tx_plan.specs.Among.{Among}
+use Rattle.tx_plan.proofs.Among.{among_filter, filter_among, among_places, places_among}
 use Rattle.tx_plan.proofs.Lists.{both, at_least}
 use Rattle.tx_trie.specs.Trie.{plan_of}
 use Rattle.tx_trie.specs.declared.node.Node.{Node}

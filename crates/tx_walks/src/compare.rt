@@ -20,6 +20,10 @@ pub enum Difference {
     RankAt(CodeId, ExchangeId),
     /// A certificate that the checker refuses.
     Refused,
+    /// The events of the finding at this place.
+    ScriptAt(usize),
+    /// The events of the first finding that has some.
+    FirstScript,
 }
 
 /// The walk of a finding, if it is one for the code.

@@ -4,6 +4,7 @@ ghost use Rattle.std.specs.Prelude.{◌≤◌};
 use crate::compare::{Difference, findings_differ, ranks_differ};
 use crate::families::Family;
 use crate::plans::{plan_of, turn};
+use crate::scripts::{ScriptTally, scripts_differ};
 use crate::stop::Stop;
 use crate::survey::{Survey, surveys_of};
 use crate::tally::Tally;
@@ -37,7 +38,7 @@ fn found_differs(
     }
 }
 
-/// How the ranking of a plan differs from what the walks show.
+/// How the ranking of a plan differs from what the walks show, and the events of its findings from what they have to show.
 fn ranking_differs(
     alloc: Global,
     plan: &Plan,
@@ -45,6 +46,7 @@ fn ranking_differs(
     wanted: &[Wanted],
     limit: u8,
     spare: u8,
+    scripts: &mut ScriptTally,
 ) -> Result<Option<Difference>, Stop>
     requires limit { limit ≤ 62 }
     requires spare { spare ≤ 15 }
@@ -57,9 +59,13 @@ fn ranking_differs(
                 Ok(Some(Difference::Found))
             }
         }
-        Ranking::Fails(findings) => Ok(findings_differ(
-            alloc, plan, &findings, wanted, limit, spare,
-        )?),
+        Ranking::Fails(findings) => {
+            let difference = findings_differ(alloc, plan, &findings, wanted, limit, spare)?;
+            if difference.is_some() {
+                return Ok(difference);
+            }
+            scripts_differ(alloc, plan, &findings, limit, spare, scripts)
+        }
     }
 }
 
@@ -93,7 +99,16 @@ fn judge_numbers<R: AllocGlobal + Print>(
     requires spare { spare ≤ 15 }
 {
     let wanted = wanted_of(rt.alloc(), plan, surveys, limit, spare)?;
-    if let Some(difference) = ranking_differs(rt.alloc(), plan, surveys, &wanted, limit, spare)? {
+    let difference = ranking_differs(
+        rt.alloc(),
+        plan,
+        surveys,
+        &wanted,
+        limit,
+        spare,
+        &mut tally.scripts,
+    )?;
+    if let Some(difference) = difference {
         report(rt, plan, &wanted, limit, spare, difference)?;
         return Err(Stop::Differs);
     }
@@ -158,6 +173,10 @@ pub fn judge_family<R: AllocGlobal + Print>(rt: &R, family: &Family<'_>) -> Resu
     println!(rt;
         "- {} fail, by {} ambiguous pairs, {} loops, {} short walks of {} steps in all, {} long walks",
         tally.failed, tally.ambiguous, tally.loops, tally.shorts, tally.steps, tally.longs
+    )?;
+    println!(rt;
+        "- {} loops and walks judged by their events",
+        tally.scripts.findings
     )?;
     Ok(())
 }

@@ -1,5 +1,5 @@
 //! Judges the ranking by brute force. It makes all plans of some families, lists every walk of each of their codes, and compares what these show with
-//! what the ranking answers.
+//! what the ranking answers. It runs the events of each finding over the plain network too, and judges by the replies whether they show it.
 //!
 //! The file `families` says which plans there are.
 #![tactic(auto)]
@@ -9,9 +9,13 @@ mod families;
 mod judge;
 mod lists;
 mod plans;
+mod refusals;
+mod replay;
+mod scripts;
 mod stop;
 mod survey;
 mod tally;
+mod texts;
 mod trail;
 mod walks;
 mod wanted;

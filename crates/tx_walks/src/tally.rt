@@ -1,4 +1,5 @@
 // Counts of plans and of answers.
+use crate::scripts::ScriptTally;
 use crate::survey::Survey;
 use crate::wanted::Wanted;
 
@@ -17,6 +18,7 @@ pub struct Tally {
     /// The steps of all walks of short findings, added up.
     pub steps: u64,
     pub longs: u64,
+    pub scripts: ScriptTally,
 }
 
 /// A count, and so many more.

@@ -1,2 +1,3 @@
+pub mod Grammar
 pub mod Commands
 pub mod Faults

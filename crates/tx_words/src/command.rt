@@ -1,6 +1,7 @@
 // Commands, and the words that ask for them.
-ghost use Rattle.std.specs.Prelude.{◌≡◌, ◌≤◌, [], Ok, IfOk, IfSome};
-ghost use Rattle.tx_words.specs.Commands.{IsInRange};
+ghost use Rattle.std.specs.Prelude.{◌≡◌, ◌≢◌, ◌≤◌, [], Ok, IfOk, IfSome, codes, option_map, string_bytes};
+ghost use Rattle.clap.specs.Words.{first_of, found_of, rows_of, subcommand_rows_of};
+ghost use Rattle.tx_words.specs.Commands.{IsInRange, Names, Gives, Asks, AskFor, IsFoundIn};
 
 use crate::fault::WordsFault;
 use crate::grammar::grammar;
@@ -30,16 +31,20 @@ pub enum Command {
     Codes {
         plan: String,
     },
-    /// `audit PLAN --limit L --spare K`: the certificate goes to a file, if one is named.
+    /// `audit PLAN --limit L --spare K`: the certificate goes to a file, if one is named. No words name a file for a counter script yet.
     Audit {
         plan: String,
         limit: u8,
         spare: u8,
         cert: Option<String>,
+        counter: Option<String>,
     },
 }
 
-fn text(alloc: Global, matches: &ArgMatches<'_>, id: &str) -> Result<Option<String>, AllocError> {
+/// The word of an id.
+fn text(alloc: Global, matches: &ArgMatches<'_>, id: &str) -> Result<Option<String>, AllocError>
+    ensures { IfOk result (λ word. first_of id.now (rows_of (found_of matches.now)) ≡ option_map string_bytes word) }
+{
     match matches.get_str(id) {
         Some(word) => Ok(Some(String::from_str(alloc, word)?)),
         None => Ok(None),
@@ -48,7 +53,8 @@ fn text(alloc: Global, matches: &ArgMatches<'_>, id: &str) -> Result<Option<Stri
 
 /// The number of an option, tested once more against its range.
 fn number(matches: &ArgMatches<'_>, id: &str, most: u8) -> Option<u8>
-    ensures { IfSome result (λ n. n ≤ most) }
+    ensures range { IfSome result (λ n. n ≤ most) }
+    ensures given { IfSome result (Gives (rows_of (found_of matches.now)) id.now) }
 {
     match matches.get_one::<u8>(id) {
         Some(n) if n <= most => Some(n),
@@ -62,7 +68,9 @@ fn check_of(
     plan: String,
     matches: &ArgMatches<'_>,
 ) -> Result<Option<Command>, WordsFault>
-    ensures { IfOk result (λ c. IfSome c IsInRange) }
+    requires { Names (rows_of (found_of matches.now)) (codes "plan") plan }
+    ensures range { IfOk result (λ c. IfSome c IsInRange) }
+    ensures asked { IfOk result (λ c. IfSome c (Asks (codes "check") (rows_of (found_of matches.now)))) }
 {
     let limit = number(matches, "limit", 62);
     let spare = number(matches, "spare", 15);
@@ -84,7 +92,9 @@ fn audit_of(
     plan: String,
     matches: &ArgMatches<'_>,
 ) -> Result<Option<Command>, WordsFault>
-    ensures { IfOk result (λ c. IfSome c IsInRange) }
+    requires { Names (rows_of (found_of matches.now)) (codes "plan") plan }
+    ensures range { IfOk result (λ c. IfSome c IsInRange) }
+    ensures asked { IfOk result (λ c. IfSome c (Asks (codes "audit") (rows_of (found_of matches.now)))) }
 {
     let limit = number(matches, "limit", 62);
     let spare = number(matches, "spare", 15);
@@ -95,6 +105,7 @@ fn audit_of(
             limit,
             spare,
             cert,
+            counter: None,
         })),
         _ => Ok(None),
     }
@@ -106,7 +117,9 @@ fn run_of(
     plan: String,
     matches: &ArgMatches<'_>,
 ) -> Result<Option<Command>, WordsFault>
-    ensures { IfOk result (λ c. IfSome c IsInRange) }
+    requires { Names (rows_of (found_of matches.now)) (codes "plan") plan }
+    ensures range { IfOk result (λ c. IfSome c IsInRange) }
+    ensures asked { IfOk result (λ c. IfSome c (Asks (codes "run") (rows_of (found_of matches.now)))) }
 {
     let Some(script) = text(alloc, matches, "script")? else {
         return Ok(None);
@@ -132,21 +145,36 @@ fn command_of(
     name: &str,
     matches: &ArgMatches<'_>,
 ) -> Result<Option<Command>, WordsFault>
-    ensures { IfOk result (λ c. IfSome c IsInRange) }
+    ensures range { IfOk result (λ c. IfSome c IsInRange) }
+    ensures asked { IfOk result (λ c. IfSome c (Asks name.now (rows_of (found_of matches.now)))) }
 {
     let Some(plan) = text(alloc, matches, "plan")? else {
         return Ok(None);
     };
-    if name == "codes" {
-        return Ok(Some(Command::Codes { plan }));
+    if name == "run" {
+        return run_of(alloc, plan, matches);
     }
     if name == "check" {
         return check_of(alloc, plan, matches);
     }
+    if name == "codes" {
+        return Ok(Some(Command::Codes { plan }));
+    }
     if name == "audit" {
         return audit_of(alloc, plan, matches);
     }
-    run_of(alloc, plan, matches)
+    Ok(None)
+}
+
+/// The command that was found in the words.
+fn found_command(alloc: Global, matches: &ArgMatches<'_>) -> Result<Option<Command>, WordsFault>
+    ensures range { IfOk result (λ c. IfSome c IsInRange) }
+    ensures asked { IfOk result (λ c. IfSome c (IsFoundIn (subcommand_rows_of matches.now))) }
+{
+    match matches.subcommand() {
+        Some((name, matches)) => command_of(alloc, name, matches),
+        None => Ok(None),
+    }
 }
 
 /// Why words without a command are refused.
@@ -156,9 +184,11 @@ fn no_command(grammar: &mut clap::Command<'_>) -> Result<WordsFault, AllocError>
 }
 
 /// Reads the words after the program's name.
+#[tactic(auto, using(crate::proofs::Reading::asked_by))]
 pub fn read_command(alloc: Global, words: &[&str]) -> Result<Command, WordsFault>
     ensures in_range { IfOk result IsInRange }
     ensures pipe { words.now ≡ [] → result ≡ Ok Command.Pipe }
+    ensures asked { IfOk result (λ c. words.now ≢ [] → AskFor words.now c) }
 {
     if words.is_empty() {
         return Ok(Command::Pipe);
@@ -168,11 +198,7 @@ pub fn read_command(alloc: Global, words: &[&str]) -> Result<Command, WordsFault
         Ok(matches) => matches,
         Err(e) => return Err(WordsFault::of_clap(e)),
     };
-    let found = match matches.subcommand() {
-        Some((name, matches)) => command_of(alloc, name, matches)?,
-        None => None,
-    };
-    match found {
+    match found_command(alloc, &matches)? {
         Some(command) => Ok(command),
         None => Err(no_command(&mut grammar)?),
     }

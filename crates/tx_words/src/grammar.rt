@@ -1,84 +1,118 @@
 // The words that the program takes, with what it tells of them when asked for help.
+ghost use Rattle.std.specs.Prelude.{◌≡◌, false, IfOk, codes};
+ghost use Rattle.clap.specs.Words.{app_of, rule_of};
+ghost use Rattle.tx_words.specs.Grammar as grammar;
+
 use clap::{Arg, ArgAction, value_parser};
 use std::alloc::{AllocError, Global};
 
-fn plan_file<'a>(alloc: Global) -> Arg<'a> {
-    Arg::new(alloc, "plan")
-        .value_name("PLAN")
-        .help("The route plan: exchanges, codes, lines, groups, routes and bars")
+/// A file, which has to be named.
+fn file<'a>(alloc: Global, id: &'a str, shown: &'a str, help: &'a str) -> Arg<'a>
+    ensures rule { rule_of result ≡ grammar.file id.now }
+    ensures local { result.global ≡ false }
+{
+    Arg::new(alloc, id)
+        .value_name(shown)
+        .help(help)
         .required(true)
         .action(ArgAction::Set)
 }
 
-fn script_file<'a>(alloc: Global) -> Arg<'a> {
-    Arg::new(alloc, "script")
-        .value_name("SCRIPT")
-        .help("The events to run, one a line, as KEY 41 10001 5170001")
-        .required(true)
-        .action(ArgAction::Set)
+fn plan_file<'a>(alloc: Global) -> Arg<'a>
+    ensures rule { rule_of result ≡ grammar.file (codes "plan") }
+    ensures local { result.global ≡ false }
+{
+    file(
+        alloc,
+        "plan",
+        "PLAN",
+        "The route plan: exchanges, codes, lines, groups, routes and bars",
+    )
 }
 
-fn cert_file<'a>(alloc: Global) -> Arg<'a> {
-    Arg::new(alloc, "cert")
-        .value_name("CERT")
-        .help("The certificate: a rank for each exchange and code where calls may stand")
-        .required(true)
-        .action(ArgAction::Set)
-}
-
-fn cert_option<'a>(alloc: Global, help: &'a str) -> Arg<'a> {
-    Arg::new(alloc, "cert")
-        .long("cert")
-        .value_name("CERT")
+/// An option with a word.
+fn option<'a>(alloc: Global, id: &'a str, shown: &'a str, help: &'a str) -> Arg<'a>
+    ensures rule { rule_of result ≡ grammar.option id.now }
+    ensures local { result.global ≡ false }
+{
+    Arg::new(alloc, id)
+        .long(id)
+        .value_name(shown)
         .help(help)
         .action(ArgAction::Set)
 }
 
-fn limit<'a>(alloc: Global) -> Arg<'a> {
-    Arg::new(alloc, "limit")
-        .long("limit")
-        .value_name("L")
-        .help("How many transits a call may pass: 0 to 62")
-        .action(ArgAction::Set)
-        .value_parser(value_parser!(u8).range(0..=62))
+fn limit<'a>(alloc: Global) -> Arg<'a>
+    ensures rule { rule_of result ≡ grammar.limit }
+    ensures local { result.global ≡ false }
+{
+    option(
+        alloc,
+        "limit",
+        "L",
+        "How many transits a call may pass: 0 to 62",
+    )
+    .value_parser(value_parser!(u8).range(0..=62))
 }
 
-fn spare<'a>(alloc: Global) -> Arg<'a> {
-    Arg::new(alloc, "spare")
-        .long("spare")
-        .value_name("K")
-        .help("How many groups of a list may be down or full before a call is lost: 0 to 15")
-        .action(ArgAction::Set)
-        .value_parser(value_parser!(u8).range(0..=15))
+fn spare<'a>(alloc: Global) -> Arg<'a>
+    ensures rule { rule_of result ≡ grammar.spare }
+    ensures local { result.global ≡ false }
+{
+    option(
+        alloc,
+        "spare",
+        "K",
+        "How many groups of a list may be down or full before a call is lost: 0 to 15",
+    )
+    .value_parser(value_parser!(u8).range(0..=15))
 }
 
-fn run_grammar<'a>(alloc: Global) -> Result<clap::Command<'a>, AllocError> {
+fn run_grammar<'a>(alloc: Global) -> Result<clap::Command<'a>, AllocError>
+    ensures { IfOk result (λ c. app_of c ≡ grammar.run_words) }
+{
     clap::Command::new(alloc, "run")
         .about(
             "Run a script of events over a plan, and print each reply and the ticket of each call that ended",
         )
         .arg(plan_file(alloc))?
-        .arg(script_file(alloc))?
-        .arg(cert_option(
+        .arg(file(
             alloc,
+            "script",
+            "SCRIPT",
+            "The events to run, one a line, as KEY 41 10001 5170001",
+        ))?
+        .arg(option(
+            alloc,
+            "cert",
+            "CERT",
             "Run only if this certificate shows that the plan is safe, else print the verdict; goes with --limit and --spare",
         ))?
         .arg(limit(alloc))?
         .arg(spare(alloc))
 }
 
-fn check_grammar<'a>(alloc: Global) -> Result<clap::Command<'a>, AllocError> {
+fn check_grammar<'a>(alloc: Global) -> Result<clap::Command<'a>, AllocError>
+    ensures { IfOk result (λ c. app_of c ≡ grammar.check_words) }
+{
     clap::Command::new(alloc, "check")
         .about(
             "Say whether a certificate shows that a plan is safe: YES, or NO with the first reason",
         )
         .arg(plan_file(alloc))?
-        .arg(cert_file(alloc))?
+        .arg(file(
+            alloc,
+            "cert",
+            "CERT",
+            "The certificate: a rank for each exchange and code where calls may stand",
+        ))?
         .arg(limit(alloc).required(true))?
         .arg(spare(alloc).required(true))
 }
 
-fn codes_grammar<'a>(alloc: Global) -> Result<clap::Command<'a>, AllocError> {
+fn codes_grammar<'a>(alloc: Global) -> Result<clap::Command<'a>, AllocError>
+    ensures { IfOk result (λ c. app_of c ≡ grammar.codes_words) }
+{
     clap::Command::new(alloc, "codes")
         .about(
             "List the destination codes of a plan, and the least pair of a code and a longer one that begins with it",
@@ -86,7 +120,9 @@ fn codes_grammar<'a>(alloc: Global) -> Result<clap::Command<'a>, AllocError> {
         .arg(plan_file(alloc))
 }
 
-fn audit_grammar<'a>(alloc: Global) -> Result<clap::Command<'a>, AllocError> {
+fn audit_grammar<'a>(alloc: Global) -> Result<clap::Command<'a>, AllocError>
+    ensures { IfOk result (λ c. app_of c ≡ grammar.audit_words) }
+{
     clap::Command::new(alloc, "audit")
         .about(
             "Say whether a plan is safe: YES, or NO with all that is wrong with it and walks that show it",
@@ -94,11 +130,18 @@ fn audit_grammar<'a>(alloc: Global) -> Result<clap::Command<'a>, AllocError> {
         .arg(plan_file(alloc))?
         .arg(limit(alloc).required(true))?
         .arg(spare(alloc).required(true))?
-        .arg(cert_option(alloc, "After YES, write the certificate to this file"))
+        .arg(option(
+            alloc,
+            "cert",
+            "CERT",
+            "After YES, write the certificate to this file",
+        ))
 }
 
 /// The words that the program takes.
-pub(crate) fn grammar<'a>(alloc: Global) -> Result<clap::Command<'a>, AllocError> {
+pub(crate) fn grammar<'a>(alloc: Global) -> Result<clap::Command<'a>, AllocError>
+    ensures { IfOk result (λ c. app_of c ≡ grammar.program_words) }
+{
     clap::Command::new(alloc, "telexplan")
         .about(
             "Audit the route plan of an automatic telex network, and simulate calls over it. Without words, a plan and a script are read from standard input.",

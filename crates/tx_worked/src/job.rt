@@ -8,7 +8,6 @@ use tx_cert::write_cert;
 use tx_jobs::{
     JobFault, audit_job, check_status, codes_job, pipe_job, run_checked_status, run_job,
 };
-use tx_pipe::TwoTexts;
 use tx_text::{MemorySink, MemorySource, NoMemory, Sink, Source};
 
 /// Room enough for what any job of the cases writes.
@@ -104,7 +103,7 @@ fn do_job<A: Allocator + Copy, W: Sink>(
     let mut first = ends.source(End::First, task.first);
     let mut second = ends.source(End::Second, task.second);
     match task.job {
-        Job::Pipe => pipe_job(alloc, &mut TwoTexts::new(first), out).map(|_| 0),
+        Job::Pipe => pipe_job(alloc, first, out).map(|_| 0),
         Job::Run => run_job(alloc, &mut first, &mut second, out).map(|_| 0),
         Job::Codes => {
             codes_job(alloc, &mut first, out).map(|pair| if pair.is_some() { 1 } else { 0 })

@@ -109,6 +109,7 @@ fn a_reader_that_failed_stays_so(rt: HostRuntime) {
         assert_eq!(rt; source.read(&mut buf), wanted);
     }
     assert_eq!(rt; buf[0], b'A');
+    assert_eq!(rt; source.calls(), 4);
 }
 
 #[test]

@@ -1,5 +1,5 @@
+use Rattle.tx_plantext.proofs.PlanWriting.{texts_stopped}
 use Rattle.tx_audit.specs.Report.{finding_line}
-use Rattle.tx_audit.proofs.Reporting.{texts_stopped}
 use Rattle.tx_audit.proofs.report.write_findings.Goals as goal
 
 pub returns-in_err-write_finding : goal.returns-in_err-write_finding

@@ -1,8 +1,7 @@
 use Rattle.std.proofs.Common.{codes, Err, refl}
 use Rattle.std.specs.List.{flat_map}
-use Rattle.tx_plantext.proofs.PlanWriting.{wrote_then, wrote_first}
+use Rattle.tx_plantext.proofs.PlanWriting.{wrote_then, wrote_first, texts_stopped, texts_done}
 use Rattle.tx_audit.specs.Report.{step_text}
-use Rattle.tx_audit.proofs.Reporting.{texts_stopped, texts_done}
 use Rattle.tx_audit.proofs.report.write_steps.Goals as goal
 
 pub returns-in_err-write_step : goal.returns-in_err-write_step

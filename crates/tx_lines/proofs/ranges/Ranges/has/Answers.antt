@@ -27,6 +27,6 @@ returns g c =
     let point = IsPartitionPoint-from_clause t xs after c.partition_point-after.ensures.partitioned (partitioned xs ordered c.args.code c.args.number.now) (λ a r q k. search rules) in
     let low : after - 1 < length xs = (let b = c.partition_point-after.ensures.bound in omega arith) in
     let range = c.index-range.result.now in
-    c.has.ensures
+    c.reaches.ensures
     ∙ last_start xs ordered c.args.code c.args.number.now after point (after - 1) (omega arith) range (ap (λ l. slice_get l (after - 1)) c.deref.ensures.value ∙ slice_get_read c.self.inside.ranges.items (length c.self.inside.ranges.items) (after - 1) range (λ i. length c.self.inside.ranges.items) (let e = ap length c.deref.ensures.value in omega arith) c.index-range.ensures)
     ∙ ap (list_any (λ (r : LineRange). (r.code == c.args.code) && in_range c.args.number.now r)) (c.deref.ensures.value ∙ c.self.view_is)

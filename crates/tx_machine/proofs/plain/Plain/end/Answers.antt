@@ -4,7 +4,7 @@ use Rattle.tx_plan.specs.Orders.{circuit_cmp}
 use Rattle.tx_state.specs.Ending.{end_calls}
 use Rattle.tx_state.specs.State.{Net}
 use Rattle.tx_marks.specs.Marks.{Circuits, HasMark}
-use Rattle.tx_lists.specs.Seen.{call_seen}
+use Rattle.tx_network.specs.Seen.{call_seen}
 use Rattle.tx_lists.specs.GivenUp.{ends_by}
 use Rattle.tx_machine.proofs.Whole.{whole_ended, given_same}
 use Rattle.tx_lists.proofs.Sweeps.{mem_mapped}

@@ -8,7 +8,7 @@ use Rattle.tx_state.specs.Members.{Mem}
 use Rattle.tx_state.proofs.Lists.{find_mem, mem_right}
 use Rattle.tx_marks.specs.Marks.{HasMark}
 use Rattle.tx_machine.proofs.Routed.{met}
-use Rattle.tx_lists.specs.Seen.{call_seen}
+use Rattle.tx_network.specs.Seen.{call_seen}
 use Rattle.tx_machine.specs.Decided.{meeting_done}
 use Rattle.tx_machine.proofs.plain.Plain.meeting_of.Goals as goal
 

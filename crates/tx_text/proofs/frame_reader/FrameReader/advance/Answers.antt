@@ -1,4 +1,4 @@
-use Rattle.std.proofs.Common.{Ok, ap, inl, inr, arith}
+use Rattle.std.proofs.Common.{Ok, refl, ap, ◌∙◌, inl, inr, arith}
 use Rattle.tx_text.specs.TextLine.{line_of}
 use Rattle.tx_text.specs.Told.{reading_place}
 use Rattle.tx_text.specs.Frame.{header_of}
@@ -9,12 +9,12 @@ use Rattle.tx_text.specs.Frame.{is_read}
 use Rattle.tx_text.specs.declared.frame.FrameFault.TheVariants.{Line as of_line}
 use Rattle.tx_text.proofs.Framing.{on_none}
 use Rattle.tx_text.proofs.CallCounts.{went_none, went_on, calls_on, broken_on, stopped_with}
-use Rattle.tx_text.proofs.Sizes.{some_at}
+use Rattle.tx_text.proofs.Sizes.{on_ok, some_at}
 use Rattle.tx_text.proofs.Frames.{frame_err, frame_end, frame_last, frame_line, frame_plain}
 use Rattle.tx_text.proofs.frame_reader.FrameReader.advance.Goals as goal
 
 pub lines-init : goal.lines-init
-lines-init g c = (on_none _ _, c.requires, omega arith, went_none g.R.Source.called _ _)
+lines-init g c = (on_none _ _, c.requires, omega arith, went_none g.R.Source.called _ _, refl)
 
 pub returns-in-Err-clause-gives : goal.returns-in-Err-clause-gives
 returns-in-Err-clause-gives g c =
@@ -42,14 +42,14 @@ lines-preserved-in-Blank g c =
     let v = c.lines.self in
     let n = c.advance.new.self in
     let f = c.in-Ok-true.ensures.falls c.in-Ok-true.field-0-test in
-    (frame_line (header_of v.key.now v.most) _ _ _ _ v.phase v.number (reading_place v.reader) (reading_place n) n.feed.line (line_of c.line-line.result) Blank c.lines.invariant.0 (rw c.in-Ok-true.field-0-test at c.in-Ok-true.ensures.gives) c.line-line.ensures.line c.if-not-line.false c.in-Blank.ensures, c.in-Ok-true.ensures.fault, omega (arith, f, c.lines.invariant.2), went_on g.R.Source.called _ c.lines.self.reader.left c.advance.new.self.left _ _ _ c.lines.invariant.3 (some_at _ _ _ c.line-line.ensures.line (c.in-Ok-true.ensures.went (ap Ok c.in-Ok-true.field-0-test)) c.if-not-line.false))
+    (frame_line (header_of v.key.now v.most) _ _ _ _ v.phase v.number (reading_place v.reader) (reading_place n) n.feed.line (line_of c.line-line.result) Blank c.lines.invariant.0 (rw c.in-Ok-true.field-0-test at c.in-Ok-true.ensures.gives) c.line-line.ensures.line c.if-not-line.false c.in-Blank.ensures, c.in-Ok-true.ensures.fault, omega (arith, f, c.lines.invariant.2), went_on g.R.Source.called _ c.lines.self.reader.left c.advance.new.self.left _ _ _ c.lines.invariant.3 (some_at _ _ _ c.line-line.ensures.line (c.in-Ok-true.ensures.went (ap Ok c.in-Ok-true.field-0-test)) c.if-not-line.false), c.in-Ok-true.ensures.unmarked ∙ c.lines.invariant.4)
 
 pub lines-preserved : goal.lines-preserved
 lines-preserved g c =
     let v = c.lines.self in
     let n = c.advance.new.self in
     let f = c.in-Ok-true.ensures.falls c.in-Ok-true.field-0-test in
-    (frame_line (header_of v.key.now v.most) _ _ _ _ v.phase v.number (reading_place v.reader) (reading_place n) n.feed.line (line_of c.line-line.result) End c.lines.invariant.0 (rw c.in-Ok-true.field-0-test at c.in-Ok-true.ensures.gives) c.line-line.ensures.line c.if-not-line.false c.in-End.ensures, c.in-Ok-true.ensures.fault, omega (arith, f, c.lines.invariant.2), went_on g.R.Source.called _ c.lines.self.reader.left c.advance.new.self.left _ _ _ c.lines.invariant.3 (some_at _ _ _ c.line-line.ensures.line (c.in-Ok-true.ensures.went (ap Ok c.in-Ok-true.field-0-test)) c.if-not-line.false))
+    (frame_line (header_of v.key.now v.most) _ _ _ _ v.phase v.number (reading_place v.reader) (reading_place n) n.feed.line (line_of c.line-line.result) End c.lines.invariant.0 (rw c.in-Ok-true.field-0-test at c.in-Ok-true.ensures.gives) c.line-line.ensures.line c.if-not-line.false c.in-End.ensures, c.in-Ok-true.ensures.fault, omega (arith, f, c.lines.invariant.2), went_on g.R.Source.called _ c.lines.self.reader.left c.advance.new.self.left _ _ _ c.lines.invariant.3 (some_at _ _ _ c.line-line.ensures.line (c.in-Ok-true.ensures.went (ap Ok c.in-Ok-true.field-0-test)) c.if-not-line.false), c.in-Ok-true.ensures.unmarked ∙ c.lines.invariant.4)
 
 pub returns-in-Header-clause-gives : goal.returns-in-Header-clause-gives
 returns-in-Header-clause-gives g c =
@@ -92,3 +92,9 @@ returns-in-Plain-clause-calls g c = calls_on g.R.Source.called _ c.lines.self.re
 
 pub returns-in-Bad-clause-calls : goal.returns-in-Bad-clause-calls
 returns-in-Bad-clause-calls g c = calls_on g.R.Source.called _ c.lines.self.reader.left _ _ _ c.lines.invariant.3 c.advance.ensures.calls
+
+pub returns-in-Ok-false-clause-unmarked : goal.returns-in-Ok-false-clause-unmarked
+returns-in-Ok-false-clause-unmarked g c = on_ok _ (c.in-Ok-false.ensures.unmarked ∙ c.lines.invariant.4)
+
+pub returns-then-not-line-clause-unmarked : goal.returns-then-not-line-clause-unmarked
+returns-then-not-line-clause-unmarked g c = on_ok _ (c.in-Ok-true.ensures.unmarked ∙ c.lines.invariant.4)

@@ -1,12 +1,12 @@
-use Rattle.std.proofs.Common.{◌≡◌, suc, Bool, ap, ◌∙◌, sym, Ok, inl, inr, true, false, None, arith}
+use Rattle.std.proofs.Common.{◌≡◌, suc, refl, Bool, ap, ◌∙◌, sym, Ok, inl, inr, true, false, None, arith}
 use Rattle.tx_text.specs.Told.{reading_place, reading_size, Reading, IsFeed}
-use Rattle.tx_text.proofs.Sizes.{if_ok, if_some, fed_left, fed_smaller, emptied}
+use Rattle.tx_text.proofs.Sizes.{if_ok, on_ok, if_some, fed_left, fed_smaller, emptied}
 use Rattle.tx_text.proofs.CallCounts.{went_none, went_same, went_more, calls_so_far, calls_more, gave_all}
 use Rattle.tx_text.proofs.ReadingOn.{reads_none, says_at, adv_err, adv_line, on_empty, adv_cut, adv_end, after_fill, after_empty_fill}
 use Rattle.tx_text.proofs.reader.TextReader.advance.Goals as goal
 
 pub pieces-init : goal.pieces-init
-pieces-init g c = (reads_none _ _, c.requires, omega arith, went_none g.R.Source.called _ _)
+pieces-init g c = (reads_none _ _, c.requires, omega arith, went_none g.R.Source.called _ _, refl)
 
 pub returns-in-Err-clause-gives : goal.returns-in-Err-clause-gives
 returns-in-Err-clause-gives g c =
@@ -35,7 +35,7 @@ pieces-preserved g c =
     let r = c.pieces.self in
     let n = c.feed.new.self in
     let s = says_at r n (Ok false) c.feed.ensures.known c.pieces.invariant.1 (ap Ok (sym c.in-Ok-false.field-0-test) ∙ c.in-Ok-false.ensures.gives) c.feed.ensures.leaves in
-    (after_fill _ _ _ _ n.feed c.fill.new.self (on_empty _ _ _ (reading_place r) n.feed n.piece c.pieces.invariant.0 s) c.fill.ensures.feed c.fill.ensures.bytes, rw c.fill.ensures.feed s.0, omega (arith, c.fill.ensures.left, c.fill.ensures.short, emptied r n c.feed.ensures.leaves s.1, c.pieces.invariant.2), went_more g.R.Source.called _ _ _ _ _ (went_same g.R.Source.called _ _ (suc c.fill.new.self.left) _ _ (omega (arith, c.fill.ensures.left, fed_left r n c.feed.ensures.leaves)) c.pieces.invariant.3) (c.in-Ok-true-fill.ensures.gave (ap Ok c.in-Ok-true-fill.field-0-test)))
+    (after_fill _ _ _ _ n.feed c.fill.new.self (on_empty _ _ _ (reading_place r) n.feed n.piece c.pieces.invariant.0 s) c.fill.ensures.feed c.fill.ensures.bytes, rw c.fill.ensures.feed s.0, omega (arith, c.fill.ensures.left, c.fill.ensures.short, emptied r n c.feed.ensures.leaves s.1, c.pieces.invariant.2), went_more g.R.Source.called _ _ _ _ _ (went_same g.R.Source.called _ _ (suc c.fill.new.self.left) _ _ (omega (arith, c.fill.ensures.left, fed_left r n c.feed.ensures.leaves)) c.pieces.invariant.3) (c.in-Ok-true-fill.ensures.gave (ap Ok c.in-Ok-true-fill.field-0-test)), c.in-Ok-true-fill.ensures.unmarked ∙ c.pieces.invariant.4)
 
 pub returns-in-Err-fill-clause-gives : goal.returns-in-Err-fill-clause-gives
 returns-in-Err-fill-clause-gives g c =
@@ -95,3 +95,6 @@ pub returns-in-Ok-false-fill-clause-calls : goal.returns-in-Ok-false-fill-clause
 returns-in-Ok-false-fill-clause-calls g c =
     let w = went_same g.R.Source.called _ _ (suc c.fill.new.self.left) _ _ (omega (arith, c.fill.ensures.left, fed_left c.pieces.self c.feed.new.self c.feed.ensures.leaves)) c.pieces.invariant.3 in
     calls_more g.R.Source.called _ _ _ _ _ w c.fill.ensures.call
+
+pub returns-in-Ok-false-fill-clause-unmarked : goal.returns-in-Ok-false-fill-clause-unmarked
+returns-in-Ok-false-fill-clause-unmarked g c = on_ok c.finish.result (c.in-Ok-false-fill.ensures.unmarked ∙ c.pieces.invariant.4)

@@ -1,0 +1,12 @@
+pub mod Filters
+pub mod Given
+pub mod InTurn
+pub mod After
+pub mod Back
+pub mod HeadOn
+pub mod Losing
+pub mod Users
+pub mod Accepted
+pub mod Open
+pub mod Parts
+pub mod Going

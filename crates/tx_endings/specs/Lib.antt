@@ -1,0 +1,4 @@
+pub mod InTurn
+pub mod GivenBack
+pub mod Users
+pub mod Seen

@@ -1,0 +1,79 @@
+-- The decision of a Route, by the states of lines and circuits, makes the machine's step.
+use Rattle.std.proofs.Common.{◌≡◌, ℕ, ◌==◌, Bool, true, false, not, ◌&&◌, List, [], Option, Some, None, refl, sym, ap, ◌∙◌}
+use Rattle.std.specs.Prelude.{if◌then◌else◌, find, unwrap_or, Result, Ok, Err, IfOk}
+use Rattle.std.specs.FinSet as set
+use Rattle.tx_plan.specs.Plan.{Plan, home_of, figures_of}
+use Rattle.tx_plan.specs.Codes.{code_of, after}
+use Rattle.tx_plan.specs.Lines.{is_line_at}
+use Rattle.tx_plan.specs.Routes.{route_list, is_barred}
+use Rattle.tx_plan.specs.declared.circuit.Circuit.{Circuit}
+use Rattle.tx_plan.specs.declared.line.Line.{Line}
+use Rattle.tx_state.specs.declared.service.Service.TheVariants.{Occ, Np, Der, Abs, Na}
+use Rattle.tx_state.specs.declared.event.Event.TheVariants.{Route}
+use Rattle.tx_state.specs.Call.{Call, place_of, is_first, call_of}
+use Rattle.tx_state.specs.State.{State}
+use Rattle.tx_state.specs.Ended.{Ended}
+use Rattle.tx_state.specs.InUse.{first_in, first_free, is_free_at, is_down, choice}
+use Rattle.tx_state.specs.Lines.{line_answer}
+use Rattle.tx_state.specs.Routing.{at_line, at_trunk, line_of, routed, routed_for}
+use Rattle.tx_state.specs.Ending.{answered}
+use Rattle.tx_state.specs.Step.{with_call, accepted}
+use Rattle.tx_lines.specs.Book.{Book, answer_of, is_line_of}
+use Rattle.tx_lines.specs.declared.answer.LineAnswer.TheVariants.{NoLine, OutOfOrder, Away, Engaged, Free}
+use Rattle.tx_circuits.specs.Table.{Table, is_free_at as table_frees, first_free as table_first}
+use Rattle.tx_circuits.proofs.Unnamed.{circuits_at-same}
+use Rattle.tx_engine.specs.Decided.{by_line, by_trunk, decided, decided_for, carry_out}
+use Rattle.tx_engine.specs.declared.decision.Decision.{Decision}
+use Rattle.tx_engine.specs.declared.decision.Decision.TheVariants.{Answer}
+use Rattle.tx_endings.specs.Seen.{state_seen, AreTogether}
+
+pub if_ok : {T E : Type 0} (r : Result T E) {P Q : T → Type 0} → ((x : T) → P x → Q x) → IfOk r P → IfOk r Q
+if_ok (Ok x) f h = f x h
+if_ok (Err e) f h = tt
+
+module _ (p : Plan) (cs : List Call) (b : Book) (t : Table) (numbers events : ℕ) (tickets : List Ended)
+    (lines : (code : ℕ) (number : List ℕ) → is_line_of b.ranges code number ≡ is_line_at p code number) (together : AreTogether p cs t b numbers) where
+  abbrev here : State
+  here = state_seen cs t b numbers events tickets
+
+  free_is : (place : ℕ) (x : Circuit) → table_frees t place x ≡ is_free_at p here place x
+  free_is place x = λ i. not (together.used.carried x i) && (not (set.contains t.releasing x) && (not (set.contains t.out x) && not (together.used.seized x place i)))
+
+  pub first_is : (place g : ℕ) → table_first t place g ≡ first_free p here place g
+  first_is place g = λ i. if is_down here g then None else find (λ x. free_is place x i) (circuits_at-same p t together.used.groups g place i)
+
+  pub choice_is : (place code : ℕ) → first_in (table_first t place) (route_list p place code) ≡ choice p here place code
+  choice_is place code = λ i. first_in (λ g. first_is place g i) (route_list p place code)
+
+  -- what the line says, and what is done
+  line_case : (c : Call) (l : Line) → at_line p here c l (line_answer p here l) ≡ carry_out p here c (by_line (answer_of b l.code l.national))
+  line_case c l =
+      (λ i. at_line p here c l (if not (sym (lines l.code l.national) i) then Some Np else if set.contains b.faulty l then Some Der else if set.contains b.away l then Some Abs else if sym (together.engaged l) i then Some Occ else None))
+      ∙ known (is_line_of b.ranges l.code l.national) (set.contains b.faulty l) (set.contains b.away l) (set.contains b.engaged l)
+    where
+      known : (k f a e : Bool) → at_line p here c l (if not k then Some Np else if f then Some Der else if a then Some Abs else if e then Some Occ else None)
+          ≡ carry_out p here c (by_line (if k then (if f then OutOfOrder else if a then Away else if e then Engaged else Free l) else NoLine))
+      known false f a e = refl
+      known true true a e = refl
+      known true false true e = refl
+      known true false false true = refl
+      known true false false false = refl
+
+  trunk_case : (c : Call) (place : ℕ) (o : Option Circuit) → at_trunk p here c o ≡ carry_out p here c (by_trunk place o)
+  trunk_case c place None = refl
+  trunk_case c place (Some x) = refl
+
+  routed_is : (c : Call) (o : Option ℕ) → routed_for p here c o ≡ carry_out p here c (decided_for p b t c o)
+  routed_is c None = refl
+  routed_is c (Some code) =
+      by (is_first c.hops && is_barred p (place_of p c) code) (home_of p code == place_of p c)
+    where
+      by : (z h : Bool) → (if z then answered p c.number Na here else if h then at_line p here c (line_of p code c.keyed) (line_answer p here (line_of p code c.keyed)) else at_trunk p here c (choice p here (place_of p c) code))
+          ≡ carry_out p here c (if z then Answer Na else if h then by_line (answer_of b code (unwrap_or (after (figures_of p code) c.keyed) [])) else by_trunk (place_of p c) (first_in (table_first t (place_of p c)) (route_list p (place_of p c) code)))
+      by true h = refl
+      by false true = line_case c (line_of p code c.keyed)
+      by false false = ap (at_trunk p here c) (sym (choice_is (place_of p c) code)) ∙ trunk_case c (place_of p c) (first_in (table_first t (place_of p c)) (route_list p (place_of p c) code))
+
+  -- a Route does what was decided
+  pub route_is : (n : ℕ) (c : Call) (d : Decision) → call_of n cs ≡ Some c → d ≡ decided p b t c → accepted p here (Route n) ≡ carry_out p here c d
+  route_is n c d at is = ap (λ o. with_call o here (λ c. routed p here c)) at ∙ routed_is c (code_of p c.keyed) ∙ ap (carry_out p here c) (sym is)

@@ -1,0 +1,11 @@
+pub mod Keyed
+pub mod Changing
+pub mod Refused
+pub mod Routes
+pub mod Deciding
+pub mod Routing
+pub mod Leading
+pub mod Ended
+pub mod Confirming
+pub mod HeadOn
+pub mod Lost

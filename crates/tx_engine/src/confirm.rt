@@ -1,0 +1,57 @@
+// Confirming a circuit.
+ghost use Rattle.std.specs.Prelude.{◌≡◌, ◌<◌, ◌-◌, ◌^◌, true, false};
+ghost use Rattle.std.specs.FinSet as set;
+ghost use Rattle.tx_state.specs.declared.event.Event.TheVariants.{Confirm};
+ghost use Rattle.tx_state.specs.declared.phase.Phase.TheVariants.{Calling};
+ghost use Rattle.tx_state.specs.Confirming.{far_of};
+ghost use Rattle.tx_state.specs.Step.{step, accepted, counted};
+ghost use Rattle.tx_calls.specs.Calls.{Kept};
+ghost use Rattle.tx_engine.specs.Sound.{IsSound, IsUnder, state_of};
+
+use crate::parts::Parts;
+use std::alloc::Allocator;
+use tx_network::far_of;
+use tx_plan::{Circuit, ExchangeId};
+use tx_state::{Hop, Reply};
+
+impl<'p, A: Allocator + Copy> Parts<'p, A> {
+    /// A call is confirmed.
+    pub(crate) fn confirm(&mut self, number: u32) -> Reply
+        requires { IsSound self.old }
+        ensures sound { IsSound self.new }
+        ensures plan { self.new.plan.now ≡ self.old.plan.now }
+        ensures step { step self.old.plan.now (state_of self.old) (Confirm number) ≡ (result, state_of self.new) }
+    {
+        let (key, circuit) = match self.calling(number) {
+            Ok(found) => found,
+            Err(refusal) => return Reply::Refused(refusal),
+        };
+        let far = far_of(self.plan, self.calls.at(key), &circuit);
+        if self.circuits.is_seized(&circuit, far) {
+            self.meet(number, key, &circuit, far)
+        } else {
+            self.go_on(number, key, &circuit, far)
+        }
+    }
+
+    /// The call under the key goes on over its circuit, which no other call has seized.
+    fn go_on(&mut self, number: u32, key: usize, circuit: &Circuit, far: ExchangeId) -> Reply
+        requires sound { IsSound self.old }
+        requires events { self.old.events < 2 ^ 64 - 1 }
+        requires calls { (k : Kept) × IsUnder self.old.calls number key k × (k.call.phase ≡ Calling circuit.now) × (far ≡ far_of self.old.plan.now k.call circuit.now) }
+        requires alone { set.contains self.old.circuits.seized (circuit.now, far) ≡ false }
+        ensures sound { IsSound self.new }
+        ensures plan { self.new.plan.now ≡ self.old.plan.now }
+        ensures step { counted (accepted self.old.plan.now (state_of self.old) (Confirm number)) ≡ (result, state_of self.new) }
+    {
+        self.circuits.hold(circuit);
+        self.keys.set_both(circuit, key);
+        let hop = Hop {
+            circuit: *circuit,
+            far,
+        };
+        self.calls.go_on(key, hop);
+        self.events += 1;
+        Reply::At(far)
+    }
+}

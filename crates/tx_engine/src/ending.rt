@@ -1,0 +1,149 @@
+// Calls that end.
+ghost use Rattle.std.specs.Prelude.{◌≡◌, ◌≢◌, ℕ, ◌<◌, ◌-◌, ◌^◌, is_some, Some, true, false};
+ghost use Rattle.std.specs.FinSet as set;
+ghost use Rattle.tx_state.specs.declared.event.Event.TheVariants.{Clear};
+ghost use Rattle.tx_state.specs.Ending.{end_call, ticket_of};
+ghost use Rattle.tx_state.specs.Step.{step};
+ghost use Rattle.tx_calls.specs.Calls.{Kept, kept_at};
+ghost use Rattle.tx_network.specs.Seen.{call_seen};
+ghost use Rattle.tx_endings.specs.GivenBack.{withdrawn, released_all, released_unless, given_back, thrown_off, freed, CanRelease, CanReleaseAll, CanGiveBack, CanThrowOff};
+ghost use Rattle.tx_engine.specs.Sound.{IsSound, state_of};
+
+use crate::parts::Parts;
+use std::alloc::Allocator;
+use tx_circuits::CircuitTable;
+use tx_lines::LineBook;
+use tx_network::{OpenCall, far_of, place_of};
+use tx_plan::{Circuit, ExchangeId, Plan};
+use tx_state::{Cause, Hop, Party, Path, Phase, Reply, Ticket};
+
+impl<'p, A: Allocator + Copy> Parts<'p, A> {
+    /// A call is cleared.
+    pub(crate) fn clear(&mut self, number: u32, party: Party) -> Reply
+        requires { IsSound self.old }
+        ensures sound { IsSound self.new }
+        ensures plan { self.new.plan.now ≡ self.old.plan.now }
+        ensures step { step self.old.plan.now (state_of self.old) (Clear number party) ≡ (result, state_of self.new) }
+    {
+        let key = match self.clearable(number, party) {
+            Ok(key) => key,
+            Err(refusal) => return Reply::Refused(refusal),
+        };
+        let cause = match party {
+            Party::Caller => Cause::ClearedByCaller,
+            Party::Called => Cause::ClearedByCalled,
+        };
+        self.end_call(key, cause);
+        self.events += 1;
+        Reply::Cleared
+    }
+
+    /// The call under the key ends: its lines are free, its circuits are given back, and its ticket is written.
+    pub(crate) fn end_call(&mut self, key: usize, cause: Cause)
+        requires sound { IsSound self.old }
+        requires there { is_some (kept_at self.old.calls key) ≡ true }
+        requires events { self.old.events < 2 ^ 64 - 1 }
+        ensures sound { IsSound self.new }
+        ensures plan { self.new.plan.now ≡ self.old.plan.now }
+        ensures events { self.new.events ≡ self.old.events }
+        ensures others { (other : ℕ) → other ≢ key → kept_at self.new.calls other ≡ kept_at self.old.calls other }
+        ensures state { (k : Kept) → kept_at self.old.calls key ≡ Some k → state_of self.new ≡ end_call self.old.plan.now cause k.call.number (state_of self.old) }
+    {
+        let call = self.calls.take_out(key);
+        free_lines(&mut self.lines, &call);
+        give_back(&mut self.circuits, self.plan, &call);
+        let ticket = ticket_of(self.plan, call, cause, self.events + 1);
+        self.tickets.push_back_reserved(ticket);
+    }
+}
+
+/// The ticket of a call that ends by this event.
+fn ticket_of<A: Allocator>(plan: &Plan<A>, call: OpenCall<A>, cause: Cause, event: u64) -> Ticket<A>
+    ensures { result ≡ ticket_of plan.now cause event (call_seen call) }
+{
+    Ticket {
+        number: call.number,
+        line: call.line,
+        start: plan.home(call.line.code),
+        keyed: call.keyed,
+        cause,
+        keyed_at: call.keyed_at,
+        ended_at: event,
+        path: Path::of(call.hops),
+    }
+}
+
+/// The lines of a call are free.
+fn free_lines<A: Allocator>(lines: &mut LineBook<A>, call: &OpenCall<A>)
+    ensures { lines.new ≡ record lines.old { engaged = freed (call_seen call.now) lines.old.engaged; room = lines.new.room } }
+{
+    lines.free(&call.line);
+    match &call.phase {
+        Phase::Connected(line) => lines.free(line),
+        Phase::Standing => {}
+        Phase::Calling(_) => {}
+    }
+}
+
+/// A call gives all its circuits back: those of its hops are releasing, and so is the one that it has seized, unless its far end has seized it too.
+fn give_back<A: Allocator>(circuits: &mut CircuitTable<A>, plan: &Plan<A>, call: &OpenCall<A>)
+    requires { CanGiveBack plan.now (call_seen call.now) circuits.old }
+    ensures { circuits.new ≡ given_back plan.now (call_seen call.now) circuits.old }
+{
+    release_hops(circuits, &call.hops);
+    match &call.phase {
+        Phase::Calling(circuit) => {
+            let place = place_of(plan, call);
+            let far = far_of(plan, call, circuit);
+            give_up(circuits, circuit, place, far);
+        }
+        Phase::Standing => {}
+        Phase::Connected(_) => {}
+    }
+}
+
+/// The circuits of these hops are releasing.
+fn release_hops<A: Allocator>(circuits: &mut CircuitTable<A>, hops: &[Hop])
+    requires { CanReleaseAll circuits.old hops.now }
+    ensures { circuits.new ≡ released_all circuits.old hops.now }
+{
+    for hop in hops {
+        circuits.release(&hop.circuit);
+    }
+}
+
+/// An exchange gives its seizure up; the circuit is releasing unless the far end has seized it too.
+fn give_up<A: Allocator>(
+    circuits: &mut CircuitTable<A>,
+    circuit: &Circuit,
+    place: ExchangeId,
+    far: ExchangeId,
+)
+    requires seized { set.contains circuits.old.seized (circuit.now, place) ≡ true }
+    requires may { set.contains (withdrawn circuits.old circuit.now place).seized (circuit.now, far) ≡ false → CanRelease (withdrawn circuits.old circuit.now place) circuit.now }
+    ensures { circuits.new ≡ released_unless far circuit.now (withdrawn circuits.old circuit.now place) }
+{
+    circuits.withdraw(circuit, place);
+    if circuits.is_seized(circuit, far) {
+        return;
+    }
+    circuits.release(circuit);
+}
+
+/// Two calls lose the circuit on which they met.
+pub(crate) fn throw_off<A: Allocator>(
+    circuits: &mut CircuitTable<A>,
+    plan: &Plan<A>,
+    call: &OpenCall<A>,
+    other: &OpenCall<A>,
+    circuit: &Circuit,
+)
+    requires { CanThrowOff plan.now (call_seen call.now) (call_seen other.now) circuit.now circuits.old }
+    ensures { circuits.new ≡ thrown_off plan.now (call_seen call.now) (call_seen other.now) circuit.now circuits.old }
+{
+    let near = place_of(plan, call);
+    let far = place_of(plan, other);
+    circuits.withdraw(circuit, near);
+    circuits.withdraw(circuit, far);
+    circuits.release(circuit);
+}

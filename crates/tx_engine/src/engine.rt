@@ -1,0 +1,129 @@
+// The indexed network.
+ghost use Rattle.std.specs.Prelude.{◌≡◌, IfOk, OnErr, None, length, slice_get, true};
+ghost use Rattle.tx_state.specs.Step.{step, takes_memory, accepted, counted};
+ghost use Rattle.tx_state.specs.State.{ticket_taken, opening};
+ghost use Rattle.tx_state.specs.Refusals.{refusal};
+
+use crate::parts::Parts;
+use std::alloc::{Allocator, Global};
+use std::marker::Model;
+use tx_network::refusal;
+use tx_plan::Plan;
+use tx_state::{Event, Network, Reply, Ticket};
+use tx_text::NoMemory;
+
+/// The indexed network. It answers each event in a number of steps that does not grow with the open calls.
+#[derive(Drop)]
+pub struct Engine<'p, A: Allocator = Global> {
+    pub(crate) parts: Parts<'p, A>,
+}
+
+impl<'p, A: Allocator> Model for Engine<'p, A> {
+    ghost use Rattle.tx_state.specs.State.{Net};
+
+    ghost Value = { Net };
+
+    ghost use Rattle.std.specs.FinSet as set;
+    ghost use Rattle.std.specs.Ordering.{nat_cmp};
+    ghost use Rattle.std.specs.Coded.{coded_ℕ, codes};
+    ghost use Rattle.tx_plan.specs.Orders.{coded_circuit, coded_line, circuit_cmp, line_cmp};
+
+    ghost coded = { Prim.hlevel (codes, set.code {R = nat_cmp} coded_ℕ, set.code {R = circuit_cmp} coded_circuit, set.code {R = line_cmp} coded_line) };
+
+    ghost use Rattle.tx_engine.specs.Sound.{IsSound, state_of};
+
+    ghost view = { λ n. record { plan = n.parts.plan.now; state = state_of n.parts } };
+
+    ghost invariant = { λ n. IsSound n.parts };
+}
+
+impl<'p, A: Allocator + Copy> Engine<'p, A> {
+    /// The network before its first event.
+    pub fn new(alloc: A, plan: &'p Plan<A>) -> Result<Self, NoMemory>
+        ensures { IfOk result (λ n. n ≡ record { plan = plan.now; state = opening 0 0 }) }
+    {
+        Engine::starting_at(alloc, plan, 0, 0)
+    }
+
+    /// The opening state with so many numbers given and so many events accepted.
+    pub fn starting_at(
+        alloc: A,
+        plan: &'p Plan<A>,
+        numbers: u32,
+        events: u64,
+    ) -> Result<Self, NoMemory>
+        ensures { IfOk result (λ n. n ≡ record { plan = plan.now; state = opening numbers events }) }
+    {
+        let parts = Parts::build(alloc, plan, numbers, events)?;
+        Ok(Engine { parts })
+    }
+
+    /// One event.
+    fn apply_one(&mut self, event: &Event) -> Result<Reply, NoMemory>
+        ensures plan { self.new.plan ≡ self.old.plan }
+        ensures step { IfOk result (λ reply. step self.old.plan self.old.state event.now ≡ (reply, self.new.state)) }
+        ensures err { OnErr result (self.new ≡ self.old) }
+        ensures memory { OnErr result ((takes_memory event.now ≡ true) × (refusal self.old.plan self.old.state event.now ≡ None)) }
+    {
+        match event {
+            Event::Route(number) => self.parts.route(*number),
+            Event::Confirm(number) => Ok(self.parts.confirm(*number)),
+            Event::Clear { call, party } => Ok(self.parts.clear(*call, *party)),
+            _ => match refusal(self, event) {
+                Some(refusal) => Ok(Reply::Refused(refusal)),
+                None => self.accept(event),
+            },
+        }
+    }
+
+    /// One event that no refusal meets.
+    fn accept(&mut self, event: &Event) -> Result<Reply, NoMemory>
+        requires open { refusal self.old.plan self.old.state event.now ≡ None }
+        ensures plan { self.new.plan ≡ self.old.plan }
+        ensures step { IfOk result (λ reply. step self.old.plan self.old.state event.now ≡ (reply, self.new.state)) }
+        ensures err { OnErr result (self.new ≡ self.old) }
+        ensures memory { OnErr result (takes_memory event.now ≡ true) }
+    {
+        match event {
+            Event::Key { line, keyed } => self.parts.key(*line, *keyed),
+            Event::Route(number) => self.parts.route(*number),
+            Event::Confirm(number) => Ok(self.parts.confirm(*number)),
+            Event::Clear { call, party } => Ok(self.parts.clear(*call, *party)),
+            Event::Released(circuit) => Ok(self.release(circuit)),
+            Event::Fail(group) => Ok(self.parts.fail(*group)),
+            Event::Restore(group) => Ok(self.restore(*group)),
+            Event::Block(group) => Ok(self.block(*group)),
+            Event::Unblock(group) => Ok(self.unblock(*group)),
+            Event::CircuitOut(circuit) => Ok(self.put_out(circuit)),
+            Event::CircuitIn(circuit) => Ok(self.put_in(circuit)),
+            Event::LineFault(line) => self.line_fault(line),
+            Event::LineMend(line) => Ok(self.line_mend(line)),
+            Event::LineAway(line) => self.line_away(line),
+            Event::LineBack(line) => Ok(self.line_back(line)),
+        }
+    }
+}
+
+impl<'p, A: Allocator + Copy> Network for Engine<'p, A> {
+    type A = A;
+
+    ghost plan = { λ n. n.plan };
+
+    ghost state = { λ n. n.state };
+
+    fn apply(&mut self, event: Event) -> Result<Reply, NoMemory> {
+        self.apply_one(&event)
+    }
+
+    fn next_ticket(&mut self) -> Option<Ticket<A>> {
+        self.parts.tickets.pop_front()
+    }
+
+    fn open_calls(&self) -> u64 {
+        self.parts.calls.len() as u64
+    }
+
+    fn events(&self) -> u64 {
+        self.parts.events
+    }
+}

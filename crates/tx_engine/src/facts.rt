@@ -1,0 +1,72 @@
+// What the engine knows of a call, a line, a circuit and a group.
+use crate::engine::Engine;
+use std::alloc::Allocator;
+use tx_network::Facts;
+use tx_plan::{Circuit, GroupId, Line};
+use tx_state::Phase;
+
+impl<'p, A: Allocator + Copy> Facts for Engine<'p, A> {
+    ghost plan = { λ n. n.plan };
+
+    ghost state = { λ n. n.state };
+
+    fn phase_of(&self, number: u32) -> Option<Phase> {
+        match self.parts.calls.find(number) {
+            Some(key) => Some(self.parts.calls.at(key).phase),
+            None => None,
+        }
+    }
+
+    fn has_line(&self, line: &Line) -> bool {
+        match self.parts.lines.find(line.code, line.national.bytes()) {
+            Some(_) => true,
+            None => false,
+        }
+    }
+
+    fn is_engaged(&self, line: &Line) -> bool {
+        self.parts.lines.is_engaged(line)
+    }
+
+    fn is_faulty(&self, line: &Line) -> bool {
+        self.parts.lines.is_faulty(line)
+    }
+
+    fn is_away(&self, line: &Line) -> bool {
+        self.parts.lines.is_away(line)
+    }
+
+    fn has_circuit(&self, circuit: &Circuit) -> bool {
+        self.parts.circuits.has_circuit(circuit)
+    }
+
+    fn is_releasing(&self, circuit: &Circuit) -> bool {
+        self.parts.circuits.is_releasing(circuit)
+    }
+
+    fn is_out(&self, circuit: &Circuit) -> bool {
+        self.parts.circuits.is_out(circuit)
+    }
+
+    fn has_group(&self, group: GroupId) -> bool {
+        let plan = self.parts.plan;
+        let groups = plan.groups();
+        group.index() < groups
+    }
+
+    fn is_failed(&self, group: GroupId) -> bool {
+        self.parts.circuits.is_failed(group)
+    }
+
+    fn is_blocked(&self, group: GroupId) -> bool {
+        self.parts.circuits.is_blocked(group)
+    }
+
+    fn numbers_given(&self) -> u32 {
+        self.parts.numbers
+    }
+
+    fn events_accepted(&self) -> u64 {
+        self.parts.events
+    }
+}

@@ -1,0 +1,94 @@
+// Routing a call.
+ghost use Rattle.std.specs.Prelude.{◌≡◌, ◌<◌, ◌-◌, ◌^◌, IfOk, OnErr, Some, None, is_some, true};
+ghost use Rattle.tx_state.specs.declared.event.Event.TheVariants.{Route};
+ghost use Rattle.tx_state.specs.declared.phase.Phase.TheVariants.{Standing};
+ghost use Rattle.tx_state.specs.Refusals.{refusal};
+ghost use Rattle.tx_state.specs.Step.{step, counted};
+ghost use Rattle.tx_calls.specs.Calls.{Kept, kept_at};
+ghost use Rattle.tx_engine.specs.declared.decision.Decision.TheVariants.{Connect, Seize};
+ghost use Rattle.tx_engine.specs.Decided.{decided, carry_out, IsDecided};
+ghost use Rattle.tx_engine.specs.Sound.{IsSound, state_of};
+
+use crate::decision::{Decision, decide};
+use crate::parts::Parts;
+use std::alloc::Allocator;
+use tx_plan::{Circuit, ExchangeId, Line};
+use tx_state::{Cause, Phase, Reply};
+use tx_text::NoMemory;
+
+impl<'p, A: Allocator + Copy> Parts<'p, A> {
+    /// A call is routed from where it stands.
+    pub(crate) fn route(&mut self, number: u32) -> Result<Reply, NoMemory>
+        requires { IsSound self.old }
+        ensures sound { IsSound self.new }
+        ensures plan { self.new.plan.now ≡ self.old.plan.now }
+        ensures step { IfOk result (λ reply. step self.old.plan.now (state_of self.old) (Route number) ≡ (reply, state_of self.new)) }
+        ensures err { OnErr result (state_of self.new ≡ state_of self.old) }
+        ensures open { OnErr result (refusal self.old.plan.now (state_of self.old) (Route number) ≡ None) }
+    {
+        let key = match self.standing(number) {
+            Ok(key) => key,
+            Err(refusal) => return Ok(Reply::Refused(refusal)),
+        };
+        match self.decision(key) {
+            Decision::Connect(line) => self.connect(key, &line),
+            Decision::Seize(circuit, here) => self.seize(key, &circuit, here),
+            Decision::Answer(service) => {
+                self.end_call(key, Cause::Service(service));
+                self.events += 1;
+                Ok(Reply::Answered(service))
+            }
+        }
+    }
+
+    /// What becomes of the call under the key.
+    fn decision(&self, key: usize) -> Decision
+        requires sound { IsSound self.now }
+        requires there { is_some (kept_at self.now.calls key) ≡ true }
+        ensures { (k : Kept) → kept_at self.now.calls key ≡ Some k → result ≡ decided self.now.plan.now self.now.lines self.now.circuits k.call }
+    {
+        decide(
+            self.plan,
+            &self.codes,
+            &self.lines,
+            &self.circuits,
+            self.calls.at(key),
+        )
+    }
+
+    /// The call under the key is connected to the line.
+    fn connect(&mut self, key: usize, line: &Line) -> Result<Reply, NoMemory>
+        requires sound { IsSound self.old }
+        requires decided { (k : Kept) × IsDecided self.old key k (Connect line.now) }
+        requires events { self.old.events < 2 ^ 64 - 1 }
+        ensures sound { IsSound self.new }
+        ensures plan { self.new.plan.now ≡ self.old.plan.now }
+        ensures ok { IfOk result (λ reply. (k : Kept) → kept_at self.old.calls key ≡ Some k → counted (carry_out self.old.plan.now (state_of self.old) k.call (Connect line.now)) ≡ (reply, state_of self.new)) }
+        ensures err { OnErr result (state_of self.new ≡ state_of self.old) }
+    {
+        self.lines.reserve_one()?;
+        self.lines.engage(line);
+        self.calls.set_phase(key, Phase::Connected(*line));
+        self.events += 1;
+        Ok(Reply::Connected(*line))
+    }
+
+    /// The call under the key seizes the circuit from the exchange where it stands.
+    fn seize(&mut self, key: usize, circuit: &Circuit, here: ExchangeId) -> Result<Reply, NoMemory>
+        requires sound { IsSound self.old }
+        requires decided { (k : Kept) × IsDecided self.old key k (Seize circuit.now here) }
+        requires events { self.old.events < 2 ^ 64 - 1 }
+        ensures sound { IsSound self.new }
+        ensures plan { self.new.plan.now ≡ self.old.plan.now }
+        ensures ok { IfOk result (λ reply. (k : Kept) → kept_at self.old.calls key ≡ Some k → counted (carry_out self.old.plan.now (state_of self.old) k.call (Seize circuit.now here)) ≡ (reply, state_of self.new)) }
+        ensures err { OnErr result (state_of self.new ≡ state_of self.old) }
+    {
+        self.calls.reserve_hop(key)?;
+        let (first, _) = self.plan.ends(circuit.group);
+        self.circuits.seize(circuit, here);
+        self.keys.set(circuit, first == here, key);
+        self.calls.set_phase(key, Phase::Calling(*circuit));
+        self.events += 1;
+        Ok(Reply::Seized(*circuit))
+    }
+}

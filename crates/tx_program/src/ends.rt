@@ -1,0 +1,118 @@
+// The ends of a command. Output is buffered, and goes out before the program waits for input.
+use std::alloc::Allocator;
+use std::cell::RefCell;
+use std::io;
+use std::io::{BufWriter, Read, Write};
+use tx_jobs::JobFault;
+use tx_text::{FromRead, ToWrite};
+
+/// A writer whose failure stays. One that takes nothing has failed; an interrupted call may be tried again.
+#[derive(Drop)]
+struct Steady<W: Write + Drop> {
+    writer: W,
+    failed: bool,
+}
+
+impl<W: Write + Drop> Write for Steady<W> {
+    fn write(&mut self, bytes: &[u8]) -> io::Result<usize> {
+        if self.failed {
+            return Err(io::Error::from(io::ErrorKind::Other));
+        }
+        let written = self.writer.write(bytes);
+        self.failed = match &written {
+            Ok(n) => *n == 0,
+            Err(e) => e.kind() != io::ErrorKind::Interrupted,
+        };
+        written
+    }
+
+    fn flush(&mut self) -> io::Result<()> {
+        if self.failed {
+            return Err(io::Error::from(io::ErrorKind::Other));
+        }
+        let flushed = self.writer.flush();
+        self.failed = match &flushed {
+            Ok(()) => false,
+            Err(e) => e.kind() != io::ErrorKind::Interrupted,
+        };
+        flushed
+    }
+}
+
+/// An output, which a sink writes to and a source lets out.
+#[derive(Drop)]
+pub(crate) struct Output<W: Write + Drop, A: Allocator> {
+    writer: RefCell<BufWriter<Steady<W>, A>>,
+}
+
+impl<W: Write + Drop, A: Allocator> Output<W, A> {
+    pub(crate) fn new(alloc: A, writer: W) -> Result<Output<W, A>, JobFault> {
+        let steady = Steady {
+            writer,
+            failed: false,
+        };
+        match BufWriter::new(alloc, steady) {
+            Ok(writer) => Ok(Output {
+                writer: RefCell::new(writer),
+            }),
+            Err(_) => Err(JobFault::NoMemory),
+        }
+    }
+
+    /// Lets out what was written.
+    pub(crate) fn let_out(&self) -> Result<(), JobFault> {
+        Buffer { output: self }.flush().map_err(|_| JobFault::Write)
+    }
+
+    pub(crate) fn sink(&self) -> ToWrite<Buffer<'_, W, A>> {
+        ToWrite::new(Buffer { output: self })
+    }
+
+    /// A source over a reader, before each of whose reads the output goes out. An output that fails then is a failure of the source too: the program tells
+    /// it as the output's.
+    pub(crate) fn source<R: Read + Drop>(&self, reader: R) -> FromRead<Flushing<'_, R, W, A>> {
+        FromRead::new(Flushing {
+            reader,
+            output: self,
+        })
+    }
+}
+
+/// A writer to an output.
+#[derive(Drop)]
+pub(crate) struct Buffer<'a, W: Write + Drop, A: Allocator> {
+    output: &'a Output<W, A>,
+}
+
+impl<'a, W: Write + Drop, A: Allocator> Write for Buffer<'a, W, A> {
+    fn write(&mut self, bytes: &[u8]) -> io::Result<usize> {
+        match self.output.writer.try_borrow_mut() {
+            Ok(mut writer) => writer.write(bytes),
+            Err(_) => Err(io::Error::from(io::ErrorKind::Other)),
+        }
+    }
+
+    fn flush(&mut self) -> io::Result<()> {
+        match self.output.writer.try_borrow_mut() {
+            Ok(mut writer) => writer.flush(),
+            Err(_) => Err(io::Error::from(io::ErrorKind::Other)),
+        }
+    }
+}
+
+/// A reader before each of whose reads an output goes out.
+#[derive(Drop)]
+pub(crate) struct Flushing<'a, R: Read + Drop, W: Write + Drop, A: Allocator> {
+    reader: R,
+    output: &'a Output<W, A>,
+}
+
+impl<'a, R: Read + Drop, W: Write + Drop, A: Allocator> Read for Flushing<'a, R, W, A> {
+    fn read(&mut self, buf: &mut [u8]) -> io::Result<usize> {
+        Buffer {
+            output: self.output,
+        }
+        .flush()?;
+        self.reader.read(buf)
+    }
+}

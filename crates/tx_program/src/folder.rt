@@ -1,0 +1,31 @@
+// The files that commands name.
+use std::fs::File;
+use std::io;
+use std::io::{Read, Write};
+
+/// Where files are found by their names.
+pub trait Folder {
+    type Input: Read + Drop;
+
+    type Output: Write + Drop;
+
+    fn open(&self, name: &str) -> io::Result<Self::Input>;
+
+    /// Makes a file, and empties it if it is there.
+    fn create(&self, name: &str) -> io::Result<Self::Output>;
+}
+
+/// The files of the machine.
+impl Folder for HostRuntime {
+    type Input = File;
+
+    type Output = File;
+
+    fn open(&self, name: &str) -> io::Result<File> {
+        File::open(self, name)
+    }
+
+    fn create(&self, name: &str) -> io::Result<File> {
+        File::create(self, name)
+    }
+}

@@ -1,0 +1,15 @@
+//! The program: what it does for its words, over a folder of files and its standard ends.
+#![tactic(auto)]
+
+mod audited;
+mod ends;
+mod folder;
+mod new_file;
+mod opened;
+mod perform;
+mod program;
+mod tell;
+
+pub use folder::Folder;
+pub use program::{Ends, run_command, run_words};
+pub use tell::refuse_arguments;

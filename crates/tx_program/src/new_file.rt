@@ -1,0 +1,41 @@
+// A file to be made.
+use crate::folder::Folder;
+use std::io;
+use std::io::Write;
+
+/// A file that is made when the first bytes go to it.
+#[derive(Drop)]
+pub(crate) struct NewFile<'a, F: Folder> {
+    folder: &'a F,
+    name: &'a str,
+    file: Option<F::Output>,
+}
+
+impl<'a, F: Folder> NewFile<'a, F> {
+    pub(crate) fn new(folder: &'a F, name: &'a str) -> NewFile<'a, F> {
+        NewFile {
+            folder,
+            name,
+            file: None,
+        }
+    }
+}
+
+impl<'a, F: Folder> Write for NewFile<'a, F> {
+    fn write(&mut self, bytes: &[u8]) -> io::Result<usize> {
+        if self.file.is_none() {
+            self.file = Some(self.folder.create(self.name)?);
+        }
+        match &mut self.file {
+            Some(file) => file.write(bytes),
+            None => Ok(0),
+        }
+    }
+
+    fn flush(&mut self) -> io::Result<()> {
+        match &mut self.file {
+            Some(file) => file.flush(),
+            None => Ok(()),
+        }
+    }
+}

@@ -1,0 +1,119 @@
+// Commands whose files are open.
+ghost use Rattle.std.specs.Prelude.{◌≤◌};
+ghost use Rattle.tx_words.specs.Commands.{IsInRange};
+
+use crate::folder::Folder;
+use std::io::Read;
+use tx_jobs::JobFault;
+use tx_words::Command;
+
+/// How many transits a call may pass, and how many groups of a list are to spare.
+#[derive(Clone, Copy)]
+pub(crate) struct Bounds {
+    pub limit: u8,
+    pub spare: u8,
+    ghost limited: { limit ≤ 62 },
+    ghost spared: { spare ≤ 15 },
+}
+
+/// A command whose input files are open.
+#[derive(Drop)]
+pub(crate) enum Opened<'a, I: Read + Drop, R: Read + Drop> {
+    Pipe {
+        input: I,
+    },
+    Run {
+        plan: R,
+        script: R,
+    },
+    Checked {
+        plan: R,
+        cert: R,
+        script: R,
+        bounds: Bounds,
+    },
+    Check {
+        plan: R,
+        cert: R,
+        bounds: Bounds,
+    },
+    Codes {
+        plan: R,
+    },
+    Audit {
+        plan: R,
+        bounds: Bounds,
+        /// Where the certificate is to be kept.
+        keep: Option<&'a str>,
+    },
+}
+
+fn open<F: Folder>(folder: &F, name: &str) -> Result<F::Input, JobFault> {
+    folder.open(name).map_err(|_| JobFault::Read)
+}
+
+impl<'a, I: Read + Drop, R: Read + Drop> Opened<'a, I, R> {
+    /// Opens the files of a command, in the order plan, certificate, script.
+    pub(crate) fn new<F: Folder<Input = R>>(
+        command: &'a Command,
+        folder: &F,
+        input: I,
+    ) -> Result<Opened<'a, I, R>, JobFault>
+        requires { IsInRange command.now }
+    {
+        match command {
+            Command::Pipe => Ok(Opened::Pipe { input }),
+            Command::Run {
+                plan,
+                script,
+                checked: None,
+            } => Ok(Opened::Run {
+                plan: open(folder, plan.as_str())?,
+                script: open(folder, script.as_str())?,
+            }),
+            Command::Run {
+                plan,
+                script,
+                checked: Some((cert, limit, spare)),
+            } => Ok(Opened::Checked {
+                plan: open(folder, plan.as_str())?,
+                cert: open(folder, cert.as_str())?,
+                script: open(folder, script.as_str())?,
+                bounds: Bounds {
+                    limit: *limit,
+                    spare: *spare,
+                },
+            }),
+            Command::Check {
+                plan,
+                cert,
+                limit,
+                spare,
+            } => Ok(Opened::Check {
+                plan: open(folder, plan.as_str())?,
+                cert: open(folder, cert.as_str())?,
+                bounds: Bounds {
+                    limit: *limit,
+                    spare: *spare,
+                },
+            }),
+            Command::Codes { plan } => Ok(Opened::Codes {
+                plan: open(folder, plan.as_str())?,
+            }),
+            Command::Audit {
+                plan,
+                limit,
+                spare,
+                cert,
+                ..
+            } => Ok(Opened::Audit {
+                plan: open(folder, plan.as_str())?,
+                bounds: Bounds {
+                    limit: *limit,
+                    spare: *spare,
+                },
+                keep: cert.as_ref().map(|name| name.as_str()),
+            }),
+        }
+    }
+}

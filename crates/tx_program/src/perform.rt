@@ -1,0 +1,116 @@
+// What is done for a command.
+ghost use Rattle.tx_words.specs.Commands.{IsInRange};
+
+use crate::audited::audit_file;
+use crate::ends::Output;
+use crate::folder::Folder;
+use crate::opened::{Bounds, Opened};
+use std::alloc::Allocator;
+use std::io::{Read, Write};
+use tx_jobs::{JobFault, check_status, codes_status, pipe_job, run_checked_status, run_job};
+use tx_words::Command;
+
+/// Opens the files of a command, does its job, and lets its output out. Answers the exit status. An output that fails is told before any other fault.
+pub(crate) fn perform<A: Allocator + Copy, F: Folder, I: Read + Drop, O: Write + Drop>(
+    alloc: A,
+    command: &Command,
+    folder: &F,
+    input: I,
+    output: O,
+) -> Result<u8, JobFault>
+    requires { IsInRange command.now }
+{
+    let opened = Opened::new(command, folder, input)?;
+    let output = Output::new(alloc, output)?;
+    let done = do_job(alloc, opened, folder, &output);
+    output.let_out()?;
+    done
+}
+
+fn do_job<A: Allocator + Copy, F: Folder, I: Read + Drop, O: Write + Drop>(
+    alloc: A,
+    opened: Opened<'_, I, F::Input>,
+    folder: &F,
+    output: &Output<O, A>,
+) -> Result<u8, JobFault> {
+    match opened {
+        Opened::Pipe { input } => run_input(alloc, input, output),
+        Opened::Run { plan, script } => run_files(alloc, plan, script, output),
+        Opened::Checked {
+            plan,
+            cert,
+            script,
+            bounds,
+        } => run_checked_files(alloc, plan, cert, bounds, script, output),
+        Opened::Check { plan, cert, bounds } => check_files(alloc, plan, cert, bounds, output),
+        Opened::Codes { plan } => codes_status(alloc, &mut output.source(plan), &mut output.sink()),
+        Opened::Audit { plan, bounds, keep } => {
+            audit_file(alloc, plan, bounds, keep, folder, output)
+        }
+    }
+}
+
+/// A plan and then a script on standard input.
+fn run_input<A: Allocator + Copy, I: Read + Drop, O: Write + Drop>(
+    alloc: A,
+    input: I,
+    output: &Output<O, A>,
+) -> Result<u8, JobFault> {
+    let input = output.source(input);
+    pipe_job(alloc, input, &mut output.sink()).map(|_| 0)
+}
+
+/// `run PLAN SCRIPT`.
+fn run_files<A: Allocator + Copy, R: Read + Drop, O: Write + Drop>(
+    alloc: A,
+    plan: R,
+    script: R,
+    output: &Output<O, A>,
+) -> Result<u8, JobFault> {
+    let mut plan = output.source(plan);
+    let mut script = output.source(script);
+    run_job(alloc, &mut plan, &mut script, &mut output.sink()).map(|_| 0)
+}
+
+/// `run PLAN SCRIPT --cert CERT --limit L --spare K`.
+fn run_checked_files<A: Allocator + Copy, R: Read + Drop, O: Write + Drop>(
+    alloc: A,
+    plan: R,
+    cert: R,
+    bounds: Bounds,
+    script: R,
+    output: &Output<O, A>,
+) -> Result<u8, JobFault> {
+    let mut plan = output.source(plan);
+    let mut cert = output.source(cert);
+    let mut script = output.source(script);
+    run_checked_status(
+        alloc,
+        &mut plan,
+        &mut cert,
+        bounds.limit,
+        bounds.spare,
+        &mut script,
+        &mut output.sink(),
+    )
+}
+
+/// `check PLAN CERT --limit L --spare K`.
+fn check_files<A: Allocator + Copy, R: Read + Drop, O: Write + Drop>(
+    alloc: A,
+    plan: R,
+    cert: R,
+    bounds: Bounds,
+    output: &Output<O, A>,
+) -> Result<u8, JobFault> {
+    let mut plan = output.source(plan);
+    let mut cert = output.source(cert);
+    check_status(
+        alloc,
+        &mut plan,
+        &mut cert,
+        bounds.limit,
+        bounds.spare,
+        &mut output.sink(),
+    )
+}

@@ -1,0 +1,67 @@
+// The program, from its words to its exit status.
+ghost use Rattle.tx_words.specs.Commands.{IsInRange};
+
+use crate::folder::Folder;
+use crate::perform::perform;
+use crate::tell::tell_words;
+use std::alloc::{Allocator, Global};
+use std::io::{Read, Write};
+use tx_jobs::write_fault;
+use tx_text::ToWrite;
+use tx_words::{Command, read_command};
+
+/// The ends of the program: a folder of files, standard input, standard output and standard error.
+#[derive(Drop)]
+pub struct Ends<'a, F, I: Drop, O: Drop, E: Drop> {
+    pub folder: &'a F,
+    pub input: I,
+    pub output: O,
+    pub errors: E,
+}
+
+/// Does what the words after the program's name ask for, and answers the exit status: 0, or 1 after a No (of `codes`: where codes are ambiguous), 2 for a
+/// refused text, 3 for a failed read or write, 4 for want of memory, 64 for refused words. A fault is told by one line on standard error.
+pub fn run_words<F: Folder, I: Read + Drop, O: Write + Drop, E: Write + Drop>(
+    alloc: Global,
+    words: &[&str],
+    ends: Ends<'_, F, I, O, E>,
+) -> u8 {
+    match read_command(alloc, words) {
+        Ok(command) => run_command(alloc, &command, ends),
+        Err(fault) => {
+            let Ends {
+                folder: _,
+                input: _,
+                mut output,
+                mut errors,
+            } = ends;
+            let _ = tell_words(&fault, &mut output, &mut errors);
+            fault.status()
+        }
+    }
+}
+
+/// Does what a command asks for, and answers the exit status.
+pub fn run_command<
+    A: Allocator + Copy,
+    F: Folder,
+    I: Read + Drop,
+    O: Write + Drop,
+    E: Write + Drop,
+>(alloc: A, command: &Command, ends: Ends<'_, F, I, O, E>) -> u8
+    requires { IsInRange command.now }
+{
+    let Ends {
+        folder,
+        input,
+        output,
+        errors,
+    } = ends;
+    match perform(alloc, command, folder, input, output) {
+        Ok(status) => status,
+        Err(fault) => {
+            let _ = write_fault(&fault, &mut ToWrite::new(errors));
+            fault.status()
+        }
+    }
+}

@@ -1,0 +1,36 @@
+// What the user is told of refused words.
+use std::io;
+use std::io::Write;
+use tx_words::WordsFault;
+
+/// Prints a request's help to the output, and why words are refused to the errors.
+pub(crate) fn tell_words<O: Write, E: Write>(
+    fault: &WordsFault,
+    output: &mut O,
+    errors: &mut E,
+) -> io::Result<()> {
+    match fault {
+        WordsFault::Clap(e) => {
+            if e.use_stderr() {
+                write!(errors, "{e}")
+            } else {
+                write!(output, "{e}")
+            }
+        }
+        WordsFault::Together => {
+            errors.write_all(b"telexplan: --cert, --limit and --spare go together\n")
+        }
+        WordsFault::NoMemory => errors.write_all(b"telexplan: no memory\n"),
+    }
+}
+
+/// Tells why the arguments of the program could not be taken as words, and answers the exit status.
+pub fn refuse_arguments<E: Write>(why: &io::Error, errors: &mut E) -> u8 {
+    if why.kind() == io::ErrorKind::OutOfMemory {
+        let _ = errors.write_all(b"telexplan: no memory\n");
+        4
+    } else {
+        let _ = errors.write_all(b"telexplan: a word is no UTF-8 text\n");
+        64
+    }
+}

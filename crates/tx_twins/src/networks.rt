@@ -1,0 +1,108 @@
+// The two networks: the plain one, and the engine.
+use crate::script::{Script, play};
+use crate::stop::Stop;
+use crate::tally::Tally;
+use refusing::Refusing;
+use std::alloc::{Allocator, Global};
+use tx_engine::Engine;
+use tx_machine::Plain;
+use tx_plan::Plan;
+use tx_plantext::read_plan;
+use tx_state::Network;
+
+/// Plays a script through a network and a new engine, whose plan says the same and whose memory is another's.
+fn play_engine<M: Network, A: Allocator + Copy>(
+    alloc: Global,
+    plan: &Plan,
+    script: Script,
+    plain: &mut M,
+    (engine_alloc, engine_plan): (A, &Plan<A>),
+    tally: &mut Tally,
+) -> Result<(), Stop> {
+    let mut engine = Engine::starting_at(engine_alloc, engine_plan, script.numbers, script.events)?;
+    let played = play(alloc, plan, script, plain, &mut engine, tally);
+    drop(engine);
+    played
+}
+
+/// Plays a script through a new plain network and a new engine.
+fn play_both<A: Allocator + Copy>(
+    alloc: Global,
+    plan: &Plan,
+    script: Script,
+    engine_alloc: A,
+    engine_plan: &Plan<A>,
+    tally: &mut Tally,
+) -> Result<(), Stop> {
+    let mut plain = Plain::starting_at(alloc, plan, script.numbers, script.events)?;
+    let engine = (engine_alloc, engine_plan);
+    let played = play_engine(alloc, plan, script, &mut plain, engine, tally);
+    drop(plain);
+    played
+}
+
+/// Plays a script through both networks.
+pub fn play_script(
+    alloc: Global,
+    plan: &Plan,
+    script: Script,
+    tally: &mut Tally,
+) -> Result<(), Stop> {
+    play_both(alloc, plan, script, alloc, plan, tally)
+}
+
+/// Plays a script through both networks, of which the engine has its plan read with its own allocator.
+fn play_reading<A: Allocator + Copy>(
+    alloc: Global,
+    plan: &Plan,
+    script: Script,
+    engine_alloc: A,
+    text: &[u8],
+    tally: &mut Tally,
+) -> Result<(), Stop> {
+    match read_plan(engine_alloc, text) {
+        Ok(engine_plan) => {
+            let played = play_both(alloc, plan, script, engine_alloc, &engine_plan, tally);
+            drop(engine_plan);
+            played
+        }
+        Err(_) => Err(Stop::NoMemory),
+    }
+}
+
+/// Plays a script with one request for memory refused to the engine: false where there are fewer requests.
+fn play_refusing(
+    alloc: Global,
+    plan: &Plan,
+    script: Script,
+    request: u64,
+    text: &[u8],
+    tally: &mut Tally,
+) -> Result<bool, Stop> {
+    let refusing = Refusing::new(alloc, request);
+    let played = play_reading(alloc, plan, script, &refusing, text, tally);
+    let came = refusing.has_refused();
+    let is_wanting = matches!(&played, Err(Stop::NoMemory));
+    if came && is_wanting {
+        drop(played);
+        return Ok(true);
+    }
+    played?;
+    Ok(came)
+}
+
+/// Plays a script with each request for memory refused to the engine in turn.
+pub fn play_refusing_each(
+    alloc: Global,
+    plan: &Plan,
+    script: Script,
+    text: &[u8],
+    tally: &mut Tally,
+) -> Result<(), Stop> {
+    for request in 1..u64::MAX {
+        if !play_refusing(alloc, plan, script, request, text, tally)? {
+            break;
+        }
+    }
+    Ok(())
+}

@@ -1,0 +1,148 @@
+// Scripts that are made from a seed, and played through two networks.
+use crate::chance::Chance;
+use crate::drawing::next_event;
+use crate::picture::Picture;
+use crate::stop::Stop;
+use crate::tally::Tally;
+use crate::twins::{Difference, apply_to_both, next_ticket_of_both};
+use std::alloc::Global;
+use tx_plan::Plan;
+use tx_state::{Event, Network};
+use tx_text::NoMemory;
+
+/// The mood changes with each so many events.
+const MOOD_EVENTS: u32 = 100;
+
+/// A script that is made from a seed.
+#[derive(Clone, Copy, Debug)]
+pub struct Script {
+    pub seed: u64,
+    /// How many call numbers were given before it.
+    pub numbers: u32,
+    /// How many events were accepted before it.
+    pub events: u64,
+    /// How many events it has.
+    pub length: u32,
+    /// At most so many calls are to be open.
+    pub most: usize,
+}
+
+/// Why an event is the last one.
+#[derive(Clone, Copy)]
+enum Halt {
+    Differs(Difference),
+    NoMemory,
+}
+
+impl From<Difference> for Halt {
+    fn from(difference: Difference) -> Halt {
+        Halt::Differs(difference)
+    }
+}
+
+impl From<NoMemory> for Halt {
+    fn from(_: NoMemory) -> Halt {
+        Halt::NoMemory
+    }
+}
+
+/// Why the program stops after the event at a place of a script, from 0.
+fn stop_of(alloc: Global, halt: Halt, script: Script, place: u32, event: &Event) -> Stop {
+    let Halt::Differs(difference) = halt else {
+        return Stop::NoMemory;
+    };
+    match format!(in alloc; "event {place} of {script:?}, {event:?}: {difference:?}") {
+        Ok(text) => Stop::Differs(text),
+        Err(_) => Stop::NoMemory,
+    }
+}
+
+/// Applies an event to both networks.
+fn play_event<M: Network, N: Network>(
+    first: &mut M,
+    second: &mut N,
+    event: &Event,
+    picture: &mut Picture,
+    tally: &mut Tally,
+) -> Result<(), Halt> {
+    let answer = apply_to_both(first, second, event)?;
+    if answer.was_refused {
+        tally.wants.note(event);
+    }
+    tally.note_reply(&answer.reply);
+    picture.note(event, &answer.reply)?;
+    Ok(())
+}
+
+/// Takes all tickets of both networks.
+fn take_tickets<M: Network, N: Network>(
+    first: &mut M,
+    second: &mut N,
+    picture: &mut Picture,
+    tally: &mut Tally,
+) -> Result<(), Halt> {
+    for _ in 0..u64::MAX {
+        match next_ticket_of_both(first, second)? {
+            Some(ticket) => {
+                tally.causes.note(ticket.cause);
+                picture.note_ticket(&ticket)?;
+            }
+            None => break,
+        }
+    }
+    Ok(())
+}
+
+/// Applies an event to both networks, and takes the tickets, if it is time for that: else more of them wait.
+fn go_on<M: Network, N: Network>(
+    first: &mut M,
+    second: &mut N,
+    event: &Event,
+    takes_tickets: bool,
+    picture: &mut Picture,
+    tally: &mut Tally,
+) -> Result<(), Halt> {
+    play_event(first, second, event, picture, tally)?;
+    if takes_tickets {
+        take_tickets(first, second, picture, tally)?;
+    }
+    Ok(())
+}
+
+/// Plays the events.
+fn play_events<M: Network, N: Network>(
+    alloc: Global,
+    plan: &Plan,
+    script: Script,
+    first: &mut M,
+    second: &mut N,
+    picture: &mut Picture,
+    tally: &mut Tally,
+) -> Result<(), Stop> {
+    let mut chance = Chance::new(script.seed);
+    for place in 0..script.length {
+        let mood = script.seed.wrapping_add(u64::from(place / MOOD_EVENTS));
+        let event = next_event(plan, picture, &mut chance, mood, script.most);
+        let takes_tickets = !chance.one_in(4);
+        let played = go_on(first, second, &event, takes_tickets, picture, tally);
+        if let Err(halt) = played {
+            return Err(stop_of(alloc, halt, script, place, &event));
+        }
+    }
+    Ok(())
+}
+
+/// Plays a script through two networks.
+pub fn play<M: Network, N: Network>(
+    alloc: Global,
+    plan: &Plan,
+    script: Script,
+    first: &mut M,
+    second: &mut N,
+    tally: &mut Tally,
+) -> Result<(), Stop> {
+    let mut picture = Picture::new(alloc, script.numbers);
+    let played = play_events(alloc, plan, script, first, second, &mut picture, tally);
+    drop(picture);
+    played
+}

@@ -1,0 +1,118 @@
+// Two networks, and one event after another.
+use std::alloc::Allocator;
+use tx_state::{Event, Network, Reply, Ticket};
+use tx_text::NoMemory;
+
+/// How two networks differ after an event. That of the plain network comes first.
+#[derive(Clone, Copy, Debug)]
+pub enum Difference {
+    Reply(Reply, Reply),
+    Counts(Counts, Counts),
+    /// The oldest ticket that waits, of the call of this number; 0 where there is none.
+    Ticket(u32, u32),
+    /// Memory was refused, and then the counts were other ones than before.
+    ChangedByRefusal(Counts, Counts),
+    /// Memory was wanting again, where no request was refused any more.
+    NoMemory,
+}
+
+/// How many calls are open in a network, and how many events it accepted.
+#[derive(Clone, Copy, Debug, PartialEq, Eq)]
+pub struct Counts {
+    open_calls: u64,
+    events: u64,
+}
+
+impl Counts {
+    fn of<N: Network>(net: &N) -> Counts {
+        Counts {
+            open_calls: net.open_calls(),
+            events: net.events(),
+        }
+    }
+}
+
+/// A reply, and whether memory was refused before it came.
+#[derive(Clone, Copy)]
+pub struct Answer {
+    pub reply: Reply,
+    pub was_refused: bool,
+}
+
+/// Applies an event, and again where memory was refused, which must have changed nothing.
+fn apply<N: Network>(net: &mut N, event: &Event) -> Result<Answer, Difference> {
+    let before = Counts::of(net);
+    if let Ok(reply) = net.apply(*event) {
+        let was_refused = false;
+        return Ok(Answer { reply, was_refused });
+    }
+    let after = Counts::of(net);
+    if after != before {
+        return Err(Difference::ChangedByRefusal(before, after));
+    }
+    match net.apply(*event) {
+        Ok(reply) => {
+            let was_refused = true;
+            Ok(Answer { reply, was_refused })
+        }
+        Err(NoMemory) => Err(Difference::NoMemory),
+    }
+}
+
+/// Applies an event to both networks, and compares their replies and counts. The answer is that of the second network.
+pub fn apply_to_both<M: Network, N: Network>(
+    first: &mut M,
+    second: &mut N,
+    event: &Event,
+) -> Result<Answer, Difference> {
+    let wanted = apply(first, event)?;
+    let answer = apply(second, event)?;
+    if answer.reply != wanted.reply {
+        return Err(Difference::Reply(wanted.reply, answer.reply));
+    }
+    let wanted = Counts::of(first);
+    let counts = Counts::of(second);
+    if counts != wanted {
+        return Err(Difference::Counts(wanted, counts));
+    }
+    Ok(answer)
+}
+
+/// Whether two tickets say the same.
+fn is_same<A: Allocator, B: Allocator>(ticket: &Ticket<A>, other: &Ticket<B>) -> bool {
+    ticket.number == other.number
+        && ticket.line == other.line
+        && ticket.start == other.start
+        && ticket.keyed == other.keyed
+        && ticket.cause == other.cause
+        && ticket.keyed_at == other.keyed_at
+        && ticket.ended_at == other.ended_at
+        && ticket.path.hops() == other.path.hops()
+}
+
+/// The number of a ticket's call, or 0.
+fn number_of<A: Allocator>(ticket: &Option<Ticket<A>>) -> u32 {
+    match ticket {
+        Some(ticket) => ticket.number,
+        None => 0,
+    }
+}
+
+/// Takes the oldest ticket of both networks, and compares them.
+pub fn next_ticket_of_both<M: Network, N: Network>(
+    first: &mut M,
+    second: &mut N,
+) -> Result<Option<Ticket<M::A>>, Difference> {
+    let wanted = first.next_ticket();
+    let ticket = second.next_ticket();
+    let is_same = match (&wanted, &ticket) {
+        (Some(wanted), Some(ticket)) => is_same(wanted, ticket),
+        (None, None) => true,
+        _ => false,
+    };
+    if is_same {
+        Ok(wanted)
+    } else {
+        Err(Difference::Ticket(number_of(&wanted), number_of(&ticket)))
+    }
+}

@@ -1,0 +1,119 @@
+// Want of memory where the events of a finding are made.
+ghost use Rattle.std.specs.Prelude.{◌≤◌};
+ghost use Rattle.std.specs.List.{AllByRecursion};
+ghost use Rattle.tx_rank.specs.Findings.{IsTrueOf};
+
+use crate::stop::Stop;
+use refusing::Refusing;
+use std::alloc::{Allocator, Global};
+use tx_counter::first_counter;
+use tx_machine::Event;
+use tx_plan::Plan;
+use tx_plantext::{read_plan, write_plan};
+use tx_rank::{Finding, Ranking, rank};
+use tx_text::MemorySink;
+
+/// How a try ends in which one request for memory may be refused.
+#[derive(Clone, Copy)]
+enum Tried {
+    /// Before events were asked for.
+    Early,
+    /// With want of memory, when events were asked for.
+    Told,
+    /// With the events that are wanted.
+    Right,
+    /// With other events, or none.
+    Wrong,
+}
+
+/// Asks for the events of the first finding that has some.
+fn try_findings<A: Allocator + Copy>(
+    alloc: A,
+    plan: &Plan<A>,
+    findings: &[Finding<A>],
+    limit: u8,
+    spare: u8,
+    wanted: &[Event],
+) -> Tried
+    requires { AllByRecursion (IsTrueOf plan.now limit spare) findings.now }
+{
+    match first_counter(alloc, plan, findings, limit, spare) {
+        Ok(Some(events)) if events.as_slice() == wanted => Tried::Right,
+        Ok(_) => Tried::Wrong,
+        Err(_) => Tried::Told,
+    }
+}
+
+fn try_plan<A: Allocator + Copy>(
+    alloc: A,
+    plan: &Plan<A>,
+    limit: u8,
+    spare: u8,
+    wanted: &[Event],
+) -> Tried
+    requires limit { limit ≤ 62 }
+    requires spare { spare ≤ 15 }
+{
+    match rank(alloc, plan, limit, spare) {
+        Ok(Ranking::Fails(findings)) => {
+            try_findings(alloc, plan, &findings, limit, spare, wanted)
+        }
+        _ => Tried::Early,
+    }
+}
+
+fn try_text<A: Allocator + Copy>(
+    alloc: A,
+    text: &[u8],
+    limit: u8,
+    spare: u8,
+    wanted: &[Event],
+) -> Tried
+    requires limit { limit ≤ 62 }
+    requires spare { spare ≤ 15 }
+{
+    match read_plan(alloc, text) {
+        Ok(plan) => {
+            let tried = try_plan(alloc, &plan, limit, spare, wanted);
+            drop(plan);
+            tried
+        }
+        Err(_) => Tried::Early,
+    }
+}
+
+/// Whether each refused request is told, and the events are right where none is.
+fn tells_each(alloc: Global, text: &[u8], limit: u8, spare: u8, wanted: &[Event]) -> bool
+    requires limit { limit ≤ 62 }
+    requires spare { spare ≤ 15 }
+{
+    let mut has_told = false;
+    for request in 1..1000u64 {
+        let heap = Refusing::new(alloc, request);
+        let tried = try_text(&heap, text, limit, spare, wanted);
+        match (tried, heap.has_refused()) {
+            (Tried::Early, true) => {}
+            (Tried::Told, true) => has_told = true,
+            (Tried::Right, false) => return has_told,
+            _ => return false,
+        }
+    }
+    false
+}
+
+/// Refuses each request for memory in turn, from the plan's first one on, where the events of the first finding that has some are made. Whether each
+/// that was refused is told, and the events are these where none is.
+pub fn refusals_are_told(
+    alloc: Global,
+    plan: &Plan,
+    limit: u8,
+    spare: u8,
+    wanted: &[Event],
+) -> Result<bool, Stop>
+    requires limit { limit ≤ 62 }
+    requires spare { spare ≤ 15 }
+{
+    let mut text = MemorySink::new(alloc, 4096)?;
+    let done = write_plan(plan, &mut text);
+    Ok(done.is_ok() && tells_each(alloc, text.taken(), limit, spare, wanted))
+}

@@ -1,0 +1,33 @@
+// The script of some events, read back by a run.
+ghost use Rattle.std.specs.List.{AllByRecursion};
+ghost use Rattle.tx_script.specs.Events.{IsWritable};
+
+use std::alloc::Global;
+use tx_counter::write_counter;
+use tx_machine::{Event, Plain};
+use tx_plan::Plan;
+use tx_script::run;
+use tx_text::{MemorySink, MemorySource, NoMemory};
+
+/// Runs a script over a new network: how many events were accepted, where all were read and none was refused.
+fn accepted(alloc: Global, plan: &Plan, script: &[u8]) -> Result<Option<u64>, NoMemory> {
+    let mut network = Plain::new(alloc, plan)?;
+    let mut out = MemorySink::new(alloc, 65_536)?;
+    let mut source = MemorySource::new(script, 4096, None);
+    let done = run(alloc, plan, &mut network, &mut source, &mut out);
+    drop(network);
+    match done {
+        Ok(summary) if summary.refused == 0 => Ok(Some(summary.events)),
+        _ => Ok(None),
+    }
+}
+
+/// Whether the script of the events is written, and a run accepts so many events of it.
+pub fn reads_back(alloc: Global, plan: &Plan, events: &[Event]) -> Result<bool, NoMemory>
+    requires { AllByRecursion (IsWritable plan.now) events.now }
+{
+    let mut script = MemorySink::new(alloc, 65_536)?;
+    let done = write_counter(plan, events, &mut script);
+    let count = accepted(alloc, plan, script.taken())?;
+    Ok(done.is_ok() && count == Some(events.len() as u64))
+}

@@ -1,0 +1,45 @@
+-- The words that the program takes, as the library of command lines sees them: commands, whose files go by place and whose options go by name.
+use Rattle.std.specs.Prelude.{ℕ, List, Some, true, codes, pos}
+use Rattle.clap.specs.Words.{App, Rule, new_app, new_rule, with_rule, with_subcommand}
+use Rattle.clap.specs.declared.builder.action.ArgAction.TheVariants.{Set}
+use Rattle.clap.specs.declared.builder.value_parser.ValueParser.TheVariants.{Signed}
+
+-- a file, which has to be named
+abbrev pub file : List ℕ → Rule
+file id = record (new_rule id) { value_names = 1; action = Some Set; required = true }
+
+-- an option with a word
+abbrev pub option : List ℕ → Rule
+option id = record (new_rule id) { long = Some id; value_names = 1; action = Some Set }
+
+-- an option with a number from 0 to the greatest
+abbrev pub number_option : List ℕ → ℕ → Rule
+number_option id most = record (option id) { parser = Some (Signed (pos 0) (pos most)) }
+
+abbrev pub limit : Rule
+limit = number_option (codes "limit") 62
+
+abbrev pub spare : Rule
+spare = number_option (codes "spare") 15
+
+abbrev pub needed : Rule → Rule
+needed r = record r { required = true }
+
+abbrev pub run_words : App
+run_words = with_rule (with_rule (with_rule (with_rule (with_rule (new_app (codes "run")) (file (codes "plan"))) (file (codes "script"))) (option (codes "cert"))) limit) spare
+
+abbrev pub check_words : App
+check_words = with_rule (with_rule (with_rule (with_rule (new_app (codes "check")) (file (codes "plan"))) (file (codes "cert"))) (needed limit)) (needed spare)
+
+abbrev pub codes_words : App
+codes_words = with_rule (new_app (codes "codes")) (file (codes "plan"))
+
+abbrev pub audit_words : App
+audit_words = with_rule (with_rule (with_rule (with_rule (new_app (codes "audit")) (file (codes "plan"))) (needed limit)) (needed spare)) (option (codes "cert"))
+
+-- the program takes its words from the first on, and has four commands
+abbrev pub top_words : App
+top_words = let app = new_app (codes "telexplan") in record app { top = record app.top { no_binary_name = true } }
+
+abbrev pub program_words : App
+program_words = with_subcommand (with_subcommand (with_subcommand (with_subcommand top_words audit_words.top) check_words.top) run_words.top) codes_words.top
