@@ -7,7 +7,7 @@ use Rattle.tx_calls.specs.Calls.{Calls, calls_in, sorted_calls}
 use Rattle.tx_engine.specs.Sound.{state_of}
 use Rattle.tx_engine.proofs.Changing.{sound_room, sound_key, keyed_with}
 use Rattle.tx_engine.proofs.Refused.{key_fits, key_known}
-use Rattle.tx_engine.proofs.parts.Parts.key.Goals as goal
+use Rattle.tx_engine.proofs.parts.Parts.open_call.Goals as goal
 
 pub returns-in_err-reserve_one-clause-sound : goal.returns-in_err-reserve_one-clause-sound
 returns-in_err-reserve_one-clause-sound g c =
