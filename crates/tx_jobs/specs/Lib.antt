@@ -3,4 +3,5 @@ pub mod Jobs
 pub mod PipeJobs
 pub mod CheckJobs
 pub mod AuditJobs
+pub mod Evidences
 pub mod CheckedJobs
