@@ -1,6 +1,5 @@
 // What shows the verdict of an audit.
-ghost use Rattle.std.specs.List.{AllByRecursion};
-ghost use Rattle.tx_script.specs.Events.{IsWritable};
+ghost use Rattle.tx_jobs.specs.Writables.{AreWritable, AreWritable-prop};
 
 use std::alloc::{Allocator, Global};
 use tx_cert::Cert;
@@ -12,7 +11,7 @@ use tx_state::Event;
 pub struct CounterScript<A: Allocator = Global> {
     pub plan: Plan<A>,
     pub events: Vec<Event, A>,
-    ghost writable: { AllByRecursion (IsWritable plan) events.items },
+    ghost writable: { AreWritable plan events.items } by { AreWritable-prop plan events.items },
 }
 
 /// What shows the verdict of an audit.

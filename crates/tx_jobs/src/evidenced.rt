@@ -1,13 +1,11 @@
 // The job of `audit PLAN --limit L --spare K` where what shows the verdict is to be kept.
 ghost use Rattle.std.specs.Prelude.{◌≡◌, ◌≤◌, IfOk};
 ghost use Rattle.std.specs.List.{AllByRecursion};
-ghost use Rattle.std.specs.Option.{IfSome};
 ghost use Rattle.tx_text.specs.Calls.{Broken, CallsAtMost, source_calls};
 ghost use Rattle.tx_rank.specs.Findings.{IsTrueOf};
-ghost use Rattle.tx_script.specs.Events.{IsWritable};
 ghost use Rattle.tx_audit.specs.Audits.{OnUnsound};
 ghost use Rattle.tx_jobs.specs.JobFaults.{mark_after};
-ghost use Rattle.tx_jobs.specs.Evidences.{EvidenceJobAnswers, IsEvidenceOf, IsScriptOf, ShowsFirst};
+ghost use Rattle.tx_jobs.specs.Evidences.{EvidenceJobAnswers, IsEvidenceOf, IsScriptOf};
 
 use crate::audits::audit_job;
 use crate::evidence::{CounterScript, Evidence};
