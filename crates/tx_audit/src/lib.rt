@@ -11,3 +11,4 @@ pub use audited::{AuditFault, Audited};
 pub use auditor::audit;
 pub use checked::Checked;
 pub use checked_run::run_checked;
+pub use tx_counter::{counter, first_counter, write_counter};

@@ -36,7 +36,7 @@ Asks name found (Check plan cert limit spare) =
 Asks name found (Codes plan) = (name ≡ codes "codes") × Names found (codes "plan") plan
 Asks name found (Audit plan limit spare cert counter) =
     (name ≡ codes "audit") × Names found (codes "plan") plan × Gives found (codes "limit") limit × Gives found (codes "spare") spare × (first_of (codes "cert") found ≡ option_map string_bytes cert)
-    × (counter ≡ None)
+    × (first_of (codes "counter") found ≡ option_map string_bytes counter)
 
 -- the command that was found, with its files and options, asks for this
 abbrev pub IsFoundIn : Option (List ℕ × List Row) → Command → Type 0

@@ -31,7 +31,7 @@ pub enum Command {
     Codes {
         plan: String,
     },
-    /// `audit PLAN --limit L --spare K`: the certificate goes to a file, if one is named. No words name a file for a counter script yet.
+    /// `audit PLAN --limit L --spare K`: the certificate goes to a file, if one is named, and so does the counter script.
     Audit {
         plan: String,
         limit: u8,
@@ -99,13 +99,14 @@ fn audit_of(
     let limit = number(matches, "limit", 62);
     let spare = number(matches, "spare", 15);
     let cert = text(alloc, matches, "cert")?;
+    let counter = text(alloc, matches, "counter")?;
     match (limit, spare) {
         (Some(limit), Some(spare)) => Ok(Some(Command::Audit {
             plan,
             limit,
             spare,
             cert,
-            counter: None,
+            counter,
         })),
         _ => Ok(None),
     }

@@ -135,6 +135,12 @@ fn audit_grammar<'a>(alloc: Global) -> Result<clap::Command<'a>, AllocError>
             "cert",
             "CERT",
             "After YES, write the certificate to this file",
+        ))?
+        .arg(option(
+            alloc,
+            "counter",
+            "SCRIPT",
+            "After NO, write a script to this file that shows the first finding that has one",
         ))
 }
 
