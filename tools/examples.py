@@ -1,0 +1,276 @@
+#!/usr/bin/env python3
+"""usage: tools/examples.py [PROGRAM]
+       tools/examples.py --write PROGRAM
+       tools/examples.py --cases
+
+Runs each example of examples/list with a built program (crates/telexplan/out/telexplan where none is named), in a folder of its own, and compares what it prints,
+its exit status and the files that it makes with what stands in examples/. Then checks README.md and docs/FORMATS.md: each block there says, in a comment before
+it, what it shows, and has to show just that; and the table of codes has to be that of the definitions. Prints a line for each difference; the status is 1 if there
+is one.
+
+--write writes the outputs and the files that are made, for you to read through: they are right only once somebody has.
+--cases prints the examples as cases for the player of worked examples: the cases, a line `STDOUT`, and what it has to print for them.
+
+The comments before a block:
+  <!-- file: PATH -->     the whole file
+  <!-- run: NAME -->      the command of an example, behind `$ `, and all that it prints
+  <!-- lines: PATH -->    lines of the file that follow one another
+  <!-- not run -->        commands that no example shows
+and before a table:
+  <!-- examples -->       each text in the last column is a line of some file in examples/
+  <!-- codes -->          the table of codes"""
+import os
+import re
+import shutil
+import subprocess
+import sys
+import tempfile
+
+TOP = os.path.dirname(os.path.dirname(os.path.abspath(__file__)))
+PAGES = ["README.md", "docs/FORMATS.md"]
+
+
+class Example:
+    def __init__(self, line):
+        self.name, status, self.command = line.split(None, 2)
+        self.status = int(status)
+        words = self.command.split()
+        bar = words.index("|") if "|" in words else -1
+        self.input = words[1:bar] if bar > 0 else []
+        self.words = words[bar + 2 :]
+        made = [b for a, b in zip(self.words, self.words[1:]) if a == "--counter" or (a == "--cert" and self.words[0] == "audit")]
+        self.made = made
+        self.files = [it for it in self.words if it.startswith("examples/") and it not in made]
+
+    def option(self, name):
+        return self.words[self.words.index(name) + 1] if name in self.words else None
+
+
+def read(path):
+    with open(os.path.join(TOP, path), "rb") as it:
+        return it.read()
+
+
+def examples():
+    lines = read("examples/list").decode().splitlines()
+    return [Example(it) for it in lines if it.strip() and not it.startswith("#")]
+
+
+def out_of(example):
+    return f"examples/{example.name}.out"
+
+
+def run(program, example):
+    """The exit status, what is printed on both ends, and the files that are made."""
+    with tempfile.TemporaryDirectory() as room:
+        os.mkdir(os.path.join(room, "examples"))
+        for it in example.files + example.input:
+            if os.path.exists(os.path.join(TOP, it)):
+                shutil.copyfile(os.path.join(TOP, it), os.path.join(room, it))
+        given = b"".join(read(it) for it in example.input)
+        ran = subprocess.run(program + example.words, cwd=room, input=given, capture_output=True, timeout=60)
+        made = {}
+        for it in sorted(os.listdir(os.path.join(room, "examples"))):
+            path = f"examples/{it}"
+            if path not in example.files + example.input:
+                with open(os.path.join(room, path), "rb") as file:
+                    made[path] = file.read()
+        return ran.returncode, ran.stdout + ran.stderr, made
+
+
+def difference(wanted, given):
+    wanted, given = wanted.splitlines(), given.splitlines()
+    for n, (a, b) in enumerate(zip(wanted, given), 1):
+        if a != b:
+            return f"line {n} is {b!r} and not {a!r}"
+    return f"{len(given)} lines and not {len(wanted)}" if len(wanted) != len(given) else "the ends of lines differ"
+
+
+def check_examples(program, tell):
+    named = {"examples/list", "examples/README.md"}
+    for example in examples():
+        named.update(example.files + example.input + example.made + [out_of(example)])
+        status, printed, made = run(program, example)
+        if status != example.status:
+            tell(f"{example.name}: the status is {status} and not {example.status}")
+        if printed != read(out_of(example)):
+            tell(f"{example.name}: {difference(read(out_of(example)), printed)}")
+        for path in sorted(set(example.made) | set(made)):
+            if path not in made:
+                tell(f"{example.name}: {path} is not made")
+            elif path not in example.made or made[path] != read(path):
+                tell(f"{example.name}: {path} differs from what is made")
+    for it in sorted(os.listdir(os.path.join(TOP, "examples"))):
+        if f"examples/{it}" not in named:
+            tell(f"examples/{it}: no example has it")
+
+
+def write_examples(program):
+    for example in examples():
+        status, printed, made = run(program, example)
+        for path, text in [(out_of(example), printed)] + sorted(made.items()):
+            with open(os.path.join(TOP, path), "wb") as it:
+                it.write(text)
+        if status != example.status:
+            print(f"{example.name}: the status is {status} and not {example.status}")
+
+
+# THE PAGES
+
+
+def blocks(page):
+    """Each block of a page: the line where it begins, the comment before it, and its text."""
+    lines = read(page).decode().splitlines(keepends=True)
+    n = 0
+    while n < len(lines):
+        if lines[n].startswith("```"):
+            start, body = n, []
+            n += 1
+            while not lines[n].startswith("```"):
+                body.append(lines[n])
+                n += 1
+            yield start + 1, comment_before(lines, start), "".join(body)
+        elif lines[n].startswith("    "):
+            yield n + 1, "", lines[n]
+        n += 1
+
+
+def comment_before(lines, n):
+    said = re.fullmatch(r"<!-- (.*) -->\n", lines[n - 1]) if n else None
+    return said.group(1) if said else ""
+
+
+def check_block(mark, text, known):
+    """What is wrong with a block, if anything is."""
+    kind, _, name = mark.partition(": ")
+    if mark == "not run":
+        return None
+    if kind == "run" and name in known:
+        wanted = f"$ {known[name].command}\n" + read(out_of(known[name])).decode()
+        return None if text == wanted else difference(wanted, text)
+    if kind == "file":
+        return None if text == read(name).decode() else difference(read(name).decode(), text)
+    if kind == "lines":
+        return None if "\n" + text in "\n" + read(name).decode() else f"these lines do not stand in {name}"
+    return "no comment before it says what it shows"
+
+
+def tables(page):
+    """Each table of a page that has a comment before it: its line, the comment, and the cells of its rows."""
+    lines = read(page).decode().splitlines(keepends=True)
+    for n, line in enumerate(lines):
+        if line.startswith("|") and comment_before(lines, n):
+            rows = []
+            for it in lines[n + 2 :]:
+                if not it.startswith("|"):
+                    break
+                rows.append([cell.strip() for cell in it.strip().strip("|").split(" | ")])
+            yield n + 1, comment_before(lines, n), rows
+
+
+def plain(line):
+    """The words of a line, without its comment."""
+    return " ".join(line.partition("#")[0].split())
+
+
+def lines_of_examples():
+    texts = [read(f"examples/{it}").decode() for it in sorted(os.listdir(os.path.join(TOP, "examples"))) if it not in ("list", "README.md")]
+    return {plain(line) for text in texts for line in text.splitlines()}
+
+
+def codes_defined():
+    """The codes and names of the definitions."""
+    text = lambda crate, name: read(f"crates/{crate}/specs/{name}.antt").decode()
+    rows = set()
+    for crate, name in [("tx_plantext", "PlanFaults"), ("tx_cert", "CertFaults"), ("tx_script", "ScriptFaults")]:
+        rows.update(re.findall(r'\(codes "([PCSX]\d+)", codes "(\w+)"\)', text(crate, name)))
+    rows.update((b, a) for a, b in re.findall(r'refusal_text (\w+) = codes "(M\d+)"', text("tx_tickets", "Texts")))
+    rows.update((b, a) for a, b in re.findall(r'fault_words p \((\w+)[ \w]*\) = codes "(K\d)"', text("tx_check", "Verdicts")))
+    rows.update(re.findall(r'finding_line p \(\w+[ \w]*\) = codes "(F\d) (\w+) ', text("tx_audit", "Report")))
+    return rows
+
+
+def check_table(mark, rows, known_lines):
+    """What is wrong with a table."""
+    if mark == "examples":
+        texts = [it for row in rows for it in re.findall(r"`([^`]+)`", row[-1])]
+        return [f"no example has the line {it!r}" for it in texts if plain(it) not in known_lines] + ([] if texts else ["no examples stand in it"])
+    if mark == "codes":
+        told = {tuple(re.findall(r"\w+", row[0] + " " + row[1])[:2]) for row in rows}
+        return [f"{' '.join(it)} is not of the definitions" for it in sorted(told - codes_defined())]
+    return [f"no such comment: {mark}"]
+
+
+def check_pages(tell):
+    known = {it.name: it for it in examples()}
+    known_lines = lines_of_examples()
+    told = set()
+    for page in PAGES:
+        for line, mark, text in blocks(page):
+            wrong = check_block(mark, text, known)
+            if wrong:
+                tell(f"{page} line {line}: {wrong}")
+        for line, mark, rows in tables(page):
+            for wrong in check_table(mark, rows, known_lines):
+                tell(f"{page} line {line}: {wrong}")
+            if mark == "codes":
+                told.update(tuple(re.findall(r"\w+", row[0] + " " + row[1])[:2]) for row in rows)
+    for it in sorted(codes_defined() - told):
+        tell(f"docs/FORMATS.md: {' '.join(it)} is missing")
+
+
+# CASES FOR THE PLAYER OF WORKED EXAMPLES
+
+
+def case_of(example):
+    """The kind of a case, and its texts; None where no case shows the example."""
+    texts = [read(it) for it in example.input + example.files if os.path.exists(os.path.join(TOP, it))]
+    bounds = f" {example.option('--limit')} {example.option('--spare')}"
+    if example.input:
+        return "both", b"".join(texts)
+    if len(texts) != len(example.files) or example.status == 64:
+        return None
+    verb = example.words[0]
+    if verb == "run" and example.option("--cert"):
+        plan, script, cert = texts
+        return f"checked{bounds}", b"---\n".join([plan, cert, script])
+    kind = {"run": "run", "codes": "codes", "check": f"check{bounds}", "audit": f"audit{bounds}"}[verb]
+    return kind, b"---\n".join(texts)
+
+
+def print_cases():
+    cases, wanted = [], []
+    for example in examples():
+        case = case_of(example)
+        if case:
+            kind, text = case
+            if not text.endswith(b"\n"):
+                text += b"{}\n"
+            head = f"=== example-{example.name} {kind}\n".encode()
+            cases.append(head + text)
+            wanted.append(head + read(out_of(example)) + b"".join(read(it) for it in example.made if example.option("--cert") == it))
+    sys.stdout.buffer.write(b"".join(cases) + b"STDOUT\n" + b"".join(wanted))
+
+
+def main(words):
+    if words == ["--cases"]:
+        print_cases()
+        return 0
+    write = words[:1] == ["--write"]
+    words = words[1:] if write else words
+    if len(words) > 1 or any(it.startswith("-") for it in words) or (write and not words):
+        print(__doc__)
+        return 64
+    program = [os.path.abspath(words[0]) if words else os.path.join(TOP, "crates/telexplan/out/telexplan")]
+    if write:
+        write_examples(program)
+        return 0
+    told = []
+    check_examples(program, told.append)
+    check_pages(told.append)
+    print("".join(f"{it}\n" for it in told) + f"{len(examples())} examples, {len(told)} differences")
+    return 1 if told else 0
+
+
+if __name__ == "__main__":
+    sys.exit(main(sys.argv[1:]))
