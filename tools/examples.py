@@ -5,8 +5,8 @@
 
 Runs each example of examples/list with a built program (crates/telexplan/out/telexplan where none is named), in a folder of its own, and compares what it prints,
 its exit status and the files that it makes with what stands in examples/. Then checks README.md and docs/FORMATS.md: each block there says, in a comment before
-it, what it shows, and has to show just that; and the table of codes has to be that of the definitions. Prints a line for each difference; the status is 1 if there
-is one.
+it, what it shows, and has to show just that; the table of codes has to be that of the definitions, the map of the crates that of crates.txt, and what the pages name
+has to be there. Prints a line for each difference; the status is 1 if there is one.
 
 --write writes the outputs and the files that are made, for you to read through: they are right only once somebody has.
 --cases prints the examples as cases for the player of worked examples: the cases, a line `STDOUT`, and what it has to print for them.
@@ -28,6 +28,8 @@ import tempfile
 
 TOP = os.path.dirname(os.path.dirname(os.path.abspath(__file__)))
 PAGES = ["README.md", "docs/FORMATS.md"]
+NAMING = ["CONTRIBUTING.md", "docs/ARCHITECTURE.md", "docs/GLOSSARY.md", "docs/PROOFS.md"]
+MADE = ["crates/telexplan/out/telexplan", "examples/NAME.out"]
 
 
 class Example:
@@ -219,6 +221,52 @@ def check_pages(tell):
         tell(f"docs/FORMATS.md: {' '.join(it)} is missing")
 
 
+# WHAT THE PAGES NAME
+
+
+def check_names(tell):
+    """Each path in a page is there, and each edit that it names."""
+    for page in PAGES + NAMING:
+        text = read(page).decode()
+        paths = re.findall(r"`((?:crates|docs|tools|examples)/[\w./]+)`", text)
+        paths += [os.path.normpath(os.path.join(os.path.dirname(page), it)) for it in re.findall(r"\]\(([\w./]+)\)", text)]
+        for it in paths:
+            if it not in MADE and not os.path.exists(os.path.join(TOP, it)):
+                tell(f"{page}: {it} is not there")
+        for crate, edit in re.findall(r"`(tx_\w+)/(\w+)`", text):
+            if not os.path.exists(os.path.join(TOP, "crates", crate, "must-fail", edit + ".edit")):
+                tell(f"{page}: there is no edit {crate}/{edit}")
+
+
+def crates_used():
+    """Each crate with those of the repository that it uses and that none of the others uses for it."""
+    lines = [it.partition(":") for it in read("crates.txt").decode().splitlines() if ":" in it]
+    used = {name.split()[0]: set(words.split()) for name, _, words in lines}
+    used = {name: words & set(used) for name, words in used.items()}
+
+    def below(name):
+        return used[name].union(*(below(it) for it in used[name]))
+
+    return {name: words - set().union(*(below(it) for it in words)) for name, words in used.items()}
+
+
+def check_map(tell):
+    """The drawing of docs/ARCHITECTURE.md is that of crates.txt, but for the crates of tests."""
+    page = read("docs/ARCHITECTURE.md").decode()
+    drawn, over = {}, []
+    for line in page.split("```\n")[1].splitlines():
+        indent = len(line) - len(line.lstrip())
+        over = [it for it in over if it[0] < indent]
+        name, beside = re.match(r"\s*(\w+)\s+(?:\(([^)]*)\))?", line).groups()
+        drawn[name] = {f"tx_{it}" for it in (beside or "").split(", ") if it} | {it[1] for it in over[-1:]}
+        over.append((indent, name))
+    for name, words in crates_used().items():
+        if name in drawn and drawn[name] != words:
+            tell(f"docs/ARCHITECTURE.md: {name} stands on {', '.join(sorted(words)) or 'nothing'}")
+        if name not in drawn and f"`{name}`" not in page:
+            tell(f"docs/ARCHITECTURE.md: {name} is missing")
+
+
 # CASES FOR THE PLAYER OF WORKED EXAMPLES
 
 
@@ -268,6 +316,8 @@ def main(words):
     told = []
     check_examples(program, told.append)
     check_pages(told.append)
+    check_names(told.append)
+    check_map(told.append)
     print("".join(f"{it}\n" for it in told) + f"{len(examples())} examples, {len(told)} differences")
     return 1 if told else 0
 
