@@ -1,7 +1,7 @@
 #!/usr/bin/env python3
 """usage: tools/examples.py [PROGRAM]
        tools/examples.py --write PROGRAM
-       tools/examples.py --cases
+       tools/examples.py --cases FOLDER
 
 Runs each example of examples/list with a built program (crates/telexplan/out/telexplan where none is named), in a folder of its own, and compares what it prints,
 its exit status and the files that it makes with what stands in examples/. Then checks README.md and docs/FORMATS.md: each block there says, in a comment before
@@ -9,7 +9,8 @@ it, what it shows, and has to show just that; the table of codes has to be that 
 has to be there. Prints a line for each difference; the status is 1 if there is one.
 
 --write writes the outputs and the files that are made, for you to read through: they are right only once somebody has.
---cases prints the examples as cases for the player of worked examples: the cases, a line `STDOUT`, and what it has to print for them.
+--cases writes the examples as cases for the player of worked examples, crates/tx_worked, into the files `cases` and `stdout` of a folder. They are appended by hand
+to its data/cases and stdout; from then on a run of this tool sees that they are the same.
 
 The comments before a block:
   <!-- file: PATH -->     the whole file
@@ -180,6 +181,12 @@ def lines_of_examples():
     return {plain(line) for text in texts for line in text.splitlines()}
 
 
+def lines_quoted(page):
+    """What stands in a page's text as a line of a plan or a script, or as a reply: words in capitals, one of them with a figure."""
+    text = re.sub(r"```.*?```", "", read(page).decode(), flags=re.S)
+    return [it for it in re.findall(r"`([A-Z]+(?: [A-Z0-9.]+)+)`", text) if re.search("[0-9]", it)]
+
+
 def codes_defined():
     """The codes and names of the definitions."""
     text = lambda crate, name: read(f"crates/{crate}/specs/{name}.antt").decode()
@@ -212,6 +219,9 @@ def check_pages(tell):
             wrong = check_block(mark, text, known)
             if wrong:
                 tell(f"{page} line {line}: {wrong}")
+        for line in lines_quoted(page):
+            if plain(line) not in known_lines:
+                tell(f"{page}: no example has the line {line!r}")
         for line, mark, rows in tables(page):
             for wrong in check_table(mark, rows, known_lines):
                 tell(f"{page} line {line}: {wrong}")
@@ -286,23 +296,37 @@ def case_of(example):
     return kind, b"---\n".join(texts)
 
 
-def print_cases():
-    cases, wanted = [], []
+def cases():
+    """Each example as a case, and what the player has to print for it."""
     for example in examples():
         case = case_of(example)
         if case:
             kind, text = case
-            if not text.endswith(b"\n"):
-                text += b"{}\n"
+            text += b"" if text.endswith(b"\n") else b"{}\n"
             head = f"=== example-{example.name} {kind}\n".encode()
-            cases.append(head + text)
-            wanted.append(head + read(out_of(example)) + b"".join(read(it) for it in example.made if example.option("--cert") == it))
-    sys.stdout.buffer.write(b"".join(cases) + b"STDOUT\n" + b"".join(wanted))
+            cert = example.option("--cert")
+            yield head + text, head + read(out_of(example)) + (read(cert) if cert in example.made else b"")
+
+
+def write_cases(folder):
+    os.makedirs(folder, exist_ok=True)
+    for name, place in [("cases", 0), ("stdout", 1)]:
+        with open(os.path.join(folder, name), "wb") as it:
+            it.write(b"".join(case[place] for case in cases()))
+
+
+def check_cases(tell):
+    """The player has the examples as they are, if it has them."""
+    played, printed = read("crates/tx_worked/data/cases"), read("crates/tx_worked/stdout")
+    if b"=== example-" in played:
+        for case, wanted in cases():
+            if case not in played or wanted not in printed:
+                tell(f"crates/tx_worked: the case {case.split()[1].decode()} is not as in examples/")
 
 
 def main(words):
-    if words == ["--cases"]:
-        print_cases()
+    if words[:1] == ["--cases"] and len(words) == 2:
+        write_cases(words[1])
         return 0
     write = words[:1] == ["--write"]
     words = words[1:] if write else words
@@ -318,6 +342,7 @@ def main(words):
     check_pages(told.append)
     check_names(told.append)
     check_map(told.append)
+    check_cases(told.append)
     print("".join(f"{it}\n" for it in told) + f"{len(examples())} examples, {len(told)} differences")
     return 1 if told else 0
 
