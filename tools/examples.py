@@ -296,16 +296,24 @@ def case_of(example):
     return kind, b"---\n".join(texts)
 
 
+def evidence_of(example):
+    """What the player prints behind the report of an audit: the certificate or the script that an example makes of the same audit."""
+    asked = lambda it: it.words[:2] + [it.option("--limit"), it.option("--spare")]
+    made = [it.made[0] for it in examples() if it.made and example.words[:1] == ["audit"] and asked(it) == asked(example)]
+    return read(made[0]) if made else b""
+
+
 def cases():
-    """Each example as a case, and what the player has to print for it."""
+    """Each example as a case, and what the player has to print for it. Two examples that come to the same case are one."""
+    seen = set()
     for example in examples():
         case = case_of(example)
-        if case:
+        if case and case not in seen:
+            seen.add(case)
             kind, text = case
             text += b"" if text.endswith(b"\n") else b"{}\n"
             head = f"=== example-{example.name} {kind}\n".encode()
-            cert = example.option("--cert")
-            yield head + text, head + read(out_of(example)) + (read(cert) if cert in example.made else b"")
+            yield head + text, head + read(out_of(example)) + evidence_of(example)
 
 
 def write_cases(folder):
