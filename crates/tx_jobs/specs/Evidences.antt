@@ -1,5 +1,5 @@
 -- What shows the verdict of an audit, and what is answered where it is to be kept.
-use Rattle.std.specs.Prelude.{◌≡◌, ℕ, Bool, true, false, List, Option, None, Some, is_some, Result, Ok, Err}
+use Rattle.std.specs.Prelude.{◌≡◌, ℕ, Bool, true, false, List, Option, None, is_some, Result, Ok, Err}
 use Rattle.std.specs.Option.{option_map, IfSome}
 use Rattle.std.specs.List.{list_any}
 use Rattle.tx_plan.specs.Plan.{Plan}

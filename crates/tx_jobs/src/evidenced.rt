@@ -1,5 +1,5 @@
 // The job of `audit PLAN --limit L --spare K` where what shows the verdict is to be kept.
-ghost use Rattle.std.specs.Prelude.{◌≡◌, ◌≤◌, IfOk};
+ghost use Rattle.std.specs.Prelude.{◌≡◌, ◌≤◌};
 ghost use Rattle.std.specs.List.{AllByRecursion};
 ghost use Rattle.tx_text.specs.Calls.{Broken, CallsAtMost, source_calls};
 ghost use Rattle.tx_rank.specs.Findings.{IsTrueOf};
@@ -14,7 +14,6 @@ use std::alloc::Allocator;
 use tx_audit::{Audited, first_counter};
 use tx_plan::Plan;
 use tx_rank::Finding;
-use tx_state::Event;
 use tx_text::{NoMemory, Sink, Source};
 
 /// Reads a plan, and writes the report of its audit. Answers what shows the verdict: after a Yes the certificate, and after a No, if it is asked for, the

@@ -3,11 +3,10 @@ ghost use Rattle.std.specs.Prelude.{◌≤◌};
 
 use refusing::Refusing;
 use std::alloc::Allocator;
-use tx_audit::write_counter;
+use tx_audit::Audited;
 use tx_cert::write_cert;
 use tx_jobs::{
-    Evidence, JobFault, check_status, codes_job, evidence_job, pipe_job, run_checked_status,
-    run_job,
+    JobFault, audit_job, check_status, codes_job, pipe_job, run_checked_status, run_job,
 };
 use tx_text::{MemorySink, MemorySource, NoMemory, Sink, Source};
 
@@ -21,7 +20,7 @@ pub(crate) enum Job {
     Run,
     Codes,
     Check { limit: u8, spare: u8 },
-    /// An audit, with its certificate or its counter script behind the report.
+    /// An audit, with its certificate behind the report.
     Audit { limit: u8, spare: u8 },
     /// A run after a Yes of the checker.
     Checked { limit: u8, spare: u8 },
@@ -132,7 +131,7 @@ fn do_job<A: Allocator + Copy, W: Sink>(
     }
 }
 
-/// Audits a plan, and writes behind the report what shows its verdict.
+/// Audits a plan, and writes the certificate behind a report of YES.
 fn do_audit<A: Allocator + Copy, P: Source, W: Sink>(
     alloc: A,
     plan: &mut P,
@@ -143,24 +142,20 @@ fn do_audit<A: Allocator + Copy, P: Source, W: Sink>(
     requires limit { limit ≤ 62 }
     requires spare { spare ≤ 15 }
 {
-    let evidence = evidence_job(alloc, plan, limit, spare, true, out)?;
-    let status = keep(&evidence, out);
-    drop(evidence);
+    let audited = audit_job(alloc, plan, limit, spare, out)?;
+    let status = keep(&audited, out);
+    drop(audited);
     status
 }
 
-/// Writes the certificate, or the counter script, if there is one.
-fn keep<A: Allocator, W: Sink>(evidence: &Evidence<A>, out: &mut W) -> Result<u8, JobFault> {
-    let written = match evidence {
-        Evidence::Sound(plan, cert) => write_cert(cert, plan, out),
-        Evidence::Unsound(Some(script)) => {
-            write_counter(&script.plan, script.events.as_slice(), out)
-        }
-        Evidence::Unsound(None) => Ok(()),
-    };
-    match written {
-        Ok(()) => Ok(evidence.status()),
-        Err(_) => Err(JobFault::Write),
+/// Writes the certificate, if one was found.
+fn keep<A: Allocator, W: Sink>(audited: &Audited<A>, out: &mut W) -> Result<u8, JobFault> {
+    match audited {
+        Audited::Sound(plan, cert) => match write_cert(cert, plan, out) {
+            Ok(()) => Ok(0),
+            Err(_) => Err(JobFault::Write),
+        },
+        Audited::Unsound(_, _) => Ok(1),
     }
 }
 
