@@ -30,7 +30,7 @@ pub record IsCleared (p : Plan) (cert : Certificate) (limit spare : ℕ) : Type 
   pub few_routes : HasFewRoutes p limit
 
 module _ {A : Type 0} where
-  -- all that is wrong with a plan, in order, each true; none where nothing is
+  -- the findings that the rules list, in order, each true; none where no finding is true
   abbrev pub IsAllFound : Plan → (limit spare : ℕ) → List (Finding A) → Type 0
   IsAllFound p limit spare [] = (f : Finding A) → IsTrueOf p limit spare f → ⊥
   IsAllFound p limit spare (f ∷ findings) = AllByRecursion (IsTrueOf p limit spare) (f ∷ findings) × AreFindings p limit spare (f ∷ findings)

@@ -23,7 +23,7 @@ module _ {A : Type 0} where
   findings_of (Found cert) = []
   findings_of (Fails findings) = findings.items
 
-  -- a certificate that clears a plan with which nothing is wrong, or all that is wrong with it
+  -- a certificate that clears a plan without findings, or its findings
   abbrev pub IsRight : Plan → (limit spare : ℕ) → Ranking A → Type 0
   IsRight p limit spare (Found cert) = IsAllFound {A = A} p limit spare [] × IsCleared p cert limit spare
   IsRight p limit spare (Fails findings) = IsAllFound p limit spare findings.items × IsSome findings.items

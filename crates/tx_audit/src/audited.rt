@@ -12,7 +12,7 @@ use tx_rank::{Finding, Ranking};
 pub enum Audited<A: Allocator = Global> {
     /// The plan is sound, as this certificate shows: it ranks the exchanges by their heights.
     Sound(Plan<A>, Cert<A>),
-    /// All that is wrong with the plan.
+    /// No certificate certifies the plan: the findings, in their order.
     Unsound(Plan<A>, Vec<Finding<A>, A>),
 }
 

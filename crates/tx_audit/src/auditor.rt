@@ -22,10 +22,10 @@ use tx_plantext::read_plan_from;
 use tx_rank::{Finding, Ranking, rank};
 use tx_text::{NoMemory, Sink, Source, WriteFault};
 
-/// Reads a plan, and reports on it: that no call passes more than `limit` transits or is lost with `spare` groups down or full, or all that is wrong
-/// with the plan, with walks that show it.
+/// Reads a plan, and reports on it: YES where a certificate certifies it for `limit` transits and `spare` groups, or what is wrong with it, with walks that
+/// show it.
 ///
-/// Nothing is written before the plan was read and ranked. The report says Yes only where the checker does, to the certificate that is told.
+/// Nothing is written where the plan is refused or memory is wanting. The report says YES only where the checker says Yes to the certificate that is told.
 pub fn audit<A: Allocator + Copy, R: Source, W: Sink>(
     alloc: A,
     source: &mut R,

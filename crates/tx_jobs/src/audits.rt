@@ -12,7 +12,7 @@ use std::alloc::Allocator;
 use tx_audit::{AuditFault, Audited, audit};
 use tx_text::{Sink, Source};
 
-/// Reads a plan, and writes the report of its audit. Answers the plan, with a certificate or with all that is wrong with it.
+/// Reads a plan, and writes the report of its audit. Answers the plan, with a certificate or with the findings.
 #[tactic(auto, using(crate::proofs::Marks::plan_unmarked))]
 pub fn audit_job<A: Allocator + Copy, P: Source, W: Sink>(
     alloc: A,

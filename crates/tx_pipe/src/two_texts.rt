@@ -44,7 +44,7 @@ impl<R: Source> TwoTexts<R> {
         }
     }
 
-    /// Goes on to the script, once the plan was read to its end.
+    /// Goes on to the script. Where the plan was read to its end, all that stands behind it is then to come.
     pub fn go_on(&mut self)
         ensures on { self.new ≡ at_script self.old }
         ensures script { self.old.part ≢ Part.Script → IsAtEnd (text_in_hand R.rest self.old) → text_in_hand R.rest self.new ≡ text_behind R.rest self.old }

@@ -1,4 +1,4 @@
--- What may be wrong with a plan, and the list of all that is.
+-- What may be wrong with a plan, and the list of findings.
 use Rattle.std.specs.Prelude.{◌≡◌, ℕ, zero, suc, ◌<◌, List, [], ◌∷◌, ◌++◌, length, map, Option, Some, None}
 use Rattle.tx_plan.specs.Plan.{Plan}
 use Rattle.tx_plan.specs.Ambiguous.{ambiguous_of}

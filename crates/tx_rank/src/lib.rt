@@ -1,4 +1,4 @@
-// The ranking of a plan: a certificate where there is one, else all that is wrong, with walks that show it.
+// The ranking of a plan: a certificate where there is one, else the findings: what is wrong, with walks that show it.
 #![tactic(auto)]
 
 mod code_ranking;

@@ -22,7 +22,7 @@ use tx_trie::CodeTrie;
 pub enum Ranking<A: Allocator = Global> {
     /// A certificate, by which the plan is certified.
     Found(Cert<A>),
-    /// All that is wrong with the plan.
+    /// What is wrong with the plan: the ambiguous pair, and for each code a loop, or a walk to each short exchange and then a long one.
     Fails(Vec<Finding<A>, A>),
 }
 
@@ -38,7 +38,7 @@ fn pair_found<A: Allocator + Copy>(alloc: A, plan: &Plan<A>) -> Result<Vec<Findi
     Ok(findings)
 }
 
-/// Ranks the exchanges for each code by their heights above its home, or tells all that is wrong.
+/// Ranks the exchanges for each code by their heights above its home, or tells what is wrong.
 pub fn rank<A: Allocator + Copy>(
     alloc: A,
     plan: &Plan<A>,

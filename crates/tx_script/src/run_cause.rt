@@ -10,7 +10,7 @@ use tx_text::{NoMemory, WriteFault};
 pub enum RunCause {
     /// The source failed, or was not at its end after the allowed number of calls.
     Read,
-    /// The sink failed. The event in hand was applied.
+    /// The sink failed. The event in hand, if there was one, was applied.
     Write,
     /// The script is faulty.
     Script(ScriptFault),
