@@ -1,7 +1,7 @@
 // The indexed network.
-ghost use Rattle.std.specs.Prelude.{◌≡◌, IfOk, OnErr, None, length, slice_get, true};
-ghost use Rattle.tx_state.specs.Step.{step, takes_memory, accepted, counted};
-ghost use Rattle.tx_state.specs.State.{ticket_taken, opening};
+ghost use Rattle.std.specs.Prelude.{◌≡◌, IfOk, OnErr, None, true};
+ghost use Rattle.tx_state.specs.Step.{step, takes_memory};
+ghost use Rattle.tx_state.specs.State.{opening};
 ghost use Rattle.tx_state.specs.Refusals.{refusal};
 
 use crate::parts::Parts;
