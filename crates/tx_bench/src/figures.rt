@@ -54,16 +54,14 @@ pub fn pairs_of(exchanges: u32) -> Result<Pairs, Stop> {
     Ok(pairs)
 }
 
-/// From one time to a later one, in picoseconds, for each of so many things.
-fn picoseconds_each(from: Duration, to: Duration, things: u32) -> u64 {
+/// From one time to a later one, in nanoseconds, for each of so many things.
+fn nanoseconds_each(from: Duration, to: Duration, things: u32) -> u64 {
     let nanoseconds = to.as_nanos().saturating_sub(from.as_nanos());
-    let picoseconds = u64::try_from(nanoseconds)
-        .unwrap_or(u64::MAX)
-        .saturating_mul(1000);
-    picoseconds.checked_div(u64::from(things)).unwrap_or(0)
+    let nanoseconds = u64::try_from(nanoseconds).unwrap_or(u64::MAX);
+    nanoseconds.checked_div(u64::from(things)).unwrap_or(0)
 }
 
-/// The processor time of an event of these calls in the best round, in picoseconds.
+/// The processor time of an event of these calls in the best round, in nanoseconds.
 pub fn time_of_calls<R: CpuClock, N: Network>(
     rt: &R,
     net: &mut N,
@@ -75,12 +73,13 @@ pub fn time_of_calls<R: CpuClock, N: Network>(
         let from = rt.process_cpu_time()?;
         let events = make_calls(net, pairs, effort.calls)?;
         let to = rt.process_cpu_time()?;
-        best = best.min(picoseconds_each(from, to, events));
+        best = best.min(nanoseconds_each(from, to, events));
     }
     Ok(best)
 }
 
-/// The memory of each of the calls that are opened from one place to another, in bytes, as the system tells it in pages.
+/// The memory of each of the calls that are opened from one place to another, in bytes, as the system tells it: in pages, and without room that was
+/// never written.
 pub fn memory_of_calls<R: Files + AllocGlobal, N: Network>(
     rt: &R,
     net: &mut N,

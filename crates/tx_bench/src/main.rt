@@ -29,7 +29,7 @@ use tx_state::Network;
 struct Open<'a> {
     engine: &'a [u32],
     plain: &'a [u32],
-    /// How many calls of the engine are open at the end.
+    /// How many calls of the engine are opened at the end, to measure their memory.
     most: u32,
 }
 
@@ -51,7 +51,7 @@ fn measure<R: CpuClock + Print, N: Network>(
         let across = time_of_calls(rt, net, &pairs.across, effort)?;
         if effort.prints {
             println!(rt;
-                "{name} over {exchanges} exchanges, {opened} calls open: {home} ps an event at home, {across} ps across"
+                "{name} over {exchanges} exchanges, {opened} calls open: {home} ns an event at home, {across} ns across"
             )?;
         }
     }
@@ -67,9 +67,12 @@ fn measure_engine<R: CpuClock + Files + AllocGlobal + Print>(
     open: Open<'_>,
 ) -> Result<(), Stop> {
     let opened = measure(rt, "engine", net, pairs, effort, open.engine)?;
-    let bytes = memory_of_calls(rt, net, effort.exchanges, opened, open.most)?;
+    let most = open.most;
+    if most <= opened {
+        return Ok(());
+    }
+    let bytes = memory_of_calls(rt, net, effort.exchanges, opened, most)?;
     if effort.prints {
-        let most = open.most;
         println!(rt; "engine, from {opened} to {most} open calls: {bytes} bytes a call")?;
     }
     Ok(())
@@ -83,14 +86,19 @@ fn measure_networks<R: CpuClock + Files + AllocGlobal + Print>(
     open: Open<'_>,
 ) -> Result<(), Stop> {
     let pairs = pairs_of(effort.exchanges)?;
-    let mut plain = Plain::new(rt.alloc(), plan)?;
-    let measured = measure(rt, "plain network", &mut plain, &pairs, effort, open.plain);
-    drop(plain);
-    let _opened = measured?;
     let mut engine = Engine::new(rt.alloc(), plan)?;
     let measured = measure_engine(rt, &mut engine, &pairs, effort, open);
     drop(engine);
-    measured
+    measured?;
+    let fewer = Effort {
+        calls: effort.calls / 10 + 1,
+        ..effort
+    };
+    let mut plain = Plain::new(rt.alloc(), plan)?;
+    let measured = measure(rt, "plain network", &mut plain, &pairs, fewer, open.plain);
+    drop(plain);
+    let _opened = measured?;
+    Ok(())
 }
 
 /// Measures both networks over the plan of so many exchanges.
@@ -136,17 +144,17 @@ fn main(rt: HostRuntime) -> Result<(), Stop> {
         };
         return measure_over(&rt, effort, open);
     }
-    for exchanges in [2, 60, 256] {
+    for (exchanges, most) in [(60, 100_000), (2, 0), (256, 0)] {
         let effort = Effort {
             exchanges,
-            rounds: 10,
-            calls: 3000,
+            rounds: 20,
+            calls: 1000,
             prints: true,
         };
         let open = Open {
             engine: &[0, 1, 1000, 10_000],
             plain: &[0, 1000],
-            most: 100_000,
+            most,
         };
         measure_over(&rt, effort, open)?;
     }

@@ -1,20 +1,20 @@
 -- The slab and the index of calls, as contracts see them.
-use Rattle.std.proofs.Common.{◌≡◌, ◌≢◌, ℕ, zero, suc, ◌+◌, ◌-◌, ◌<◌, ◌≤◌, Bool, true, false, not, List, [], ◌∷◌, ◌++◌, map, length, Option, Some, None, is_some, nat_eq, slice_index_or, refl, sym, ap, subst, ◌∙◌, arith, count_by}
-use Rattle.std.specs.Prelude.{filter, if◌then◌else◌, ◌==◌}
+use Rattle.std.proofs.Common.{◌≡◌, ℕ, zero, suc, ◌-◌, ◌<◌, true, false, List, [], ◌∷◌, map, length, Option, Some, None, is_some, slice_index_or, refl, sym, ap, subst, ◌∙◌, arith, count_by}
+use Rattle.std.specs.Prelude.{if◌then◌else◌, ◌==◌}
 use Rattle.std.specs.Option.{option_map}
 use Rattle.std.proofs.lemmas.List.Sums.{sum_by-cons}
 use Rattle.std.specs.Prelude.{cond}
 use Rattle.slab.specs.Slab as slab
-use Rattle.slab.specs.Slab.{Slab, slab_len}
+use Rattle.slab.specs.Slab.{Slab}
 use Rattle.indexmap.specs.IndexMap as index
 use Rattle.indexmap.specs.IndexMap.{IndexMap}
-use Rattle.tx_state.specs.Call.{Call, call_of, is_numbered}
+use Rattle.tx_state.specs.Call.{Call}
 use Rattle.tx_state.specs.Routing.{set_call}
 use Rattle.tx_calls.specs.Calls.{Kept, Calls, kept_at, Changes, sorted_calls, calls_in, kept_of, slots_of, calls_of}
 use Rattle.tx_network.specs.Seen.{call_seen}
 use Rattle.tx_calls.specs.Tied.{IsTied}
 use Rattle.tx_network.specs.declared.open_call.OpenCall.{OpenCall}
-use Rattle.tx_calls.proofs.Sorted.{length_put, after_change, after_removal, tied_distinct, tied_after_change, tied_after_remove}
+use Rattle.tx_calls.proofs.Sorted.{length_put, after_change, tied_distinct, tied_after_change}
 
 pub some_under : (v : Calls) (key : ℕ) → is_some (kept_at v key) ≡ true → (k : Kept) × (kept_at v key ≡ Some k)
 some_under v key h = by (kept_at v key) refl h

@@ -1,6 +1,5 @@
 // The open calls, under keys and by number.
-ghost use Rattle.std.specs.Prelude.{◌≡◌, ◌<◌, ◌≤◌, ◌+◌, ◌++◌, ◌∷◌, [], ℕ, not, filter, length, OnOk, OnErr, IfSome, IfNone, Some, None, is_some, true};
-ghost use Rattle.std.specs.Option.{option_map};
+ghost use Rattle.std.specs.Prelude.{◌≡◌, ◌<◌, ◌≤◌, ◌+◌, ◌++◌, ◌∷◌, [], ℕ, not, filter, length, OnOk, IfSome, IfNone, Some, None, is_some, true};
 ghost use Rattle.tx_state.specs.Call.{Call, call_of, is_numbered};
 ghost use Rattle.tx_state.specs.Members.{Mem};
 ghost use Rattle.tx_state.specs.Routing.{in_phase, set_call};

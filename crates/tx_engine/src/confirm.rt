@@ -1,5 +1,5 @@
 // Confirming a circuit.
-ghost use Rattle.std.specs.Prelude.{◌≡◌, ◌<◌, ◌-◌, ◌^◌, true, false};
+ghost use Rattle.std.specs.Prelude.{◌≡◌, ◌<◌, ◌-◌, ◌^◌, false};
 ghost use Rattle.std.specs.FinSet as set;
 ghost use Rattle.tx_state.specs.declared.event.Event.TheVariants.{Confirm};
 ghost use Rattle.tx_state.specs.declared.phase.Phase.TheVariants.{Calling};

@@ -1,5 +1,5 @@
 // Calls that end.
-ghost use Rattle.std.specs.Prelude.{◌≡◌, ◌≢◌, ℕ, ◌<◌, ◌-◌, ◌^◌, is_some, Some, true, false};
+ghost use Rattle.std.specs.Prelude.{◌≡◌, ◌≢◌, ℕ, ◌<◌, ◌-◌, ◌^◌, is_some, Some, true};
 ghost use Rattle.tx_state.specs.declared.event.Event.TheVariants.{Clear};
 ghost use Rattle.tx_state.specs.Ending.{end_call, ticket_of};
 ghost use Rattle.tx_state.specs.Step.{step};

@@ -1,7 +1,7 @@
 // The indexed network.
-ghost use Rattle.std.specs.Prelude.{◌≡◌, IfOk, OnErr, None, length, slice_get, true};
-ghost use Rattle.tx_state.specs.Step.{step, takes_memory, accepted, counted};
-ghost use Rattle.tx_state.specs.State.{ticket_taken, opening};
+ghost use Rattle.std.specs.Prelude.{◌≡◌, IfOk, OnErr, None, true};
+ghost use Rattle.tx_state.specs.Step.{step, takes_memory};
+ghost use Rattle.tx_state.specs.State.{opening};
 ghost use Rattle.tx_state.specs.Refusals.{refusal};
 
 use crate::parts::Parts;
@@ -58,22 +58,17 @@ impl<'p, A: Allocator + Copy> Engine<'p, A> {
         Ok(Engine { parts })
     }
 
-    /// One event.
-    fn apply_one(&mut self, event: &Event) -> Result<Reply, NoMemory>
+    /// One event that `tx_network` refuses, or that is carried out.
+    #[inline(never)]
+    fn apply_other(&mut self, event: &Event) -> Result<Reply, NoMemory>
         ensures plan { self.new.plan ≡ self.old.plan }
         ensures step { IfOk result (λ reply. step self.old.plan self.old.state event.now ≡ (reply, self.new.state)) }
         ensures err { OnErr result (self.new ≡ self.old) }
         ensures memory { OnErr result ((takes_memory event.now ≡ true) × (refusal self.old.plan self.old.state event.now ≡ None)) }
     {
-        match event {
-            Event::Key { line, keyed } => self.parts.key(*line, *keyed),
-            Event::Route(number) => self.parts.route(*number),
-            Event::Confirm(number) => Ok(self.parts.confirm(*number)),
-            Event::Clear { call, party } => Ok(self.parts.clear(*call, *party)),
-            _ => match refusal(self, event) {
-                Some(refusal) => Ok(Reply::Refused(refusal)),
-                None => self.accept(event),
-            },
+        match refusal(self, event) {
+            Some(refusal) => Ok(Reply::Refused(refusal)),
+            None => self.accept(event),
         }
     }
 
@@ -113,7 +108,13 @@ impl<'p, A: Allocator + Copy> Network for Engine<'p, A> {
     ghost state = { λ n. n.state };
 
     fn apply(&mut self, event: Event) -> Result<Reply, NoMemory> {
-        self.apply_one(&event)
+        match event {
+            Event::Key { line, keyed } => self.parts.key(line, keyed),
+            Event::Route(number) => self.parts.route(number),
+            Event::Confirm(number) => Ok(self.parts.confirm(number)),
+            Event::Clear { call, party } => Ok(self.parts.clear(call, party)),
+            other => self.apply_other(&other),
+        }
     }
 
     fn next_ticket(&mut self) -> Option<Ticket<A>> {

@@ -1,7 +1,6 @@
 // Routing a call.
 ghost use Rattle.std.specs.Prelude.{◌≡◌, ◌<◌, ◌-◌, ◌^◌, IfOk, OnErr, Some, None, is_some, true};
 ghost use Rattle.tx_state.specs.declared.event.Event.TheVariants.{Route};
-ghost use Rattle.tx_state.specs.declared.phase.Phase.TheVariants.{Standing};
 ghost use Rattle.tx_state.specs.Refusals.{refusal};
 ghost use Rattle.tx_state.specs.Step.{step, counted};
 ghost use Rattle.tx_calls.specs.Calls.{Kept, kept_at};

@@ -1,5 +1,5 @@
 // Which events are refused, and why.
-ghost use Rattle.std.specs.Prelude.{◌≡◌, ◌-◌, ◌^◌, ◌∷◌, [], ◌++◌, ◌&&◌, Bool, not, nat_le, is_none, List};
+ghost use Rattle.std.specs.Prelude.{◌≡◌, ◌-◌, ◌^◌, ◌∷◌, [], ◌&&◌, not, nat_le};
 ghost use Rattle.tx_plan.specs.Lines.{is_line};
 ghost use Rattle.tx_plan.specs.Circuits.{is_circuit};
 ghost use Rattle.tx_state.specs.declared.event.Event.TheVariants.{Key, Route, Confirm, Clear};

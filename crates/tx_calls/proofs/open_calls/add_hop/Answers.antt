@@ -1,9 +1,8 @@
-use Rattle.std.proofs.Common.{◌≡◌, Some, is_some, true, false, ap, ◌∙◌, sym, refl, arith}
+use Rattle.std.proofs.Common.{◌≡◌, Some, is_some, false, ap, ◌∙◌, sym, arith}
 use Rattle.slab.proofs.SlabLemmas.{Updates-with_value}
 use Rattle.tx_state.specs.declared.phase.Phase.TheVariants.{Standing}
 use Rattle.tx_state.specs.Confirming.{carried_on}
 use Rattle.tx_network.specs.Seen.{call_seen}
-use Rattle.tx_network.specs.declared.open_call.OpenCall.{OpenCall}
 use Rattle.tx_calls.proofs.open_calls.add_hop.Goals as goal
 
 pub put-requires : goal.put-requires

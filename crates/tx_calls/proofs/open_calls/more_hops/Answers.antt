@@ -1,8 +1,7 @@
-use Rattle.std.proofs.Common.{◌≡◌, ◌≤◌, ◌<◌, Some, is_some, true, ap, ◌∙◌, sym, refl, arith, subst, OnOk, rules}
+use Rattle.std.proofs.Common.{◌≡◌, ◌≤◌, Some, is_some, ap, ◌∙◌, arith, subst, rules}
 use Rattle.slab.proofs.SlabLemmas.{Updates-with_value}
 use Rattle.tx_calls.specs.Calls.{kept_of}
 use Rattle.tx_network.specs.Seen.{call_seen}
-use Rattle.tx_network.specs.declared.open_call.OpenCall.{OpenCall}
 use Rattle.tx_calls.proofs.open_calls.more_hops.Goals as goal
 
 pub returns-in_ok-reserve : goal.returns-in_ok-reserve

@@ -1,4 +1,4 @@
-use Rattle.std.proofs.Common.{◌≡◌, ◌<◌, ◌++◌, ◌∷◌, [], Some, None, OnOk, nat_eq, subst, ap, ◌∙◌, sym}
+use Rattle.std.proofs.Common.{◌<◌, ◌++◌, ◌∷◌, [], Some, OnOk, nat_eq, subst, ap, ◌∙◌, sym}
 use Rattle.std.specs.Option.{option_map}
 use Rattle.indexmap.specs.IndexMap as index
 use Rattle.tx_state.specs.Call.{Call}
