@@ -10,7 +10,7 @@ use crate::checked::Checked;
 use std::alloc::Allocator;
 use tx_cert::Cert;
 use tx_check::{Verdict, check};
-use tx_machine::Plain;
+use tx_engine::Engine;
 use tx_plan::Plan;
 use tx_script::{RunCause, RunFault, run};
 use tx_text::{NoMemory, Sink, Source};
@@ -57,7 +57,7 @@ fn run_allowed<A: Allocator + Copy, R: Source, W: Sink>(
     ensures mark { W.failed out.new ≡ mark_after (W.failed out.old) result }
     ensures calls { CallsAtMost R.called source_calls script.old script.new }
 {
-    match Plain::new(alloc, plan) {
+    match Engine::new(alloc, plan) {
         Err(NoMemory) => Err(RunFault {
             event: 1,
             cause: RunCause::NoMemory,
