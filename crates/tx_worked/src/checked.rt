@@ -1,17 +1,17 @@
 // Events that are driven through a network after a Yes of the checker.
-use crate::case::two_texts;
 use crate::driven::try_drives;
-use crate::outputs::next_line;
-use crate::told::{Stop, write_broken, write_count};
+use crate::runs::Over;
 use std::alloc::Allocator;
+use tx_cases::{Stop, next_line, two_texts, write_broken, write_count};
 use tx_cert::read_cert;
 use tx_check::{Verdict, check};
+use tx_engine::Engine;
 use tx_machine::Plain;
 use tx_plan::Plan;
 use tx_plantext::read_plan;
 use tx_script::read_event;
 use tx_state::{Event, Network, Reply, drive};
-use tx_text::{NoMemory, Sink, words, write_bytes};
+use tx_text::{NoMemory, Sink, WriteFault, words, write_bytes};
 use tx_tickets::{write_reply, write_ticket};
 
 /// Whether a line of a script says no event: it has no words, or is the header or END.
@@ -22,58 +22,104 @@ fn says_no_event(line: &[u8]) -> bool {
     }
 }
 
-/// The events of a script.
-fn events_of<A: Allocator + Copy, W: Sink>(
-    alloc: A,
+/// Adds the event that a line of a script says, if it says one.
+fn put_event<A: Allocator, B: Allocator, W: Sink>(
+    plan: &Plan<A>,
+    line: &[u8],
+    events: &mut Vec<Event, B>,
+    out: &mut W,
+) -> Result<(), Stop> {
+    if says_no_event(line) {
+        return Ok(());
+    }
+    match read_event(line, plan) {
+        Ok(event) => match events.push(event) {
+            Ok(()) => Ok(()),
+            Err(_) => Err(Stop::NoMemory),
+        },
+        Err(_) => Ok(write_broken(line, 0, out)?),
+    }
+}
+
+/// Adds the events of a script.
+fn put_events<A: Allocator, B: Allocator, W: Sink>(
     plan: &Plan<A>,
     script: &[u8],
+    events: &mut Vec<Event, B>,
     out: &mut W,
-) -> Result<Vec<Event, A>, Stop> {
-    let mut events = Vec::new(alloc);
+) -> Result<(), Stop> {
     let mut rest = script;
-    for number in 1..=script.len() {
+    for _ in 0..script.len() {
         let Some((line, behind)) = next_line(rest) else {
             break;
         };
-        let line = line.strip_suffix(b"\n".as_slice()).unwrap_or(line);
-        if !says_no_event(line) {
-            match read_event(line, plan) {
-                Ok(event) => push(&mut events, event)?,
-                Err(_) => write_broken(b"no event in line", number as u64, out)?,
-            }
-        }
+        put_event(plan, line, events, out)?;
         rest = behind;
     }
-    Ok(events)
-}
-
-fn push<A: Allocator>(events: &mut Vec<Event, A>, event: Event) -> Result<(), NoMemory> {
-    events.push(event)?;
     Ok(())
 }
 
-/// Drives the events through a new network, and writes the replies, then the tickets, and then how many events were accepted and calls are open.
-fn drive_events<A: Allocator + Copy, W: Sink>(
-    alloc: A,
+/// Writes the replies, then the tickets, and then how many events were accepted and calls are open.
+fn tell_driven<A: Allocator, N: Network, W: Sink>(
     plan: &Plan<A>,
-    events: &[Event],
-    replies: &mut Vec<Reply, A>,
+    net: &mut N,
+    replies: &[Reply],
     out: &mut W,
-) -> Result<(), Stop> {
-    let mut net = Plain::new(alloc, plan)?;
-    drive(&mut net, events, replies)?;
-    for reply in replies.as_slice() {
+) -> Result<(), WriteFault> {
+    for reply in replies {
         write_reply(reply, plan, out)?;
     }
-    for _ in 0..=events.len() {
+    for _ in 0..=replies.len() {
         let Some(ticket) = net.next_ticket() else {
             break;
         };
         write_ticket(&ticket, plan, out)?;
     }
     write_count(b"END EVENTS ", net.events(), b"", out)?;
-    write_count(b" OPEN ", net.open_calls(), b"\n", out)?;
-    Ok(())
+    write_count(b" OPEN ", net.open_calls(), b"\n", out)
+}
+
+/// Drives the events through a network, and tells what comes of it.
+fn drive_events<A: Allocator, N: Network, B: Allocator, W: Sink>(
+    plan: &Plan<A>,
+    net: &mut N,
+    events: &[Event],
+    replies: &mut Vec<Reply, B>,
+    out: &mut W,
+) -> Result<(), Stop> {
+    match drive(net, events, replies) {
+        Ok(()) => Ok(tell_driven(plan, net, replies.as_slice(), out)?),
+        Err(NoMemory) => Err(Stop::NoMemory),
+    }
+}
+
+/// The same through a new network of the plan.
+fn drive_over<A: Allocator + Copy, W: Sink>(
+    alloc: A,
+    over: Over,
+    plan: &Plan<A>,
+    events: &[Event],
+    replies: &mut Vec<Reply, A>,
+    out: &mut W,
+) -> Result<(), Stop> {
+    match over {
+        Over::Plain => match Plain::new(alloc, plan) {
+            Ok(mut net) => {
+                let driven = drive_events(plan, &mut net, events, replies, out);
+                drop(net);
+                driven
+            }
+            Err(NoMemory) => Err(Stop::NoMemory),
+        },
+        Over::Engine => match Engine::new(alloc, plan) {
+            Ok(mut net) => {
+                let driven = drive_events(plan, &mut net, events, replies, out);
+                drop(net);
+                driven
+            }
+            Err(NoMemory) => Err(Stop::NoMemory),
+        },
+    }
 }
 
 /// Whether the checker says Yes to a certificate of the plan.
@@ -85,7 +131,11 @@ fn is_certified<A: Allocator + Copy>(
     spare: u8,
 ) -> bool {
     match read_cert(alloc, cert, plan) {
-        Ok(cert) => check(plan, &cert, limit.min(62), spare.min(15)) == Verdict::Yes,
+        Ok(cert) => {
+            let verdict = check(plan, &cert, limit.min(62), spare.min(15));
+            drop(cert);
+            verdict == Verdict::Yes
+        }
         Err(_) => false,
     }
 }
@@ -98,8 +148,44 @@ struct Texts<'a> {
     script: &'a [u8],
 }
 
+/// Drives the events, and again where memory is refused.
+fn drive_all<A: Allocator + Copy, W: Sink>(
+    alloc: A,
+    over: Over,
+    plan: &Plan<A>,
+    text: &[u8],
+    events: &[Event],
+    out: &mut W,
+) -> Result<(), Stop> {
+    let mut replies = Vec::new(alloc);
+    let driven = match drive_over(alloc, over, plan, events, &mut replies, out) {
+        Ok(()) => try_drives(alloc, over, text, events, replies.as_slice(), out),
+        Err(stop) => Err(stop),
+    };
+    drop(replies);
+    driven
+}
+
+/// Drives the events of the script.
+fn drive_script<A: Allocator + Copy, W: Sink>(
+    alloc: A,
+    over: Over,
+    plan: &Plan<A>,
+    texts: Texts<'_>,
+    out: &mut W,
+) -> Result<(), Stop> {
+    let mut events = Vec::new(alloc);
+    let driven = match put_events(plan, texts.script, &mut events, out) {
+        Ok(()) => drive_all(alloc, over, plan, texts.plan, events.as_slice(), out),
+        Err(stop) => Err(stop),
+    };
+    drop(events);
+    driven
+}
+
 fn drive_certified<A: Allocator + Copy, W: Sink>(
     alloc: A,
+    over: Over,
     plan: &Plan<A>,
     texts: Texts<'_>,
     numbers: (u8, u8),
@@ -109,30 +195,26 @@ fn drive_certified<A: Allocator + Copy, W: Sink>(
         return Ok(write_bytes(b"NO\n", out)?);
     }
     write_bytes(b"YES\n", out)?;
-    let events = events_of(alloc, plan, texts.script, out)?;
-    let mut replies = Vec::new(alloc);
-    drive_events(alloc, plan, events.as_slice(), &mut replies, out)?;
-    try_drives(
-        alloc,
-        texts.plan,
-        events.as_slice(),
-        replies.as_slice(),
-        out,
-    )
+    drive_script(alloc, over, plan, texts, out)
 }
 
-/// Checks a certificate of a plan, with a limit and a spare number, and after a Yes drives the events of a script.
+/// Checks a certificate of a plan, with a limit and a spare number, and after a Yes drives the events of the script behind it.
 pub(crate) fn play_certified<A: Allocator + Copy, W: Sink>(
     alloc: A,
+    over: Over,
     numbers: (u8, u8),
-    texts: &[u8],
+    plan: &[u8],
+    rest: &[u8],
     out: &mut W,
 ) -> Result<(), Stop> {
-    let (plan, rest) = two_texts(texts);
     let (cert, script) = two_texts(rest);
     let texts = Texts { plan, cert, script };
     match read_plan(alloc, plan) {
-        Ok(plan) => drive_certified(alloc, &plan, texts, numbers, out),
+        Ok(plan) => {
+            let played = drive_certified(alloc, over, &plan, texts, numbers, out);
+            drop(plan);
+            played
+        }
         Err(_) => Ok(write_broken(b"no plan", 0, out)?),
     }
 }

@@ -1,7 +1,9 @@
 // Lists of events that are driven where memory is refused.
-use crate::told::{Stop, write_broken};
+use crate::runs::Over;
 use refusing::Refusing;
 use std::alloc::Allocator;
+use tx_cases::{Stop, write_broken};
+use tx_engine::Engine;
 use tx_machine::Plain;
 use tx_plan::Plan;
 use tx_plantext::read_plan;
@@ -19,35 +21,78 @@ fn accepted(replies: &[Reply]) -> u64 {
     count
 }
 
-/// Drives the events, and where memory was wanted the rest of them again, and tells whether the replies are those of a network that never wants it.
-fn drives_on<A: Allocator + Copy>(
+/// Drives the events, and where memory was wanted the rest of them again. Tells whether the replies were those of the events that were applied.
+fn drive_on<N: Network, A: Allocator>(
+    net: &mut N,
+    events: &[Event],
+    replies: &mut Vec<Reply, A>,
+) -> Result<bool, NoMemory> {
+    if drive(net, events, replies).is_err() {
+        if net.events() != accepted(replies.as_slice()) {
+            return Ok(false);
+        }
+        let (_, rest) = events.split_at(replies.len().min(events.len()));
+        drive(net, rest, replies)?;
+    }
+    Ok(true)
+}
+
+/// Drives the events through a network, and tells whether the replies are those of a network that never wants memory.
+fn drives_on<N: Network, A: Allocator>(
     alloc: A,
+    net: &mut N,
+    events: &[Event],
+    whole: &[Reply],
+) -> Result<bool, NoMemory> {
+    let mut replies = Vec::new(alloc);
+    let driven = drive_on(net, events, &mut replies);
+    let is_whole = replies.as_slice() == whole;
+    drop(replies);
+    Ok(driven? && is_whole)
+}
+
+/// The same over a new network of the plan.
+fn makes_and_drives_on<A: Allocator + Copy>(
+    alloc: A,
+    over: Over,
     plan: &Plan<A>,
     events: &[Event],
     whole: &[Reply],
 ) -> Result<bool, NoMemory> {
-    let mut net = Plain::new(alloc, plan)?;
-    let mut replies = Vec::new(alloc);
-    if drive(&mut net, events, &mut replies).is_err() {
-        let applied = replies.len();
-        if net.events() != accepted(replies.as_slice()) {
-            return Ok(false);
-        }
-        let (_, rest) = events.split_at(applied.min(events.len()));
-        drive(&mut net, rest, &mut replies)?;
+    match over {
+        Over::Plain => match Plain::new(alloc, plan) {
+            Ok(mut net) => {
+                let keeps = drives_on(alloc, &mut net, events, whole);
+                drop(net);
+                keeps
+            }
+            Err(fault) => Err(fault),
+        },
+        Over::Engine => match Engine::new(alloc, plan) {
+            Ok(mut net) => {
+                let keeps = drives_on(alloc, &mut net, events, whole);
+                drop(net);
+                keeps
+            }
+            Err(fault) => Err(fault),
+        },
     }
-    Ok(replies.as_slice() == whole)
 }
 
 /// The same over a plan that is read with the allocator.
 fn reads_and_drives_on<A: Allocator + Copy>(
     alloc: A,
+    over: Over,
     plan: &[u8],
     events: &[Event],
     whole: &[Reply],
 ) -> Result<bool, NoMemory> {
     match read_plan(alloc, plan) {
-        Ok(plan) => drives_on(alloc, &plan, events, whole),
+        Ok(plan) => {
+            let keeps = makes_and_drives_on(alloc, over, &plan, events, whole);
+            drop(plan);
+            keeps
+        }
         Err(_) => Err(NoMemory),
     }
 }
@@ -56,6 +101,7 @@ fn reads_and_drives_on<A: Allocator + Copy>(
 /// replies.
 pub(crate) fn try_drives<A: Allocator + Copy, W: Sink>(
     alloc: A,
+    over: Over,
     plan: &[u8],
     events: &[Event],
     whole: &[Reply],
@@ -63,13 +109,16 @@ pub(crate) fn try_drives<A: Allocator + Copy, W: Sink>(
 ) -> Result<(), Stop> {
     for request in 1..1_000_000u64 {
         let refusing = Refusing::new(alloc, request);
-        let did = reads_and_drives_on(&refusing, plan, events, whole);
+        let did = reads_and_drives_on(&refusing, over, plan, events, whole);
         let came = refusing.has_refused();
-        if did == Ok(false) || (did == Err(NoMemory) && !came) {
+        let keeps = match did {
+            Ok(keeps) => keeps,
+            Err(NoMemory) => came,
+        };
+        if !keeps {
             write_broken(b"driven, refused request", request, out)?;
-            break;
         }
-        if !came {
+        if !came || !keeps {
             break;
         }
     }

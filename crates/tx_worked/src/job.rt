@@ -4,17 +4,18 @@ ghost use Rattle.std.specs.Prelude.{◌≤◌};
 use refusing::Refusing;
 use std::alloc::Allocator;
 use tx_audit::Audited;
+use tx_cases::Judge;
 use tx_cert::write_cert;
 use tx_jobs::{
     JobFault, audit_job, check_status, codes_job, pipe_job, run_checked_status, run_job,
 };
-use tx_text::{MemorySink, MemorySource, NoMemory, Sink, Source};
+use tx_text::{MemorySource, Sink, Source};
 
 /// Room enough for what any job of the cases writes.
 pub(crate) const ROOM: usize = 20_000;
 
 /// Which job.
-#[derive(Clone, Copy, Debug, PartialEq, Eq)]
+#[derive(Clone, Copy)]
 pub(crate) enum Job {
     Pipe,
     Run,
@@ -36,7 +37,7 @@ pub(crate) struct Task<'a> {
 }
 
 /// One of the sources of a task.
-#[derive(Clone, Copy, Debug, PartialEq, Eq)]
+#[derive(Clone, Copy, PartialEq, Eq)]
 pub(crate) enum End {
     First,
     Second,
@@ -64,70 +65,101 @@ impl Ends {
         }
     }
 
-    /// A source over one of the texts.
-    fn source<'a>(&self, end: End, text: &'a [u8]) -> MemorySource<'a> {
-        let fails_at = match self.fails {
+    /// The call of a source that fails.
+    fn fails_at(&self, end: End) -> Option<u64> {
+        match self.fails {
             Some((failing, call)) if failing == end => Some(call),
             _ => None,
-        };
-        MemorySource::new(text, self.piece.max(1), fails_at)
+        }
+    }
+
+    /// A source over one of the texts.
+    fn source<'a>(&self, end: End, text: &'a [u8]) -> MemorySource<'a> {
+        MemorySource::new(text, self.piece.max(1), self.fails_at(end))
     }
 }
 
-/// What a job did: its exit status or its fault, and what it wrote.
-#[derive(Drop)]
-pub(crate) struct Did<A: Allocator> {
+/// What a whole job does, beside which others are judged: its exit status or its fault, and what it writes.
+#[derive(Clone, Copy)]
+pub(crate) struct Whole<'a> {
     pub answer: Result<u8, JobFault>,
-    pub written: MemorySink<A>,
+    pub text: &'a [u8],
 }
 
-impl<A: Allocator> Did<A> {
-    /// Whether two jobs did the same.
-    pub(crate) fn is_as(&self, other: &Did<A>) -> bool {
-        self.answer == other.answer && self.written.taken() == other.written.taken()
+/// What a job did: its exit status or its fault, how many bytes it wrote, and whether these are a front of what the whole job writes.
+#[derive(Clone, Copy)]
+pub(crate) struct Did {
+    pub answer: Result<u8, JobFault>,
+    pub written: usize,
+    pub is_front: bool,
+}
+
+impl Did {
+    fn of(answer: Result<u8, JobFault>, judge: &Judge<'_>) -> Did {
+        Did {
+            answer,
+            written: judge.taken(),
+            is_front: judge.is_front(),
+        }
     }
 
-    /// Whether the job stopped with a fault, and wrote a front of what the whole job writes.
-    pub(crate) fn stopped(&self, fault: JobFault, whole: &Did<A>) -> bool {
-        self.answer == Err(fault) && whole.written.taken().starts_with(self.written.taken())
+    /// Whether it did all that the whole job does.
+    pub(crate) fn is_as(&self, whole: Whole<'_>) -> bool {
+        self.is_front && self.written == whole.text.len() && self.answer == whole.answer
+    }
+
+    /// Whether it stopped with a fault, and wrote a front of what the whole job writes.
+    pub(crate) fn stopped(&self, fault: JobFault) -> bool {
+        self.is_front && self.answer == Err(fault)
     }
 }
 
-/// Does a task, and answers its exit status.
-fn do_job<A: Allocator + Copy, W: Sink>(
+/// Runs an input of a plan and a script.
+fn do_pipe<A: Allocator + Copy, R: Source + Drop, W: Sink>(
     alloc: A,
-    task: Task<'_>,
-    ends: Ends,
+    input: R,
     out: &mut W,
 ) -> Result<u8, JobFault> {
-    let mut first = ends.source(End::First, task.first);
-    let mut second = ends.source(End::Second, task.second);
-    match task.job {
-        Job::Pipe => pipe_job(alloc, first, out).map(|_| 0),
-        Job::Run => run_job(alloc, &mut first, &mut second, out).map(|_| 0),
-        Job::Codes => {
-            codes_job(alloc, &mut first, out).map(|pair| if pair.is_some() { 1 } else { 0 })
-        }
-        Job::Check { limit, spare } => check_status(
-            alloc,
-            &mut first,
-            &mut second,
-            limit.min(62),
-            spare.min(15),
-            out,
-        ),
-        Job::Audit { limit, spare } => {
-            do_audit(alloc, &mut first, limit.min(62), spare.min(15), out)
-        }
-        Job::Checked { limit, spare } => run_checked_status(
-            alloc,
-            &mut first,
-            &mut second,
-            limit.min(62),
-            spare.min(15),
-            &mut ends.source(End::Third, task.third),
-            out,
-        ),
+    match pipe_job(alloc, input, out) {
+        Ok(_) => Ok(0),
+        Err(fault) => Err(fault),
+    }
+}
+
+/// Runs a script over a plan.
+fn do_run<A: Allocator + Copy, P: Source, R: Source, W: Sink>(
+    alloc: A,
+    plan: &mut P,
+    script: &mut R,
+    out: &mut W,
+) -> Result<u8, JobFault> {
+    match run_job(alloc, plan, script, out) {
+        Ok(_) => Ok(0),
+        Err(fault) => Err(fault),
+    }
+}
+
+/// Lists the codes of a plan.
+fn do_codes<A: Allocator + Copy, P: Source, W: Sink>(
+    alloc: A,
+    plan: &mut P,
+    out: &mut W,
+) -> Result<u8, JobFault> {
+    match codes_job(alloc, plan, out) {
+        Ok(Some(_)) => Ok(1),
+        Ok(None) => Ok(0),
+        Err(fault) => Err(fault),
+    }
+}
+
+/// Writes the certificate, if one was found.
+fn keep<A: Allocator, W: Sink>(audited: &Audited<A>, out: &mut W) -> Result<u8, JobFault> {
+    match audited {
+        Audited::Sound(plan, cert) => match write_cert(cert, plan, out) {
+            Ok(()) => Ok(0),
+            Err(_) => Err(JobFault::Write),
+        },
+        Audited::Unsound(_, _) => Ok(1),
     }
 }
 
@@ -142,33 +174,66 @@ fn do_audit<A: Allocator + Copy, P: Source, W: Sink>(
     requires limit { limit ≤ 62 }
     requires spare { spare ≤ 15 }
 {
-    let audited = audit_job(alloc, plan, limit, spare, out)?;
-    let status = keep(&audited, out);
-    drop(audited);
-    status
-}
-
-/// Writes the certificate, if one was found.
-fn keep<A: Allocator, W: Sink>(audited: &Audited<A>, out: &mut W) -> Result<u8, JobFault> {
-    match audited {
-        Audited::Sound(plan, cert) => match write_cert(cert, plan, out) {
-            Ok(()) => Ok(0),
-            Err(_) => Err(JobFault::Write),
-        },
-        Audited::Unsound(_, _) => Ok(1),
+    match audit_job(alloc, plan, limit, spare, out) {
+        Ok(audited) => {
+            let status = keep(&audited, out);
+            drop(audited);
+            status
+        }
+        Err(fault) => Err(fault),
     }
 }
 
-/// What a task does.
+/// Does a job over its sources, and answers its exit status: that of a pipe has but one.
+fn do_job<A: Allocator + Copy, P: Source, R: Source, S: Source, W: Sink>(
+    alloc: A,
+    job: Job,
+    first: &mut P,
+    second: &mut R,
+    third: &mut S,
+    out: &mut W,
+) -> Result<u8, JobFault> {
+    match job {
+        Job::Pipe | Job::Run => do_run(alloc, first, second, out),
+        Job::Codes => do_codes(alloc, first, out),
+        Job::Check { limit, spare } => {
+            check_status(alloc, first, second, limit.min(62), spare.min(15), out)
+        }
+        Job::Audit { limit, spare } => { do_audit(alloc, first, limit.min(62), spare.min(15), out) }
+        Job::Checked { limit, spare } => {
+            let (limit, spare) = (limit.min(62), spare.min(15));
+            run_checked_status(alloc, first, second, limit, spare, third, out)
+        }
+    }
+}
+
+/// Does a task, and answers its exit status.
+pub(crate) fn do_task<A: Allocator + Copy, W: Sink>(
+    alloc: A,
+    task: Task<'_>,
+    ends: Ends,
+    out: &mut W,
+) -> Result<u8, JobFault> {
+    let mut first = ends.source(End::First, task.first);
+    if let Job::Pipe = task.job {
+        return do_pipe(alloc, first, out);
+    }
+    let mut second = ends.source(End::Second, task.second);
+    let mut third = ends.source(End::Third, task.third);
+    do_job(alloc, task.job, &mut first, &mut second, &mut third, out)
+}
+
+/// What a task does in a room, beside what is to be written.
 pub(crate) fn done<A: Allocator + Copy>(
     alloc: A,
     task: Task<'_>,
     ends: Ends,
+    text: &[u8],
     room: usize,
-) -> Result<Did<A>, NoMemory> {
-    let mut written = MemorySink::new(alloc, room)?;
-    let answer = do_job(alloc, task, ends, &mut written);
-    Ok(Did { answer, written })
+) -> Did {
+    let mut judge = Judge::new(text, room);
+    let answer = do_task(alloc, task, ends, &mut judge);
+    Did::of(answer, &judge)
 }
 
 /// What a task does where a request for memory is refused, and whether that request came.
@@ -176,10 +241,9 @@ pub(crate) fn done_without<A: Allocator + Copy>(
     alloc: A,
     task: Task<'_>,
     request: u64,
-) -> Result<(Did<A>, bool), NoMemory> {
-    let mut written = MemorySink::new(alloc, ROOM)?;
+    text: &[u8],
+) -> (Did, bool) {
     let refusing = Refusing::new(alloc, request);
-    let answer = do_job(&refusing, task, Ends::pieces(4096), &mut written);
-    let came = refusing.has_refused();
-    Ok((Did { answer, written }, came))
+    let did = done(&refusing, task, Ends::pieces(4096), text, ROOM);
+    (did, refusing.has_refused())
 }

@@ -1,23 +1,18 @@
 // Runs and jobs at each room, at each failing call and for each prefix.
-use crate::job::{Ends, Job, ROOM, Task, done};
-use crate::run_laws::write_summary;
-use crate::runs::{Ran, Script, run_pieces, run_text, told_cause};
+use crate::job::{Ends, Job, ROOM, Task, Whole, done};
+use crate::runs::{Ran, Script, WholeRun, run_beside, run_text, told_cause};
 use crate::stretches::{Happens, Stretches};
-use crate::told::{Stop, write_broken, write_count};
 use std::alloc::Allocator;
+use tx_cases::{Stop, write_broken, write_count};
 use tx_jobs::write_fault;
-use tx_text::{MemorySink, MemorySource, Sink, Source, write_bytes};
+use tx_script::{RunFault, Summary};
+use tx_text::{MemorySink, MemorySource, Sink, Source, WriteFault, write_bytes};
 
 /// More than any case has of anything.
 const MANY: u64 = 1_000_000;
 
-/// What a run did, with or without the count of its bytes.
-fn happens<A: Allocator>(ran: &Ran<A>, with_bytes: bool) -> Happens {
-    let bytes = if with_bytes {
-        Some(ran.written.taken().len() as u64)
-    } else {
-        None
-    };
+/// What a run did, and how many bytes it wrote, where that is told.
+fn happens(ran: &Ran, bytes: Option<u64>) -> Happens {
     match ran.end {
         Ok(_) => Happens {
             event: None,
@@ -32,39 +27,20 @@ fn happens<A: Allocator>(ran: &Ran<A>, with_bytes: bool) -> Happens {
     }
 }
 
-/// Tells a run whole: what it writes, and what it counts or the event and the cause that stop it.
-pub(crate) fn tell_run<A: Allocator + Copy, W: Sink>(
-    alloc: A,
-    text: Script<'_>,
-    out: &mut W,
-) -> Result<(), Stop> {
-    let ran = run_pieces(alloc, text, 7, None, ROOM)?;
-    write_bytes(ran.written.taken(), out)?;
-    match ran.end {
-        Ok(summary) => write_summary(&summary, out)?,
-        Err(fault) => {
-            write_count(b"event ", fault.event, b": ", out)?;
-            write_fault(&told_cause(fault.cause), out)?;
-        }
-    }
-    Ok(())
-}
-
 /// What a run does in each room, from none to the one that suffices.
 pub(crate) fn list_rooms<A: Allocator + Copy, W: Sink>(
     alloc: A,
     text: Script<'_>,
+    whole: &[u8],
     out: &mut W,
 ) -> Result<(), Stop> {
-    let whole = run_pieces(alloc, text, 7, None, ROOM)?;
     let mut stretches = Stretches::new();
-    for room in 0..=whole.written.taken().len() {
-        let ran = run_pieces(alloc, text, 7, None, room)?;
-        let written = ran.written.taken();
-        if written.len() != room || !whole.written.taken().starts_with(written) {
+    for room in 0..=whole.len() {
+        let ran = run_beside(alloc, text, 7, None, whole, room);
+        if ran.written != room || !ran.is_front {
             write_broken(b"not the front of the output in room", room as u64, out)?;
         }
-        stretches.put(room as u64, happens(&ran, false), out)?;
+        stretches.put(room as u64, happens(&ran, None), out)?;
     }
     stretches.end(out)
 }
@@ -74,21 +50,48 @@ pub(crate) fn list_calls<A: Allocator + Copy, W: Sink>(
     alloc: A,
     text: Script<'_>,
     piece: usize,
+    whole: WholeRun<'_>,
     out: &mut W,
 ) -> Result<(), Stop> {
-    let whole = run_pieces(alloc, text, 7, None, ROOM)?;
     let mut stretches = Stretches::new();
     for call in 1..MANY {
-        let ran = run_pieces(alloc, text, piece, Some(call), ROOM)?;
-        if !whole.written.taken().starts_with(ran.written.taken()) {
+        let ran = run_beside(alloc, text, piece, Some(call), whole.text, ROOM);
+        if !ran.is_front {
             write_broken(b"not a front of the output at call", call, out)?;
         }
-        stretches.put(call, happens(&ran, true), out)?;
+        stretches.put(call, happens(&ran, Some(ran.written as u64)), out)?;
         if ran.end == whole.end {
             break;
         }
     }
     stretches.end(out)
+}
+
+/// How many of the first thousand calls of a source are left, where the next one fails.
+fn calls_left<R: Source>(source: &mut R) -> u64 {
+    let mut left = 0u64;
+    for _ in 0..1000u32 {
+        if source.read(&mut [0]).is_err() {
+            break;
+        }
+        left = left.saturating_add(1);
+    }
+    left
+}
+
+/// Tells what was written, where the run stopped, and how many calls were made.
+fn tell_calls<W: Sink>(
+    written: &[u8],
+    end: Result<Summary, RunFault>,
+    left: u64,
+    out: &mut W,
+) -> Result<(), WriteFault> {
+    write_bytes(written, out)?;
+    if let Err(fault) = end {
+        write_count(b"\nevent ", fault.event, b": ", out)?;
+        write_fault(&told_cause(fault.cause), out)?;
+    }
+    write_count(b"", 1000u64.saturating_sub(left), b" reads\n", out)
 }
 
 /// How many calls of the script's source a run makes, at one byte a call, where the writer takes so many bytes.
@@ -98,37 +101,31 @@ pub(crate) fn count_calls<A: Allocator + Copy, W: Sink>(
     room: usize,
     out: &mut W,
 ) -> Result<(), Stop> {
-    let mut written = MemorySink::new(alloc, room)?;
     let mut source = MemorySource::new(text.script, 1, Some(1001));
+    let mut written = MemorySink::new(alloc, room)?;
     let end = run_text(alloc, text, &mut source, &mut written);
-    let mut left = 0u64;
-    for _ in 0..1000u32 {
-        if source.read(&mut [0]).is_err() {
-            break;
-        }
-        left = left.saturating_add(1);
-    }
-    write_bytes(written.taken(), out)?;
-    if let Err(fault) = end {
-        write_count(b"\nevent ", fault.event, b": ", out)?;
-        write_fault(&told_cause(fault.cause), out)?;
-    }
-    Ok(write_count(b"", 1000u64.saturating_sub(left), b" reads\n", out)?)
+    let told = tell_calls(written.taken(), end, calls_left(&mut source), out);
+    drop(written);
+    Ok(told?)
+}
+
+fn front(text: &[u8], length: usize) -> &[u8] {
+    text.split_at(length.min(text.len())).0
 }
 
 /// The task with a front of its last text.
 fn cut(task: Task<'_>, length: usize) -> Task<'_> {
     match task.job {
         Job::Pipe | Job::Codes | Job::Audit { .. } => Task {
-            first: task.first.split_at(length.min(task.first.len())).0,
+            first: front(task.first, length),
             ..task
         },
         Job::Run | Job::Check { .. } => Task {
-            second: task.second.split_at(length.min(task.second.len())).0,
+            second: front(task.second, length),
             ..task
         },
         Job::Checked { .. } => Task {
-            third: task.third.split_at(length.min(task.third.len())).0,
+            third: front(task.third, length),
             ..task
         },
     }
@@ -146,21 +143,27 @@ fn last_text(task: Task<'_>) -> &[u8] {
 pub(crate) fn list_prefixes<A: Allocator + Copy, W: Sink>(
     alloc: A,
     task: Task<'_>,
+    whole: Whole<'_>,
     out: &mut W,
 ) -> Result<(), Stop> {
-    let whole = done(alloc, task, Ends::pieces(4096), ROOM)?;
     let mut stretches = Stretches::new();
-    for front in 0..=last_text(task).len() {
-        let did = done(alloc, cut(task, front), Ends::pieces(4096), ROOM)?;
-        if !whole.written.taken().starts_with(did.written.taken()) {
-            write_broken(b"not a front of the output, prefix", front as u64, out)?;
+    for length in 0..=last_text(task).len() {
+        let did = done(
+            alloc,
+            cut(task, length),
+            Ends::pieces(4096),
+            whole.text,
+            ROOM,
+        );
+        if !did.is_front {
+            write_broken(b"not a front of the output, prefix", length as u64, out)?;
         }
         let happens = Happens {
             event: None,
-            bytes: Some(did.written.taken().len() as u64),
+            bytes: Some(did.written as u64),
             fault: did.answer.err(),
         };
-        stretches.put(front as u64, happens, out)?;
+        stretches.put(length as u64, happens, out)?;
     }
     stretches.end(out)
 }

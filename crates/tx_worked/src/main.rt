@@ -1,6 +1,6 @@
 //! Worked examples: plays each case of the file `cases`, and prints what it writes and tells. Where a law is broken, a line with `BROKEN` says so.
 //!
-//! A case begins with a line `=== NAME KIND` and has its texts behind it, with a line `---` between two. A text may have the marks of `spelled_out`.
+//! A case begins with a line `=== NAME KIND` and has its texts behind it, with a line `---` between two. A text may have the marks of `spell`.
 //!
 //! - `pipe` has a plan and a script in one text, `run` in two; `both` has them in one, which is played in both ways. `codes` and `audit L K` have a plan,
 //!   `check L K` a plan and a certificate, `checked L K` (a run after a Yes) these and a script. An audit writes the certificate that it found behind its
@@ -11,12 +11,13 @@
 //! - `rooms` and `calls PIECE` have a plan and a script, and tell at which event the run stops in each room, and where each call of the source fails.
 //!   `stopped-writer ROOM` counts the calls that are made before the writer fails. `starting NUMBERS EVENTS` runs from another opening state.
 //! - `certified L K` has a plan, a certificate and a script, whose events are driven after a Yes of the checker, and again with memory refused in between.
+//! - The kinds of these two points, and the laws of a run of `both`, are played over the plain network and over the engine, which has to tell the same.
 //! - `cert` has a plan and a certificate, and `plan` a plan, which are written and read back.
 #![tactic(auto)]
 
-mod case;
 mod checked;
 mod driven;
+mod head;
 mod job;
 mod listings;
 mod outputs;
@@ -24,32 +25,34 @@ mod play;
 mod run_laws;
 mod runs;
 mod stretches;
-mod told;
 mod trials;
+mod whole_runs;
 mod written;
 
-use crate::case::next_case;
 use crate::play::play;
+use std::alloc::Global;
 use std::io::{BufWriter, Write};
 use std::{fs, io};
-use tx_text::ToWrite;
+use tx_cases::next_case;
+use tx_text::{Sink, ToWrite};
 
-fn play_all(rt: &HostRuntime, cases: &[u8]) -> io::Result<()> {
-    let mut out = ToWrite::new(BufWriter::new(rt.alloc(), rt.stdout())?);
+/// Plays the cases, as far as the output can be written.
+fn play_cases<W: Sink>(alloc: Global, cases: &[u8], out: &mut W) {
     let mut rest = cases;
     for _ in 0..10_000u32 {
         let Some((case, more)) = next_case(rest) else {
             break;
         };
-        if play(rt.alloc(), &case, &mut out).is_err() {
+        if play(alloc, case, out).is_err() {
             break;
         }
         rest = more;
     }
-    Ok(())
 }
 
 fn main(rt: HostRuntime) -> io::Result<()> {
     let cases = fs::read(&rt, "cases")?;
-    play_all(&rt, cases.as_slice())
+    let mut out = ToWrite::new(BufWriter::new(rt.alloc(), rt.stdout())?);
+    play_cases(rt.alloc(), cases.as_slice(), &mut out);
+    Ok(())
 }

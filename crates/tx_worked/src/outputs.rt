@@ -1,17 +1,6 @@
 // What the output and the script of a run tell of its events.
-use memchr::memchr;
+use tx_cases::next_line;
 use tx_text::words;
-
-/// The first line of a text, with its LF, and what stands behind it.
-pub(crate) fn next_line(text: &[u8]) -> Option<(&[u8], &[u8])> {
-    if text.is_empty() {
-        return None;
-    }
-    match memchr(b'\n', text) {
-        Some(end) => text.split_at_checked(end.saturating_add(1)),
-        None => Some((text, b"".as_slice())),
-    }
-}
 
 /// How many bytes of the output are that of the first so many events: their replies, each with the tickets behind it. The line END EVENTS counts as
 /// one more.
@@ -41,7 +30,6 @@ pub(crate) fn event_word(script: &[u8], event: u64) -> &[u8] {
         let Some((line, behind)) = next_line(rest) else {
             break;
         };
-        let line = line.strip_suffix(b"\n".as_slice()).unwrap_or(line);
         if let Some(word) = words(line).next() {
             if left == 0 {
                 return word;

@@ -1,156 +1,158 @@
 // Plays a case by its kind.
-use crate::case::{Case, next_number, plan_and_script, spelled_out, two_texts};
 use crate::checked::play_certified;
-use crate::job::{Ends, Job, ROOM, Task, done};
-use crate::listings::{count_calls, list_calls, list_prefixes, list_rooms, tell_run};
-use crate::run_laws::try_run_laws;
-use crate::runs::Script;
-use crate::told::{Stop, write_broken};
+use crate::head::{Head, Mode, head_of, job_of, limit_and_spare, long_number, number_of};
+use crate::job::{Ends, Job, ROOM, Task, Whole, do_task};
+use crate::listings::{count_calls, list_prefixes};
+use crate::runs::{Over, Script};
 use crate::trials::{tell, try_ends, try_pieces, try_refusals};
+use crate::whole_runs::{Told, play_run};
 use crate::written::{play_cert, play_plan};
+use memchr::memmem;
 use std::alloc::Allocator;
-use tx_text::{Sink, Words, words, write_parts};
+use tx_cases::{Case, Judge, Stop, spell, two_texts, write_broken};
+use tx_text::{MemorySink, Sink, write_bytes, write_parts};
 
 /// Plays a case, and writes its line, and what its kind tells.
 pub(crate) fn play<A: Allocator + Copy, W: Sink>(
     alloc: A,
-    case: &Case<'_>,
+    case: Case<'_>,
     out: &mut W,
 ) -> Result<(), Stop> {
     write_parts(&[b"=== ", case.head, b"\n"], out)?;
-    let texts = spelled_out(alloc, case.texts)?;
-    let mut head = words(case.head);
-    let _name = head.next();
-    let kind = head.next().unwrap_or(b"".as_slice());
-    if kind == b"each-end".as_slice() {
-        let kind = head.next().unwrap_or(b"".as_slice());
-        play_job(alloc, kind, head, texts.as_slice(), true, out)
-    } else if kind == b"prefixes".as_slice() {
-        play_prefixes(alloc, head, texts.as_slice(), out)
-    } else {
-        play_other(alloc, kind, head, texts.as_slice(), out)
+    let mut texts = Vec::new(alloc);
+    let played = match spell(case.texts, &mut texts) {
+        Ok(()) => play_texts(alloc, head_of(case.head), texts.as_slice(), out),
+        Err(_) => Err(Stop::NoMemory),
+    };
+    drop(texts);
+    played
+}
+
+/// Plays the kinds that are jobs.
+fn play_texts<A: Allocator + Copy, W: Sink>(
+    alloc: A,
+    head: Head<'_>,
+    texts: &[u8],
+    out: &mut W,
+) -> Result<(), Stop> {
+    if head.kind == b"both".as_slice() {
+        return play_both(alloc, head, texts, out);
+    }
+    let (first, second) = two_texts(texts);
+    match job_of(head) {
+        Some(job) => play_task(alloc, task_of(job, first, second), head.mode, out),
+        None => play_other(alloc, head, texts, out),
     }
 }
 
-/// Plays the kinds that are no job.
+/// Plays the kinds that write and read back.
 fn play_other<A: Allocator + Copy, W: Sink>(
     alloc: A,
-    kind: &[u8],
-    numbers: Words<'_>,
+    head: Head<'_>,
     texts: &[u8],
     out: &mut W,
 ) -> Result<(), Stop> {
     let (first, second) = two_texts(texts);
-    if kind == b"plan".as_slice() {
+    if head.kind == b"plan".as_slice() {
         play_plan(alloc, texts, out)
-    } else if kind == b"cert".as_slice() {
+    } else if head.kind == b"cert".as_slice() {
         play_cert(alloc, first, second, out)
-    } else if kind == b"certified".as_slice() {
-        let mut numbers = numbers;
-        let limit = next_number(&mut numbers, 62).min(62) as u8;
-        let spare = next_number(&mut numbers, 15).min(15) as u8;
-        play_certified(alloc, (limit, spare), texts, out)
     } else {
-        play_script(alloc, kind, numbers, texts, out)
+        play_over_both(alloc, head, first, second, out)
+    }
+}
+
+/// Plays the kinds that drive events or run a script, over the plain network and then over the engine, which has to tell the same.
+fn play_over_both<A: Allocator + Copy, W: Sink>(
+    alloc: A,
+    head: Head<'_>,
+    plan: &[u8],
+    rest: &[u8],
+    out: &mut W,
+) -> Result<(), Stop> {
+    let mut told = MemorySink::new(alloc, ROOM)?;
+    let played = match play_over(alloc, Over::Plain, head, plan, rest, &mut told) {
+        Ok(()) => play_again(alloc, head, plan, rest, told.taken(), out),
+        Err(stop) => Err(stop),
+    };
+    drop(told);
+    played
+}
+
+/// Writes what was told over the plain network, and plays over the engine.
+fn play_again<A: Allocator + Copy, W: Sink>(
+    alloc: A,
+    head: Head<'_>,
+    plan: &[u8],
+    rest: &[u8],
+    told: &[u8],
+    out: &mut W,
+) -> Result<(), Stop> {
+    write_bytes(told, out)?;
+    let mut judge = Judge::new(told, ROOM);
+    play_over(alloc, Over::Engine, head, plan, rest, &mut judge)?;
+    if !judge.is_whole() {
+        write_broken(
+            b"not the same over the engine, bytes",
+            judge.taken() as u64,
+            out,
+        )?;
+    }
+    Ok(())
+}
+
+fn play_over<A: Allocator + Copy, W: Sink>(
+    alloc: A,
+    over: Over,
+    head: Head<'_>,
+    plan: &[u8],
+    rest: &[u8],
+    out: &mut W,
+) -> Result<(), Stop> {
+    if head.kind == b"certified".as_slice() {
+        play_certified(alloc, over, limit_and_spare(head), plan, rest, out)
+    } else {
+        play_script(alloc, head, opening(over, plan, rest), out)
     }
 }
 
 /// Plays the kinds that run a script and tell its events.
 fn play_script<A: Allocator + Copy, W: Sink>(
     alloc: A,
-    kind: &[u8],
-    numbers: Words<'_>,
-    texts: &[u8],
+    head: Head<'_>,
+    text: Script<'_>,
     out: &mut W,
 ) -> Result<(), Stop> {
-    let (plan, script) = two_texts(texts);
-    let mut numbers = numbers;
-    let text = opening(plan, script);
-    if kind == b"rooms".as_slice() {
-        list_rooms(alloc, text, out)
-    } else if kind == b"calls".as_slice() {
-        let piece = next_number(&mut numbers, 4096) as usize;
-        list_calls(alloc, text, piece, out)
-    } else if kind == b"stopped-writer".as_slice() {
-        let room = next_number(&mut numbers, 4096) as usize;
-        count_calls(alloc, text, room, out)
-    } else if kind == b"starting".as_slice() {
-        let given = next_number(&mut numbers, u32::MAX);
-        let events = numbers.next().map_or(0, long_number);
+    if head.kind == b"both".as_slice() {
+        play_run(alloc, Told::Laws, text, out)
+    } else if head.kind == b"rooms".as_slice() {
+        play_run(alloc, Told::Rooms, text, out)
+    } else if head.kind == b"calls".as_slice() {
+        let piece = number_of(head.first, 4096) as usize;
+        play_run(alloc, Told::Calls(piece), text, out)
+    } else if head.kind == b"stopped-writer".as_slice() {
+        count_calls(alloc, text, number_of(head.first, 4096) as usize, out)
+    } else if head.kind == b"starting".as_slice() {
         let text = Script {
-            numbers: given,
-            events,
+            numbers: number_of(head.first, u32::MAX),
+            events: long_number(head.second),
             ..text
         };
-        tell_run(alloc, text, out)
+        play_run(alloc, Told::Whole, text, out)
     } else {
-        play_job(alloc, kind, numbers, texts, false, out)
+        Ok(write_broken(b"no such kind of case", 0, out)?)
     }
 }
 
 /// A script from the opening state.
-fn opening<'a>(plan: &'a [u8], script: &'a [u8]) -> Script<'a> {
+fn opening<'a>(over: Over, plan: &'a [u8], script: &'a [u8]) -> Script<'a> {
     Script {
         plan,
         script,
         numbers: 0,
         events: 0,
+        over,
     }
-}
-
-/// The number that figures say, or the greatest.
-fn long_number(word: &[u8]) -> u64 {
-    let mut number = 0u64;
-    for figure in word {
-        let figure = u64::from(figure.saturating_sub(b'0'));
-        number = number.saturating_mul(10).saturating_add(figure);
-    }
-    number
-}
-
-/// Plays a job, or a pipe and a run of the same texts.
-fn play_job<A: Allocator + Copy, W: Sink>(
-    alloc: A,
-    kind: &[u8],
-    numbers: Words<'_>,
-    texts: &[u8],
-    each_end: bool,
-    out: &mut W,
-) -> Result<(), Stop> {
-    let (first, second) = two_texts(texts);
-    if kind == b"both".as_slice() {
-        return play_both(alloc, texts, each_end, out);
-    }
-    match job_of(kind, numbers) {
-        Some(job) => play_task(alloc, task_of(job, first, second), each_end, out),
-        None => Ok(write_broken(b"no such kind of case", 0, out)?),
-    }
-}
-
-/// The job of a word, with its numbers.
-fn job_of(word: &[u8], numbers: Words<'_>) -> Option<Job> {
-    let mut numbers = numbers;
-    if word == b"pipe".as_slice() {
-        return Some(Job::Pipe);
-    }
-    if word == b"run".as_slice() {
-        return Some(Job::Run);
-    }
-    if word == b"codes".as_slice() {
-        return Some(Job::Codes);
-    }
-    let limit = next_number(&mut numbers, 62).min(62) as u8;
-    let spare = next_number(&mut numbers, 15).min(15) as u8;
-    if word == b"check".as_slice() {
-        return Some(Job::Check { limit, spare });
-    }
-    if word == b"audit".as_slice() {
-        return Some(Job::Audit { limit, spare });
-    }
-    if word == b"checked".as_slice() {
-        return Some(Job::Checked { limit, spare });
-    }
-    None
 }
 
 /// A job and its texts. That of a checked run has its second and third text in one.
@@ -167,56 +169,94 @@ fn task_of<'a>(job: Job, first: &'a [u8], rest: &'a [u8]) -> Task<'a> {
     }
 }
 
+/// Tells a task that was done whole, and tries its laws, or plays each front of its last text.
+fn play_whole<A: Allocator + Copy, W: Sink>(
+    alloc: A,
+    task: Task<'_>,
+    whole: Whole<'_>,
+    mode: Mode,
+    out: &mut W,
+) -> Result<(), Stop> {
+    match mode {
+        Mode::Prefixes => list_prefixes(alloc, task, whole, out),
+        Mode::Plain => {
+            tell(whole, out)?;
+            try_pieces(alloc, task, whole, out)
+        }
+        Mode::EachEnd => {
+            tell(whole, out)?;
+            try_pieces(alloc, task, whole, out)?;
+            try_refusals(alloc, task, whole, out)?;
+            try_ends(alloc, task, whole, out)
+        }
+    }
+}
+
+/// Does a task whole, and plays it.
 fn play_task<A: Allocator + Copy, W: Sink>(
     alloc: A,
     task: Task<'_>,
-    each_end: bool,
+    mode: Mode,
     out: &mut W,
 ) -> Result<(), Stop> {
-    let whole = done(alloc, task, Ends::pieces(7), ROOM)?;
-    tell(&whole, out)?;
-    try_pieces(alloc, task, &whole, out)?;
-    if each_end {
-        try_refusals(alloc, task, &whole, out)?;
-        try_ends(alloc, task, &whole, out)?;
+    let mut written = MemorySink::new(alloc, ROOM)?;
+    let answer = do_task(alloc, task, Ends::pieces(7), &mut written);
+    let whole = Whole {
+        answer,
+        text: written.taken(),
+    };
+    let played = play_whole(alloc, task, whole, mode, out);
+    drop(written);
+    played
+}
+
+/// The plan that an input begins with, up to and with its first line END, and what stands behind it.
+fn plan_and_script(input: &[u8]) -> (&[u8], &[u8]) {
+    match memmem::find(input, b"\nEND\n") {
+        Some(end) => input.split_at(end.saturating_add(5).min(input.len())),
+        None => (input, b"".as_slice()),
     }
-    Ok(())
+}
+
+/// Tries that a plan and a script in two texts and in one do the same, and the laws of the run.
+fn try_both<A: Allocator + Copy, W: Sink>(
+    alloc: A,
+    run: Task<'_>,
+    pipe: Task<'_>,
+    whole: Whole<'_>,
+    head: Head<'_>,
+    out: &mut W,
+) -> Result<(), Stop> {
+    try_pieces(alloc, run, whole, out)?;
+    try_pieces(alloc, pipe, whole, out)?;
+    match head.mode {
+        Mode::EachEnd => {
+            try_refusals(alloc, run, whole, out)?;
+            try_ends(alloc, run, whole, out)?;
+            play_over_both(alloc, head, run.first, run.second, out)
+        }
+        Mode::Plain | Mode::Prefixes => Ok(()),
+    }
 }
 
 /// Plays an input as a pipe, and as a plan and a script, which have to do the same.
 fn play_both<A: Allocator + Copy, W: Sink>(
     alloc: A,
+    head: Head<'_>,
     input: &[u8],
-    each_end: bool,
     out: &mut W,
 ) -> Result<(), Stop> {
     let (first, second) = plan_and_script(input);
-    let job = Job::Run;
-    let run = task_of(job, first, second);
-    let whole = done(alloc, run, Ends::pieces(7), ROOM)?;
-    try_pieces(alloc, run, &whole, out)?;
     let pipe = task_of(Job::Pipe, input, b"");
-    play_task(alloc, pipe, each_end, out)?;
-    try_pieces(alloc, pipe, &whole, out)?;
-    if each_end {
-        try_refusals(alloc, run, &whole, out)?;
-        try_ends(alloc, run, &whole, out)?;
-        try_run_laws(alloc, opening(first, second), out)?;
-    }
-    Ok(())
-}
-
-fn play_prefixes<A: Allocator + Copy, W: Sink>(
-    alloc: A,
-    words: Words<'_>,
-    texts: &[u8],
-    out: &mut W,
-) -> Result<(), Stop> {
-    let mut words = words;
-    let (first, second) = two_texts(texts);
-    let word = words.next().unwrap_or(b"".as_slice());
-    match job_of(word, words) {
-        Some(job) => list_prefixes(alloc, task_of(job, first, second), out),
-        None => Ok(write_broken(b"no such job", 0, out)?),
-    }
+    let run = task_of(Job::Run, first, second);
+    play_task(alloc, pipe, head.mode, out)?;
+    let mut written = MemorySink::new(alloc, ROOM)?;
+    let answer = do_task(alloc, run, Ends::pieces(7), &mut written);
+    let whole = Whole {
+        answer,
+        text: written.taken(),
+    };
+    let tried = try_both(alloc, run, pipe, whole, head, out);
+    drop(written);
+    tried
 }

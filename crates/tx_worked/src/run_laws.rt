@@ -1,25 +1,24 @@
 // The laws of a run: what is written, and which event is told, wherever an end fails or memory is refused.
 use crate::job::ROOM;
 use crate::outputs::{event_word, takes_memory, written_after};
-use crate::runs::{Ran, Script, run_pieces, run_without, told_cause};
-use crate::told::{Stop, write_broken, write_count};
+use crate::runs::{Ran, Script, WholeRun, run_beside, run_without, told_cause};
 use std::alloc::Allocator;
+use tx_cases::{Stop, write_broken, write_count};
 use tx_jobs::JobFault;
 use tx_script::{RunCause, RunFault, Summary};
-use tx_text::{Sink, write_bytes};
+use tx_text::{Sink, WriteFault, write_bytes};
 
 /// More than any case has of anything.
 const MANY: u64 = 1_000_000;
 
 /// Whether the run stopped for this reason, in the event whose output begins or goes on where the written bytes end.
-fn stopped<A: Allocator>(ran: &Ran<A>, fault: JobFault, whole: &[u8]) -> bool {
-    let written = ran.written.taken();
+fn stopped(ran: &Ran, fault: JobFault, whole: &[u8]) -> bool {
     match ran.end {
         Ok(_) => false,
         Err(end) => {
-            told_cause(end.cause) == fault
-                && whole.starts_with(written)
-                && is_in_event(end.event, fault, whole, written.len())
+            ran.is_front
+                && told_cause(end.cause) == fault
+                && is_in_event(end.event, fault, whole, ran.written)
         }
     }
 }
@@ -42,13 +41,13 @@ fn is_in_event(event: u64, fault: JobFault, whole: &[u8], written: usize) -> boo
 fn try_reads<A: Allocator + Copy, W: Sink>(
     alloc: A,
     text: Script<'_>,
-    whole: &Ran<A>,
+    whole: WholeRun<'_>,
     out: &mut W,
-) -> Result<(), Stop> {
+) -> Result<(), WriteFault> {
     for call in 1..MANY {
-        let ran = run_pieces(alloc, text, 1, Some(call), ROOM)?;
-        if !stopped(&ran, JobFault::Read, whole.written.taken()) {
-            if ran.end != whole.end || ran.written.taken() != whole.written.taken() {
+        let ran = run_beside(alloc, text, 1, Some(call), whole.text, ROOM);
+        if !stopped(&ran, JobFault::Read, whole.text) {
+            if !ran.is_as(whole) {
                 write_broken(b"run, failing call", call, out)?;
             }
             break;
@@ -61,14 +60,12 @@ fn try_reads<A: Allocator + Copy, W: Sink>(
 fn try_rooms<A: Allocator + Copy, W: Sink>(
     alloc: A,
     text: Script<'_>,
-    whole: &Ran<A>,
+    whole: WholeRun<'_>,
     out: &mut W,
-) -> Result<(), Stop> {
-    for room in 0..whole.written.taken().len() {
-        let ran = run_pieces(alloc, text, 4096, None, room)?;
-        if ran.written.taken().len() != room
-            || !stopped(&ran, JobFault::Write, whole.written.taken())
-        {
+) -> Result<(), WriteFault> {
+    for room in 0..whole.text.len() {
+        let ran = run_beside(alloc, text, 4096, None, whole.text, room);
+        if ran.written != room || !stopped(&ran, JobFault::Write, whole.text) {
             write_broken(b"run, room", room as u64, out)?;
             break;
         }
@@ -76,32 +73,36 @@ fn try_rooms<A: Allocator + Copy, W: Sink>(
     Ok(())
 }
 
-/// Whether a run that was refused memory stopped as it has to: in an event that takes memory, or, for the network or the reader, before the first.
-fn wanted_memory<A: Allocator>(ran: &Ran<A>, script: &[u8], whole: &[u8]) -> bool {
-    let in_its_place = match ran.end {
+/// Whether memory may be wanted where the run stopped: in an event that takes memory, or, for the network or the reader, before the first.
+fn may_want(fault: RunFault, script: &[u8]) -> bool {
+    match fault.cause {
+        RunCause::NoMemory => fault.event == 0 || takes_memory(event_word(script, fault.event)),
+        RunCause::Script(_) => fault.event == 1,
+        RunCause::Read | RunCause::Write => false,
+    }
+}
+
+/// Whether a run that was refused memory stopped as it has to.
+fn wanted_memory(ran: &Ran, script: &[u8], whole: &[u8]) -> bool {
+    match ran.end {
         Ok(_) => false,
-        Err(fault) => match fault.cause {
-            RunCause::NoMemory => fault.event == 0 || takes_memory(event_word(script, fault.event)),
-            RunCause::Script(_) => fault.event == 1,
-            RunCause::Read | RunCause::Write => false,
-        },
-    };
-    in_its_place && stopped(ran, JobFault::NoMemory, whole)
+        Err(fault) => may_want(fault, script) && stopped(ran, JobFault::NoMemory, whole),
+    }
 }
 
 /// Refuses each request for memory in turn, until none is refused.
 fn try_refusals<A: Allocator + Copy, W: Sink>(
     alloc: A,
     text: Script<'_>,
-    whole: &Ran<A>,
+    whole: WholeRun<'_>,
     out: &mut W,
-) -> Result<(), Stop> {
+) -> Result<(), WriteFault> {
     for request in 1..MANY {
-        let (ran, came) = run_without(alloc, text, request)?;
+        let (ran, came) = run_without(alloc, text, request, whole.text);
         let keeps = if came {
-            wanted_memory(&ran, text.script, whole.written.taken())
+            wanted_memory(&ran, text.script, whole.text)
         } else {
-            ran.end == whole.end && ran.written.taken() == whole.written.taken()
+            ran.is_as(whole)
         };
         if !keeps {
             write_broken(b"run, refused request", request, out)?;
@@ -114,28 +115,26 @@ fn try_refusals<A: Allocator + Copy, W: Sink>(
 }
 
 /// Writes what was counted of a run.
-pub(crate) fn write_summary<W: Sink>(summary: &Summary, out: &mut W) -> Result<(), Stop> {
+pub(crate) fn write_summary<W: Sink>(summary: &Summary, out: &mut W) -> Result<(), WriteFault> {
     write_count(b"-- ", summary.events, b" events, ", out)?;
     write_count(b"", summary.refused, b" refused, ", out)?;
     write_count(b"", summary.tickets, b" tickets, ", out)?;
-    write_count(b"", summary.open_calls, b" open\n", out)?;
-    Ok(())
+    write_count(b"", summary.open_calls, b" open\n", out)
 }
 
 /// Tries the laws of a run, and tells what it counted or where it stopped.
 pub(crate) fn try_run_laws<A: Allocator + Copy, W: Sink>(
     alloc: A,
     text: Script<'_>,
+    whole: WholeRun<'_>,
     out: &mut W,
 ) -> Result<(), Stop> {
-    let whole = run_pieces(alloc, text, 7, None, ROOM)?;
-    try_reads(alloc, text, &whole, out)?;
-    try_rooms(alloc, text, &whole, out)?;
-    try_refusals(alloc, text, &whole, out)?;
+    try_reads(alloc, text, whole, out)?;
+    try_rooms(alloc, text, whole, out)?;
+    try_refusals(alloc, text, whole, out)?;
     match whole.end {
-        Ok(summary) => write_summary(&summary, out)?,
-        Err(RunFault { event: 0, cause: _ }) => write_bytes(b"-- no plan\n", out)?,
-        Err(fault) => write_count(b"-- stopped at event ", fault.event, b"\n", out)?,
+        Ok(summary) => Ok(write_summary(&summary, out)?),
+        Err(RunFault { event: 0, cause: _ }) => Ok(write_bytes(b"-- no plan\n", out)?),
+        Err(fault) => Ok(write_count(b"-- stopped at event ", fault.event, b"\n", out)?),
     }
-    Ok(())
 }

@@ -1,10 +1,10 @@
 // Lists of what happens at each number, told by stretches of numbers at which the same happens.
-use crate::told::{Stop, write_count};
+use tx_cases::{Stop, write_count};
 use tx_jobs::{JobFault, write_fault};
-use tx_text::{Sink, write_bytes};
+use tx_text::{Sink, WriteFault, write_bytes};
 
 /// What happens at a number: the event and the bytes, where they are told, and the fault.
-#[derive(Clone, Copy, Debug, PartialEq, Eq)]
+#[derive(Clone, Copy, PartialEq, Eq)]
 pub(crate) struct Happens {
     pub event: Option<u64>,
     pub bytes: Option<u64>,
@@ -21,20 +21,25 @@ struct Stretch {
 
 impl Stretch {
     /// Writes the stretch as a line.
-    fn write<W: Sink>(&self, out: &mut W) -> Result<(), Stop> {
-        write_count(b"", self.from, b" to ", out)?;
-        write_count(b"", self.to, b": ", out)?;
-        if let Some(event) = self.happens.event {
+    fn write<W: Sink>(&self, out: &mut W) -> Result<(), WriteFault> {
+        write_count(b"", self.from, b"", out)?;
+        write_count(b" to ", self.to, b": ", out)?;
+        self.happens.write(out)
+    }
+}
+
+impl Happens {
+    fn write<W: Sink>(&self, out: &mut W) -> Result<(), WriteFault> {
+        if let Some(event) = self.event {
             write_count(b"event ", event, b", ", out)?;
         }
-        if let Some(bytes) = self.happens.bytes {
+        if let Some(bytes) = self.bytes {
             write_count(b"", bytes, b" bytes, ", out)?;
         }
-        match self.happens.fault {
-            Some(fault) => write_fault(&fault, out)?,
-            None => write_bytes(b"done\n", out)?,
+        match self.fault {
+            Some(fault) => write_fault(&fault, out),
+            None => write_bytes(b"done\n", out),
         }
-        Ok(())
     }
 }
 
@@ -75,7 +80,7 @@ impl Stretches {
     /// Writes the last stretch.
     pub(crate) fn end<W: Sink>(&self, out: &mut W) -> Result<(), Stop> {
         match self.open {
-            Some(open) => open.write(out),
+            Some(open) => Ok(open.write(out)?),
             None => Ok(()),
         }
     }

@@ -1,17 +1,17 @@
 // The laws of a job: however its sources cut the text, wherever an end fails, and whichever request for memory is refused.
-use crate::job::{Did, End, Ends, Job, ROOM, Task, done, done_without};
-use crate::told::{Stop, write_broken, write_count};
+use crate::job::{Did, End, Ends, Job, ROOM, Task, Whole, do_task, done, done_without};
 use std::alloc::Allocator;
+use tx_cases::{Stop, write_broken, write_count};
 use tx_jobs::{JobFault, write_fault};
 use tx_text::{Sink, write_bytes, write_parts};
 
 /// More than any case has of anything.
 const MANY: u64 = 1_000_000;
 
-/// Tells what a task does: what it writes and its fault.
-pub(crate) fn tell<A: Allocator, W: Sink>(did: &Did<A>, out: &mut W) -> Result<(), Stop> {
-    write_bytes(did.written.taken(), out)?;
-    if let Err(fault) = did.answer {
+/// Tells what a job does: what it writes and its fault.
+pub(crate) fn tell<W: Sink>(whole: Whole<'_>, out: &mut W) -> Result<(), Stop> {
+    write_bytes(whole.text, out)?;
+    if let Err(fault) = whole.answer {
         write_fault(&fault, out)?;
     }
     Ok(())
@@ -21,14 +21,13 @@ pub(crate) fn tell<A: Allocator, W: Sink>(did: &Did<A>, out: &mut W) -> Result<(
 pub(crate) fn try_pieces<A: Allocator + Copy, W: Sink>(
     alloc: A,
     task: Task<'_>,
-    whole: &Did<A>,
+    whole: Whole<'_>,
     out: &mut W,
 ) -> Result<(), Stop> {
     for piece in [1usize, 2, 7, 4096] {
-        let did = done(alloc, task, Ends::pieces(piece), ROOM)?;
-        if !did.is_as(whole) {
+        if !done(alloc, task, Ends::pieces(piece), whole.text, ROOM).is_as(whole) {
             write_broken(b"not the same in pieces of", piece as u64, out)?;
-            tell(&did, out)?;
+            let _ = do_task(alloc, task, Ends::pieces(piece), out);
         }
     }
     Ok(())
@@ -39,17 +38,13 @@ fn reads<A: Allocator + Copy, W: Sink>(
     alloc: A,
     task: Task<'_>,
     end: End,
-    whole: &Did<A>,
+    whole: Whole<'_>,
     out: &mut W,
 ) -> Result<u64, Stop> {
     for made in 0..MANY {
-        let did = done(
-            alloc,
-            task,
-            Ends::failing(end, made.saturating_add(1)),
-            ROOM,
-        )?;
-        if !did.stopped(JobFault::Read, whole) {
+        let ends = Ends::failing(end, made.saturating_add(1));
+        let did = done(alloc, task, ends, whole.text, ROOM);
+        if !did.stopped(JobFault::Read) {
             if !did.is_as(whole) {
                 write_broken(b"calls of a source before it fails:", made, out)?;
             }
@@ -59,24 +54,28 @@ fn reads<A: Allocator + Copy, W: Sink>(
     Ok(MANY)
 }
 
-/// Gives a task each room that is too small, which has to make it a write fault behind so many bytes of the whole output.
+/// Whether a task in a room does what it has to: a write fault behind so many bytes, where the room is too small.
+fn keeps_to_room(did: &Did, room: usize, whole: Whole<'_>) -> bool {
+    if room < whole.text.len() {
+        did.stopped(JobFault::Write) && did.written == room
+    } else {
+        did.is_as(whole)
+    }
+}
+
+/// Gives a task each room, up to one for all.
 fn try_rooms<A: Allocator + Copy, W: Sink>(
     alloc: A,
     task: Task<'_>,
-    whole: &Did<A>,
+    whole: Whole<'_>,
     out: &mut W,
 ) -> Result<(), Stop> {
-    let length = whole.written.taken().len();
-    for room in 0..length {
-        let did = done(alloc, task, Ends::pieces(4096), room)?;
-        if !did.stopped(JobFault::Write, whole) || did.written.taken().len() != room {
+    for room in 0..=whole.text.len() {
+        let did = done(alloc, task, Ends::pieces(4096), whole.text, room);
+        if !keeps_to_room(&did, room, whole) {
             write_broken(b"room", room as u64, out)?;
-            return Ok(());
+            break;
         }
-    }
-    let did = done(alloc, task, Ends::pieces(4096), length)?;
-    if !did.is_as(whole) {
-        write_broken(b"room for all", length as u64, out)?;
     }
     Ok(())
 }
@@ -85,13 +84,13 @@ fn try_rooms<A: Allocator + Copy, W: Sink>(
 pub(crate) fn try_refusals<A: Allocator + Copy, W: Sink>(
     alloc: A,
     task: Task<'_>,
-    whole: &Did<A>,
+    whole: Whole<'_>,
     out: &mut W,
 ) -> Result<(), Stop> {
     for request in 1..MANY {
-        let (did, came) = done_without(alloc, task, request)?;
+        let (did, came) = done_without(alloc, task, request, whole.text);
         let keeps = if came {
-            did.stopped(JobFault::NoMemory, whole)
+            did.stopped(JobFault::NoMemory)
         } else {
             did.is_as(whole) && request > 1
         };
@@ -117,25 +116,40 @@ fn name(job: Job) -> &'static [u8] {
     }
 }
 
-fn has_second_source(job: Job) -> bool {
+/// How many sources a job has.
+fn sources(job: Job) -> u8 {
     match job {
-        Job::Run | Job::Check { .. } | Job::Checked { .. } => true,
-        Job::Pipe | Job::Codes | Job::Audit { .. } => false,
+        Job::Pipe | Job::Codes | Job::Audit { .. } => 1,
+        Job::Run | Job::Check { .. } => 2,
+        Job::Checked { .. } => 3,
     }
 }
 
-fn has_third_source(job: Job) -> bool {
-    match job {
-        Job::Checked { .. } => true,
-        _ => false,
+/// Makes each call of each source of a task fail, and tells how many there are.
+fn tell_reads<A: Allocator + Copy, W: Sink>(
+    alloc: A,
+    task: Task<'_>,
+    whole: Whole<'_>,
+    out: &mut W,
+) -> Result<(), Stop> {
+    let first = reads(alloc, task, End::First, whole, out)?;
+    write_count(b", ", first, b"", out)?;
+    if sources(task.job) > 1 {
+        let second = reads(alloc, task, End::Second, whole, out)?;
+        write_count(b" and ", second, b"", out)?;
     }
+    if sources(task.job) > 2 {
+        let third = reads(alloc, task, End::Third, whole, out)?;
+        write_count(b" and ", third, b"", out)?;
+    }
+    Ok(())
 }
 
 /// Makes each end fail at each place. Tells a task's status, how many calls of its sources it makes and how many bytes it writes.
 pub(crate) fn try_ends<A: Allocator + Copy, W: Sink>(
     alloc: A,
     task: Task<'_>,
-    whole: &Did<A>,
+    whole: Whole<'_>,
     out: &mut W,
 ) -> Result<(), Stop> {
     try_rooms(alloc, task, whole, out)?;
@@ -144,22 +158,8 @@ pub(crate) fn try_ends<A: Allocator + Copy, W: Sink>(
         Err(fault) => fault.status(),
     };
     write_parts(&[b"-- ", name(task.job)], out)?;
-    write_count(b": status ", u64::from(status), b", ", out)?;
-    let first = reads(alloc, task, End::First, whole, out)?;
-    write_count(b"", first, b"", out)?;
-    if has_second_source(task.job) {
-        let second = reads(alloc, task, End::Second, whole, out)?;
-        write_count(b" and ", second, b"", out)?;
-    }
-    if has_third_source(task.job) {
-        let third = reads(alloc, task, End::Third, whole, out)?;
-        write_count(b" and ", third, b"", out)?;
-    }
-    write_count(
-        b" reads, ",
-        whole.written.taken().len() as u64,
-        b" bytes\n",
-        out,
-    )?;
-    Ok(())
+    write_count(b": status ", u64::from(status), b"", out)?;
+    tell_reads(alloc, task, whole, out)?;
+    let bytes = whole.text.len() as u64;
+    Ok(write_count(b" reads, ", bytes, b" bytes\n", out)?)
 }

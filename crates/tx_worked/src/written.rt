@@ -1,8 +1,8 @@
 // Certificates and plans that are written and read back.
 use crate::job::ROOM;
-use crate::told::{Stop, write_broken};
 use refusing::Refusing;
 use std::alloc::Allocator;
+use tx_cases::{Judge, Stop, write_broken};
 use tx_cert::{Cert, CertFault, CertWord, read_cert, write_cert};
 use tx_plan::{CodeId, ExchangeId, Plan};
 use tx_plantext::{read_plan, write_plan};
@@ -23,6 +23,33 @@ fn same_ranks<A: Allocator>(plan: &Plan<A>, one: &Cert<A>, other: &Cert<A>) -> b
     true
 }
 
+/// Whether a text reads as a certificate.
+fn reads_as<A: Allocator + Copy>(alloc: A, plan: &Plan<A>, cert: &Cert<A>, text: &[u8]) -> bool {
+    match read_cert(alloc, text, plan) {
+        Ok(back) => {
+            let is_same = same_ranks(plan, cert, &back);
+            drop(back);
+            is_same
+        }
+        Err(_) => false,
+    }
+}
+
+/// Writes what was written for a certificate, and reads it.
+fn read_back<A: Allocator + Copy, W: Sink>(
+    alloc: A,
+    plan: &Plan<A>,
+    cert: &Cert<A>,
+    text: &[u8],
+    out: &mut W,
+) -> Result<(), Stop> {
+    write_bytes(text, out)?;
+    if !reads_as(alloc, plan, cert, text) {
+        write_broken(b"not read back", 0, out)?;
+    }
+    Ok(())
+}
+
 /// Writes a certificate, and reads what was written.
 fn write_and_read<A: Allocator + Copy, W: Sink>(
     alloc: A,
@@ -31,16 +58,12 @@ fn write_and_read<A: Allocator + Copy, W: Sink>(
     out: &mut W,
 ) -> Result<(), Stop> {
     let mut written = MemorySink::new(alloc, ROOM)?;
-    write_cert(cert, plan, &mut written)?;
-    write_bytes(written.taken(), out)?;
-    let back = match read_cert(alloc, written.taken(), plan) {
-        Ok(back) => same_ranks(plan, cert, &back),
-        Err(_) => false,
+    let told = match write_cert(cert, plan, &mut written) {
+        Ok(()) => read_back(alloc, plan, cert, written.taken(), out),
+        Err(_) => Err(Stop::Write),
     };
-    if !back {
-        write_broken(b"not read back", 0, out)?;
-    }
-    Ok(())
+    drop(written);
+    told
 }
 
 fn write_back_cert<A: Allocator + Copy, W: Sink>(
@@ -50,19 +73,12 @@ fn write_back_cert<A: Allocator + Copy, W: Sink>(
     out: &mut W,
 ) -> Result<(), Stop> {
     match read_cert(alloc, cert, plan) {
-        Ok(cert) => write_and_read(alloc, plan, &cert, out),
+        Ok(cert) => {
+            let told = write_and_read(alloc, plan, &cert, out);
+            drop(cert);
+            told
+        }
         Err(_) => Ok(write_broken(b"no certificate", 0, out)?),
-    }
-}
-
-/// Why a certificate of a plan is refused, where memory may be refused from the plan on.
-fn cert_fault<A: Allocator + Copy>(alloc: A, plan: &[u8], cert: &[u8]) -> Option<CertFault> {
-    match read_plan(alloc, plan) {
-        Ok(plan) => match read_cert(alloc, cert, &plan) {
-            Ok(_) => None,
-            Err(fault) => Some(fault),
-        },
-        Err(_) => Some(NO_MEMORY),
     }
 }
 
@@ -76,6 +92,29 @@ const NO_BUFFER: CertFault = CertFault {
     kind: Kind::Frame(FrameFault::Line(LineFault::Text(TextFault::NoMemory))),
 };
 
+/// Whether memory is wanting for a certificate.
+fn cert_wants<A: Allocator + Copy>(alloc: A, plan: &Plan<A>, cert: &[u8]) -> bool {
+    match read_cert(alloc, cert, plan) {
+        Ok(cert) => {
+            drop(cert);
+            false
+        }
+        Err(fault) => fault == NO_MEMORY || fault == NO_BUFFER,
+    }
+}
+
+/// Whether memory is wanting for a plan, which is a good one, or for its certificate.
+fn wants<A: Allocator + Copy>(alloc: A, plan: &[u8], cert: &[u8]) -> bool {
+    match read_plan(alloc, plan) {
+        Ok(plan) => {
+            let wants = cert_wants(alloc, &plan, cert);
+            drop(plan);
+            wants
+        }
+        Err(_) => true,
+    }
+}
+
 /// Refuses each request for memory in turn.
 fn try_refusals<A: Allocator + Copy, W: Sink>(
     alloc: A,
@@ -85,8 +124,7 @@ fn try_refusals<A: Allocator + Copy, W: Sink>(
 ) -> Result<(), Stop> {
     for request in 1..1_000_000u64 {
         let refusing = Refusing::new(alloc, request);
-        let fault = cert_fault(&refusing, plan, cert);
-        let wants = fault == Some(NO_MEMORY) || fault == Some(NO_BUFFER);
+        let wants = wants(&refusing, plan, cert);
         if wants != refusing.has_refused() {
             write_broken(b"certificate, refused request", request, out)?;
         }
@@ -104,20 +142,55 @@ pub(crate) fn play_cert<A: Allocator + Copy, W: Sink>(
     cert: &[u8],
     out: &mut W,
 ) -> Result<(), Stop> {
-    match read_plan(alloc, plan) {
-        Ok(plan) => write_back_cert(alloc, &plan, cert, out)?,
-        Err(_) => write_broken(b"no plan", 0, out)?,
-    }
+    write_back(alloc, plan, cert, out)?;
     try_refusals(alloc, plan, cert, out)
 }
 
-/// What is written for a plan: nothing where it is refused.
-fn written_plan<A: Allocator + Copy>(alloc: A, plan: &[u8]) -> Result<MemorySink<A>, Stop> {
-    let mut written = MemorySink::new(alloc, ROOM)?;
-    if let Ok(plan) = read_plan(alloc, plan) {
-        write_plan(&plan, &mut written)?;
+fn write_back<A: Allocator + Copy, W: Sink>(
+    alloc: A,
+    plan: &[u8],
+    cert: &[u8],
+    out: &mut W,
+) -> Result<(), Stop> {
+    match read_plan(alloc, plan) {
+        Ok(plan) => {
+            let told = write_back_cert(alloc, &plan, cert, out);
+            drop(plan);
+            told
+        }
+        Err(_) => Ok(write_broken(b"no plan", 0, out)?),
     }
-    Ok(written)
+}
+
+/// Reads a plan and writes it: nothing where it is refused.
+fn write_again<A: Allocator + Copy, W: Sink>(
+    alloc: A,
+    plan: &[u8],
+    out: &mut W,
+) -> Result<(), Stop> {
+    match read_plan(alloc, plan) {
+        Ok(plan) => {
+            let written = write_plan(&plan, out);
+            drop(plan);
+            Ok(written?)
+        }
+        Err(_) => Ok(()),
+    }
+}
+
+/// Writes what was written for a plan, which is written the same again.
+fn tell_again<A: Allocator + Copy, W: Sink>(
+    alloc: A,
+    written: &[u8],
+    out: &mut W,
+) -> Result<(), Stop> {
+    write_bytes(written, out)?;
+    let mut judge = Judge::new(written, ROOM);
+    write_again(alloc, written, &mut judge)?;
+    if !judge.is_whole() {
+        write_broken(b"not written the same again", 0, out)?;
+    }
+    Ok(())
 }
 
 /// Reads a plan and writes it. What was written reads back, and is written the same.
@@ -126,11 +199,11 @@ pub(crate) fn play_plan<A: Allocator + Copy, W: Sink>(
     plan: &[u8],
     out: &mut W,
 ) -> Result<(), Stop> {
-    let written = written_plan(alloc, plan)?;
-    write_bytes(written.taken(), out)?;
-    let again = written_plan(alloc, written.taken())?;
-    if again.taken() != written.taken() {
-        write_broken(b"not written the same again", 0, out)?;
-    }
-    Ok(())
+    let mut written = MemorySink::new(alloc, ROOM)?;
+    let told = match write_again(alloc, plan, &mut written) {
+        Ok(()) => tell_again(alloc, written.taken(), out),
+        Err(stop) => Err(stop),
+    };
+    drop(written);
+    told
 }

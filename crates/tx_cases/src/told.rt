@@ -1,10 +1,10 @@
-// What the player writes.
+// What the programs write.
 use itoa::Buffer;
 use tx_text::{NoMemory, Sink, WriteFault, write_parts};
 
-/// Why the player stopped.
-#[derive(Clone, Copy, Debug, PartialEq, Eq)]
-pub(crate) enum Stop {
+/// Why a program stopped.
+#[derive(Clone, Copy)]
+pub enum Stop {
     Write,
     NoMemory,
 }
@@ -22,7 +22,7 @@ impl From<NoMemory> for Stop {
 }
 
 /// Writes a number between two texts.
-pub(crate) fn write_count<W: Sink>(
+pub fn write_count<W: Sink>(
     before: &[u8],
     count: u64,
     behind: &[u8],
@@ -33,11 +33,7 @@ pub(crate) fn write_count<W: Sink>(
 }
 
 /// Says loudly which law a case broke, and at which number first.
-pub(crate) fn write_broken<W: Sink>(
-    law: &[u8],
-    number: u64,
-    out: &mut W,
-) -> Result<(), WriteFault> {
+pub fn write_broken<W: Sink>(law: &[u8], number: u64, out: &mut W) -> Result<(), WriteFault> {
     write_parts(&[b"!!!! BROKEN: ", law], out)?;
     write_count(b" ", number, b"\n", out)
 }

@@ -1,0 +1,12 @@
+//! The files of cases that the programs for tests play, and what these programs write. No other crate than those stands on this one.
+#![tactic(auto)]
+
+mod case;
+mod judge;
+mod spelled;
+mod told;
+
+pub use case::{Case, next_case, next_line, next_number, two_texts};
+pub use judge::Judge;
+pub use spelled::spell;
+pub use told::{Stop, write_broken, write_count};

@@ -1,0 +1,103 @@
+// Texts of a file with marks for what no line can show.
+use crate::case::next_number;
+use itoa::Buffer;
+use memchr::memchr;
+use std::alloc::Allocator;
+use tx_text::{NoMemory, words};
+
+/// What stands before the next mark `{..}`, the mark, and what stands behind it.
+fn next_mark(text: &[u8]) -> Option<(&[u8], &[u8], &[u8])> {
+    let (before, rest) = text.split_at_checked(memchr(b'{', text)?)?;
+    let (mark, rest) = rest.split_at_checked(memchr(b'}', rest)?)?;
+    Some((
+        before,
+        mark.strip_prefix(b"{".as_slice())?,
+        rest.strip_prefix(b"}".as_slice())?,
+    ))
+}
+
+/// Adds the bytes of a text of the file, in which `{13}` stands for the byte of that number, `{35 512}` for 512 of them, `{}` for a line that goes on, and
+/// `{lines 1 9 CODE 4@ ALFA}` for nine lines.
+pub fn spell<A: Allocator>(text: &[u8], bytes: &mut Vec<u8, A>) -> Result<(), NoMemory> {
+    let mut rest = text;
+    for _ in 0..=text.len() {
+        let Some((before, mark, behind)) = next_mark(rest) else {
+            break;
+        };
+        bytes.extend_from_slice(before)?;
+        put_mark(mark, bytes)?;
+        rest = if mark.is_empty() {
+            behind.strip_prefix(b"\n".as_slice()).unwrap_or(behind)
+        } else {
+            behind
+        };
+    }
+    bytes.extend_from_slice(rest)?;
+    Ok(())
+}
+
+/// Adds the bytes of a mark: none, a byte's number and how often it stands, or `lines`, two numbers, and a line that stands once for each number between
+/// them.
+fn put_mark<A: Allocator>(mark: &[u8], bytes: &mut Vec<u8, A>) -> Result<(), NoMemory> {
+    if mark.is_empty() {
+        return Ok(());
+    }
+    match mark.strip_prefix(b"lines ".as_slice()) {
+        Some(rest) => put_lines(rest, bytes),
+        None => put_bytes(mark, bytes),
+    }
+}
+
+fn put_bytes<A: Allocator>(mark: &[u8], bytes: &mut Vec<u8, A>) -> Result<(), NoMemory> {
+    let mut numbers = words(mark);
+    let byte = next_number(&mut numbers, 255).min(255) as u8;
+    for _ in 0..next_number(&mut numbers, 100_000).max(1) {
+        bytes.push(byte)?;
+    }
+    Ok(())
+}
+
+fn put_lines<A: Allocator>(mark: &[u8], bytes: &mut Vec<u8, A>) -> Result<(), NoMemory> {
+    let mut numbers = words(mark);
+    let from = next_number(&mut numbers, 100_000);
+    let to = next_number(&mut numbers, 100_000);
+    for number in from..=to {
+        put_line(mark, number, bytes)?;
+    }
+    Ok(())
+}
+
+/// Adds the line of a mark, its words from the third on, with a number in the place of each `@`.
+fn put_line<A: Allocator>(
+    mark: &[u8],
+    number: u32,
+    bytes: &mut Vec<u8, A>,
+) -> Result<(), NoMemory> {
+    let mut digits = Buffer::new();
+    let number = digits.format(number).as_bytes();
+    let mut line = words(mark);
+    let _from = line.next();
+    let _to = line.next();
+    for word in line {
+        put_word(word, number, bytes)?;
+        bytes.push(b' ')?;
+    }
+    bytes.push(b'\n')?;
+    Ok(())
+}
+
+/// Adds a word, with a number in the place of each `@`.
+fn put_word<A: Allocator>(
+    word: &[u8],
+    number: &[u8],
+    bytes: &mut Vec<u8, A>,
+) -> Result<(), NoMemory> {
+    for byte in word {
+        if *byte == b'@' {
+            bytes.extend_from_slice(number)?;
+        } else {
+            bytes.push(*byte)?;
+        }
+    }
+    Ok(())
+}

@@ -1,0 +1,89 @@
+// What the head of a case says.
+use crate::job::Job;
+use tx_text::{number, words};
+
+/// What is done with a job.
+#[derive(Clone, Copy)]
+pub(crate) enum Mode {
+    Plain,
+    EachEnd,
+    Prefixes,
+}
+
+/// What the head of a case says behind its name.
+#[derive(Clone, Copy)]
+pub(crate) struct Head<'a> {
+    pub mode: Mode,
+    pub kind: &'a [u8],
+    pub first: &'a [u8],
+    pub second: &'a [u8],
+}
+
+pub(crate) fn head_of(head: &[u8]) -> Head<'_> {
+    let mut rest = words(head);
+    let _name = rest.next();
+    let word = rest.next().unwrap_or(b"".as_slice());
+    let mode = mode_of(word);
+    let kind = match mode {
+        Mode::Plain => word,
+        Mode::EachEnd | Mode::Prefixes => rest.next().unwrap_or(b"".as_slice()),
+    };
+    Head {
+        mode,
+        kind,
+        first: rest.next().unwrap_or(b"".as_slice()),
+        second: rest.next().unwrap_or(b"".as_slice()),
+    }
+}
+
+fn mode_of(word: &[u8]) -> Mode {
+    if word == b"each-end".as_slice() {
+        Mode::EachEnd
+    } else if word == b"prefixes".as_slice() {
+        Mode::Prefixes
+    } else {
+        Mode::Plain
+    }
+}
+
+/// The number that a word says, and 0 where it says none.
+pub(crate) fn number_of(word: &[u8], most: u32) -> u32 {
+    number(word, most).unwrap_or(0)
+}
+
+/// The number that figures say, or the greatest.
+pub(crate) fn long_number(word: &[u8]) -> u64 {
+    let mut number = 0u64;
+    for figure in word {
+        let figure = u64::from(figure.saturating_sub(b'0'));
+        number = number.saturating_mul(10).saturating_add(figure);
+    }
+    number
+}
+
+/// The limit and the spare number of a case.
+pub(crate) fn limit_and_spare(head: Head<'_>) -> (u8, u8) {
+    let limit = number_of(head.first, 62).min(62) as u8;
+    let spare = number_of(head.second, 15).min(15) as u8;
+    (limit, spare)
+}
+
+/// The job of a case.
+pub(crate) fn job_of(head: Head<'_>) -> Option<Job> {
+    let (limit, spare) = limit_and_spare(head);
+    if head.kind == b"pipe".as_slice() {
+        Some(Job::Pipe)
+    } else if head.kind == b"run".as_slice() {
+        Some(Job::Run)
+    } else if head.kind == b"codes".as_slice() {
+        Some(Job::Codes)
+    } else if head.kind == b"check".as_slice() {
+        Some(Job::Check { limit, spare })
+    } else if head.kind == b"audit".as_slice() {
+        Some(Job::Audit { limit, spare })
+    } else if head.kind == b"checked".as_slice() {
+        Some(Job::Checked { limit, spare })
+    } else {
+        None
+    }
+}

@@ -1,0 +1,67 @@
+// Cases that run a script whole, and what is told beside that.
+use crate::job::ROOM;
+use crate::listings::{list_calls, list_rooms};
+use crate::run_laws::{try_run_laws, write_summary};
+use crate::runs::{Script, WholeRun, run_pieces, told_cause};
+use std::alloc::Allocator;
+use tx_cases::{Stop, write_count};
+use tx_jobs::write_fault;
+use tx_text::{MemorySink, Sink, write_bytes};
+
+/// What is told of a run.
+#[derive(Clone, Copy)]
+pub(crate) enum Told {
+    /// What it writes, and what it counts or where it stops.
+    Whole,
+    /// Its laws, and what it counts or where it stops.
+    Laws,
+    /// What it does in each room.
+    Rooms,
+    /// What it does where each call of its source fails, of so many bytes.
+    Calls(usize),
+}
+
+/// Tells what a run writes, and what it counts or the event and the cause that stop it.
+fn tell_run<W: Sink>(whole: WholeRun<'_>, out: &mut W) -> Result<(), Stop> {
+    write_bytes(whole.text, out)?;
+    match whole.end {
+        Ok(summary) => Ok(write_summary(&summary, out)?),
+        Err(fault) => {
+            write_count(b"event ", fault.event, b": ", out)?;
+            Ok(write_fault(&told_cause(fault.cause), out)?)
+        }
+    }
+}
+
+fn tell<A: Allocator + Copy, W: Sink>(
+    alloc: A,
+    told: Told,
+    text: Script<'_>,
+    whole: WholeRun<'_>,
+    out: &mut W,
+) -> Result<(), Stop> {
+    match told {
+        Told::Whole => tell_run(whole, out),
+        Told::Laws => try_run_laws(alloc, text, whole, out),
+        Told::Rooms => list_rooms(alloc, text, whole.text, out),
+        Told::Calls(piece) => list_calls(alloc, text, piece, whole, out),
+    }
+}
+
+/// Runs a script whole, and tells something of the run.
+pub(crate) fn play_run<A: Allocator + Copy, W: Sink>(
+    alloc: A,
+    told: Told,
+    text: Script<'_>,
+    out: &mut W,
+) -> Result<(), Stop> {
+    let mut written = MemorySink::new(alloc, ROOM)?;
+    let end = run_pieces(alloc, text, 7, None, &mut written);
+    let whole = WholeRun {
+        end,
+        text: written.taken(),
+    };
+    let told = tell(alloc, told, text, whole, out);
+    drop(written);
+    told
+}
