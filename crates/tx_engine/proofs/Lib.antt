@@ -8,3 +8,4 @@ pub mod Ended
 pub mod Confirming
 pub mod HeadOn
 pub mod Lost
+pub mod Taken
