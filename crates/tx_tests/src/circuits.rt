@@ -1,103 +1,62 @@
-// The worked rows, all short sequences of calls against a plain model, and growth refused in turn.
-mod calls;
+// Calls on the circuits of one group, by cases, and all short sequences of them beside a plain model.
+pub(crate) mod calls;
 mod model;
 
-use calls::{ALFA, BETA, Call, apply, call_of, next, plan};
+use calls::{ALFA, BETA, apply, call_of, named, next};
 use model::Model;
-use refusing::Refusing;
 use std::alloc::Allocator;
+use tx_cases::{Stop, next_line, next_number, write_broken, write_count};
 use tx_circuits::CircuitTable;
-use tx_plan::PlanRefusal;
-use tx_text::NoMemory;
+use tx_plan::Plan;
+use tx_text::{NoMemory, Sink, WriteFault, words, write_bytes};
 
-// What ALFA and BETA take next of a new table.
-fn built<A: Allocator + Copy>(
-    alloc: A,
-    count: u32,
-) -> Result<Result<(u32, u32), NoMemory>, PlanRefusal> {
-    let plan = plan(alloc, count)?;
-    match CircuitTable::build(alloc, &plan) {
-        Ok(table) => Ok(Ok((next(&table, ALFA), next(&table, BETA)))),
-        Err(error) => Ok(Err(error)),
+/// Makes the call that a line says, where it may be made, and tells whether.
+fn apply_line<A: Allocator>(table: &mut CircuitTable<A>, line: &[u8]) -> bool {
+    let mut rest = words(line);
+    let name = rest.next().unwrap_or(b"".as_slice());
+    let number = next_number(&mut rest, 240);
+    let end = if rest.next() == Some(b"BETA".as_slice()) {
+        BETA
+    } else {
+        ALFA
+    };
+    match named(name, number, end) {
+        Some(call) => apply(table, &call),
+        None => false,
     }
 }
 
-// A new table.
-fn made<A: Allocator + Copy>(alloc: A, count: u32) -> Option<CircuitTable<A>> {
-    let plan = plan(alloc, count).ok()?;
-    CircuitTable::build(alloc, &plan).ok()
-}
-
-// Makes the calls in turn on a new table, and looks after each which number ALFA and BETA take next. Tells how many rows are right.
-fn right_rows<A: Allocator + Copy>(alloc: A, count: u32, rows: &[(Call, u32, u32)]) -> usize {
-    let Some(mut table) = made(alloc, count) else {
-        return 0;
-    };
-    for place in 0..rows.len() {
-        let row = &rows[place];
-        let made = apply(&mut table, &row.0);
-        if !made || next(&table, ALFA) != row.1 || next(&table, BETA) != row.2 {
-            return place;
+/// Makes the call of each line, and tells which number ALFA and BETA take next then, or 0 for none.
+pub(crate) fn tell_circuits<A: Allocator, W: Sink>(
+    table: &mut CircuitTable<A>,
+    lines: &[u8],
+    out: &mut W,
+) -> Result<(), WriteFault> {
+    let mut rest = lines;
+    for _ in 0..lines.len() {
+        let Some((line, behind)) = next_line(rest) else {
+            break;
+        };
+        write_bytes(line, out)?;
+        if !apply_line(table, line) {
+            write_bytes(b", not made", out)?;
         }
+        write_count(b": ", u64::from(next(table, ALFA)), b"", out)?;
+        write_count(b" ", u64::from(next(table, BETA)), b"\n", out)?;
+        rest = behind;
     }
-    rows.len()
+    Ok(())
 }
 
-// Both ends of a group of two.
-const CIRCUIT_TABLE: [(Call, u32, u32); 10] = [
-    (Call::Seize(1, ALFA), 2, 2),
-    (Call::Seize(2, BETA), 2, 1),
-    (Call::Hold(2), 0, 1),
-    (Call::Withdraw(1, ALFA), 1, 1),
-    (Call::Release(1), 0, 0),
-    (Call::Released(1), 1, 1),
-    (Call::Block, 0, 0),
-    (Call::Unblock, 1, 1),
-    (Call::Fail, 0, 0),
-    (Call::Restore, 1, 2),
-];
-
-#[test]
-fn circuit_table(rt: HostRuntime) {
-    let right = right_rows(rt.alloc(), 2, &CIRCUIT_TABLE);
-    assert_eq!(rt; right, 10, "rows");
-}
-
-// Circuits that come back in another order.
-const LIST_ORDER: [(Call, u32, u32); 13] = [
-    (Call::Seize(1, ALFA), 2, 3),
-    (Call::Hold(1), 2, 3),
-    (Call::Seize(2, ALFA), 3, 3),
-    (Call::Hold(2), 3, 3),
-    (Call::Seize(3, ALFA), 0, 3),
-    (Call::Hold(3), 0, 0),
-    (Call::Release(3), 0, 0),
-    (Call::Released(3), 3, 3),
-    (Call::Release(1), 3, 3),
-    (Call::Released(1), 1, 3),
-    (Call::Release(2), 1, 3),
-    (Call::Released(2), 1, 3),
-    (Call::Seize(1, ALFA), 2, 3),
-];
-
-#[test]
-fn list_order(rt: HostRuntime) {
-    let right = right_rows(rt.alloc(), 3, &LIST_ORDER);
-    assert_eq!(rt; right, 13, "rows");
-}
-
-// Makes three of the 31 calls, as far as each may be made, on a new table and on the model. Tells whether the two agree.
-fn agree_along<A: Allocator + Copy>(alloc: A, sequence: u32) -> bool {
-    let Some(mut table) = made(alloc, 3) else {
-        return false;
-    };
+/// Makes three of the 31 calls, as far as each may be made, on a table and on the model. Tells whether the two agree.
+fn agree_along<A: Allocator>(table: &mut CircuitTable<A>, sequence: u32) -> bool {
     let mut model = Model::new();
     let mut rest = sequence;
-    for _ in 0..3 {
+    for _ in 0..3u8 {
         let call = call_of(rest % 31);
         rest /= 31;
-        let made = apply(&mut table, &call);
-        if made != model.apply(&call) || made && !model.agrees(&table) {
+        let made = apply(table, &call);
+        if made != model.apply(&call) || made && !model.agrees(table) {
             return false;
         }
         if !made {
@@ -107,27 +66,27 @@ fn agree_along<A: Allocator + Copy>(alloc: A, sequence: u32) -> bool {
     true
 }
 
-#[test]
-fn short_sequences(rt: HostRuntime) {
-    for sequence in 0..29_791u32 {
-        assert!(rt; agree_along(rt.alloc(), sequence), "{sequence}");
-    }
+/// Whether a new table agrees with the model along a sequence.
+fn agrees<A: Allocator + Copy>(alloc: A, plan: &Plan<A>, sequence: u32) -> Result<bool, NoMemory> {
+    let mut table = CircuitTable::build(alloc, plan)?;
+    let agrees = agree_along(&mut table, sequence);
+    drop(table);
+    Ok(agrees)
 }
 
-#[test]
-fn each_growth_is_refused_in_turn(rt: HostRuntime) {
-    let mut refused = 0u32;
-    for n in 1..99u64 {
-        let heap = Refusing::new(rt.alloc(), n);
-        match built(&heap, 3) {
-            Err(refusal) => assert_eq!(rt; refusal, PlanRefusal::NoMemory, "request {n}"),
-            Ok(Err(NoMemory)) => refused = refused.wrapping_add(1),
-            Ok(Ok(next)) => {
-                assert_eq!(rt; next, (1, 3), "request {n}");
-                assert!(rt; !heap.has_refused(), "request {n}");
-                break;
-            }
+/// Tries all sequences of three calls, and tells how many there are.
+pub(crate) fn try_sequences<A: Allocator + Copy, W: Sink>(
+    alloc: A,
+    plan: &Plan<A>,
+    out: &mut W,
+) -> Result<(), Stop> {
+    let mut tried = 0u64;
+    for sequence in 0..29_791u32 {
+        if !agrees(alloc, plan, sequence)? {
+            write_broken(b"not as the model, sequence", u64::from(sequence), out)?;
+            break;
         }
+        tried = tried.saturating_add(1);
     }
-    assert_eq!(rt; refused, 2);
+    Ok(write_count(b"", tried, b" sequences agree\n", out)?)
 }

@@ -1,172 +1,236 @@
-// The answers of a line book, the lines it finds, and want of memory.
-use refusing::Refusing;
+// Lines of texts, whole and in pieces.
+ghost use Rattle.std.specs.Prelude.{◌+◌, ◌≤◌, length};
+
 use std::alloc::Allocator;
-use std::process::Abort;
-use std::test::Fail;
-use tx_lines::{LineAnswer, LineBook};
-use tx_plan::{CodeId, Plan, PlanBuilder, PlanRefusal};
-use tx_text::NoMemory;
+use tx_cases::{Judge, Stop, write_broken, write_count};
+use tx_text::{
+    Fed, LineFeeder, Lines, MemorySink, Sink, TextFault, TextLine, WriteFault, write_bytes,
+    write_parts,
+};
 
-/// The ranges of two codes: the code, the low end and the high end.
-const RANGES: [(&[u8], &[u8], &[u8]); 7] = [
-    (b"41", b"700", b"799"),
-    (b"51", b"10001", b"10099"),
-    (b"41", b"10001", b"10099"),
-    (b"41", b"001", b"099"),
-    (b"41", b"100", b"199"),
-    (b"41", b"1000", b"1999"),
-    (b"51", b"9", b"9"),
-];
+/// The longest text that is fed in pieces.
+const LONGEST: usize = 1000;
 
-/// Declares an exchange, two codes and their ranges.
-fn declare<A: Allocator>(builder: &mut PlanBuilder<A>) -> Result<(), PlanRefusal> {
-    builder.exchange(b"ALFA")?;
-    builder.code(b"41", b"ALFA")?;
-    builder.code(b"51", b"ALFA")?;
-    for (code, low, high) in RANGES {
-        builder.lines(code, low, high)?;
+fn tell_line<W: Sink>(line: TextLine<'_>, out: &mut W) -> Result<(), WriteFault> {
+    write_count(b"line ", line.number, b"", out)?;
+    write_count(b" at ", line.start as u64, b": ", out)?;
+    let end = if line.finished {
+        b"]\n".as_slice()
+    } else {
+        b"], unfinished\n".as_slice()
+    };
+    write_parts(&[b"[", line.text, end], out)
+}
+
+pub(crate) fn fault_name(fault: TextFault) -> &'static [u8] {
+    match fault {
+        TextFault::LineTooLong => b"LineTooLong",
+        TextFault::BadByte => b"BadByte",
+        TextFault::NoMemory => b"NoMemory",
+    }
+}
+
+fn tell_fault<W: Sink>(fault: TextFault, out: &mut W) -> Result<(), WriteFault> {
+    write_parts(&[fault_name(fault), b"\n"], out)
+}
+
+/// Tells the lines of a text, and its fault.
+fn tell_lines<W: Sink>(text: &[u8], out: &mut W) -> Result<(), WriteFault> {
+    for line in Lines::new(text) {
+        match line {
+            Ok(line) => tell_line(line, out)?,
+            Err(fault) => tell_fault(fault, out)?,
+        }
     }
     Ok(())
 }
 
-/// A plan of two codes with several ranges.
-fn plan<A: Allocator + Copy>(alloc: A) -> Result<Plan<A>, PlanRefusal> {
-    let mut builder = PlanBuilder::new(alloc);
-    match declare(&mut builder) {
-        Ok(()) => Ok(builder.finish()),
-        Err(refusal) => {
-            drop(builder);
-            Err(refusal)
-        }
-    }
+/// Where a text is cut into three pieces, and whether each call is told.
+#[derive(Clone, Copy)]
+struct Cuts {
+    first: usize,
+    second: usize,
+    told: bool,
 }
 
-/// The book of that plan.
-fn book<A: Allocator + Copy>(alloc: A) -> Result<LineBook<A>, PlanRefusal> {
-    let plan = plan(alloc)?;
-    let built = LineBook::build(alloc, &plan);
-    drop(plan);
-    match built {
-        Ok(book) => Ok(book),
-        Err(NoMemory) => Err(PlanRefusal::NoMemory),
-    }
-}
-
-/// Numbers of the first code, 41, and of the second, 51, and whether they are lines.
-const NUMBERS: [(u16, &[u8], bool); 25] = [
-    (0, b"700", true),
-    (0, b"750", true),
-    (0, b"799", true),
-    (0, b"001", true),
-    (0, b"099", true),
-    (0, b"100", true),
-    (0, b"199", true),
-    (0, b"1000", true),
-    (0, b"1999", true),
-    (0, b"10050", true),
-    (1, b"10001", true),
-    (1, b"10099", true),
-    (1, b"9", true),
-    (0, b"", false),
-    (0, b"000", false),
-    (0, b"200", false),
-    (0, b"800", false),
-    (0, b"99", false),
-    (0, b"2000", false),
-    (0, b"0999", false),
-    (0, b"10100", false),
-    (0, b"10:", false),
-    (0, b"1234567890", false),
-    (1, b"100", false),
-    (7, b"700", false),
-];
-
-/// The numbers that are lines are found.
-fn assert_found<A: Allocator>(rt: &impl Abort, book: &LineBook<A>) {
-    for (code, number, is_line) in NUMBERS {
-        let code = CodeId::at(code);
-        let wanted = match book.find(code, number) {
-            Some(line) => LineAnswer::Free(line),
-            None => LineAnswer::NoLine,
+impl Cuts {
+    /// What stands before the next cut of a text of which so many bytes were fed.
+    fn piece<'a>(&self, fed: usize, rest: &'a [u8]) -> &'a [u8]
+        ensures { length result.now ≤ length rest.now }
+    {
+        let upto = if fed < self.first {
+            self.first
+        } else if fed < self.second {
+            self.second
+        } else {
+            usize::MAX
         };
-        let answer = book.answer(code, number);
-        assert_eq!(rt; answer, wanted, "{number:?}");
-        assert_eq!(rt; answer != LineAnswer::NoLine, is_line, "{number:?}");
+        rest.split_at(upto.saturating_sub(fed).min(rest.len())).0
     }
 }
 
-#[test]
-fn lines_are_found(rt: HostRuntime) -> Result<(), Fail> {
-    let book = book(rt.alloc())?;
-    assert_found(&rt, &book);
-    drop(book);
-    Ok(())
-}
-
-/// A line is out of order before it is away, and away before it is engaged.
-fn assert_answers<A: Allocator>(rt: &impl Abort, book: &mut LineBook<A>) -> Result<(), Fail> {
-    let code = CodeId::at(0);
-    assert_eq!(rt; book.answer(code, b"10100"), LineAnswer::NoLine);
-    let line = book.find(code, b"10001").ok_or("a line")?;
-    assert_eq!(rt; book.answer(code, b"10001"), LineAnswer::Free(line));
-    book.reserve_one()?;
-    book.set_fault(&line, true);
-    book.reserve_one()?;
-    book.set_away(&line, true);
-    assert!(rt; book.is_faulty(&line) && book.is_away(&line));
-    assert_eq!(rt; book.answer(code, b"10001"), LineAnswer::OutOfOrder);
-    book.set_fault(&line, false);
-    assert_eq!(rt; book.answer(code, b"10001"), LineAnswer::Away);
-    book.set_away(&line, false);
-    book.reserve_one()?;
-    book.engage(&line);
-    assert!(rt; book.is_engaged(&line));
-    assert_eq!(rt; book.answer(code, b"10001"), LineAnswer::Engaged);
-    book.free(&line);
-    assert_eq!(rt; book.answer(code, b"10001"), LineAnswer::Free(line));
-    Ok(())
-}
-
-#[test]
-fn line_book(rt: HostRuntime) -> Result<(), Fail> {
-    let mut book = book(rt.alloc())?;
-    let answer = assert_answers(&rt, &mut book);
-    drop(book);
-    answer
-}
-
-/// Engages a line, again where there was no room for it at first: tells whether that was so.
-fn engage<A: Allocator>(rt: &impl Abort, book: &mut LineBook<A>) -> Result<bool, Fail> {
-    let code = CodeId::at(0);
-    let line = book.find(code, b"10001").ok_or("a line")?;
-    let refused = book.reserve_one().is_err();
-    if refused {
-        assert_eq!(rt; book.answer(code, b"10001"), LineAnswer::Free(line));
-        book.reserve_one()?;
+fn tell_fed<W: Sink>(answer: Result<Fed, TextFault>, out: &mut W) -> Result<(), WriteFault> {
+    match answer {
+        Ok(fed) => write_count(b"", fed.taken as u64, b" taken\n", out),
+        Err(fault) => tell_fault(fault, out),
     }
-    book.engage(&line);
-    assert_eq!(rt; book.answer(code, b"10001"), LineAnswer::Engaged);
-    Ok(refused)
 }
 
-#[test]
-fn each_growth_is_refused_in_turn(rt: HostRuntime) -> Result<(), Fail> {
-    for n in 1..100u64 {
-        let heap = Refusing::new(rt.alloc(), n);
-        match book(&heap) {
-            Ok(made) => {
-                let mut book = made;
-                let refused = engage(&rt, &mut book);
-                drop(book);
-                assert_eq!(rt; refused?, heap.has_refused(), "after {n}");
+/// Feeds an LF and a byte more behind a fault, which stays.
+fn feed_again<A: Allocator, W: Sink>(
+    feeder: &mut LineFeeder<A>,
+    out: &mut W,
+) -> Result<(), WriteFault>
+    requires { feeder.old.start + length feeder.old.begun ≤ 1000 }
+{
+    let end = feeder.feed(b"\n");
+    let byte = feeder.feed(b"A");
+    tell_fed(end, out)?;
+    tell_fed(byte, out)
+}
+
+/// Feeds a text piece by piece, and tells the lines that come of it. Tells whether there was no fault.
+fn feed_pieces<A: Allocator, W: Sink>(
+    feeder: &mut LineFeeder<A>,
+    text: &[u8],
+    cuts: Cuts,
+    out: &mut W,
+) -> Result<bool, WriteFault>
+    requires { feeder.old.start + length feeder.old.begun + length text.now ≤ 1000 }
+{
+    let mut rest = text;
+    for _ in 0..text.len() {
+        let piece = cuts.piece(text.len().saturating_sub(rest.len()), rest);
+        match feeder.feed(piece) {
+            Ok(fed) => {
+                if cuts.told {
+                    tell_fed(Ok(fed), out)?;
+                }
+                if fed.line {
+                    tell_line(feeder.line(), out)?;
+                }
+                rest = rest.split_at(fed.taken).1;
             }
-            Err(refusal) => assert_eq!(rt; refusal, PlanRefusal::NoMemory, "after {n}"),
+            Err(fault) => {
+                tell_fault(fault, out)?;
+                if cuts.told {
+                    feed_again(feeder, out)?;
+                }
+                return Ok(false);
+            }
         }
-        if !heap.has_refused() {
-            assert!(rt; n > 5);
-            return Ok(());
+        if rest.is_empty() {
+            break;
         }
     }
-    assert!(rt; false);
+    Ok(true)
+}
+
+/// Feeds a text, and tells how it ends.
+fn feed_text<A: Allocator, W: Sink>(
+    feeder: &mut LineFeeder<A>,
+    text: &[u8],
+    cuts: Cuts,
+    out: &mut W,
+) -> Result<(), WriteFault>
+    requires { feeder.old.start + length feeder.old.begun + length text.now ≤ 1000 }
+{
+    if !feed_pieces(feeder, text, cuts, out)? && !cuts.told {
+        return Ok(());
+    }
+    match feeder.finish() {
+        Ok(true) => tell_line(feeder.line(), out),
+        Ok(false) => Ok(()),
+        Err(fault) => tell_fault(fault, out),
+    }
+}
+
+/// Feeds a text to a new feeder.
+fn feed_anew<A: Allocator, W: Sink>(
+    alloc: A,
+    text: &[u8],
+    cuts: Cuts,
+    out: &mut W,
+) -> Result<(), Stop> {
+    if text.len() > LONGEST {
+        return Ok(write_broken(b"too long to be fed", 0, out)?);
+    }
+    match LineFeeder::new(alloc) {
+        Ok(mut feeder) => {
+            let told = feed_text(&mut feeder, text, cuts, out);
+            drop(feeder);
+            Ok(told?)
+        }
+        Err(_) => Err(Stop::NoMemory),
+    }
+}
+
+/// Tells each call of the feeder for a text in three pieces.
+pub(crate) fn play_feed<A: Allocator, W: Sink>(
+    alloc: A,
+    text: &[u8],
+    first: usize,
+    second: usize,
+    out: &mut W,
+) -> Result<(), Stop> {
+    let cuts = Cuts {
+        first,
+        second,
+        told: true,
+    };
+    feed_anew(alloc, text, cuts, out)
+}
+
+/// Feeds a text in all three pieces into which it can be cut: the lines have to be those of the whole.
+fn try_cuts<A: Allocator + Copy, W: Sink>(
+    alloc: A,
+    text: &[u8],
+    whole: &[u8],
+    out: &mut W,
+) -> Result<(), Stop> {
+    for second in 0..=text.len() {
+        for first in 0..=second {
+            let mut judge = Judge::new(whole, usize::MAX);
+            let cuts = Cuts {
+                first,
+                second,
+                told: false,
+            };
+            feed_anew(alloc, text, cuts, &mut judge)?;
+            if !judge.is_whole() {
+                write_count(b"cut at ", first as u64, b" and then, ", out)?;
+                write_broken(b"not the same, cut at", second as u64, out)?;
+            }
+        }
+    }
     Ok(())
+}
+
+/// Writes the lines of a text, and where it is short, feeds it in pieces.
+fn tell_and_cut<A: Allocator + Copy, W: Sink>(
+    alloc: A,
+    text: &[u8],
+    whole: &[u8],
+    out: &mut W,
+) -> Result<(), Stop> {
+    write_bytes(whole, out)?;
+    if text.len() < 100 {
+        try_cuts(alloc, text, whole, out)?;
+    }
+    Ok(())
+}
+
+/// Tells the lines of a text, whole and in pieces.
+pub(crate) fn play_lines<A: Allocator + Copy, W: Sink>(
+    alloc: A,
+    text: &[u8],
+    out: &mut W,
+) -> Result<(), Stop> {
+    let mut whole = MemorySink::new(alloc, 5000)?;
+    let told = match tell_lines(text, &mut whole) {
+        Ok(()) => tell_and_cut(alloc, text, whole.taken(), out),
+        Err(_) => Err(Stop::Write),
+    };
+    drop(whole);
+    told
 }

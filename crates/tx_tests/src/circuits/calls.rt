@@ -1,7 +1,7 @@
 // Calls on a table with one group, as values.
 use std::alloc::Allocator;
 use tx_circuits::CircuitTable;
-use tx_plan::{Circuit, Direction, ExchangeId, GroupId, Plan, PlanBuilder, PlanRefusal};
+use tx_plan::{Circuit, ExchangeId, GroupId};
 
 /// The places of the ends.
 pub const ALFA: u16 = 0;
@@ -9,7 +9,7 @@ pub const ALFA: u16 = 0;
 pub const BETA: u16 = 1;
 
 /// A call of a circuit by its number, at an end where it asks for one, or of the group.
-#[derive(Clone, Copy, Debug)]
+#[derive(Clone, Copy)]
 pub enum Call {
     Seize(u32, u16),
     Withdraw(u32, u16),
@@ -44,15 +44,6 @@ pub fn circuit(number: u32) -> Circuit {
     }
 }
 
-/// A plan with one both-way group from ALFA to BETA.
-pub fn plan<A: Allocator + Copy>(alloc: A, count: u32) -> Result<Plan<A>, PlanRefusal> {
-    let mut builder = PlanBuilder::new(alloc);
-    builder.exchange(b"ALFA")?;
-    builder.exchange(b"BETA")?;
-    builder.group(b"G1", b"ALFA", b"BETA", Direction::BothWay, count)?;
-    Ok(builder.finish())
-}
-
 /// The number of the circuit that an exchange takes next; 0 for none.
 pub fn next<A: Allocator>(table: &CircuitTable<A>, exchange: u16) -> u32 {
     let exchange = ExchangeId::at(exchange);
@@ -84,6 +75,38 @@ pub fn call_of(k: u32) -> Call {
             29 => Call::Block,
             _ => Call::Unblock,
         },
+    }
+}
+
+/// The call of a name.
+pub fn named(name: &[u8], number: u32, end: u16) -> Option<Call> {
+    if name == b"seize".as_slice() {
+        Some(Call::Seize(number, end))
+    } else if name == b"withdraw".as_slice() {
+        Some(Call::Withdraw(number, end))
+    } else if name == b"hold".as_slice() {
+        Some(Call::Hold(number))
+    } else if name == b"release".as_slice() {
+        Some(Call::Release(number))
+    } else if name == b"released".as_slice() {
+        Some(Call::Released(number))
+    } else {
+        named_of_group(name)
+    }
+}
+
+/// The call of the group of a name.
+fn named_of_group(name: &[u8]) -> Option<Call> {
+    if name == b"fail".as_slice() {
+        Some(Call::Fail)
+    } else if name == b"restore".as_slice() {
+        Some(Call::Restore)
+    } else if name == b"block".as_slice() {
+        Some(Call::Block)
+    } else if name == b"unblock".as_slice() {
+        Some(Call::Unblock)
+    } else {
+        None
     }
 }
 

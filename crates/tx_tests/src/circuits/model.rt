@@ -165,14 +165,24 @@ impl Model {
         found
     }
 
+    // Whether the table tells the same of the circuits.
+    fn holds<A: Allocator>(&self, table: &CircuitTable<A>) -> bool {
+        let mut number = 0u32;
+        for held in self.circuits {
+            number = number.saturating_add(1);
+            if held != Held::told(table, number) {
+                return false;
+            }
+        }
+        true
+    }
+
     /// Whether the table tells the same.
     pub fn agrees<A: Allocator>(&self, table: &CircuitTable<A>) -> bool {
         let group = GroupId::at(0);
         self.failed == table.is_failed(group)
             && self.blocked == table.is_blocked(group)
-            && self.circuits[0] == Held::told(table, 1)
-            && self.circuits[1] == Held::told(table, 2)
-            && self.circuits[2] == Held::told(table, 3)
+            && self.holds(table)
             && self.next(ALFA) == next(table, ALFA)
             && self.next(BETA) == next(table, BETA)
     }

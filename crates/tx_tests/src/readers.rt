@@ -1,8 +1,9 @@
-// Each public call on its happy path, as many entries as there may be, and want of memory.
+// The readers of a small plan, as many entries as there may be, and want of memory.
 use refusing::Refusing;
 use std::alloc::Allocator;
+use tx_cases::{Stop, write_broken, write_count};
 use tx_plan::{CodeId, Direction, ExchangeId, GroupId, Plan, PlanBuilder, PlanRefusal};
-use tx_text::words;
+use tx_text::{Sink, WriteFault, words, write_bytes};
 
 /// One declaration of a small plan.
 fn declare<A: Allocator>(plan: &mut PlanBuilder<A>, step: u32) -> Result<(), PlanRefusal> {
@@ -19,32 +20,36 @@ fn declare<A: Allocator>(plan: &mut PlanBuilder<A>, step: u32) -> Result<(), Pla
 }
 
 /// Declares the small plan, and again what found no memory. Marks that, and tells whether all was declared.
-fn declare_all<A: Allocator>(plan: &mut PlanBuilder<A>, refused: &mut u32) -> bool {
-    let mut mark = 1u32;
+fn declare_all<A: Allocator>(plan: &mut PlanBuilder<A>, wanting: &mut [bool]) -> bool {
     for step in 0..8u32 {
         let mut answer = declare(plan, step);
         if answer == Err(PlanRefusal::NoMemory) {
-            *refused |= mark;
+            if let Some(mark) = wanting.get_mut(step as usize) {
+                *mark = true;
+            }
             answer = declare(plan, step);
         }
         if answer.is_err() {
             return false;
         }
-        mark = mark.wrapping_mul(2);
     }
     true
 }
 
-/// How many exchanges, codes, ranges, groups, routes and bars.
-fn sizes<A: Allocator>(plan: &Plan<A>) -> [usize; 6] {
-    [
+/// Tells how many exchanges, codes, ranges, groups, routes and bars.
+fn tell_sizes<A: Allocator, W: Sink>(plan: &Plan<A>, out: &mut W) -> Result<(), WriteFault> {
+    let sizes = [
         plan.exchanges(),
         plan.codes(),
         plan.ranges(),
         plan.groups(),
         plan.routes(),
         plan.bars(),
-    ]
+    ];
+    for size in sizes {
+        write_count(b"", size as u64, b" ", out)?;
+    }
+    write_bytes(b"entries\n", out)
 }
 
 const ALFA: u16 = 0;
@@ -57,25 +62,37 @@ fn has_places<A: Allocator>(plan: &Plan<A>) -> bool {
         && plan.group_at(0) == Some(GroupId::at(0))
         && plan.route_at(0) == Some((ExchangeId::at(ALFA), CodeId::at(1)))
         && plan.bar_at(0) == Some((ExchangeId::at(BETA), CodeId::at(0)))
-        && plan
-            .range_at(0)
-            .is_some_and(|range| range.high.bytes() == b"099".as_slice())
+}
+
+fn has_range<A: Allocator>(plan: &Plan<A>) -> bool {
+    match plan.range_at(0) {
+        Some(range) => range.high.bytes() == b"099".as_slice(),
+        None => false,
+    }
 }
 
 fn has_names<A: Allocator>(plan: &Plan<A>) -> bool {
     plan.exchange_named(b"BETA") == Some(ExchangeId::at(BETA))
         && plan.code_named(b"51") == Some(CodeId::at(1))
         && plan.group_named(b"G1") == Some(GroupId::at(0))
-        && plan.exchange_name(ExchangeId::at(BETA)) == b"BETA".as_slice()
+}
+
+fn gives_names<A: Allocator>(plan: &Plan<A>) -> bool {
+    plan.exchange_name(ExchangeId::at(BETA)) == b"BETA".as_slice()
         && plan.code_figures(CodeId::at(1)) == b"51".as_slice()
         && plan.group_name(GroupId::at(0)) == b"G1".as_slice()
 }
 
-fn has_lines<A: Allocator>(plan: &Plan<A>) -> bool {
+fn has_line<A: Allocator>(plan: &Plan<A>) -> bool {
+    match plan.line_at(CodeId::at(0), b"007") {
+        Some(line) => line.national.bytes() == b"007".as_slice(),
+        None => false,
+    }
+}
+
+fn has_routes<A: Allocator>(plan: &Plan<A>) -> bool {
     let (alfa, beta) = (ExchangeId::at(ALFA), ExchangeId::at(BETA));
-    plan.line_at(CodeId::at(0), b"007")
-        .is_some_and(|line| line.national.bytes() == b"007".as_slice())
-        && plan.home(CodeId::at(1)) == beta
+    plan.home(CodeId::at(1)) == beta
         && plan.list(alfa, CodeId::at(1)) == [GroupId::at(0)].as_slice()
         && plan.is_barred(beta, CodeId::at(0))
         && plan.is_origin(alfa)
@@ -92,22 +109,22 @@ fn has_groups<A: Allocator>(plan: &Plan<A>) -> bool {
         && plan.may_seize(group, beta)
 }
 
-#[test]
-fn readers(rt: HostRuntime) {
-    let mut builder = PlanBuilder::new(rt.alloc());
-    let done = declare_all(&mut builder, &mut 0);
-    let plan = builder.finish();
+/// Tells what the readers of the small plan answer.
+fn tell_readers<A: Allocator, W: Sink>(plan: &Plan<A>, out: &mut W) -> Result<(), WriteFault> {
     plan.rules();
-    let has = [
-        has_places(&plan),
-        has_names(&plan),
-        has_lines(&plan),
-        has_groups(&plan),
+    let answers = [
+        has_places(plan),
+        has_range(plan),
+        has_names(plan),
+        gives_names(plan),
+        has_line(plan),
+        has_routes(plan),
+        has_groups(plan),
     ];
-    let sizes = sizes(&plan);
-    drop(plan);
-    assert!(rt; done && has == [true; 4]);
-    assert_eq!(rt; sizes, [2, 2, 1, 1, 1, 1]);
+    for answer in answers {
+        write_bytes(if answer { b"right " } else { b"WRONG " }, out)?;
+    }
+    tell_sizes(plan, out)
 }
 
 /// A letter and four figures.
@@ -136,36 +153,61 @@ fn fill<A: Allocator>(plan: &mut PlanBuilder<A>) {
     }
 }
 
-#[test]
-fn limits(rt: HostRuntime) {
-    let mut builder = PlanBuilder::new(rt.alloc());
-    let done = declare_all(&mut builder, &mut 0);
-    fill(&mut builder);
-    let plan = builder.finish();
-    let sizes = sizes(&plan);
+/// The small plan, and more than there may be where it is to be full.
+fn made<A: Allocator + Copy>(alloc: A, full: bool) -> Plan<A> {
+    let mut builder = PlanBuilder::new(alloc);
+    let _ = declare_all(&mut builder, &mut []);
+    if full {
+        fill(&mut builder);
+    }
+    builder.finish()
+}
+
+/// Tells what the small plan holds.
+fn tell_small<A: Allocator + Copy, W: Sink>(alloc: A, out: &mut W) -> Result<(), WriteFault> {
+    let plan = made(alloc, false);
+    let told = tell_readers(&plan, out);
     drop(plan);
-    assert!(rt; done && sizes == [256, 2, 4096, 4096, 1, 1]);
+    told
+}
+
+/// Tells how much a full plan holds.
+fn tell_full<A: Allocator + Copy, W: Sink>(alloc: A, out: &mut W) -> Result<(), WriteFault> {
+    let plan = made(alloc, true);
+    let told = tell_sizes(&plan, out);
+    drop(plan);
+    told
 }
 
 /// Declares the small plan over an allocator.
-fn declare_over<A: Allocator + Copy>(alloc: A, refused: &mut u32) -> bool {
+fn declare_over<A: Allocator + Copy>(alloc: A, wanting: &mut [bool]) -> bool {
     let mut builder = PlanBuilder::new(alloc);
-    let done = declare_all(&mut builder, refused);
+    let done = declare_all(&mut builder, wanting);
     drop(builder);
     done
 }
 
-#[test]
-fn each_growth_is_refused_in_turn(rt: HostRuntime) {
-    let mut refused = 0;
-    for n in 1..100u64 {
-        let heap = Refusing::new(rt.alloc(), n);
-        let done = declare_over(&heap, &mut refused);
-        assert!(rt; done, "after {n}");
-        if !heap.has_refused() {
+/// Refuses each request for memory in turn, until none is refused, and tells which declarations take memory: the first of each kind.
+fn tell_growths<A: Allocator + Copy, W: Sink>(alloc: A, out: &mut W) -> Result<(), WriteFault> {
+    let mut wanting = [false; 8];
+    for request in 1..100u64 {
+        let refusing = Refusing::new(alloc, request);
+        if !declare_over(&refusing, &mut wanting) {
+            write_broken(b"refused request", request, out)?;
+        }
+        if !refusing.has_refused() {
             break;
         }
     }
-    // The first declaration of each kind takes memory.
-    assert_eq!(rt; refused, 0b11110101);
+    for mark in wanting {
+        write_bytes(if mark { b"takes " } else { b"none " }, out)?;
+    }
+    write_bytes(b"memory\n", out)
+}
+
+/// The small plan, a full one, and the small one where memory is refused.
+pub(crate) fn play_plan<A: Allocator + Copy, W: Sink>(alloc: A, out: &mut W) -> Result<(), Stop> {
+    tell_small(alloc, out)?;
+    tell_full(alloc, out)?;
+    Ok(tell_growths(alloc, out)?)
 }
