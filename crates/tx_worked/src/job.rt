@@ -3,11 +3,12 @@ ghost use Rattle.std.specs.Prelude.{◌≤◌};
 
 use refusing::Refusing;
 use std::alloc::Allocator;
-use tx_audit::Audited;
+use tx_audit::write_counter;
 use tx_cases::Judge;
 use tx_cert::write_cert;
 use tx_jobs::{
-    JobFault, audit_job, check_status, codes_job, pipe_job, run_checked_status, run_job,
+    Evidence, JobFault, check_status, codes_job, evidence_job, pipe_job, run_checked_status,
+    run_job,
 };
 use tx_text::{MemorySource, Sink, Source};
 
@@ -21,7 +22,7 @@ pub(crate) enum Job {
     Run,
     Codes,
     Check { limit: u8, spare: u8 },
-    /// An audit, with its certificate behind the report.
+    /// An audit, with its certificate or its counter script behind the report.
     Audit { limit: u8, spare: u8 },
     /// A run after a Yes of the checker.
     Checked { limit: u8, spare: u8 },
@@ -152,18 +153,22 @@ fn do_codes<A: Allocator + Copy, P: Source, W: Sink>(
     }
 }
 
-/// Writes the certificate, if one was found.
-fn keep<A: Allocator, W: Sink>(audited: &Audited<A>, out: &mut W) -> Result<u8, JobFault> {
-    match audited {
-        Audited::Sound(plan, cert) => match write_cert(cert, plan, out) {
-            Ok(()) => Ok(0),
-            Err(_) => Err(JobFault::Write),
-        },
-        Audited::Unsound(_, _) => Ok(1),
+/// Writes the certificate, or the counter script, if there is one.
+fn keep<A: Allocator, W: Sink>(evidence: &Evidence<A>, out: &mut W) -> Result<u8, JobFault> {
+    let written = match evidence {
+        Evidence::Sound(plan, cert) => write_cert(cert, plan, out),
+        Evidence::Unsound(Some(script)) => {
+            write_counter(&script.plan, script.events.as_slice(), out)
+        }
+        Evidence::Unsound(None) => Ok(()),
+    };
+    match written {
+        Ok(()) => Ok(evidence.status()),
+        Err(_) => Err(JobFault::Write),
     }
 }
 
-/// Audits a plan, and writes the certificate behind a report of YES.
+/// Audits a plan, and writes behind the report what shows its verdict.
 fn do_audit<A: Allocator + Copy, P: Source, W: Sink>(
     alloc: A,
     plan: &mut P,
@@ -174,10 +179,10 @@ fn do_audit<A: Allocator + Copy, P: Source, W: Sink>(
     requires limit { limit ≤ 62 }
     requires spare { spare ≤ 15 }
 {
-    match audit_job(alloc, plan, limit, spare, out) {
-        Ok(audited) => {
-            let status = keep(&audited, out);
-            drop(audited);
+    match evidence_job(alloc, plan, limit, spare, true, out) {
+        Ok(evidence) => {
+            let status = keep(&evidence, out);
+            drop(evidence);
             status
         }
         Err(fault) => Err(fault),
