@@ -158,8 +158,8 @@ fn circuit(plan: &Plan, chance: &mut Chance) -> Option<Circuit> {
 /// An event of a kind for calls.
 fn call_event(kind: Kind, plan: &Plan, picture: &Picture, chance: &mut Chance) -> Option<Event> {
     match kind {
-        Kind::Route => number_for(kind, picture, chance).map(Event::Route),
-        Kind::Confirm => number_for(kind, picture, chance).map(Event::Confirm),
+        Kind::Route => Some(Event::Route(number_for(kind, picture, chance)?)),
+        Kind::Confirm => Some(Event::Confirm(number_for(kind, picture, chance)?)),
         Kind::Clear => clear(picture, chance),
         _ => key(plan, picture, chance),
     }
@@ -167,27 +167,27 @@ fn call_event(kind: Kind, plan: &Plan, picture: &Picture, chance: &mut Chance) -
 
 /// An event of a kind for groups and circuits.
 fn trunk_event(kind: Kind, plan: &Plan, picture: &Picture, chance: &mut Chance) -> Option<Event> {
-    match kind {
-        Kind::Released => chance
-            .pick(picture.given_up.as_slice())
-            .map(Event::Released),
-        Kind::Fail => group(plan, chance).map(Event::Fail),
-        Kind::Restore => chance.pick(picture.failed.as_slice()).map(Event::Restore),
-        Kind::Block => group(plan, chance).map(Event::Block),
-        Kind::Unblock => chance.pick(picture.blocked.as_slice()).map(Event::Unblock),
-        Kind::CircuitOut => circuit(plan, chance).map(Event::CircuitOut),
-        _ => chance.pick(picture.out.as_slice()).map(Event::CircuitIn),
-    }
+    let event = match kind {
+        Kind::Released => Event::Released(chance.pick(picture.given_up.as_slice())?),
+        Kind::Fail => Event::Fail(group(plan, chance)?),
+        Kind::Restore => Event::Restore(chance.pick(picture.failed.as_slice())?),
+        Kind::Block => Event::Block(group(plan, chance)?),
+        Kind::Unblock => Event::Unblock(chance.pick(picture.blocked.as_slice())?),
+        Kind::CircuitOut => Event::CircuitOut(circuit(plan, chance)?),
+        _ => Event::CircuitIn(chance.pick(picture.out.as_slice())?),
+    };
+    Some(event)
 }
 
 /// An event of a kind for lines.
 fn line_event(kind: Kind, plan: &Plan, picture: &Picture, chance: &mut Chance) -> Option<Event> {
-    match kind {
-        Kind::LineFault => line(plan, chance).map(Event::LineFault),
-        Kind::LineMend => chance.pick(picture.faulty.as_slice()).map(Event::LineMend),
-        Kind::LineAway => line(plan, chance).map(Event::LineAway),
-        _ => chance.pick(picture.away.as_slice()).map(Event::LineBack),
-    }
+    let event = match kind {
+        Kind::LineFault => Event::LineFault(line(plan, chance)?),
+        Kind::LineMend => Event::LineMend(chance.pick(picture.faulty.as_slice())?),
+        Kind::LineAway => Event::LineAway(line(plan, chance)?),
+        _ => Event::LineBack(chance.pick(picture.away.as_slice())?),
+    };
+    Some(event)
 }
 
 /// An event of a kind, if there is a thing for it.

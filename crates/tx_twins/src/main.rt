@@ -15,22 +15,23 @@ mod drawing;
 mod mood;
 mod networks;
 mod picture;
-mod plans;
 mod script;
 mod stop;
 mod stray;
 mod tally;
 mod twins;
 
-use networks::{play_refusing_each, play_script};
-use plans::{NamedPlan, next_plan};
-use script::Script;
+use crate::networks::{play_refusing_each, play_script};
+use crate::script::Script;
+use crate::stop::{Stop, write_stop};
+use crate::tally::{Tallies, Tally, write_events, write_tallies};
 use std::alloc::Global;
-use std::fs;
-use stop::Stop;
-use tally::{Tally, Wants};
+use std::io::{BufWriter, Write};
+use std::{fs, io};
+use tx_cases::{Case, next_case, next_number};
 use tx_plan::Plan;
 use tx_plantext::read_plan;
+use tx_text::{Sink, ToWrite, WriteFault, words};
 
 /// How many events a script has that begins in the opening state.
 const LENGTH: u32 = 6000;
@@ -50,22 +51,22 @@ fn opening_script(seed: u64, length: u32, most: usize) -> Script {
 fn play_whole(
     alloc: Global,
     plan: &Plan,
-    named: NamedPlan<'_>,
+    most: usize,
     seed: u64,
     tally: &mut Tally,
 ) -> Result<(), Stop> {
     for more in 0..4u64 {
         let seed = seed.wrapping_add(more.wrapping_mul(1000));
-        play_script(alloc, plan, opening_script(seed, LENGTH, named.most), tally)?;
+        play_script(alloc, plan, opening_script(seed, LENGTH, most), tally)?;
     }
     let last_number = Script {
         numbers: u32::MAX - 60,
-        ..opening_script(seed, 400, named.most)
+        ..opening_script(seed, 400, most)
     };
     play_script(alloc, plan, last_number, tally)?;
     let last_event = Script {
         events: u64::MAX - 200,
-        ..opening_script(seed, 300, named.most)
+        ..opening_script(seed, 300, most)
     };
     play_script(alloc, plan, last_event, tally)
 }
@@ -74,15 +75,15 @@ fn play_whole(
 fn play_plan(
     alloc: Global,
     plan: &Plan,
-    named: NamedPlan<'_>,
+    text: &[u8],
+    most: usize,
     seed: u64,
-    tally: &mut Tally,
-    refusing: &mut Tally,
+    tallies: &mut Tallies,
 ) -> Result<(), Stop> {
-    play_whole(alloc, plan, named, seed, tally)?;
+    play_whole(alloc, plan, most, seed, &mut tallies.whole)?;
     for seed in 0..4u64 {
-        let script = opening_script(seed, 100, named.most);
-        play_refusing_each(alloc, plan, script, named.text, refusing)?;
+        let script = opening_script(seed, 100, most);
+        play_refusing_each(alloc, plan, script, text, &mut tallies.refusing)?;
     }
     Ok(())
 }
@@ -90,14 +91,14 @@ fn play_plan(
 /// Reads a plan, and plays its scripts.
 fn read_and_play(
     alloc: Global,
-    named: NamedPlan<'_>,
+    text: &[u8],
+    most: usize,
     seed: u64,
-    tally: &mut Tally,
-    refusing: &mut Tally,
+    tallies: &mut Tallies,
 ) -> Result<(), Stop> {
-    match read_plan(alloc, named.text) {
+    match read_plan(alloc, text) {
         Ok(plan) => {
-            let played = play_plan(alloc, &plan, named, seed, tally, refusing);
+            let played = play_plan(alloc, &plan, text, most, seed, tallies);
             drop(plan);
             played
         }
@@ -105,50 +106,57 @@ fn read_and_play(
     }
 }
 
-/// Plays the scripts of all plans, and prints how many events each has.
-fn play_plans<R: AllocGlobal + Print>(
-    rt: &R,
+/// Plays the scripts of a plan, whose line `=== NAME n` says that at most n calls are to be open, and writes how many events they have.
+fn play_case<W: Sink>(
+    alloc: Global,
+    case: Case<'_>,
+    seed: u64,
+    tallies: &mut Tallies,
+    out: &mut W,
+) -> Result<(), Stop> {
+    let mut head = words(case.head);
+    let name = head.next().unwrap_or(b"".as_slice());
+    let most = next_number(&mut head, 10_000) as usize;
+    let (events, accepted) = (tallies.whole.events, tallies.whole.accepted);
+    let played = read_and_play(alloc, case.texts, most, seed, tallies);
+    let events = tallies.whole.events.saturating_sub(events);
+    let accepted = tallies.whole.accepted.saturating_sub(accepted);
+    write_events(name, events, accepted, out)?;
+    played
+}
+
+/// Plays the scripts of all plans.
+fn play_cases<W: Sink>(
+    alloc: Global,
     text: &[u8],
-    tally: &mut Tally,
-    refusing: &mut Tally,
+    tallies: &mut Tallies,
+    out: &mut W,
 ) -> Result<(), Stop> {
     let mut rest = text;
     for seed in 0..1000u64 {
-        let Some((named, more)) = next_plan(rest) else {
+        let Some((case, more)) = next_case(rest) else {
             break;
         };
-        let events = tally.events;
-        let accepted = tally.accepted;
-        let played = read_and_play(rt.alloc(), named, seed, tally, refusing);
-        let name = named.name;
-        let events = tally.events.saturating_sub(events);
-        let accepted = tally.accepted.saturating_sub(accepted);
-        println!(rt; "{name}: {events} events, {accepted} of them accepted")?;
-        played?;
+        play_case(alloc, case, seed, tallies, out)?;
         rest = more;
     }
     Ok(())
 }
 
-/// Prints what was counted.
-fn print_tally<R: Print>(rt: &R, tally: &Tally, wants: &Wants) -> Result<(), Stop> {
-    let events = tally.events;
-    let accepted = tally.accepted;
-    println!(rt; "in all: {events} events, {accepted} of them accepted")?;
-    println!(rt; "{:#?}", tally.replies)?;
-    println!(rt; "{:#?}", tally.answers)?;
-    println!(rt; "{:#?}", tally.refusals)?;
-    println!(rt; "{:#?}", tally.causes)?;
-    println!(rt; "{wants:#?}")?;
-    Ok(())
+/// Plays the scripts of all plans, and writes what was counted, and why it stopped where it did.
+fn play_all<W: Sink>(alloc: Global, text: &[u8], out: &mut W) -> Result<(), WriteFault> {
+    let mut tallies = Tallies::default();
+    let played = play_cases(alloc, text, &mut tallies, out);
+    write_tallies(&tallies, out)?;
+    match played {
+        Ok(()) => Ok(()),
+        Err(stop) => write_stop(alloc, stop, tallies.difference(), out),
+    }
 }
 
-fn main(rt: HostRuntime) -> Result<(), Stop> {
+fn main(rt: HostRuntime) -> io::Result<()> {
     let text = fs::read(&rt, "plans")?;
-    let mut tally = Tally::default();
-    let mut refusing = Tally::default();
-    let played = play_plans(&rt, text.as_slice(), &mut tally, &mut refusing);
-    drop(text);
-    print_tally(&rt, &tally, &refusing.wants)?;
-    played
+    let mut out = ToWrite::new(BufWriter::new(rt.alloc(), rt.stdout())?);
+    let _ = play_all(rt.alloc(), text.as_slice(), &mut out);
+    Ok(())
 }

@@ -9,6 +9,7 @@ use tx_machine::Plain;
 use tx_plan::Plan;
 use tx_plantext::read_plan;
 use tx_state::Network;
+use tx_text::NoMemory;
 
 /// Plays a script through a network and a new engine, whose plan says the same and whose memory is another's.
 fn play_engine<M: Network, A: Allocator + Copy>(
@@ -19,10 +20,14 @@ fn play_engine<M: Network, A: Allocator + Copy>(
     (engine_alloc, engine_plan): (A, &Plan<A>),
     tally: &mut Tally,
 ) -> Result<(), Stop> {
-    let mut engine = Engine::starting_at(engine_alloc, engine_plan, script.numbers, script.events)?;
-    let played = play(alloc, plan, script, plain, &mut engine, tally);
-    drop(engine);
-    played
+    match Engine::starting_at(engine_alloc, engine_plan, script.numbers, script.events) {
+        Ok(mut engine) => {
+            let played = play(alloc, plan, script, plain, &mut engine, tally);
+            drop(engine);
+            played
+        }
+        Err(NoMemory) => Err(Stop::NoMemory),
+    }
 }
 
 /// Plays a script through a new plain network and a new engine.
@@ -30,15 +35,17 @@ fn play_both<A: Allocator + Copy>(
     alloc: Global,
     plan: &Plan,
     script: Script,
-    engine_alloc: A,
-    engine_plan: &Plan<A>,
+    engine: (A, &Plan<A>),
     tally: &mut Tally,
 ) -> Result<(), Stop> {
-    let mut plain = Plain::starting_at(alloc, plan, script.numbers, script.events)?;
-    let engine = (engine_alloc, engine_plan);
-    let played = play_engine(alloc, plan, script, &mut plain, engine, tally);
-    drop(plain);
-    played
+    match Plain::starting_at(alloc, plan, script.numbers, script.events) {
+        Ok(mut plain) => {
+            let played = play_engine(alloc, plan, script, &mut plain, engine, tally);
+            drop(plain);
+            played
+        }
+        Err(NoMemory) => Err(Stop::NoMemory),
+    }
 }
 
 /// Plays a script through both networks.
@@ -48,7 +55,7 @@ pub fn play_script(
     script: Script,
     tally: &mut Tally,
 ) -> Result<(), Stop> {
-    play_both(alloc, plan, script, alloc, plan, tally)
+    play_both(alloc, plan, script, (alloc, plan), tally)
 }
 
 /// Plays a script through both networks, of which the engine has its plan read with its own allocator.
@@ -62,7 +69,7 @@ fn play_reading<A: Allocator + Copy>(
 ) -> Result<(), Stop> {
     match read_plan(engine_alloc, text) {
         Ok(engine_plan) => {
-            let played = play_both(alloc, plan, script, engine_alloc, &engine_plan, tally);
+            let played = play_both(alloc, plan, script, (engine_alloc, &engine_plan), tally);
             drop(engine_plan);
             played
         }
@@ -82,13 +89,11 @@ fn play_refusing(
     let refusing = Refusing::new(alloc, request);
     let played = play_reading(alloc, plan, script, &refusing, text, tally);
     let came = refusing.has_refused();
-    let is_wanting = matches!(&played, Err(Stop::NoMemory));
-    if came && is_wanting {
-        drop(played);
-        return Ok(true);
+    match played {
+        Ok(()) => Ok(came),
+        Err(Stop::NoMemory) if came => Ok(true),
+        Err(stop) => Err(stop),
     }
-    played?;
-    Ok(came)
 }
 
 /// Plays a script with each request for memory refused to the engine in turn.

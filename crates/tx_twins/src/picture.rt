@@ -13,6 +13,11 @@ pub struct KnownCall {
     pub phase: Phase,
 }
 
+/// Takes an item out of a list.
+fn take_out<T: Copy + PartialEq>(list: &mut Vec<T>, item: &T) {
+    list.retain(|other| other != item);
+}
+
 /// What the replies and the tickets tell of a network, so that most events can be such as it accepts.
 #[derive(Drop)]
 pub struct Picture {
@@ -45,34 +50,52 @@ impl Picture {
 
     /// Whether the line takes part in a call.
     pub fn is_engaged(&self, line: &Line) -> bool {
-        self.calls.iter().any(|call| call.line == *line || call.phase == Phase::Connected(*line))
+        for call in &self.calls {
+            if call.line == *line || call.phase == Phase::Connected(*line) {
+                return true;
+            }
+        }
+        false
     }
 
     /// The line of a subscriber who calls already.
     pub fn busy_line(&self, chance: &mut Chance) -> Option<Line> {
-        let place = chance.below(self.calls.len());
-        self.calls.get(place).map(|call| call.line)
+        let call = chance.pick(self.calls.as_slice())?;
+        Some(call.line)
+    }
+
+    /// The place of the call of this number, or one behind all.
+    fn place(&self, number: u32) -> usize {
+        for (place, call) in self.calls.iter().enumerate() {
+            if call.number == number {
+                return place;
+            }
+        }
+        usize::MAX
+    }
+
+    /// The phase of the call of this number.
+    fn phase(&self, number: u32) -> Option<Phase> {
+        let call = self.calls.get(self.place(number))?;
+        Some(call.phase)
     }
 
     /// Whether the call of this number is connected.
     pub fn is_connected(&self, number: u32) -> bool {
-        self.calls
-            .iter()
-            .any(|call| call.number == number && call.phase.is_connected())
+        matches!(self.phase(number), Some(Phase::Connected(_)))
     }
 
     /// The circuit that the call of this number has seized.
     fn seized_by(&self, number: u32) -> Option<Circuit> {
-        let call = self.calls.iter().find(|call| call.number == number)?;
-        match call.phase {
-            Phase::Calling(circuit) => Some(circuit),
+        match self.phase(number) {
+            Some(Phase::Calling(circuit)) => Some(circuit),
             _ => None,
         }
     }
 
     fn set_phase(&mut self, number: u32, phase: Phase) {
-        let place = self.calls.iter().position(|call| call.number == number);
-        if let Some(call) = self.calls.get_mut(place.unwrap_or(usize::MAX)) {
+        let place = self.place(number);
+        if let Some(call) = self.calls.get_mut(place) {
             call.phase = phase;
         }
     }
@@ -83,7 +106,7 @@ impl Picture {
             Event::Key { line, .. } => self.note_key(*line, reply),
             Event::Route(call) | Event::Confirm(call) => self.note_progress(*call, reply),
             Event::Released(circuit) => {
-                self.given_up.retain(|other| other != circuit);
+                take_out(&mut self.given_up, circuit);
                 Ok(())
             }
             _ => match reply {
@@ -128,15 +151,15 @@ impl Picture {
     fn note_change(&mut self, event: &Event) -> Result<(), NoMemory> {
         match event {
             Event::Fail(group) => self.failed.push(*group)?,
-            Event::Restore(group) => self.failed.retain(|other| other != group),
+            Event::Restore(group) => take_out(&mut self.failed, group),
             Event::Block(group) => self.blocked.push(*group)?,
-            Event::Unblock(group) => self.blocked.retain(|other| other != group),
+            Event::Unblock(group) => take_out(&mut self.blocked, group),
             Event::CircuitOut(circuit) => self.out.push(*circuit)?,
-            Event::CircuitIn(circuit) => self.out.retain(|other| other != circuit),
+            Event::CircuitIn(circuit) => take_out(&mut self.out, circuit),
             Event::LineFault(line) => self.faulty.push(*line)?,
-            Event::LineMend(line) => self.faulty.retain(|other| other != line),
+            Event::LineMend(line) => take_out(&mut self.faulty, line),
             Event::LineAway(line) => self.away.push(*line)?,
-            Event::LineBack(line) => self.away.retain(|other| other != line),
+            Event::LineBack(line) => take_out(&mut self.away, line),
             _ => {}
         }
         Ok(())

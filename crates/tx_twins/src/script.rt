@@ -2,12 +2,12 @@
 use crate::chance::Chance;
 use crate::drawing::next_event;
 use crate::picture::Picture;
-use crate::stop::Stop;
+use crate::stop::{Differs, Stop};
 use crate::tally::Tally;
-use crate::twins::{Difference, apply_to_both, next_ticket_of_both};
-use std::alloc::Global;
+use crate::twins::{Difference, apply_to_both, compare_tickets};
+use std::alloc::{Allocator, Global};
 use tx_plan::Plan;
-use tx_state::{Event, Network};
+use tx_state::{Event, Network, Ticket};
 use tx_text::NoMemory;
 
 /// The mood changes with each so many events.
@@ -46,17 +46,6 @@ impl From<NoMemory> for Halt {
     }
 }
 
-/// Why the program stops after the event at a place of a script, from 0.
-fn stop_of(alloc: Global, halt: Halt, script: Script, place: u32, event: &Event) -> Stop {
-    let Halt::Differs(difference) = halt else {
-        return Stop::NoMemory;
-    };
-    match format!(in alloc; "event {place} of {script:?}, {event:?}: {difference:?}") {
-        Ok(text) => Stop::Differs(text),
-        Err(_) => Stop::NoMemory,
-    }
-}
-
 /// Applies an event to both networks.
 fn play_event<M: Network, N: Network>(
     first: &mut M,
@@ -67,11 +56,44 @@ fn play_event<M: Network, N: Network>(
 ) -> Result<(), Halt> {
     let answer = apply_to_both(first, second, event)?;
     if answer.was_refused {
-        tally.wants.note(event);
+        tally.note_want(event);
     }
     tally.note_reply(&answer.reply);
     picture.note(event, &answer.reply)?;
     Ok(())
+}
+
+/// Compares two tickets, and takes in what the first tells. Tells whether there are any.
+fn note_tickets<A: Allocator, B: Allocator>(
+    wanted: Option<&Ticket<A>>,
+    ticket: Option<&Ticket<B>>,
+    picture: &mut Picture,
+    tally: &mut Tally,
+) -> Result<bool, Halt> {
+    compare_tickets(wanted, ticket)?;
+    match wanted {
+        Some(ticket) => {
+            tally.note_cause(ticket.cause);
+            picture.note_ticket(ticket)?;
+            Ok(true)
+        }
+        None => Ok(false),
+    }
+}
+
+/// Takes the oldest ticket of both networks. Tells whether there was one.
+fn take_ticket<M: Network, N: Network>(
+    first: &mut M,
+    second: &mut N,
+    picture: &mut Picture,
+    tally: &mut Tally,
+) -> Result<bool, Halt> {
+    let wanted = first.next_ticket();
+    let ticket = second.next_ticket();
+    let noted = note_tickets(wanted.as_ref(), ticket.as_ref(), picture, tally);
+    drop(wanted);
+    drop(ticket);
+    noted
 }
 
 /// Takes all tickets of both networks.
@@ -82,12 +104,8 @@ fn take_tickets<M: Network, N: Network>(
     tally: &mut Tally,
 ) -> Result<(), Halt> {
     for _ in 0..u64::MAX {
-        match next_ticket_of_both(first, second)? {
-            Some(ticket) => {
-                tally.causes.note(ticket.cause);
-                picture.note_ticket(&ticket)?;
-            }
-            None => break,
+        if !take_ticket(first, second, picture, tally)? {
+            break;
         }
     }
     Ok(())
@@ -111,7 +129,6 @@ fn go_on<M: Network, N: Network>(
 
 /// Plays the events.
 fn play_events<M: Network, N: Network>(
-    alloc: Global,
     plan: &Plan,
     script: Script,
     first: &mut M,
@@ -125,8 +142,18 @@ fn play_events<M: Network, N: Network>(
         let event = next_event(plan, picture, &mut chance, mood, script.most);
         let takes_tickets = !chance.one_in(4);
         let played = go_on(first, second, &event, takes_tickets, picture, tally);
-        if let Err(halt) = played {
-            return Err(stop_of(alloc, halt, script, place, &event));
+        match played {
+            Ok(()) => {}
+            Err(Halt::NoMemory) => return Err(Stop::NoMemory),
+            Err(Halt::Differs(difference)) => {
+                tally.note_difference(Differs {
+                    script,
+                    place,
+                    event,
+                    difference,
+                });
+                return Err(Stop::Differs);
+            }
         }
     }
     Ok(())
@@ -142,7 +169,7 @@ pub fn play<M: Network, N: Network>(
     tally: &mut Tally,
 ) -> Result<(), Stop> {
     let mut picture = Picture::new(alloc, script.numbers);
-    let played = play_events(alloc, plan, script, first, second, &mut picture, tally);
+    let played = play_events(plan, script, first, second, &mut picture, tally);
     drop(picture);
     played
 }

@@ -1,18 +1,31 @@
 // Why the program stops before its end.
-use std::alloc::{AllocError, AllocFailed};
-use std::io;
-use tx_text::NoMemory;
+use crate::script::Script;
+use crate::twins::Difference;
+use std::alloc::{AllocError, Global};
+use tx_cases::write_broken;
+use tx_state::Event;
+use tx_text::{NoMemory, Sink, WriteFault, write_bytes, write_parts};
 
 /// Why the program stops before its end.
-#[derive(Debug, Drop)]
+#[derive(Clone, Copy)]
 pub enum Stop {
     /// The file of plans is none.
     BadPlans,
     NoMemory,
-    /// Nothing can be read or printed.
-    Io(io::Error),
-    /// The networks differ: after which event of which script, and how.
-    Differs(String),
+    /// Nothing can be written.
+    Write,
+    /// The networks differ: the tally has how.
+    Differs,
+}
+
+/// After which event of which script the networks differ, and how.
+#[derive(Clone, Copy, Debug)]
+pub struct Differs {
+    pub script: Script,
+    /// The place of the event, from 0.
+    pub place: u32,
+    pub event: Event,
+    pub difference: Difference,
 }
 
 impl From<NoMemory> for Stop {
@@ -21,20 +34,42 @@ impl From<NoMemory> for Stop {
     }
 }
 
-impl From<AllocError> for Stop {
-    fn from(_: AllocError) -> Stop {
-        Stop::NoMemory
+impl From<WriteFault> for Stop {
+    fn from(_: WriteFault) -> Stop {
+        Stop::Write
     }
 }
 
-impl<T: Drop> From<AllocFailed<T>> for Stop {
-    fn from(_: AllocFailed<T>) -> Stop {
-        Stop::NoMemory
+/// The script, the event and the difference in words.
+fn text_of(alloc: Global, differs: &Differs) -> Result<String, AllocError> {
+    format!(in alloc; "{differs:?}")
+}
+
+/// Tells how the networks differ.
+fn write_differs<W: Sink>(alloc: Global, differs: &Differs, out: &mut W) -> Result<(), WriteFault> {
+    write_broken(b"the networks differ, event", u64::from(differs.place), out)?;
+    match text_of(alloc, differs) {
+        Ok(text) => {
+            let written = write_parts(&[text.as_bytes(), b"\n"], out);
+            drop(text);
+            written
+        }
+        Err(_) => write_bytes(b"no memory\n", out),
     }
 }
 
-impl From<io::Error> for Stop {
-    fn from(error: io::Error) -> Stop {
-        Stop::Io(error)
+/// Writes why the program stopped.
+pub fn write_stop<W: Sink>(
+    alloc: Global,
+    stop: Stop,
+    differs: Option<Differs>,
+    out: &mut W,
+) -> Result<(), WriteFault> {
+    match (stop, differs) {
+        (Stop::BadPlans, _) => write_broken(b"no plan", 0, out),
+        (Stop::NoMemory, _) => write_broken(b"no memory", 0, out),
+        (Stop::Write, _) => Err(WriteFault),
+        (Stop::Differs, Some(differs)) => write_differs(alloc, &differs, out),
+        (Stop::Differs, None) => write_broken(b"the networks differ", 0, out),
     }
 }

@@ -1,21 +1,43 @@
 // Counts of events, by their replies, and of tickets, by their causes.
+use crate::stop::Differs;
+use tx_cases::write_count;
 use tx_state::{Cause, Event, Refusal, Reply, Service};
+use tx_text::{Sink, WriteFault, write_bytes, write_parts};
 
 /// Counts of events and of tickets.
-#[derive(Default, Drop)]
+#[derive(Clone, Copy, Default)]
 pub struct Tally {
     pub events: u64,
     pub accepted: u64,
-    pub replies: Replies,
-    pub answers: Services,
-    pub refusals: Refusals,
-    pub causes: Causes,
-    pub wants: Wants,
+    replies: Replies,
+    answers: Services,
+    refusals: Refusals,
+    causes: Causes,
+    wants: Wants,
+    /// How the networks differ, where they do.
+    differs: Option<Differs>,
+}
+
+/// Counts of the scripts that are played with all memory there, and of those that are played with memory refused.
+#[derive(Clone, Copy, Default)]
+pub struct Tallies {
+    pub whole: Tally,
+    pub refusing: Tally,
+}
+
+impl Tallies {
+    /// How the networks differ, where they do.
+    pub fn difference(&self) -> Option<Differs> {
+        match self.whole.differs {
+            Some(differs) => Some(differs),
+            None => self.refusing.differs,
+        }
+    }
 }
 
 /// Counts of replies.
-#[derive(Debug, Default, Drop)]
-pub struct Replies {
+#[derive(Clone, Copy, Default)]
+struct Replies {
     keyed: u64,
     seized: u64,
     at: u64,
@@ -31,8 +53,8 @@ pub struct Replies {
 }
 
 /// Counts of service codes.
-#[derive(Debug, Default, Drop)]
-pub struct Services {
+#[derive(Clone, Copy, Default)]
+struct Services {
     occ: u64,
     nc: u64,
     np: u64,
@@ -42,8 +64,8 @@ pub struct Services {
 }
 
 /// Counts of refusals.
-#[derive(Debug, Default, Drop)]
-pub struct Refusals {
+#[derive(Clone, Copy, Default)]
+struct Refusals {
     unknown_call: u64,
     not_standing: u64,
     not_calling: u64,
@@ -59,8 +81,8 @@ pub struct Refusals {
 }
 
 /// Counts of tickets.
-#[derive(Debug, Default, Drop)]
-pub struct Causes {
+#[derive(Clone, Copy, Default)]
+struct Causes {
     answered: u64,
     cleared_by_caller: u64,
     cleared_by_called: u64,
@@ -68,8 +90,8 @@ pub struct Causes {
 }
 
 /// Which events met a request for memory that was refused.
-#[derive(Debug, Default, Drop)]
-pub struct Wants {
+#[derive(Clone, Copy, Default)]
+struct Wants {
     key: bool,
     route: bool,
     line_fault: bool,
@@ -85,14 +107,25 @@ fn add_one(count: &mut u64) {
 impl Tally {
     pub fn note_reply(&mut self, reply: &Reply) {
         add_one(&mut self.events);
-        if !matches!(reply, Reply::Refused(_)) {
-            add_one(&mut self.accepted);
-        }
         match reply {
-            Reply::Refused(refusal) => self.refusals.note(*refusal),
+            Reply::Refused(refusal) => return self.refusals.note(*refusal),
             Reply::Answered(service) => self.answers.note(*service),
             _ => self.replies.note(reply),
         }
+        add_one(&mut self.accepted);
+    }
+
+    pub fn note_cause(&mut self, cause: Cause) {
+        self.causes.note(cause);
+    }
+
+    pub fn note_difference(&mut self, differs: Differs) {
+        self.differs = Some(differs);
+    }
+
+    /// Takes in that an event met a request for memory that was refused.
+    pub fn note_want(&mut self, event: &Event) {
+        self.wants.note(event);
     }
 }
 
@@ -168,7 +201,7 @@ impl Refusals {
 }
 
 impl Causes {
-    pub fn note(&mut self, cause: Cause) {
+    fn note(&mut self, cause: Cause) {
         match cause {
             Cause::Service(_) => add_one(&mut self.answered),
             Cause::ClearedByCaller => add_one(&mut self.cleared_by_caller),
@@ -179,7 +212,7 @@ impl Causes {
 }
 
 impl Wants {
-    pub fn note(&mut self, event: &Event) {
+    fn note(&mut self, event: &Event) {
         match event {
             Event::Key { .. } => self.key = true,
             Event::Route(_) => self.route = true,
@@ -188,4 +221,149 @@ impl Wants {
             _ => self.other = true,
         }
     }
+}
+
+/// A count under its name.
+#[derive(Clone, Copy)]
+struct Told<'a> {
+    name: &'a [u8],
+    count: u64,
+}
+
+impl<'a> Told<'a> {
+    fn of(name: &'a [u8], count: u64) -> Told<'a> {
+        Told { name, count }
+    }
+}
+
+/// Writes counts under a name, each in a line.
+fn write_counts<W: Sink>(name: &[u8], counts: &[Told<'_>], out: &mut W) -> Result<(), WriteFault> {
+    write_parts(&[name, b" {\n"], out)?;
+    for told in counts {
+        write_parts(&[b"    ", told.name], out)?;
+        write_count(b": ", told.count, b",\n", out)?;
+    }
+    write_bytes(b"}\n", out)
+}
+
+impl Replies {
+    fn write<W: Sink>(&self, out: &mut W) -> Result<(), WriteFault> {
+        write_counts(
+            b"Replies",
+            &[
+                Told::of(b"keyed", self.keyed),
+                Told::of(b"seized", self.seized),
+                Told::of(b"at", self.at),
+                Told::of(b"connected", self.connected),
+                Told::of(b"head_on_both_stand", self.head_on_both_stand),
+                Told::of(b"head_on_one_stands", self.head_on_one_stands),
+                Told::of(b"head_on_none_stands", self.head_on_none_stands),
+                Told::of(b"cleared", self.cleared),
+                Told::of(b"done", self.done),
+                Told::of(b"lost_none", self.lost_none),
+                Told::of(b"lost_one", self.lost_one),
+                Told::of(b"lost_several", self.lost_several),
+            ],
+            out,
+        )
+    }
+}
+
+impl Services {
+    fn write<W: Sink>(&self, out: &mut W) -> Result<(), WriteFault> {
+        write_counts(
+            b"Services",
+            &[
+                Told::of(b"occ", self.occ),
+                Told::of(b"nc", self.nc),
+                Told::of(b"np", self.np),
+                Told::of(b"der", self.der),
+                Told::of(b"abs", self.abs),
+                Told::of(b"na", self.na),
+            ],
+            out,
+        )
+    }
+}
+
+impl Refusals {
+    fn write<W: Sink>(&self, out: &mut W) -> Result<(), WriteFault> {
+        write_counts(
+            b"Refusals",
+            &[
+                Told::of(b"unknown_call", self.unknown_call),
+                Told::of(b"not_standing", self.not_standing),
+                Told::of(b"not_calling", self.not_calling),
+                Told::of(b"not_connected", self.not_connected),
+                Told::of(b"unknown_line", self.unknown_line),
+                Told::of(b"line_engaged", self.line_engaged),
+                Told::of(b"line_out_of_order", self.line_out_of_order),
+                Told::of(b"already_so", self.already_so),
+                Told::of(b"not_so", self.not_so),
+                Told::of(b"not_releasing", self.not_releasing),
+                Told::of(b"unknown_circuit", self.unknown_circuit),
+                Told::of(b"exhausted", self.exhausted),
+            ],
+            out,
+        )
+    }
+}
+
+impl Causes {
+    fn write<W: Sink>(&self, out: &mut W) -> Result<(), WriteFault> {
+        write_counts(
+            b"Causes",
+            &[
+                Told::of(b"answered", self.answered),
+                Told::of(b"cleared_by_caller", self.cleared_by_caller),
+                Told::of(b"cleared_by_called", self.cleared_by_called),
+                Told::of(b"lost", self.lost),
+            ],
+            out,
+        )
+    }
+}
+
+fn write_want<W: Sink>(name: &[u8], met: bool, out: &mut W) -> Result<(), WriteFault> {
+    let met = if met {
+        b": true,\n".as_slice()
+    } else {
+        b": false,\n".as_slice()
+    };
+    write_parts(&[b"    ", name, met], out)
+}
+
+impl Wants {
+    fn write<W: Sink>(&self, out: &mut W) -> Result<(), WriteFault> {
+        write_bytes(b"Wants {\n", out)?;
+        write_want(b"key", self.key, out)?;
+        write_want(b"route", self.route, out)?;
+        write_want(b"line_fault", self.line_fault, out)?;
+        write_want(b"line_away", self.line_away, out)?;
+        write_want(b"other", self.other, out)?;
+        write_bytes(b"}\n", out)
+    }
+}
+
+/// Writes how many events there were, and how many of them were accepted.
+pub fn write_events<W: Sink>(
+    name: &[u8],
+    events: u64,
+    accepted: u64,
+    out: &mut W,
+) -> Result<(), WriteFault> {
+    write_bytes(name, out)?;
+    write_count(b": ", events, b" events, ", out)?;
+    write_count(b"", accepted, b" of them accepted\n", out)
+}
+
+/// Writes what was counted, and which events met a refused request.
+pub fn write_tallies<W: Sink>(tallies: &Tallies, out: &mut W) -> Result<(), WriteFault> {
+    let tally = &tallies.whole;
+    write_events(b"in all", tally.events, tally.accepted, out)?;
+    tally.replies.write(out)?;
+    tally.answers.write(out)?;
+    tally.refusals.write(out)?;
+    tally.causes.write(out)?;
+    tallies.refusing.wants.write(out)
 }

@@ -91,28 +91,26 @@ fn is_same<A: Allocator, B: Allocator>(ticket: &Ticket<A>, other: &Ticket<B>) ->
 }
 
 /// The number of a ticket's call, or 0.
-fn number_of<A: Allocator>(ticket: &Option<Ticket<A>>) -> u32 {
+fn number_of<A: Allocator>(ticket: Option<&Ticket<A>>) -> u32 {
     match ticket {
         Some(ticket) => ticket.number,
         None => 0,
     }
 }
 
-/// Takes the oldest ticket of both networks, and compares them.
-pub fn next_ticket_of_both<M: Network, N: Network>(
-    first: &mut M,
-    second: &mut N,
-) -> Result<Option<Ticket<M::A>>, Difference> {
-    let wanted = first.next_ticket();
-    let ticket = second.next_ticket();
-    let is_same = match (&wanted, &ticket) {
+/// Compares the oldest tickets of two networks, if there are any.
+pub fn compare_tickets<A: Allocator, B: Allocator>(
+    wanted: Option<&Ticket<A>>,
+    ticket: Option<&Ticket<B>>,
+) -> Result<(), Difference> {
+    let is_right = match (wanted, ticket) {
         (Some(wanted), Some(ticket)) => is_same(wanted, ticket),
         (None, None) => true,
         _ => false,
     };
-    if is_same {
-        Ok(wanted)
+    if is_right {
+        Ok(())
     } else {
-        Err(Difference::Ticket(number_of(&wanted), number_of(&ticket)))
+        Err(Difference::Ticket(number_of(wanted), number_of(ticket)))
     }
 }
