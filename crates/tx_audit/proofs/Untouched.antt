@@ -1,5 +1,5 @@
 -- What a run from the opening state answers, where less is said of what it left untouched.
-use Rattle.std.proofs.Common.{◌≡◌, ◌∙◌, Bool, true, false, ℕ, Result, Ok, Err, subst}
+use Rattle.std.proofs.Common.{◌≡◌, ◌∙◌, Bool, true, false, ℕ, Result, Ok, Err, subst, inl}
 use Rattle.tx_text.specs.declared.frame.Kind.{Kind}
 use Rattle.tx_plan.specs.Plan.{Plan}
 use Rattle.tx_script.specs.declared.script_word.ScriptWord.{ScriptWord}
@@ -9,7 +9,7 @@ use Rattle.tx_script.specs.declared.run_cause.RunCause.{RunCause}
 use Rattle.tx_script.specs.declared.run_cause.RunCause.TheVariants.{Read, Write, Script as OfScript, NoMemory}
 use Rattle.tx_state.specs.State.{State, opening}
 use Rattle.tx_script.specs.Answers.{Moved, FaultyBy, Stopped, RunAnswers, is_reader_room}
-use Rattle.tx_audit.specs.CheckedRuns.{Bytes, RanFromOpening}
+use Rattle.tx_audit.specs.CheckedRuns.{Bytes, RanFromOpening, Simulated}
 
 module _ (p : Plan) (x : Moved) (broken D E : Type 0) (f : D → E) where
   faulty_with : (room : Bool) (event line : ℕ) (kind : Kind ScriptWord) → FaultyBy p x D room event line kind → FaultyBy p x E room event line kind
@@ -34,3 +34,7 @@ ran_from_opening {p} {x} {broken} {D} {U} {old} {new} given answer ran opened qu
     let moved : State → Moved = λ s. record { rest_old = x.rest_old; rest_new = x.rest_new; taken_old = x.taken_old; taken_new = x.taken_new; state_old = s; state_new = new } in
     let all = subst (λ s. RunAnswers p (moved s) broken (U × (new ≡ opening 0 0)) given) opened (answers_with p (moved old) broken D (U × (new ≡ opening 0 0)) same given ran) in
     record { state = new; ran = subst (λ r. RunAnswers p (moved (opening 0 0)) broken (U × (new ≡ opening 0 0)) r) is all }
+
+pub simulated_by : {p : Plan} {x : Bytes} {broken U : Type 0} (answer : Result Summary RunFault) → RanFromOpening p x broken U answer → Simulated p x broken U answer
+simulated_by (Ok summary) h = h
+simulated_by (Err f) h = inl h

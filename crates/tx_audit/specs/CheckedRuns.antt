@@ -1,4 +1,4 @@
--- What a run after a check answers.
+-- What a run over the engine answers, and one after a check.
 use Rattle.std.specs.Prelude.{◌≡◌, ◌⊎◌, ℕ, Bool, List, Option, Result, Ok, Err}
 use Rattle.tx_plan.specs.Plan.{Plan}
 use Rattle.tx_cert.specs.Certificate.{Certificate}
@@ -31,6 +31,11 @@ pub record RanFromOpening (p : Plan) (x : Bytes) (broken untouched : Type 0) (an
 abbrev pub HadNoRoom : (untouched : Type 0) → RunFault → Type 0
 HadNoRoom untouched f = (f ≡ record { event = 1; cause = NoMemory }) × untouched
 
+-- WHAT A RUN OVER THE ENGINE ANSWERS
+abbrev pub Simulated : Plan → Bytes → (broken untouched : Type 0) → Result Summary RunFault → Type 0
+Simulated p x broken untouched (Ok summary) = RanFromOpening p x broken untouched (Ok summary)
+Simulated p x broken untouched (Err f) = RanFromOpening p x broken untouched (Err f) ⊎ HadNoRoom untouched f
+
 -- The checker said Yes. So every state of the run is safe, every NC is excused, and few Routes of one call are accepted.
 pub record IsAllowed (p : Plan) (cert : Certificate) (limit spare : ℕ) : Type 0 where
   pub yes : verdict_of (check_faults p (ranks_for p cert) limit spare) ≡ Yes
@@ -39,9 +44,9 @@ pub record IsAllowed (p : Plan) (cert : Certificate) (limit spare : ℕ) : Type 
 
 -- WHAT A CHECKED RUN ANSWERS. It ran only after a Yes; after a No it read and wrote nothing, and tells that No.
 abbrev pub CheckedAnswers : Plan → Certificate → (limit spare : ℕ) → Bytes → (broken untouched : Type 0) → Result Checked RunFault → Type 0
-CheckedAnswers p cert limit spare x broken untouched (Ok (Ran summary)) = IsAllowed p cert limit spare × RanFromOpening p x broken untouched (Ok summary)
+CheckedAnswers p cert limit spare x broken untouched (Ok (Ran summary)) = IsAllowed p cert limit spare × Simulated p x broken untouched (Ok summary)
 CheckedAnswers p cert limit spare x broken untouched (Ok (Denied f)) = (verdict_of (check_faults p (ranks_for p cert) limit spare) ≡ No f) × untouched
-CheckedAnswers p cert limit spare x broken untouched (Err f) = IsAllowed p cert limit spare × (RanFromOpening p x broken untouched (Err f) ⊎ HadNoRoom untouched f)
+CheckedAnswers p cert limit spare x broken untouched (Err f) = IsAllowed p cert limit spare × Simulated p x broken untouched (Err f)
 
 -- a write fault is told where the sink's mark is set, and otherwise the mark is as before
 abbrev pub mark_after : Bool → Result Checked RunFault → Bool

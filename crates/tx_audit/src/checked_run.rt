@@ -7,13 +7,13 @@ ghost use Rattle.tx_check.specs.Checks.{check_faults, ranks_for, verdict_of};
 ghost use Rattle.tx_audit.specs.CheckedRuns.{CheckedAnswers, mark_after};
 
 use crate::checked::Checked;
+use crate::simulating::simulate;
 use std::alloc::Allocator;
 use tx_cert::Cert;
 use tx_check::{Verdict, check};
-use tx_engine::Engine;
 use tx_plan::Plan;
-use tx_script::{RunCause, RunFault, run};
-use tx_text::{NoMemory, Sink, Source};
+use tx_script::RunFault;
+use tx_text::{Sink, Source};
 
 /// Runs a script over a network of the plan, if the checker says Yes to the certificate: every state of the run is then safe and every NC excused.
 /// After a No nothing is read or written. Without memory for the network the fault names the first event.
@@ -57,14 +57,8 @@ fn run_allowed<A: Allocator + Copy, R: Source, W: Sink>(
     ensures mark { W.failed out.new ≡ mark_after (W.failed out.old) result }
     ensures calls { CallsAtMost R.called source_calls script.old script.new }
 {
-    match Engine::new(alloc, plan) {
-        Err(NoMemory) => Err(RunFault {
-            event: 1,
-            cause: RunCause::NoMemory,
-        }),
-        Ok(mut network) => match run(alloc, plan, &mut network, script, out) {
-            Ok(summary) => Ok(Checked::Ran(summary)),
-            Err(fault) => Err(fault),
-        },
+    match simulate(alloc, plan, script, out) {
+        Ok(summary) => Ok(Checked::Ran(summary)),
+        Err(fault) => Err(fault),
     }
 }

@@ -1,4 +1,4 @@
-//! The audit of a plan text, and runs of scripts after a check.
+//! The audit of a plan text, and runs of scripts over the engine, also after a check.
 #![tactic(auto)]
 
 mod audited;
@@ -6,8 +6,10 @@ mod auditor;
 mod checked;
 mod checked_run;
 mod report;
+mod simulating;
 
 pub use audited::{AuditFault, Audited};
 pub use auditor::audit;
 pub use checked::Checked;
 pub use checked_run::run_checked;
+pub use simulating::simulate;

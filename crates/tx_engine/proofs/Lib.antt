@@ -9,3 +9,4 @@ pub mod Ended
 pub mod Confirming
 pub mod HeadOn
 pub mod Lost
+pub mod Taken

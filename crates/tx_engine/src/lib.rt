@@ -11,7 +11,9 @@ mod finding;
 mod head_on;
 mod keying;
 mod parts;
+mod playing;
 mod route;
 mod statuses;
 
 pub use engine::Engine;
+pub use playing::{Played, play};

@@ -2,3 +2,4 @@ mod Marks
 mod Piping
 mod Breaking
 mod CheckedRun
+mod Simulating

@@ -6,10 +6,9 @@ ghost use Rattle.tx_jobs.specs.Jobs.{Simulated};
 
 use crate::job_fault::JobFault;
 use std::alloc::Allocator;
-use tx_engine::Engine;
 use tx_plan::Plan;
-use tx_script::{Summary, run};
-use tx_text::{NoMemory, Sink, Source};
+use tx_script::Summary;
+use tx_text::{Sink, Source};
 
 /// Runs a script over a network of the plan, from its opening state.
 #[tactic(auto, using(crate::proofs::Marks::run_marked))]
@@ -24,11 +23,8 @@ pub(crate) fn simulate<A: Allocator + Copy, R: Source, W: Sink>(
     ensures mark { W.failed out.new ≡ mark_after (W.failed out.old) result }
     ensures calls { CallsAtMost R.called source_calls script.old script.new }
 {
-    match Engine::new(alloc, plan) {
-        Err(NoMemory) => Err(JobFault::NoMemory),
-        Ok(mut network) => match run(alloc, plan, &mut network, script, out) {
-            Ok(summary) => Ok(summary),
-            Err(fault) => Err(JobFault::of_run(fault)),
-        },
+    match tx_audit::simulate(alloc, plan, script, out) {
+        Ok(summary) => Ok(summary),
+        Err(fault) => Err(JobFault::of_run(fault)),
     }
 }
