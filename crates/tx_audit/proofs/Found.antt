@@ -15,7 +15,7 @@ use Rattle.tx_rank.specs.Heights.{AreHeights}
 use Rattle.tx_rank.specs.Rankings.{IsFound, OnFound, OnFails}
 use Rattle.tx_audit.specs.declared.audited.AuditFault.{AuditFault}
 use Rattle.tx_audit.specs.declared.audited.AuditFault.TheVariants.{Plan as PlanRefused, Write, NoMemory}
-use Rattle.tx_audit.specs.Audits.{IsAllFound, IsSome, IsCleared, AuditAnswers}
+use Rattle.tx_audit.specs.Audits.{IsAllFound, IsSome, IsCleared, OnUnsound, AuditAnswers}
 use Rattle.tx_audit.specs.CheckedRuns.{IsAllowed}
 use Rattle.tx_audit.specs.Ranked.{audited_of, findings_of, IsRight, RankAnswers}
 
@@ -42,6 +42,15 @@ module _ (A : Type 0) (p : Plan) (limit spare : ℕ) where
   all_of : (r : Ranking A) → IsRight p limit spare r → IsAllFound p limit spare (findings_of r)
   all_of (Found cert) right = right.0
   all_of (Fails findings) right = right.0
+
+  each_of : (findings : List (Finding A)) → IsAllFound p limit spare findings → AllByRecursion (IsTrueOf p limit spare) findings
+  each_of [] all = tt
+  each_of (f ∷ findings) all = all.0
+
+  -- what is reported is true
+  pub each_true : (r : Ranking A) → IsRight p limit spare r → OnUnsound (λ q findings. AllByRecursion (IsTrueOf q limit spare) findings) (audited_of p r)
+  each_true (Found cert) right = tt
+  each_true (Fails findings) right = each_of findings.items right.0
 
   cleared : (r : Ranking A) → IsRight p limit spare r → findings_of r ≡ [] → (cert : Certificate) × IsCleared p cert limit spare
   cleared (Found cert) right none = (cert, right.1)

@@ -47,7 +47,12 @@ module _ {A : Type 0} where
     pub found : IsAllFound p limit spare findings
     pub wrote : taken_new ≡ append_known taken_old (report p limit spare findings)
 
--- the same, but a write failed within the report
+-- it holds of a plan and its findings, if something was wrong
+abbrev pub OnUnsound : {A : Type 0} → (Plan → List (Finding A) → Type 0) → Audited A → Type 0
+OnUnsound Holds (Sound p cert) = Unit {0}
+OnUnsound Holds (Unsound p findings) = Holds p findings.items
+
+-- the plan was audited, but a write failed within the report
 pub record ReportedInPart (A : Type 0) (limit spare : ℕ) (old new taken_old taken_new : Option (List ℕ)) : Type 0 where
   pub plan : Plan
   pub rules : IsPlan plan

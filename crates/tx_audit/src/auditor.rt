@@ -1,11 +1,13 @@
 // The auditor.
-ghost use Rattle.std.specs.Prelude.{◌≡◌, ◌≤◌, []};
+ghost use Rattle.std.specs.Prelude.{◌≡◌, ◌≤◌, [], IfOk};
+ghost use Rattle.std.specs.List.{AllByRecursion};
 ghost use Rattle.tx_text.specs.Calls.{Broken, CallsAtMost, source_calls};
 ghost use Rattle.tx_plan.specs.Certified.{IsCertified};
 ghost use Rattle.tx_plantext.specs.Wrote.{Wrote};
 ghost use Rattle.tx_cert.specs.Certificate.{IsCertificateOf, ranks_of};
+ghost use Rattle.tx_rank.specs.Findings.{IsTrueOf};
 ghost use Rattle.tx_rank.specs.Rankings.{OnFound};
-ghost use Rattle.tx_audit.specs.Audits.{AuditAnswers, mark_after};
+ghost use Rattle.tx_audit.specs.Audits.{AuditAnswers, OnUnsound, mark_after};
 ghost use Rattle.tx_audit.specs.CheckedRuns.{IsAllowed};
 ghost use Rattle.tx_audit.specs.Ranked.{RankAnswers, findings_of};
 ghost use Rattle.tx_audit.specs.Report.{report};
@@ -34,6 +36,7 @@ pub fn audit<A: Allocator + Copy, R: Source, W: Sink>(
     requires limit { limit ≤ 62 }
     requires spare { spare ≤ 15 }
     ensures answers { AuditAnswers limit spare (R.rest source.old) (R.rest source.new) (W.taken out.old) (W.taken out.new) (Broken R.called (R.failed source.new) source_calls source.old source.new) (source.new ≡ source.old) (out.new ≡ out.old) result }
+    ensures each { IfOk result (OnUnsound (λ p findings. AllByRecursion (IsTrueOf p limit spare) findings)) }
     ensures mark { W.failed out.new ≡ mark_after (W.failed out.old) result }
     ensures calls { CallsAtMost R.called source_calls source.old source.new }
 {

@@ -13,3 +13,4 @@ pub use auditor::audit;
 pub use checked::Checked;
 pub use checked_run::run_checked;
 pub use simulating::simulate;
+pub use tx_counter::{counter, first_counter, write_counter};

@@ -20,7 +20,7 @@ use Rattle.tx_circuits.specs.Slots.{has_seized, rising}
 use Rattle.tx_circuits.specs.Groups.{GroupState, state_at, numbered, end_at, idle}
 use Rattle.tx_circuits.specs.Table.{Seat, Table, all_free, unnamed}
 use Rattle.tx_circuits.specs.Seen.{group_of, circuits_of, seats_of, gathered, is_marked, holds, sits, table_of}
-use Rattle.tx_circuits.proofs.Changes.{seats_total, exact_seats}
+use Rattle.tx_circuits.proofs.Seats.{seats_total, exact_seats}
 use Rattle.tx_circuits.proofs.Those.{those_none}
 
 -- a group with all its circuits idle

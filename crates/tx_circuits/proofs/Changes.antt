@@ -7,10 +7,7 @@ use Rattle.std.specs.Cmp.{nat_cmp_total}
 use Rattle.std.specs.Ordering.{nat_cmp}
 use Rattle.std.proofs.lemmas.Bool.Decides.{eqb_tells}
 use Rattle.std.proofs.lemmas.Option.{slice_get-map}
-use Rattle.std.proofs.lemmas.Map.Lookups.{exact_pairs, exact_unsigned}
-use Rattle.std.proofs.lemmas.Cmp.{on_total, then_total}
-use Rattle.std.specs.Cmp.{IsTotalOrder}
-use Rattle.std.specs.declared.cmp.Ordering.TheVariants.{Equal}
+use Rattle.std.proofs.lemmas.Map.Lookups.{exact_unsigned}
 use Rattle.tx_plan.specs.Plan.{Group}
 use Rattle.tx_plan.specs.Orders.{same_circuit, circuit_cmp}
 use Rattle.tx_plan.specs.declared.circuit.Circuit.{Circuit}
@@ -25,13 +22,8 @@ use Rattle.tx_circuits.specs.Table.{Seat, seat_cmp, Table}
 use Rattle.tx_circuits.specs.Seen.{those, group_of, circuits_of, seats_of, gathered, is_marked, holds, sits, table_of}
 use Rattle.tx_circuits.proofs.Kept.{get-change_here, get-change_there, get-set_here, get-set_there, length-change}
 use Rattle.tx_circuits.proofs.Members.{Known, holds_in, sits_in, marked_in, end_is}
+use Rattle.tx_circuits.proofs.Seats.{seats_total, exact_seats}
 use Rattle.tx_circuits.proofs.Those.{those_stay, those_inserted, those_removed, those_retained}
-
-pub seats_total : IsTotalOrder seat_cmp
-seats_total = then_total (on_total (λ (s : Seat). s.0) circuits_total) (on_total (λ (s : Seat). s.1) nat_cmp_total)
-
-pub exact_seats : (s t : Seat) → seat_cmp s t ≡ Equal → s ≡ t
-exact_seats s t h = exact_pairs circuit_cmp nat_cmp exact_circuits exact_unsigned s t h
 
 -- WHAT A CHANGE OF ONE GROUP LEAVES
 
@@ -93,10 +85,10 @@ numbered_here xs (suc n) k y e h = get-set_here xs n y (omega arith)
 -- ONE CIRCUIT GETS ANOTHER STATE
 
 module _ (ts : List GroupState) (c : Circuit) (known : Known ts c) (s to : State) (old : state_at ts c ≡ Some s) where
-  abbrev after : List GroupState
+  abbrev pub after : List GroupState
   after = change_at (with_state c to) c.group ts
 
-  state_here : state_at after c ≡ Some to
+  pub state_here : state_at after c ≡ Some to
   state_here =
       ap (option_and_then (λ t. numbered t.states c.number)) (get-change_here (with_state c to) ts c.group ∙ ap (option_map (with_state c to)) known.at)
       ∙ numbered_here known.group.states c.number known.place to known.number known.within
@@ -163,7 +155,7 @@ module _ (ts : List GroupState) (c : Circuit) (known : Known ts c) (s to : State
       each (Some end) = holds_there (has_seized end) q.0 ne
 
   -- an end of this circuit
-  seat_now : (x : ℕ) (o : Option End) → end_at ts c.group x ≡ o → sits after (c, x) ≡ option_map_or (λ end. has_seized end to) o false
+  pub seat_now : (x : ℕ) (o : Option End) → end_at ts c.group x ≡ o → sits after (c, x) ≡ option_map_or (λ end. has_seized end to) o false
   seat_now x None e = ap (λ o. option_map_or (λ end. holds (has_seized end) after c) o false) (ends_same (with_state c to) c.group ts (λ t x. refl) c.group x ∙ e)
   seat_now x (Some end) e =
       ap (λ o. option_map_or (λ end. holds (has_seized end) after c) o false) (ends_same (with_state c to) c.group ts (λ t x. refl) c.group x ∙ e) ∙ holds_here (has_seized end)

@@ -2,6 +2,7 @@ pub mod Appending
 pub mod Built
 pub mod Changes
 pub mod Columns
+pub mod GivenUp
 pub mod Heads
 pub mod Kept
 pub mod Linked
@@ -9,6 +10,7 @@ pub mod Members
 pub mod Ordered
 pub mod Places
 pub mod Reading
+pub mod Seats
 pub mod Sound
 pub mod Steps
 pub mod Those

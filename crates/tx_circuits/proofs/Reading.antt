@@ -29,7 +29,7 @@ use Rattle.tx_circuits.proofs.Kept.{get_is}
 use Rattle.tx_circuits.proofs.Ordered.{In, below}
 use Rattle.tx_circuits.proofs.Members.{holds_in, sits_in, marked_in}
 use Rattle.tx_circuits.proofs.Those.{contains_those}
-use Rattle.tx_circuits.proofs.Changes.{seats_total, exact_seats}
+use Rattle.tx_circuits.proofs.Seats.{seats_total, exact_seats}
 
 -- THE SETS
 

@@ -23,7 +23,8 @@ use Rattle.std.proofs.lemmas.List.{length-map}
 use Rattle.tx_circuits.proofs.Kept.{get-change_here, get-change_there, length-change}
 use Rattle.tx_circuits.proofs.Members.{Known, known, holds_in, sits_in, marked_in}
 use Rattle.tx_circuits.proofs.Those.{those_stay, those_inserted, those_removed, those_retained}
-use Rattle.tx_circuits.proofs.Changes.{seats_total, exact_seats, map_same, test_same, part_same, marked_stay, ends_same, groups_same, trunks_stay, circuits_stay, circuits_inserted, circuits_removed, seats_stay, seats_cleared, seats_inserted, seats_removed}
+use Rattle.tx_circuits.proofs.Seats.{seats_total, exact_seats}
+use Rattle.tx_circuits.proofs.Changes.{map_same, test_same, part_same, marked_stay, ends_same, groups_same, trunks_stay, circuits_stay, circuits_inserted, circuits_removed, seats_stay, seats_cleared, seats_inserted, seats_removed}
 
 -- A CIRCUIT GETS ANOTHER STATE
 

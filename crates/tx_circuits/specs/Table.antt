@@ -67,6 +67,14 @@ with_held t c = record t { seized = set.retain t.seized (λ s. not (same_circuit
 abbrev pub with_released : Table → Circuit → Table
 with_released t c = record t { carried = set.remove t.carried c; releasing = set.insert t.releasing c }
 
+-- an exchange gave its seizure of the circuit up
+abbrev pub withdrawn : Table → Circuit → ℕ → Table
+withdrawn t c x = record t { seized = set.remove t.seized (c, x) }
+
+-- the circuit is releasing unless an exchange has seized it
+abbrev pub released_unless : ℕ → Circuit → Table → Table
+released_unless x c t = if set.contains t.seized (c, x) then t else with_released t c
+
 -- the group has failed: none of its circuits is carried, seized or releasing
 abbrev pub with_failure : Table → ℕ → Table
 with_failure t g = record t {

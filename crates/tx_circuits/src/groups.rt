@@ -1,6 +1,6 @@
 // All circuits of a plan in one vector.
 ghost use Rattle.std.specs.Prelude.{◌≡◌, ◌≤◌, ◌<◌, ◌++◌, ◌∷◌, [], ℕ, true, false, is_some, map, length, replicate, Some, None, slice_get, OnOk, OnErr, IfOk, IfSome};
-ghost use Rattle.std.specs.Option.{option_map};
+ghost use Rattle.std.specs.Option.{option_map, option_map_or};
 ghost use Rattle.tx_circuits.specs.Slots.{cleared, has_seized};
 ghost use Rattle.tx_circuits.specs.Groups.{state_at, end_at, change_at, with_state, with_failed, with_blocked, first_place, idle, IsAppended};
 ghost use Rattle.tx_circuits.specs.Seen.{holds};
@@ -136,6 +136,16 @@ impl<A: Allocator> Groups<A> {
     {
         match self.state(circuit) {
             Some(state) => state.has_seized(end),
+            None => false,
+        }
+    }
+
+    /// Whether an exchange has seized a circuit of a group that is in this state.
+    pub fn seizes_in(&self, state: State, group: GroupId, exchange: ExchangeId) -> bool
+        ensures { result ≡ option_map_or (λ end. has_seized end state) (end_at self.now group exchange) false }
+    {
+        match self.end(group, exchange) {
+            Some(end) => state.has_seized(end),
             None => false,
         }
     }

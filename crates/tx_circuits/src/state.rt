@@ -1,5 +1,5 @@
 // What holds a circuit.
-ghost use Rattle.std.specs.Prelude.{◌≡◌};
+ghost use Rattle.std.specs.Prelude.{◌≡◌, true, false};
 ghost use Rattle.tx_circuits.specs.Slots.{is_free, has_seized, with_seized, cleared};
 
 use crate::end::End;
@@ -43,6 +43,15 @@ impl State {
             releasing: false,
             out: self.out,
         }
+    }
+
+    /// The state where the circuit is releasing, and no call carries it.
+    pub fn in_release(mut self) -> State
+        ensures { result ≡ record self { carried = false; releasing = true } }
+    {
+        self.carried = false;
+        self.releasing = true;
+        self
     }
 
     /// The state where the end has, or has not, seized the circuit.

@@ -2,7 +2,7 @@
 ghost use Rattle.std.specs.Prelude.{◌≡◌, ◌<◌, ℕ, true, false, nat_lt, IsTrue, IfOk, IfSome, None, ◌↔◌, ◌⊎◌, length};
 ghost use Rattle.std.specs.FinSet as set;
 ghost use Rattle.tx_plan.specs.Circuits.{is_circuit, may_seize};
-ghost use Rattle.tx_circuits.specs.Table.{Table, plan_of, all_free, is_free_at, is_down, first_free, IsSeizedBy, with_held, with_released, with_failure};
+ghost use Rattle.tx_circuits.specs.Table.{Table, plan_of, all_free, is_free_at, is_down, first_free, IsSeizedBy, with_held, withdrawn, with_released, released_unless, with_failure};
 
 use crate::groups::Groups;
 use crate::state::State;
@@ -250,11 +250,26 @@ impl<A: Allocator> CircuitTable<A> {
     /// The exchange gives its seizure up.
     pub fn withdraw(&mut self, circuit: &Circuit, exchange: ExchangeId)
         requires { set.contains self.old.seized (circuit.now, exchange) ≡ true }
-        ensures { self.new ≡ record self.old { seized = set.remove self.old.seized (circuit.now, exchange) } }
+        ensures { self.new ≡ withdrawn self.old circuit.now exchange }
     {
         let end = self.groups.known_end(circuit.group, exchange);
         let state = self.groups.known_state(circuit);
         let to = state.with_seized(end, false);
+        self.groups.set_state(circuit, to);
+    }
+
+    /// The exchange gives its seizure up, and the circuit is releasing unless the exchange at the far end has seized it too.
+    pub fn give_up(&mut self, circuit: &Circuit, exchange: ExchangeId, far: ExchangeId)
+        requires { set.contains self.old.seized (circuit.now, exchange) ≡ true }
+        ensures { self.new ≡ released_unless far circuit.now (withdrawn self.old circuit.now exchange) }
+    {
+        let end = self.groups.known_end(circuit.group, exchange);
+        let left = self.groups.known_state(circuit).with_seized(end, false);
+        let to = if self.groups.seizes_in(left, circuit.group, far) {
+            left
+        } else {
+            left.in_release()
+        };
         self.groups.set_state(circuit, to);
     }
 
@@ -280,12 +295,7 @@ impl<A: Allocator> CircuitTable<A> {
         requires idle { set.contains self.old.releasing circuit.now ≡ false }
         ensures { self.new ≡ with_released self.old circuit.now }
     {
-        let state = self.groups.known_state(circuit);
-        let to = State {
-            carried: false,
-            releasing: true,
-            ..state
-        };
+        let to = self.groups.known_state(circuit).in_release();
         self.groups.set_state(circuit, to);
     }
 

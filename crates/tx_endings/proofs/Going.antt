@@ -5,7 +5,7 @@ use Rattle.std.specs.Prelude.{if◌then◌else◌, unwrap_or}
 use Rattle.std.specs.List.{list_any}
 use Rattle.std.specs.FinSet as set
 use Rattle.tx_plan.specs.Orders.{circuit_cmp, same_circuit, same_line}
-use Rattle.tx_plan.proofs.Named.{circuits_total, lines_total, same_circuit-is, same_circuit-itself}
+use Rattle.tx_plan.proofs.Named.{circuits_total, circuit_tie, lines_total, line_tie, same_circuit-is, same_circuit-itself}
 use Rattle.tx_plan.specs.Plan.{Plan}
 use Rattle.tx_plan.specs.Lines.{is_line}
 use Rattle.tx_plan.specs.Circuits.{is_circuit, other_end}
@@ -28,12 +28,11 @@ use Rattle.tx_state.proofs.Uses.{is_free, two_ends}
 use Rattle.tx_state.proofs.Changes.{key_keeps, connect_keeps, seize_keeps, carry_keeps}
 use Rattle.tx_lines.specs.Book.{Book}
 use Rattle.tx_circuits.specs.Table.{Table, Seat, IsSeizedBy, with_held, is_free_at as is_free_in}
-use Rattle.tx_circuits.proofs.Changes.{seats_total, exact_seats}
+use Rattle.tx_circuits.proofs.Seats.{seats_total, exact_seats, seat_tie}
 use Rattle.tx_endings.specs.Seen.{state_seen, AreTogether}
 use Rattle.tx_endings.proofs.Filters.{any_alike}
-use Rattle.tx_endings.proofs.Given.{any_append, any_map, or_none, circuit_tie}
+use Rattle.tx_endings.proofs.Given.{any_append, any_map, or_none}
 use Rattle.tx_endings.proofs.After.{any_before, any_rest, rest, rest_mem, seizing_from, seizes_at}
-use Rattle.tx_endings.proofs.Back.{seat_tie, line_tie}
 
 or_turn : (a b : Bool) → (a || b) ≡ (b || a)
 or_turn true true = refl

@@ -20,7 +20,7 @@ use Rattle.tx_state.specs.Routing.{set_call, in_phase, line_of}
 use Rattle.tx_state.specs.Safe.{IsKeyedLine}
 use Rattle.tx_state.specs.Members.{Mem}
 use Rattle.tx_state.proofs.Lists.{find_mem}
-use Rattle.tx_state.proofs.Steps.{listed_leads, prefix-is, code_begins}
+use Rattle.tx_state.proofs.Steps.{listed_leads, listed_may, prefix-is, code_begins}
 use Rattle.tx_state.proofs.Uses.{first_in-is, chosen, IsChosen}
 use Rattle.tx_lines.specs.Book.{Book, answer_of, is_line_of, status_answer}
 use Rattle.tx_lines.specs.declared.answer.LineAnswer.{LineAnswer}
@@ -39,7 +39,6 @@ use Rattle.tx_engine.specs.Decided.{decided_for, by_line, by_trunk, IsDecided}
 use Rattle.tx_engine.specs.Sound.{AreSound, IsSound, is_first_end, state_of}
 use Rattle.tx_engine.proofs.Keyed.{keys_stay, keys_here, keys_else, pick_same, pick_other, ends_same}
 use Rattle.tx_engine.proofs.Deciding.{first_is}
-use Rattle.tx_engine.proofs.Routes.{listed_may}
 use Rattle.tx_engine.proofs.Changing.{sound_after, together_in}
 
 -- WHAT A DECISION TO CONNECT TELLS

@@ -1,12 +1,11 @@
 // Calls that end.
 ghost use Rattle.std.specs.Prelude.{◌≡◌, ◌≢◌, ℕ, ◌<◌, ◌-◌, ◌^◌, is_some, Some, true, false};
-ghost use Rattle.std.specs.FinSet as set;
 ghost use Rattle.tx_state.specs.declared.event.Event.TheVariants.{Clear};
 ghost use Rattle.tx_state.specs.Ending.{end_call, ticket_of};
 ghost use Rattle.tx_state.specs.Step.{step};
 ghost use Rattle.tx_calls.specs.Calls.{Kept, kept_at};
 ghost use Rattle.tx_network.specs.Seen.{call_seen};
-ghost use Rattle.tx_endings.specs.GivenBack.{withdrawn, released_all, released_unless, given_back, thrown_off, freed, CanRelease, CanReleaseAll, CanGiveBack, CanThrowOff};
+ghost use Rattle.tx_endings.specs.GivenBack.{released_all, given_back, thrown_off, freed, CanReleaseAll, CanGiveBack, CanThrowOff};
 ghost use Rattle.tx_engine.specs.Sound.{IsSound, state_of};
 
 use crate::parts::Parts;
@@ -14,7 +13,7 @@ use std::alloc::Allocator;
 use tx_circuits::CircuitTable;
 use tx_lines::LineBook;
 use tx_network::{OpenCall, far_of, place_of};
-use tx_plan::{Circuit, ExchangeId, Plan};
+use tx_plan::{Circuit, Plan};
 use tx_state::{Cause, Hop, Party, Path, Phase, Reply, Ticket};
 
 impl<'p, A: Allocator + Copy> Parts<'p, A> {
@@ -95,7 +94,7 @@ fn give_back<A: Allocator>(circuits: &mut CircuitTable<A>, plan: &Plan<A>, call:
         Phase::Calling(circuit) => {
             let place = place_of(plan, call);
             let far = far_of(plan, call, circuit);
-            give_up(circuits, circuit, place, far);
+            circuits.give_up(circuit, place, far);
         }
         Phase::Standing => {}
         Phase::Connected(_) => {}
@@ -110,24 +109,6 @@ fn release_hops<A: Allocator>(circuits: &mut CircuitTable<A>, hops: &[Hop])
     for hop in hops {
         circuits.release(&hop.circuit);
     }
-}
-
-/// An exchange gives its seizure up; the circuit is releasing unless the far end has seized it too.
-fn give_up<A: Allocator>(
-    circuits: &mut CircuitTable<A>,
-    circuit: &Circuit,
-    place: ExchangeId,
-    far: ExchangeId,
-)
-    requires seized { set.contains circuits.old.seized (circuit.now, place) ≡ true }
-    requires may { set.contains (withdrawn circuits.old circuit.now place).seized (circuit.now, far) ≡ false → CanRelease (withdrawn circuits.old circuit.now place) circuit.now }
-    ensures { circuits.new ≡ released_unless far circuit.now (withdrawn circuits.old circuit.now place) }
-{
-    circuits.withdraw(circuit, place);
-    if circuits.is_seized(circuit, far) {
-        return;
-    }
-    circuits.release(circuit);
 }
 
 /// Two calls lose the circuit on which they met.

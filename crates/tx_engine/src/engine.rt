@@ -66,6 +66,7 @@ impl<'p, A: Allocator + Copy> Engine<'p, A> {
         ensures memory { OnErr result ((takes_memory event.now ≡ true) × (refusal self.old.plan self.old.state event.now ≡ None)) }
     {
         match event {
+            Event::Key { line, keyed } => self.parts.key(*line, *keyed),
             Event::Route(number) => self.parts.route(*number),
             Event::Confirm(number) => Ok(self.parts.confirm(*number)),
             Event::Clear { call, party } => Ok(self.parts.clear(*call, *party)),

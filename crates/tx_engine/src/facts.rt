@@ -18,10 +18,7 @@ impl<'p, A: Allocator + Copy> Facts for Engine<'p, A> {
     }
 
     fn has_line(&self, line: &Line) -> bool {
-        match self.parts.lines.find(line.code, line.national.bytes()) {
-            Some(_) => true,
-            None => false,
-        }
+        self.parts.lines.has(line)
     }
 
     fn is_engaged(&self, line: &Line) -> bool {

@@ -33,6 +33,21 @@ fn reserve_tickets<A: Allocator>(
 impl<'p, A: Allocator + Copy> Parts<'p, A> {
     /// A line calls.
     pub(crate) fn key(&mut self, line: Line, keyed: Figures) -> Result<Reply, NoMemory>
+        requires { IsSound self.old }
+        ensures sound { IsSound self.new }
+        ensures plan { self.new.plan.now ≡ self.old.plan.now }
+        ensures step { IfOk result (λ reply. step self.old.plan.now (state_of self.old) (Key line keyed) ≡ (reply, state_of self.new)) }
+        ensures err { OnErr result (state_of self.new ≡ state_of self.old) }
+        ensures open { OnErr result (refusal self.old.plan.now (state_of self.old) (Key line keyed) ≡ None) }
+    {
+        match self.key_refusal(&line, &keyed) {
+            Some(refusal) => Ok(Reply::Refused(refusal)),
+            None => self.open_call(line, keyed),
+        }
+    }
+
+    /// A line that may call does so.
+    fn open_call(&mut self, line: Line, keyed: Figures) -> Result<Reply, NoMemory>
         requires sound { IsSound self.old }
         requires open { refusal self.old.plan.now (state_of self.old) (Key line keyed) ≡ None }
         ensures sound { IsSound self.new }

@@ -1,7 +1,6 @@
 -- What `audit PLAN` answers.
 use Rattle.std.specs.Prelude.{◌≡◌, ℕ, List, Option, Result, Ok, Err}
 use Rattle.tx_audit.specs.declared.audited.Audited.{Audited}
-use Rattle.tx_audit.specs.declared.audited.Audited.TheVariants.{Sound, Unsound}
 use Rattle.tx_audit.specs.declared.audited.AuditFault.{AuditFault}
 use Rattle.tx_audit.specs.declared.audited.AuditFault.TheVariants.{Plan, Write as AuditWrite, NoMemory as AuditNoMemory}
 use Rattle.tx_audit.specs.Audits.{AuditAnswers}
@@ -23,8 +22,3 @@ told_audit (Err f) = Err (audit_fault f)
 abbrev pub AuditJobAnswers : {A : Type 0} → (limit spare : ℕ) → (old new taken_old taken_new : Option (List ℕ)) → (broken unread silent : Type 0) → Result (Audited A) JobFault → Type 0
 AuditJobAnswers {A} limit spare old new taken_old taken_new broken unread silent result =
     (answer : Result (Audited A) AuditFault) × AuditAnswers limit spare old new taken_old taken_new broken unread silent answer × (result ≡ told_audit answer)
-
--- 0 after a Yes, 1 after a No
-abbrev pub status_of_audit : {A : Type 0} → Audited A → ℕ
-status_of_audit (Sound plan cert) = 0
-status_of_audit (Unsound plan findings) = 1

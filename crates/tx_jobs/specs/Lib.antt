@@ -3,4 +3,6 @@ pub mod Jobs
 pub mod PipeJobs
 pub mod CheckJobs
 pub mod AuditJobs
+pub mod Writables
+pub mod Evidences
 pub mod CheckedJobs

@@ -1,8 +1,11 @@
 // The job of `audit PLAN --limit L --spare K`.
-ghost use Rattle.std.specs.Prelude.{◌≡◌, ◌≤◌};
+ghost use Rattle.std.specs.Prelude.{◌≡◌, ◌≤◌, IfOk};
+ghost use Rattle.std.specs.List.{AllByRecursion};
 ghost use Rattle.tx_text.specs.Calls.{Broken, CallsAtMost, source_calls};
+ghost use Rattle.tx_rank.specs.Findings.{IsTrueOf};
+ghost use Rattle.tx_audit.specs.Audits.{OnUnsound};
 ghost use Rattle.tx_jobs.specs.JobFaults.{mark_after};
-ghost use Rattle.tx_jobs.specs.AuditJobs.{AuditJobAnswers, status_of_audit};
+ghost use Rattle.tx_jobs.specs.AuditJobs.{AuditJobAnswers};
 
 use crate::job_fault::JobFault;
 use std::alloc::Allocator;
@@ -21,6 +24,7 @@ pub fn audit_job<A: Allocator + Copy, P: Source, W: Sink>(
     requires limit { limit ≤ 62 }
     requires spare { spare ≤ 15 }
     ensures answers { AuditJobAnswers limit spare (P.rest plan.old) (P.rest plan.new) (W.taken out.old) (W.taken out.new) (Broken P.called (P.failed plan.new) source_calls plan.old plan.new) (plan.new ≡ plan.old) (out.new ≡ out.old) result }
+    ensures each { IfOk result (OnUnsound (λ p findings. AllByRecursion (IsTrueOf p limit spare) findings)) }
     ensures mark { W.failed out.new ≡ mark_after (W.failed out.old) result }
     ensures calls { CallsAtMost P.called source_calls plan.old plan.new }
 {
@@ -29,15 +33,5 @@ pub fn audit_job<A: Allocator + Copy, P: Source, W: Sink>(
         Err(AuditFault::Plan(fault)) => Err(JobFault::of_plan(fault)),
         Err(AuditFault::Write) => Err(JobFault::Write),
         Err(AuditFault::NoMemory) => Err(JobFault::NoMemory),
-    }
-}
-
-/// The exit status of an audit: 0 after a Yes, 1 after a No.
-pub fn audit_status<A: Allocator>(audited: &Audited<A>) -> u8
-    ensures { result ≡ status_of_audit audited.now }
-{
-    match audited {
-        Audited::Sound(_, _) => 0,
-        Audited::Unsound(_, _) => 1,
     }
 }

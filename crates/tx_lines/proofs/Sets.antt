@@ -18,7 +18,7 @@ use Rattle.tx_lines.specs.declared.status.Status.{Status}
 use Rattle.tx_lines.specs.declared.status.Mark.{Mark}
 use Rattle.tx_lines.specs.declared.status.Mark.TheVariants.{Faulty, Away, Engaged}
 use Rattle.tx_lines.specs.Status.{has, with_mark, is_unmarked, unmarked}
-use Rattle.tx_lines.specs.Statuses.{passes, with_status, sets_of, marked, with_marked, is_marked, kept}
+use Rattle.tx_lines.specs.Statuses.{passes, with_status, sets_of, marked, with_marked, is_marked, kept, AllMarked}
 
 same_bool : (a b : Bool) → (a ≡ true → b ≡ true) → (b ≡ true → a ≡ true) → a ≡ b
 same_bool true b f g = sym (f refl)
@@ -158,6 +158,15 @@ module _ {S : Type 0} where
       by (Some s) e = omega arith
       by None e = subst (λ b. 1 ≤ (if b then 0 else 1)) (sym (no_entry m line e)) (omega arith)
 
+  -- each kept line has a mark after a write that leaves none without
+  pub all_marked : (m n : IndexMap Line Status S) (line : Line) (w : Option Status) → ((q : Line) → index.get same_line n q ≡ cond (same_line line q) w (index.get same_line m q))
+      → ((s : Status) → w ≡ Some s → is_unmarked s ≡ false) → AllMarked m → AllMarked n
+  all_marked m n line w at new all l s is = by (same_line line l) (sym (at l) ∙ is)
+    where
+      by : (b : Bool) → cond b w (index.get same_line m l) ≡ Some s → is_unmarked s ≡ false
+      by true e = new s e
+      by false e = all l s e
+
 -- a mark that is taken from a line without marks
 pub none_left : (mark k : Mark) → false ≡ has k (with_mark mark false unmarked)
 none_left Faulty Faulty = refl
@@ -169,6 +178,23 @@ none_left Away Engaged = refl
 none_left Engaged Faulty = refl
 none_left Engaged Away = refl
 none_left Engaged Engaged = refl
+
+-- a status with a mark set has a mark
+pub mark_set : (mark : Mark) (old s : Status) → Some (with_mark mark true old) ≡ Some s → is_unmarked s ≡ false
+mark_set mark old s e = sym (ap (λ o. is_unmarked (unwrap_or o unmarked)) e) ∙ by mark
+  where
+    by : (k : Mark) → is_unmarked (with_mark k true old) ≡ false
+    by Faulty = refl
+    by Away = elim old.faulty as (λ b. (not b && false) ≡ false) [ true ↦ refl | false ↦ refl ]
+    by Engaged = elim old.faulty as (λ b. (not b && (not old.away && false)) ≡ false) [ true ↦ refl | false ↦ elim old.away as (λ b. (not b && false) ≡ false) [ true ↦ refl | false ↦ refl ] ]
+
+-- what is kept of a status has a mark
+pub kept_marked : (left s : Status) → kept left ≡ Some s → is_unmarked s ≡ false
+kept_marked left s = by (is_unmarked left) refl
+  where
+    by : (b : Bool) → is_unmarked left ≡ b → (if b then None else Some left) ≡ Some s → is_unmarked s ≡ false
+    by true e h = absurd (let bad : ⊥ = cc in bad)
+    by false e h = sym (ap (λ o. is_unmarked (unwrap_or o left)) h) ∙ e
 
 unset : (b : Bool) → not b ≡ true → false ≡ b
 unset true h = h

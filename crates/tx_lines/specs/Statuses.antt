@@ -1,5 +1,5 @@
 -- What the statuses of lines mean as sets.
-use Rattle.std.specs.Prelude.{ℕ, Bool, false, ◌||◌, Option, Some, None, filter, if◌then◌else◌, refl}
+use Rattle.std.specs.Prelude.{◌≡◌, ℕ, Bool, false, ◌||◌, Option, Some, None, filter, if◌then◌else◌, refl}
 use Rattle.std.specs.Option.{option_map_or}
 use Rattle.std.specs.FinSet as set
 use Rattle.std.specs.Coded.{Coded, code_by, coded×, coded_ℕ}
@@ -49,6 +49,10 @@ abbrev pub kept : Status → Option Status
 kept s = if is_unmarked s then None else Some s
 
 module _ {S : Type 0} where
+  -- each line that is kept has a mark
+  abbrev pub AllMarked : IndexMap Line Status S → Type 0
+  AllMarked m = (l : Line) (s : Status) → index.get same_line m l ≡ Some s → is_unmarked s ≡ false
+
   -- the line has a status that passes the test
   abbrev pub passes : (Status → Bool) → IndexMap Line Status S → Line → Bool
   passes test m l = option_map_or test (index.get same_line m l) false

@@ -17,20 +17,22 @@ use std::marker::Model;
 use tx_plan::Line;
 use tx_text::NoMemory;
 
-/// The lines that have a mark, seen as a set for each mark.
+/// The lines that have a mark, seen as a set for each mark. A line without a mark is not kept.
 #[derive(Drop)]
 pub struct Statuses<A: Allocator = Global> {
     entries: IndexMap<Line, Status, BuildHasherDefault<FoldHasher>, A>,
 }
 
 impl<A: Allocator> Model for Statuses<A> {
-    ghost use Rattle.tx_lines.specs.Statuses.{Sets, sets_code, sets_of};
+    ghost use Rattle.tx_lines.specs.Statuses.{Sets, sets_code, sets_of, AllMarked};
 
     ghost Value = { Sets };
 
     ghost coded = { sets_code };
 
     ghost view = { λ s. sets_of s.entries };
+
+    ghost invariant = { λ s. AllMarked s.entries };
 }
 
 impl<A: Allocator + Copy> Statuses<A> {

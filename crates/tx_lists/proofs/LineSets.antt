@@ -2,19 +2,10 @@
 use Rattle.std.proofs.Common.{◌≡◌, Bool, true, false, not, ◌&&◌, ◌||◌, cond, List, [], ◌∷◌, refl, ap, sym, ◌∙◌}
 use Rattle.std.specs.Prelude.{filter}
 use Rattle.std.specs.List.{list_any}
-use Rattle.std.specs.Ordering.{eq_by_cmp, is_eq}
-use Rattle.std.specs.Cmp.{Equal-is}
 use Rattle.std.specs.FinSet as set
-use Rattle.std.proofs.lemmas.Cmp.{tied_itself}
-use Rattle.std.proofs.lemmas.Bool.Decides.{same_from_decides}
-use Rattle.tx_plan.specs.Orders.{line_cmp, same_line, same_line-is, same_line-itself}
-use Rattle.tx_plan.proofs.Named.{lines_total, exact_lines, in_lines}
+use Rattle.tx_plan.specs.Orders.{line_cmp, same_line, same_line-is, same_line_equiv}
+use Rattle.tx_plan.proofs.Named.{lines_total, exact_lines, line_tie, in_lines}
 use Rattle.tx_plan.specs.declared.line.Line.{Line}
-
-alike : (l m : Line) → eq_by_cmp line_cmp m l ≡ same_line m l
-alike l m = same_from_decides (eq_by_cmp line_cmp m l) (same_line m l)
-    (λ e. exact_lines m l ((Equal-is (line_cmp m l)).0 e), λ e. ap (λ z. eq_by_cmp line_cmp m z) (sym e) ∙ ap is_eq (tied_itself lines_total m))
-    (same_line-is m l, λ e. ap (λ z. same_line m z) (sym e) ∙ same_line-itself m)
 
 rest_any : (l q : Line) (ls : List Line) → list_any (λ m. same_line m q) (filter (λ m. not (same_line m l)) ls) ≡ (not (same_line q l) && list_any (λ m. same_line m q) ls)
 rest_any l q [] = and_no (not (same_line q l))
@@ -40,4 +31,4 @@ pub lines_without : (ls : List Line) (l : Line) → set.from_list {R = line_cmp}
 lines_without ls l =
     set.same_set lines_total exact_lines _ _ (λ q.
     in_lines (filter (λ m. not (same_line m l)) ls) q ∙ rest_any l q ls
-    ∙ sym (set.contains-remove lines_total (set.from_list ls) l q ∙ (λ i. not (alike l q i) && in_lines ls q i)))
+    ∙ sym (set.contains-remove lines_total (set.from_list ls) l q ∙ (λ i. not ((line_tie q l ∙ same_line_equiv.symm l q) i) && in_lines ls q i)))

@@ -1,49 +1,60 @@
-// The audit of a file, and the file of its certificate.
+// The audit of a file, and the files of what shows its verdict.
 use crate::ends::Output;
 use crate::folder::Folder;
 use crate::new_file::NewFile;
-use crate::opened::Bounds;
+use crate::opened::{Bounds, Keep};
 use std::alloc::Allocator;
 use std::io::{Read, Write};
-use tx_audit::Audited;
+use tx_audit::write_counter;
 use tx_cert::{Cert, write_cert};
-use tx_jobs::{JobFault, audit_job, audit_status};
+use tx_jobs::{CounterScript, Evidence, JobFault, evidence_job};
 use tx_plan::Plan;
 
-/// `audit PLAN --limit L --spare K [--cert OUT]`.
+/// `audit PLAN --limit L --spare K [--cert OUT] [--counter OUT]`.
 pub(crate) fn audit_file<A: Allocator + Copy, R: Read + Drop, F: Folder, O: Write + Drop>(
     alloc: A,
     plan: R,
     bounds: Bounds,
-    keep: Option<&str>,
+    keep: Keep<'_>,
     folder: &F,
     output: &Output<O, A>,
 ) -> Result<u8, JobFault> {
     let mut plan = output.source(plan);
     let mut sink = output.sink();
-    let audited = audit_job(alloc, &mut plan, bounds.limit, bounds.spare, &mut sink)?;
-    let status = audit_status(&audited);
-    let kept = match keep {
-        Some(name) => keep_found(alloc, &audited, name, folder, output),
-        None => Ok(()),
-    };
-    drop(audited);
+    let with_script = keep.counter.is_some();
+    let evidence = evidence_job(
+        alloc,
+        &mut plan,
+        bounds.limit,
+        bounds.spare,
+        with_script,
+        &mut sink,
+    )?;
+    let status = evidence.status();
+    let kept = keep_evidence(alloc, &evidence, keep, folder, output);
+    drop(evidence);
     kept.map(|()| status)
 }
 
-/// After a Yes, once its report is out, makes the file of the certificate.
-fn keep_found<A: Allocator + Copy, F: Folder, O: Write + Drop>(
+/// Once the report is out, makes the file of the certificate after a Yes, and the file of the script after a No that has one.
+fn keep_evidence<A: Allocator + Copy, F: Folder, O: Write + Drop>(
     alloc: A,
-    audited: &Audited<A>,
-    name: &str,
+    evidence: &Evidence<A>,
+    keep: Keep<'_>,
     folder: &F,
     report: &Output<O, A>,
 ) -> Result<(), JobFault> {
-    let Audited::Sound(plan, cert) = audited else {
-        return Ok(());
-    };
-    report.let_out()?;
-    keep_cert(alloc, plan, cert, NewFile::new(folder, name))
+    match (evidence, keep.cert, keep.counter) {
+        (Evidence::Sound(plan, cert), Some(name), _) => {
+            report.let_out()?;
+            keep_cert(alloc, plan, cert, NewFile::new(folder, name))
+        }
+        (Evidence::Unsound(Some(script)), _, Some(name)) => {
+            report.let_out()?;
+            keep_script(alloc, script, NewFile::new(folder, name))
+        }
+        _ => Ok(()),
+    }
 }
 
 /// Writes a certificate to a file, once there is room for its output.
@@ -55,6 +66,18 @@ fn keep_cert<A: Allocator + Copy, W: Write + Drop>(
 ) -> Result<(), JobFault> {
     let output = Output::new(alloc, file)?;
     let written = write_cert(cert, plan, &mut output.sink());
+    output.let_out()?;
+    written.map_err(|_| JobFault::Write)
+}
+
+/// Writes a counter script to a file, once there is room for its output.
+fn keep_script<A: Allocator + Copy, W: Write + Drop>(
+    alloc: A,
+    script: &CounterScript<A>,
+    file: W,
+) -> Result<(), JobFault> {
+    let output = Output::new(alloc, file)?;
+    let written = write_counter(&script.plan, script.events.as_slice(), &mut output.sink());
     output.let_out()?;
     written.map_err(|_| JobFault::Write)
 }

@@ -16,6 +16,15 @@ pub(crate) struct Bounds {
     ghost spared: { spare ≤ 15 },
 }
 
+/// Where what shows the verdict of an audit is to be kept.
+#[derive(Clone, Copy)]
+pub(crate) struct Keep<'a> {
+    /// The file of the certificate.
+    pub cert: Option<&'a str>,
+    /// The file of the counter script.
+    pub counter: Option<&'a str>,
+}
+
 /// A command whose input files are open.
 #[derive(Drop)]
 pub(crate) enum Opened<'a, I: Read + Drop, R: Read + Drop> {
@@ -43,8 +52,7 @@ pub(crate) enum Opened<'a, I: Read + Drop, R: Read + Drop> {
     Audit {
         plan: R,
         bounds: Bounds,
-        /// Where the certificate is to be kept.
-        keep: Option<&'a str>,
+        keep: Keep<'a>,
     },
 }
 
@@ -105,14 +113,17 @@ impl<'a, I: Read + Drop, R: Read + Drop> Opened<'a, I, R> {
                 limit,
                 spare,
                 cert,
-                ..
+                counter,
             } => Ok(Opened::Audit {
                 plan: open(folder, plan.as_str())?,
                 bounds: Bounds {
                     limit: *limit,
                     spare: *spare,
                 },
-                keep: cert.as_ref().map(|name| name.as_str()),
+                keep: Keep {
+                    cert: cert.as_ref().map(|name| name.as_str()),
+                    counter: counter.as_ref().map(|name| name.as_str()),
+                },
             }),
         }
     }

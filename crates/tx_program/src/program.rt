@@ -6,7 +6,7 @@ use crate::perform::perform;
 use crate::tell::tell_words;
 use std::alloc::{Allocator, Global};
 use std::io::{Read, Write};
-use tx_jobs::write_fault;
+use tx_jobs::{JobFault, write_fault};
 use tx_text::ToWrite;
 use tx_words::{Command, read_command};
 
@@ -20,7 +20,7 @@ pub struct Ends<'a, F, I: Drop, O: Drop, E: Drop> {
 }
 
 /// Does what the words after the program's name ask for, and answers the exit status: 0, or 1 after a No (of `codes`: where codes are ambiguous), 2 for a
-/// refused text, 3 for a failed read or write, 4 for want of memory, 64 for refused words. A fault is told by one line on standard error.
+/// refused text, 3 for a failed read or write, that of help too, 4 for want of memory, 64 for refused words. A fault is told by one line on standard error.
 pub fn run_words<F: Folder, I: Read + Drop, O: Write + Drop, E: Write + Drop>(
     alloc: Global,
     words: &[&str],
@@ -35,7 +35,10 @@ pub fn run_words<F: Folder, I: Read + Drop, O: Write + Drop, E: Write + Drop>(
                 mut output,
                 mut errors,
             } = ends;
-            let _ = tell_words(&fault, &mut output, &mut errors);
+            let told = tell_words(&fault, &mut output, &mut errors);
+            if told.is_err() && fault.status() == 0 {
+                return tell_fault(&JobFault::Write, errors);
+            }
             fault.status()
         }
     }
@@ -59,9 +62,12 @@ pub fn run_command<
     } = ends;
     match perform(alloc, command, folder, input, output) {
         Ok(status) => status,
-        Err(fault) => {
-            let _ = write_fault(&fault, &mut ToWrite::new(errors));
-            fault.status()
-        }
+        Err(fault) => tell_fault(&fault, errors),
     }
+}
+
+/// Tells a fault by its line, and answers its exit status.
+fn tell_fault<E: Write + Drop>(fault: &JobFault, errors: E) -> u8 {
+    let _ = write_fault(fault, &mut ToWrite::new(errors));
+    fault.status()
 }

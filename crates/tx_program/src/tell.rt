@@ -14,7 +14,8 @@ pub(crate) fn tell_words<O: Write, E: Write>(
             if e.use_stderr() {
                 write!(errors, "{e}")
             } else {
-                write!(output, "{e}")
+                write!(output, "{e}")?;
+                output.flush()
             }
         }
         WordsFault::Together => {

@@ -28,7 +28,9 @@ pub record Gives (found : List Row) (id : List ℕ) (n : ℕ) : Type 0 where
 -- what was found behind the name of a command asks for this
 abbrev pub Asks : List ℕ → List Row → Command → Type 0
 Asks name found Pipe = ⊥
-Asks name found (Run plan script None) = (name ≡ codes "run") × Names found (codes "plan") plan × Names found (codes "script") script × (first_of (codes "cert") found ≡ None)
+Asks name found (Run plan script None) =
+    (name ≡ codes "run") × Names found (codes "plan") plan × Names found (codes "script") script × (first_of (codes "cert") found ≡ None)
+    × (first_of (codes "limit") found ≡ None) × (first_of (codes "spare") found ≡ None)
 Asks name found (Run plan script (Some (cert, limit, spare))) =
     (name ≡ codes "run") × Names found (codes "plan") plan × Names found (codes "script") script × Names found (codes "cert") cert × Gives found (codes "limit") limit × Gives found (codes "spare") spare
 Asks name found (Check plan cert limit spare) =
@@ -36,7 +38,7 @@ Asks name found (Check plan cert limit spare) =
 Asks name found (Codes plan) = (name ≡ codes "codes") × Names found (codes "plan") plan
 Asks name found (Audit plan limit spare cert counter) =
     (name ≡ codes "audit") × Names found (codes "plan") plan × Gives found (codes "limit") limit × Gives found (codes "spare") spare × (first_of (codes "cert") found ≡ option_map string_bytes cert)
-    × (counter ≡ None)
+    × (first_of (codes "counter") found ≡ option_map string_bytes counter)
 
 -- the command that was found, with its files and options, asks for this
 abbrev pub IsFoundIn : Option (List ℕ × List Row) → Command → Type 0

@@ -35,7 +35,7 @@ abbrev pub codes_words : App
 codes_words = with_rule (new_app (codes "codes")) (file (codes "plan"))
 
 abbrev pub audit_words : App
-audit_words = with_rule (with_rule (with_rule (with_rule (new_app (codes "audit")) (file (codes "plan"))) (needed limit)) (needed spare)) (option (codes "cert"))
+audit_words = with_rule (with_rule (with_rule (with_rule (with_rule (new_app (codes "audit")) (file (codes "plan"))) (needed limit)) (needed spare)) (option (codes "cert"))) (option (codes "counter"))
 
 -- the program takes its words from the first on, and has four commands
 abbrev pub top_words : App

@@ -1,7 +1,8 @@
 // Commands, and the words that ask for them.
-ghost use Rattle.std.specs.Prelude.{◌≡◌, ◌≢◌, ◌≤◌, [], Ok, IfOk, IfSome, codes, option_map, string_bytes};
+ghost use Rattle.std.specs.Prelude.{◌≡◌, ◌≢◌, ◌≤◌, [], Ok, IfOk, IfSome, is_some, not, codes, option_map, string_bytes};
 ghost use Rattle.clap.specs.Words.{first_of, found_of, rows_of, subcommand_rows_of};
 ghost use Rattle.tx_words.specs.Commands.{IsInRange, Names, Gives, Asks, AskFor, IsFoundIn};
+ghost use Rattle.tx_words.specs.Faults.{status_of};
 
 use crate::fault::WordsFault;
 use crate::grammar::grammar;
@@ -31,7 +32,7 @@ pub enum Command {
     Codes {
         plan: String,
     },
-    /// `audit PLAN --limit L --spare K`: the certificate goes to a file, if one is named. No words name a file for a counter script yet.
+    /// `audit PLAN --limit L --spare K`: the certificate goes to a file, if one is named, and so does the counter script.
     Audit {
         plan: String,
         limit: u8,
@@ -49,6 +50,13 @@ fn text(alloc: Global, matches: &ArgMatches<'_>, id: &str) -> Result<Option<Stri
         Some(word) => Ok(Some(String::from_str(alloc, word)?)),
         None => Ok(None),
     }
+}
+
+/// Whether no word stands for an id.
+fn is_absent(matches: &ArgMatches<'_>, id: &str) -> bool
+    ensures { result ≡ not (is_some (first_of id.now (rows_of (found_of matches.now)))) }
+{
+    matches.get_str(id).is_none()
 }
 
 /// The number of an option, tested once more against its range.
@@ -99,13 +107,14 @@ fn audit_of(
     let limit = number(matches, "limit", 62);
     let spare = number(matches, "spare", 15);
     let cert = text(alloc, matches, "cert")?;
+    let counter = text(alloc, matches, "counter")?;
     match (limit, spare) {
         (Some(limit), Some(spare)) => Ok(Some(Command::Audit {
             plan,
             limit,
             spare,
             cert,
-            counter: None,
+            counter,
         })),
         _ => Ok(None),
     }
@@ -129,7 +138,7 @@ fn run_of(
     let cert = text(alloc, matches, "cert")?;
     let checked = match (cert, limit, spare) {
         (Some(cert), Some(limit), Some(spare)) => Some((cert, limit, spare)),
-        (None, None, None) => None,
+        (None, _, _) if is_absent(matches, "limit") && is_absent(matches, "spare") => None,
         _ => return Err(WordsFault::Together),
     };
     Ok(Some(Command::Run {
@@ -178,7 +187,9 @@ fn found_command(alloc: Global, matches: &ArgMatches<'_>) -> Result<Option<Comma
 }
 
 /// Why words without a command are refused.
-fn no_command(grammar: &mut clap::Command<'_>) -> Result<WordsFault, AllocError> {
+fn no_command(grammar: &mut clap::Command<'_>) -> Result<WordsFault, AllocError>
+    ensures { IfOk result (λ fault. status_of fault ≡ 64) }
+{
     let e = grammar.error(ErrorKind::MissingSubcommand, "a command is missing")?;
     Ok(WordsFault::of_clap(e))
 }

@@ -1,6 +1,7 @@
 // Why words give no command.
 ghost use Rattle.std.specs.Prelude.{◌≡◌};
 ghost use Rattle.tx_words.specs.Faults.{status_of, fault_of_clap};
+ghost use Rattle.tx_words.specs.declared.fault.WordsFault.TheVariants.{NoMemory as OutOfMemory};
 
 use clap::error::ErrorKind;
 use std::alloc::{AllocError, AllocFailed};
@@ -45,12 +46,16 @@ impl WordsFault {
 }
 
 impl From<AllocError> for WordsFault {
+    ghost from_gives = { λ _ fault. fault ≡ OutOfMemory };
+
     fn from(_e: AllocError) -> WordsFault {
         WordsFault::NoMemory
     }
 }
 
 impl<T: Drop> From<AllocFailed<T>> for WordsFault {
+    ghost from_gives = { λ _ fault. fault ≡ OutOfMemory };
+
     fn from(_e: AllocFailed<T>) -> WordsFault {
         WordsFault::NoMemory
     }

@@ -50,7 +50,7 @@ fn limit<'a>(alloc: Global) -> Arg<'a>
         alloc,
         "limit",
         "L",
-        "How many transits a call may pass: 0 to 62",
+        "At most how many transits a call may pass: 0 to 62",
     )
     .value_parser(value_parser!(u8).range(0..=62))
 }
@@ -63,7 +63,7 @@ fn spare<'a>(alloc: Global) -> Arg<'a>
         alloc,
         "spare",
         "K",
-        "How many groups of a list may be down or full before a call is lost: 0 to 15",
+        "A call is answered NC only after a second head-on collision, or when more than K listed groups are all down or have no free circuit: 0 to 15",
     )
     .value_parser(value_parser!(u8).range(0..=15))
 }
@@ -80,7 +80,7 @@ fn run_grammar<'a>(alloc: Global) -> Result<clap::Command<'a>, AllocError>
             alloc,
             "script",
             "SCRIPT",
-            "The events to run, one a line, as KEY 41 10001 5170001",
+            "The script: events, one a line, between SCRIPT 1 and END",
         ))?
         .arg(option(
             alloc,
@@ -104,7 +104,7 @@ fn check_grammar<'a>(alloc: Global) -> Result<clap::Command<'a>, AllocError>
             alloc,
             "cert",
             "CERT",
-            "The certificate: a rank for each exchange and code where calls may stand",
+            "The certificate: ranks of exchanges for each code",
         ))?
         .arg(limit(alloc).required(true))?
         .arg(spare(alloc).required(true))
@@ -125,7 +125,7 @@ fn audit_grammar<'a>(alloc: Global) -> Result<clap::Command<'a>, AllocError>
 {
     clap::Command::new(alloc, "audit")
         .about(
-            "Say whether a plan is safe: YES, or NO with all that is wrong with it and walks that show it",
+            "Say whether a plan is safe: YES, or NO with what is wrong, and a walk for each loop, short list and long way",
         )
         .arg(plan_file(alloc))?
         .arg(limit(alloc).required(true))?
@@ -135,6 +135,12 @@ fn audit_grammar<'a>(alloc: Global) -> Result<clap::Command<'a>, AllocError>
             "cert",
             "CERT",
             "After YES, write the certificate to this file",
+        ))?
+        .arg(option(
+            alloc,
+            "counter",
+            "SCRIPT",
+            "After NO, write a script to this file that shows the first finding that has one",
         ))
 }
 

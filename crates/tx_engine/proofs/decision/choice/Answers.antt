@@ -2,7 +2,7 @@ use Rattle.std.proofs.Common.{◌∙◌, subst}
 use Rattle.tx_state.specs.Members.{Mem}
 use Rattle.tx_circuits.proofs.Unnamed.{may_seize-same}
 use Rattle.tx_calls.proofs.Sorted.{mem_at}
-use Rattle.tx_engine.proofs.Routes.{listed_may}
+use Rattle.tx_state.proofs.Steps.{listed_may}
 use Rattle.tx_engine.proofs.decision.choice.Goals as goal
 
 pub first_free-circuit-requires : goal.first_free-circuit-requires

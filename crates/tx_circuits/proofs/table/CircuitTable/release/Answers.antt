@@ -1,16 +1,14 @@
-use Rattle.std.proofs.Common.{◌≡◌, ◌∙◌, ℕ, ◌<◌, Bool, true, false, length, Option, Some, None, sym, ap, subst}
-use Rattle.std.specs.Prelude.{is_some}
-use Rattle.std.specs.FinSet.{insert, remove}
-use Rattle.tx_circuits.specs.Slots.{with_seized}
-use Rattle.tx_circuits.specs.Groups.{state_at, end_at, change_at, with_state}
-use Rattle.tx_circuits.specs.Table.{Table, with_held, with_released, with_failure}
+use Rattle.std.proofs.Common.{◌∙◌, sym, ap}
+use Rattle.tx_circuits.specs.declared.state.State.{State}
+use Rattle.tx_circuits.specs.Groups.{change_at, with_state}
+use Rattle.tx_circuits.specs.Table.{Table, with_released}
 use Rattle.tx_circuits.specs.Seen.{table_of}
 use Rattle.tx_circuits.proofs.Updates.{released_is}
 use Rattle.tx_circuits.proofs.Steps.{circuit_is}
 use Rattle.tx_circuits.proofs.table.CircuitTable.release.Goals as goal
 
-pub known_state-state-requires : goal.known_state-state-requires
-known_state-state-requires g c = (let ts = c.self.inside.groups in sym (circuit_is ts c.args.self.now c.self.view_is c.args.circuit.now) ∙ c.requires.known)
+pub known_state-requires : goal.known_state-requires
+known_state-requires g c = (let ts = c.self.inside.groups in sym (circuit_is ts c.args.self.now c.self.view_is c.args.circuit.now) ∙ c.requires.known)
 
 pub set_state-requires : goal.set_state-requires
 set_state-requires g c = (let ts = c.self.inside.groups in sym (circuit_is ts c.args.self.now c.self.view_is c.args.circuit.now) ∙ c.requires.known)
@@ -18,4 +16,5 @@ set_state-requires g c = (let ts = c.self.inside.groups in sym (circuit_is ts c.
 pub returns : goal.returns
 returns g c =
     let ts = c.self.inside.groups in
-    ap table_of c.set_state.ensures ∙ released_is ts c.args.circuit.now c.known_state-state.result c.known_state-state.ensures ∙ ap (λ (t : Table). with_released t c.args.circuit.now) c.self.view_is
+    let x = c.args.circuit.now in
+    ap table_of (c.set_state.ensures ∙ ap (λ (s : State). change_at (with_state x s) x.group ts) c.in_release-to.ensures) ∙ released_is ts x c.known_state.result c.known_state.ensures ∙ ap (λ (t : Table). with_released t x) c.self.view_is

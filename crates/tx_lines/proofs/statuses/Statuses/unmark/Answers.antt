@@ -5,8 +5,16 @@ use Rattle.indexmap.specs.IndexMap as index
 use Rattle.tx_plan.specs.Orders.{same_line}
 use Rattle.tx_lines.specs.Status.{has, unmarked}
 use Rattle.tx_lines.specs.Statuses.{Sets, marked, with_marked, kept}
-use Rattle.tx_lines.proofs.Sets.{sets_unmarked, marks_of, kept_has, none_left, still, stored_is}
+use Rattle.tx_lines.proofs.Sets.{sets_unmarked, marks_of, kept_has, none_left, still, stored_is, all_marked, kept_marked}
 use Rattle.tx_lines.proofs.statuses.Statuses.unmark.Goals as goal
+
+pub invariant_of-self : goal.invariant_of-self
+invariant_of-self g c =
+    let m = c.self.inside.entries in
+    let n = c.rewrite.new.entries in
+    let left = c.with_mark-left.result in
+    let stored = c.in-Some.field-0-1.now in
+    all_marked m n stored (kept left) (c.rewrite.ensures.updates stored c.in-Some.status.now c.in-Some.ensures.entry).0 (kept_marked left) c.self.invariant
 
 pub rewrite-requires : goal.rewrite-requires
 rewrite-requires g c = slice_get_within c.self.inside.entries.entries c.in-Some.place (c.in-Some.field-0-1.now, c.in-Some.status.now) c.in-Some.ensures.entry

@@ -1,0 +1,39 @@
+// What shows the verdict of an audit.
+ghost use Rattle.tx_jobs.specs.Writables.{AreWritable, AreWritable-prop};
+
+use std::alloc::{Allocator, Global};
+use tx_cert::Cert;
+use tx_plan::Plan;
+use tx_state::Event;
+
+/// Events that show what is wrong with a plan. They can be written as a script.
+#[derive(Drop)]
+pub struct CounterScript<A: Allocator = Global> {
+    pub plan: Plan<A>,
+    pub events: Vec<Event, A>,
+    ghost writable: { AreWritable plan events.items } by { AreWritable-prop plan events.items },
+}
+
+/// What shows the verdict of an audit.
+#[derive(Drop)]
+pub enum Evidence<A: Allocator = Global> {
+    /// After a Yes, the plan and its certificate.
+    Sound(Plan<A>, Cert<A>),
+    /// After a No, the script of the first finding that has one, if it was asked for.
+    Unsound(Option<CounterScript<A>>),
+}
+
+impl<A: Allocator> Evidence<A> {
+    ghost use Rattle.std.specs.Prelude.{◌≡◌};
+    ghost use Rattle.tx_jobs.specs.Evidences.{status_of_evidence};
+
+    /// The exit status of the audit: 0 after a Yes, 1 after a No.
+    pub fn status(&self) -> u8
+        ensures { result ≡ status_of_evidence self.now }
+    {
+        match self {
+            Evidence::Sound(_, _) => 0,
+            Evidence::Unsound(_) => 1,
+        }
+    }
+}

@@ -1,0 +1,359 @@
+#!/usr/bin/env python3
+"""usage: tools/examples.py [PROGRAM]
+       tools/examples.py --write PROGRAM
+       tools/examples.py --cases FOLDER
+
+Runs each example of examples/list with a built program (crates/telexplan/out/telexplan where none is named), in a folder of its own, and compares what it prints,
+its exit status and the files that it makes with what stands in examples/. Then checks README.md and docs/FORMATS.md: each block there says, in a comment before
+it, what it shows, and has to show just that; the table of codes has to be that of the definitions, the map of the crates that of crates.txt, and what the pages name
+has to be there. Prints a line for each difference; the status is 1 if there is one.
+
+--write writes the outputs and the files that are made, for you to read through: they are right only once somebody has.
+--cases writes the examples as cases for the player of worked examples, crates/tx_worked, into the files `cases` and `stdout` of a folder. They are appended by hand
+to its data/cases and stdout; from then on a run of this tool sees that they are the same.
+
+The comments before a block:
+  <!-- file: PATH -->     the whole file
+  <!-- run: NAME -->      the command of an example, behind `$ `, and all that it prints
+  <!-- lines: PATH -->    lines of the file that follow one another
+  <!-- not run -->        commands that no example shows
+and before a table:
+  <!-- examples -->       each text in the last column is a line of some file in examples/
+  <!-- codes -->          the table of codes"""
+import os
+import re
+import shutil
+import subprocess
+import sys
+import tempfile
+
+TOP = os.path.dirname(os.path.dirname(os.path.abspath(__file__)))
+PAGES = ["README.md", "docs/FORMATS.md"]
+NAMING = ["CONTRIBUTING.md", "docs/ARCHITECTURE.md", "docs/GLOSSARY.md", "docs/PROOFS.md"]
+MADE = ["crates/telexplan/out/telexplan", "examples/NAME.out"]
+
+
+class Example:
+    def __init__(self, line):
+        self.name, status, self.command = line.split(None, 2)
+        self.status = int(status)
+        words = self.command.split()
+        bar = words.index("|") if "|" in words else -1
+        self.input = words[1:bar] if bar > 0 else []
+        self.words = words[bar + 2 :]
+        made = [b for a, b in zip(self.words, self.words[1:]) if a == "--counter" or (a == "--cert" and self.words[0] == "audit")]
+        self.made = made
+        self.files = [it for it in self.words if it.startswith("examples/") and it not in made]
+
+    def option(self, name):
+        return self.words[self.words.index(name) + 1] if name in self.words else None
+
+
+def read(path):
+    with open(os.path.join(TOP, path), "rb") as it:
+        return it.read()
+
+
+def examples():
+    lines = read("examples/list").decode().splitlines()
+    return [Example(it) for it in lines if it.strip() and not it.startswith("#")]
+
+
+def out_of(example):
+    return f"examples/{example.name}.out"
+
+
+def run(program, example):
+    """The exit status, what is printed on both ends, and the files that are made."""
+    with tempfile.TemporaryDirectory() as room:
+        os.mkdir(os.path.join(room, "examples"))
+        for it in example.files + example.input:
+            if os.path.exists(os.path.join(TOP, it)):
+                shutil.copyfile(os.path.join(TOP, it), os.path.join(room, it))
+        given = b"".join(read(it) for it in example.input)
+        ran = subprocess.run(program + example.words, cwd=room, input=given, capture_output=True, timeout=60)
+        made = {}
+        for it in sorted(os.listdir(os.path.join(room, "examples"))):
+            path = f"examples/{it}"
+            if path not in example.files + example.input:
+                with open(os.path.join(room, path), "rb") as file:
+                    made[path] = file.read()
+        return ran.returncode, ran.stdout + ran.stderr, made
+
+
+def difference(wanted, given):
+    wanted, given = wanted.splitlines(), given.splitlines()
+    for n, (a, b) in enumerate(zip(wanted, given), 1):
+        if a != b:
+            return f"line {n} is {b!r} and not {a!r}"
+    return f"{len(given)} lines and not {len(wanted)}" if len(wanted) != len(given) else "the ends of lines differ"
+
+
+def check_examples(program, tell):
+    named = {"examples/list", "examples/README.md"}
+    for example in examples():
+        named.update(example.files + example.input + example.made + [out_of(example)])
+        status, printed, made = run(program, example)
+        if status != example.status:
+            tell(f"{example.name}: the status is {status} and not {example.status}")
+        if printed != read(out_of(example)):
+            tell(f"{example.name}: {difference(read(out_of(example)), printed)}")
+        for path in sorted(set(example.made) | set(made)):
+            if path not in made:
+                tell(f"{example.name}: {path} is not made")
+            elif path not in example.made or made[path] != read(path):
+                tell(f"{example.name}: {path} differs from what is made")
+    for it in sorted(os.listdir(os.path.join(TOP, "examples"))):
+        if f"examples/{it}" not in named:
+            tell(f"examples/{it}: no example has it")
+
+
+def write_examples(program):
+    for example in examples():
+        status, printed, made = run(program, example)
+        for path, text in [(out_of(example), printed)] + sorted(made.items()):
+            with open(os.path.join(TOP, path), "wb") as it:
+                it.write(text)
+        if status != example.status:
+            print(f"{example.name}: the status is {status} and not {example.status}")
+
+
+# THE PAGES
+
+
+def blocks(page):
+    """Each block of a page: the line where it begins, the comment before it, and its text."""
+    lines = read(page).decode().splitlines(keepends=True)
+    n = 0
+    while n < len(lines):
+        if lines[n].startswith("```"):
+            start, body = n, []
+            n += 1
+            while not lines[n].startswith("```"):
+                body.append(lines[n])
+                n += 1
+            yield start + 1, comment_before(lines, start), "".join(body)
+        elif lines[n].startswith("    "):
+            yield n + 1, "", lines[n]
+        n += 1
+
+
+def comment_before(lines, n):
+    said = re.fullmatch(r"<!-- (.*) -->\n", lines[n - 1]) if n else None
+    return said.group(1) if said else ""
+
+
+def check_block(mark, text, known):
+    """What is wrong with a block, if anything is."""
+    kind, _, name = mark.partition(": ")
+    if mark == "not run":
+        return None
+    if kind == "run" and name in known:
+        wanted = f"$ {known[name].command}\n" + read(out_of(known[name])).decode()
+        return None if text == wanted else difference(wanted, text)
+    if kind == "file":
+        return None if text == read(name).decode() else difference(read(name).decode(), text)
+    if kind == "lines":
+        return None if "\n" + text in "\n" + read(name).decode() else f"these lines do not stand in {name}"
+    return "no comment before it says what it shows"
+
+
+def tables(page):
+    """Each table of a page that has a comment before it: its line, the comment, and the cells of its rows."""
+    lines = read(page).decode().splitlines(keepends=True)
+    for n, line in enumerate(lines):
+        if line.startswith("|") and comment_before(lines, n):
+            rows = []
+            for it in lines[n + 2 :]:
+                if not it.startswith("|"):
+                    break
+                rows.append([cell.strip() for cell in it.strip().strip("|").split(" | ")])
+            yield n + 1, comment_before(lines, n), rows
+
+
+def plain(line):
+    """The words of a line, without its comment."""
+    return " ".join(line.partition("#")[0].split())
+
+
+def lines_of_examples():
+    texts = [read(f"examples/{it}").decode() for it in sorted(os.listdir(os.path.join(TOP, "examples"))) if it not in ("list", "README.md")]
+    return {plain(line) for text in texts for line in text.splitlines()}
+
+
+def lines_quoted(page):
+    """What stands in a page's text as a line of a plan or a script, or as a reply: words in capitals, one of them with a figure."""
+    text = re.sub(r"```.*?```", "", read(page).decode(), flags=re.S)
+    return [it for it in re.findall(r"`([A-Z]+(?: [A-Z0-9.]+)+)`", text) if re.search("[0-9]", it)]
+
+
+def codes_defined():
+    """The codes and names of the definitions."""
+    text = lambda crate, name: read(f"crates/{crate}/specs/{name}.antt").decode()
+    rows = set()
+    for crate, name in [("tx_plantext", "PlanFaults"), ("tx_cert", "CertFaults"), ("tx_script", "ScriptFaults")]:
+        rows.update(re.findall(r'\(codes "([PCSX]\d+)", codes "(\w+)"\)', text(crate, name)))
+    rows.update((b, a) for a, b in re.findall(r'refusal_text (\w+) = codes "(M\d+)"', text("tx_tickets", "Texts")))
+    rows.update((b, a) for a, b in re.findall(r'fault_words p \((\w+)[ \w]*\) = codes "(K\d)"', text("tx_check", "Verdicts")))
+    rows.update(re.findall(r'finding_line p \(\w+[ \w]*\) = codes "(F\d) (\w+) ', text("tx_audit", "Report")))
+    return rows
+
+
+def check_table(mark, rows, known_lines):
+    """What is wrong with a table."""
+    if mark == "examples":
+        texts = [it for row in rows for it in re.findall(r"`([^`]+)`", row[-1])]
+        return [f"no example has the line {it!r}" for it in texts if plain(it) not in known_lines] + ([] if texts else ["no examples stand in it"])
+    if mark == "codes":
+        told = {tuple(re.findall(r"\w+", row[0] + " " + row[1])[:2]) for row in rows}
+        return [f"{' '.join(it)} is not of the definitions" for it in sorted(told - codes_defined())]
+    return [f"no such comment: {mark}"]
+
+
+def check_pages(tell):
+    known = {it.name: it for it in examples()}
+    known_lines = lines_of_examples()
+    told = set()
+    for page in PAGES:
+        for line, mark, text in blocks(page):
+            wrong = check_block(mark, text, known)
+            if wrong:
+                tell(f"{page} line {line}: {wrong}")
+        for line in lines_quoted(page):
+            if plain(line) not in known_lines:
+                tell(f"{page}: no example has the line {line!r}")
+        for line, mark, rows in tables(page):
+            for wrong in check_table(mark, rows, known_lines):
+                tell(f"{page} line {line}: {wrong}")
+            if mark == "codes":
+                told.update(tuple(re.findall(r"\w+", row[0] + " " + row[1])[:2]) for row in rows)
+    for it in sorted(codes_defined() - told):
+        tell(f"docs/FORMATS.md: {' '.join(it)} is missing")
+
+
+# WHAT THE PAGES NAME
+
+
+def check_names(tell):
+    """Each path in a page is there, and each edit that it names."""
+    for page in PAGES + NAMING:
+        text = read(page).decode()
+        paths = re.findall(r"`((?:crates|docs|tools|examples)/[\w./]+)`", text)
+        paths += [os.path.normpath(os.path.join(os.path.dirname(page), it)) for it in re.findall(r"\]\(([\w./]+)\)", text)]
+        for it in paths:
+            if it not in MADE and not os.path.exists(os.path.join(TOP, it)):
+                tell(f"{page}: {it} is not there")
+        for crate, edit in re.findall(r"`(tx_\w+)/(\w+)`", text):
+            if not os.path.exists(os.path.join(TOP, "crates", crate, "must-fail", edit + ".edit")):
+                tell(f"{page}: there is no edit {crate}/{edit}")
+
+
+def crates_used():
+    """Each crate with those of the repository that it uses and that none of the others uses for it."""
+    lines = [it.partition(":") for it in read("crates.txt").decode().splitlines() if ":" in it]
+    used = {name.split()[0]: set(words.split()) for name, _, words in lines}
+    used = {name: words & set(used) for name, words in used.items()}
+
+    def below(name):
+        return used[name].union(*(below(it) for it in used[name]))
+
+    return {name: words - set().union(*(below(it) for it in words)) for name, words in used.items()}
+
+
+def check_map(tell):
+    """The drawing of docs/ARCHITECTURE.md is that of crates.txt, but for the crates of tests."""
+    page = read("docs/ARCHITECTURE.md").decode()
+    drawn, over = {}, []
+    for line in page.split("```\n")[1].splitlines():
+        indent = len(line) - len(line.lstrip())
+        over = [it for it in over if it[0] < indent]
+        name, beside = re.match(r"\s*(\w+)\s+(?:\(([^)]*)\))?", line).groups()
+        drawn[name] = {f"tx_{it}" for it in (beside or "").split(", ") if it} | {it[1] for it in over[-1:]}
+        over.append((indent, name))
+    for name, words in crates_used().items():
+        if name in drawn and drawn[name] != words:
+            tell(f"docs/ARCHITECTURE.md: {name} stands on {', '.join(sorted(words)) or 'nothing'}")
+        if name not in drawn and f"`{name}`" not in page:
+            tell(f"docs/ARCHITECTURE.md: {name} is missing")
+
+
+# CASES FOR THE PLAYER OF WORKED EXAMPLES
+
+
+def case_of(example):
+    """The kind of a case, and its texts; None where no case shows the example."""
+    texts = [read(it) for it in example.input + example.files if os.path.exists(os.path.join(TOP, it))]
+    bounds = f" {example.option('--limit')} {example.option('--spare')}"
+    if example.input:
+        return "both", b"".join(texts)
+    if len(texts) != len(example.files) or example.status == 64:
+        return None
+    verb = example.words[0]
+    if verb == "run" and example.option("--cert"):
+        plan, script, cert = texts
+        return f"checked{bounds}", b"---\n".join([plan, cert, script])
+    kind = {"run": "run", "codes": "codes", "check": f"check{bounds}", "audit": f"audit{bounds}"}[verb]
+    return kind, b"---\n".join(texts)
+
+
+def evidence_of(example):
+    """What the player prints behind the report of an audit: the certificate or the script that an example makes of the same audit."""
+    asked = lambda it: it.words[:2] + [it.option("--limit"), it.option("--spare")]
+    made = [it.made[0] for it in examples() if it.made and example.words[:1] == ["audit"] and asked(it) == asked(example)]
+    return read(made[0]) if made else b""
+
+
+def cases():
+    """Each example as a case, and what the player has to print for it. Two examples that come to the same case are one."""
+    seen = set()
+    for example in examples():
+        case = case_of(example)
+        if case and case not in seen:
+            seen.add(case)
+            kind, text = case
+            text += b"" if text.endswith(b"\n") else b"{}\n"
+            head = f"=== example-{example.name} {kind}\n".encode()
+            yield head + text, head + read(out_of(example)) + evidence_of(example)
+
+
+def write_cases(folder):
+    os.makedirs(folder, exist_ok=True)
+    for name, place in [("cases", 0), ("stdout", 1)]:
+        with open(os.path.join(folder, name), "wb") as it:
+            it.write(b"".join(case[place] for case in cases()))
+
+
+def check_cases(tell):
+    """The player has the examples as they are, if it has them."""
+    played, printed = read("crates/tx_worked/data/cases"), read("crates/tx_worked/stdout")
+    if b"=== example-" in played:
+        for case, wanted in cases():
+            if case not in played or wanted not in printed:
+                tell(f"crates/tx_worked: the case {case.split()[1].decode()} is not as in examples/")
+
+
+def main(words):
+    if words[:1] == ["--cases"] and len(words) == 2:
+        write_cases(words[1])
+        return 0
+    write = words[:1] == ["--write"]
+    words = words[1:] if write else words
+    if len(words) > 1 or any(it.startswith("-") for it in words) or (write and not words):
+        print(__doc__)
+        return 64
+    program = [os.path.abspath(words[0]) if words else os.path.join(TOP, "crates/telexplan/out/telexplan")]
+    if write:
+        write_examples(program)
+        return 0
+    told = []
+    check_examples(program, told.append)
+    check_pages(told.append)
+    check_names(told.append)
+    check_map(told.append)
+    check_cases(told.append)
+    print("".join(f"{it}\n" for it in told) + f"{len(examples())} examples, {len(told)} differences")
+    return 1 if told else 0
+
+
+if __name__ == "__main__":
+    sys.exit(main(sys.argv[1:]))
