@@ -1,5 +1,5 @@
 -- The answer of a run over the engine, as a job tells it.
-use Rattle.std.proofs.Common.{◌≡◌, ◌∙◌, ◌⊎◌, inl, inr, Err, ap}
+use Rattle.std.proofs.Common.{◌≡◌, ◌∙◌, inl, inr, Err, ap}
 use Rattle.tx_plan.specs.Plan.{Plan}
 use Rattle.tx_script.specs.declared.run_fault.RunFault.{RunFault}
 use Rattle.tx_audit.specs.CheckedRuns.{Bytes, Simulated as RanSo}
