@@ -2,13 +2,12 @@
 use crate::survey::Survey;
 use crate::trail::{Trail, is_walk};
 use crate::wanted::Wanted;
-use std::alloc::{AllocError, Global};
 use tx_cert::Cert;
 use tx_plan::{CodeId, ExchangeId, Plan};
-use tx_rank::{Finding, Walk};
+use tx_rank::Finding;
 
 /// How an answer differs from what the walks show.
-#[derive(Clone, Copy, Debug)]
+#[derive(Clone, Copy)]
 pub enum Difference {
     /// A certificate where something is wrong.
     Found,
@@ -26,75 +25,56 @@ pub enum Difference {
     FirstScript,
 }
 
-/// The walk of a finding, if it is one for the code.
-fn walk_of(
-    alloc: Global,
-    plan: &Plan,
-    code: CodeId,
-    walk: &Walk,
-) -> Result<Option<Trail>, AllocError> {
-    let trail = Trail::of(alloc, walk)?;
-    if is_walk(plan, code, &trail) {
-        Ok(Some(trail))
-    } else {
-        Ok(None)
+/// Whether a finding is the one that is wanted: its walk is one for its code, with this wrong.
+fn shows(plan: &Plan, finding: &Finding, wanted: Wanted, limit: u8, spare: u8) -> bool {
+    match (finding, wanted) {
+        (Finding::Ambiguous(shorter, longer), Wanted::Ambiguous(first, second)) => {
+            *shorter == first && *longer == second
+        }
+        (Finding::Loop(code, walk), Wanted::Loop(of)) => {
+            let trail = Trail::of(walk);
+            *code == of && is_walk(plan, of, &trail) && trail.is_loop()
+        }
+        (Finding::Short(code, walk), Wanted::Short(of, end, steps)) => {
+            let trail = Trail::of(walk);
+            *code == of
+                && is_walk(plan, of, &trail)
+                && trail.is_short(plan, of, spare)
+                && trail.end() == end
+                && trail.steps.len() == steps
+        }
+        (Finding::Long(code, walk), Wanted::Long(of)) => {
+            let trail = Trail::of(walk);
+            *code == of && is_walk(plan, of, &trail) && trail.is_long(plan, of, limit)
+        }
+        _ => false,
     }
-}
-
-/// What a finding shows, if its walk is one for its code with this wrong.
-fn shown_by(
-    alloc: Global,
-    plan: &Plan,
-    finding: &Finding,
-    limit: u8,
-    spare: u8,
-) -> Result<Option<Wanted>, AllocError> {
-    let shown = match finding {
-        Finding::Ambiguous(shorter, longer) => Some(Wanted::Ambiguous(*shorter, *longer)),
-        Finding::Loop(code, walk) => match walk_of(alloc, plan, *code, walk)? {
-            Some(trail) if trail.is_loop() => Some(Wanted::Loop(*code)),
-            _ => None,
-        },
-        Finding::Short(code, walk) => match walk_of(alloc, plan, *code, walk)? {
-            Some(trail) if trail.is_short(plan, *code, spare) => trail
-                .end()
-                .map(|end| Wanted::Short(*code, end, trail.steps())),
-            _ => None,
-        },
-        Finding::Long(code, walk) => match walk_of(alloc, plan, *code, walk)? {
-            Some(trail) if trail.is_long(plan, *code, limit) => Some(Wanted::Long(*code)),
-            _ => None,
-        },
-    };
-    Ok(shown)
 }
 
 /// How the findings differ from those that are wanted.
 pub fn findings_differ(
-    alloc: Global,
     plan: &Plan,
     findings: &[Finding],
     wanted: &[Wanted],
     limit: u8,
     spare: u8,
-) -> Result<Option<Difference>, AllocError> {
+) -> Option<Difference> {
     if wanted.is_empty() || findings.len() != wanted.len() {
-        return Ok(Some(Difference::Count));
+        return Some(Difference::Count);
     }
     for (place, (finding, want)) in findings.iter().zip(wanted).enumerate() {
-        if shown_by(alloc, plan, finding, limit, spare)? != Some(*want) {
-            return Ok(Some(Difference::FindingAt(place)));
+        if !shows(plan, finding, *want, limit, spare) {
+            return Some(Difference::FindingAt(place));
         }
     }
-    Ok(None)
+    None
 }
 
 /// How the ranks for a code differ from the heights.
 fn code_differs(plan: &Plan, survey: &Survey, cert: &Cert) -> Option<Difference> {
     for (place, height) in survey.heights.iter().enumerate() {
         let exchange = plan.exchange_at(place)?;
-        let rank = cert.rank(survey.code, exchange).map(usize::from);
-        if rank != *height {
+        if cert.rank(survey.code, exchange).map(usize::from) != *height {
             return Some(Difference::RankAt(survey.code, exchange));
         }
     }
@@ -103,7 +83,11 @@ fn code_differs(plan: &Plan, survey: &Survey, cert: &Cert) -> Option<Difference>
 
 /// How the ranks differ from the heights.
 pub fn ranks_differ(plan: &Plan, surveys: &[Survey], cert: &Cert) -> Option<Difference> {
-    surveys
-        .iter()
-        .find_map(|survey| code_differs(plan, survey, cert))
+    for survey in surveys {
+        let difference = code_differs(plan, survey, cert);
+        if difference.is_some() {
+            return difference;
+        }
+    }
+    None
 }

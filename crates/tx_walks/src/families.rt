@@ -1,193 +1,198 @@
-// Families of plans, and the text that they are read from.
+// Families of plans, and the texts of their plans.
 //
 // A line `=== NAME` begins a family, and the lines behind it are those of its plans, save for these:
 // - between `EITHER` and `END`, with an `OR` between each two, stand passages of which a plan has one;
 // - `ROUTES n EXCHANGE CODE GROUP ..` stands for no line, or a route by any list of 1 to n of the groups, in any order and none of them twice;
 // - `CODES n HOME FIGURES ..` stands for any list of 0 to n of the codes, in any order and none of them twice.
-use crate::lists::{List, ordered_lists};
-use crate::stop::Stop;
-use std::alloc::{AllocError, Global};
-use tx_text::{Lines, Words, number, words};
+//
+// The plans of a family are numbered from 0. Each line takes from the number, by division, which of its ways the plan goes.
+use crate::lists::{count_lists, count_words, put_list, put_words};
+use tx_cases::{next_line, next_number};
+use tx_text::{NoMemory, Words, words};
 
-/// Some lines of a plan.
-#[derive(Drop)]
-pub struct Passage {
-    pub lines: Vec<Vec<u8>>,
+/// What a line of a family is.
+#[derive(Clone, Copy)]
+enum Kind {
+    Either,
+    Or,
+    End,
+    Routes,
+    Codes,
+    Plain,
 }
 
-/// Passages of which a plan has one.
-#[derive(Drop)]
-pub struct Choice {
-    pub passages: Vec<Passage>,
+/// What a line `ROUTES` or `CODES` says before the words of its lists.
+#[derive(Clone, Copy)]
+struct Choice<'a> {
+    most: u32,
+    first: &'a [u8],
+    second: &'a [u8],
 }
 
-/// All plans that have one passage of each choice, in turn.
-#[derive(Drop)]
-pub struct Family<'a> {
-    pub name: &'a [u8],
-    pub choices: Vec<Choice>,
-}
-
-/// A passage without lines yet.
-fn empty_passage(alloc: Global) -> Passage {
-    Passage {
-        lines: Vec::new(alloc),
-    }
-}
-
-/// A choice of one passage, without lines yet.
-fn no_choice(alloc: Global) -> Result<Choice, AllocError> {
-    let mut passages = Vec::new(alloc);
-    passages.push(empty_passage(alloc))?;
-    Ok(Choice { passages })
-}
-
-/// Adds words to a line, with a space before each but the first.
-fn add_words(line: &mut Vec<u8>, words: &[&[u8]]) -> Result<(), AllocError> {
-    for word in words {
-        if !line.is_empty() {
-            line.push(b' ')?;
-        }
-        line.extend_from_slice(*word)?;
-    }
-    Ok(())
-}
-
-/// No line, or a route by these groups.
-fn route_passage(
-    alloc: Global,
-    exchange: &[u8],
-    code: &[u8],
-    groups: &[&[u8]],
-) -> Result<Passage, AllocError> {
-    let mut passage = empty_passage(alloc);
-    if !groups.is_empty() {
-        let mut line = Vec::new(alloc);
-        add_words(&mut line, &[b"ROUTE".as_slice(), exchange, code])?;
-        add_words(&mut line, groups)?;
-        passage.lines.push(line)?;
-    }
-    Ok(passage)
-}
-
-/// A line for each of these codes.
-fn code_passage(alloc: Global, home: &[u8], codes: &[&[u8]]) -> Result<Passage, AllocError> {
-    let mut passage = empty_passage(alloc);
-    for code in codes {
-        let mut line = Vec::new(alloc);
-        add_words(&mut line, &[b"CODE".as_slice(), *code, home])?;
-        passage.lines.push(line)?;
-    }
-    Ok(passage)
-}
-
-/// The ordered lists of the words that are left, of at most as many as the first of them says.
-fn lists_of<'a>(alloc: Global, most: &[u8], rest: Words<'a>) -> Result<Vec<List<'a>>, Stop> {
-    let Some(most) = number(most, 16) else {
-        return Err(Stop::BadFamilies);
-    };
-    let mut words = Vec::new(alloc);
-    for word in rest {
-        words.push(word)?;
-    }
-    Ok(ordered_lists(alloc, &words, most)?)
-}
-
-/// The choice of a line `ROUTES`.
-fn route_choice(alloc: Global, rest: Words<'_>) -> Result<Choice, Stop> {
-    let mut rest = rest;
-    let most = rest.next().unwrap_or(b"");
-    let exchange = rest.next().unwrap_or(b"");
-    let code = rest.next().unwrap_or(b"");
-    let mut passages = Vec::new(alloc);
-    for groups in &lists_of(alloc, most, rest)? {
-        passages.push(route_passage(alloc, exchange, code, groups)?)?;
-    }
-    Ok(Choice { passages })
-}
-
-/// The choice of a line `CODES`.
-fn code_choice(alloc: Global, rest: Words<'_>) -> Result<Choice, Stop> {
-    let mut rest = rest;
-    let most = rest.next().unwrap_or(b"");
-    let home = rest.next().unwrap_or(b"");
-    let mut passages = Vec::new(alloc);
-    for codes in &lists_of(alloc, most, rest)? {
-        passages.push(code_passage(alloc, home, codes)?)?;
-    }
-    Ok(Choice { passages })
-}
-
-/// Begins a passage in the last choice.
-fn add_passage(alloc: Global, choices: &mut Vec<Choice>) -> Result<(), Stop> {
-    let Some(choice) = choices.last_mut() else {
-        return Err(Stop::BadFamilies);
-    };
-    choice.passages.push(empty_passage(alloc))?;
-    Ok(())
-}
-
-/// Adds a line to the last passage of the last choice.
-fn add_line(alloc: Global, choices: &mut Vec<Choice>, line: &[u8]) -> Result<(), Stop> {
-    let Some(choice) = choices.last_mut() else {
-        return Err(Stop::BadFamilies);
-    };
-    let Some(passage) = choice.passages.last_mut() else {
-        return Err(Stop::BadFamilies);
-    };
-    passage.lines.push(line.to_vec(alloc)?)?;
-    Ok(())
-}
-
-/// Takes in a line of a family.
-fn take_line(alloc: Global, choices: &mut Vec<Choice>, line: &[u8]) -> Result<(), Stop> {
-    let mut rest = words(line);
-    let kind = rest.next().unwrap_or(b"");
-    if kind == b"OR".as_slice() {
-        return add_passage(alloc, choices);
-    }
-    if kind == b"ROUTES".as_slice() {
-        choices.push(route_choice(alloc, rest)?)?;
-        choices.push(no_choice(alloc)?)?;
-    } else if kind == b"CODES".as_slice() {
-        choices.push(code_choice(alloc, rest)?)?;
-        choices.push(no_choice(alloc)?)?;
-    } else if kind == b"EITHER".as_slice() || kind == b"END".as_slice() {
-        choices.push(no_choice(alloc)?)?;
+/// Reads what stands before the words of the lists: `ROUTES` has two words there, and `CODES` one.
+fn choice_of<'a>(line: &mut Words<'a>, has_two: bool) -> Choice<'a> {
+    let _kind = line.next();
+    let most = next_number(line, 16);
+    let first = line.next().unwrap_or(b"".as_slice());
+    let second = if has_two {
+        line.next().unwrap_or(b"".as_slice())
     } else {
-        return add_line(alloc, choices, line);
+        b"".as_slice()
+    };
+    Choice {
+        most,
+        first,
+        second,
     }
-    Ok(())
 }
 
-/// Begins a family.
-fn family_of<'a>(alloc: Global, name: &'a [u8]) -> Result<Family<'a>, AllocError> {
-    let mut choices = Vec::new(alloc);
-    choices.push(no_choice(alloc)?)?;
-    Ok(Family { name, choices })
+fn kind_of(line: &[u8]) -> Kind {
+    let word = words(line).next().unwrap_or(b"".as_slice());
+    if word == b"EITHER".as_slice() {
+        Kind::Either
+    } else if word == b"OR".as_slice() {
+        Kind::Or
+    } else if word == b"END".as_slice() {
+        Kind::End
+    } else if word == b"ROUTES".as_slice() {
+        Kind::Routes
+    } else if word == b"CODES".as_slice() {
+        Kind::Codes
+    } else {
+        Kind::Plain
+    }
 }
 
-/// Takes in a line: it begins a family, or belongs to the last one.
-fn take<'a>(alloc: Global, families: &mut Vec<Family<'a>>, line: &'a [u8]) -> Result<(), Stop> {
+/// How many passages stand from here to `END`.
+fn count_passages(text: &[u8]) -> u64 {
+    let mut count = 1u64;
+    let mut rest = text;
+    for _ in 0..text.len() {
+        let Some((line, behind)) = next_line(rest) else {
+            break;
+        };
+        match kind_of(line) {
+            Kind::End => break,
+            Kind::Or => count = count.saturating_add(1),
+            _ => {}
+        }
+        rest = behind;
+    }
+    count
+}
+
+/// How many lists a line gives.
+fn count_lists_of(line: &[u8], has_two: bool) -> u64 {
     let mut rest = words(line);
-    if rest.next() == Some(b"===".as_slice()) {
-        families.push(family_of(alloc, rest.next().unwrap_or(b""))?)?;
+    let choice = choice_of(&mut rest, has_two);
+    count_lists(count_words(&rest), choice.most)
+}
+
+/// How many ways a line gives, with the text behind it.
+fn count_ways(line: &[u8], behind: &[u8]) -> u64 {
+    match kind_of(line) {
+        Kind::Either => count_passages(behind),
+        Kind::Routes => count_lists_of(line, true),
+        Kind::Codes => count_lists_of(line, false),
+        Kind::Or | Kind::End | Kind::Plain => 1,
+    }
+}
+
+/// How many plans the lines of a family give.
+pub fn count_plans(lines: &[u8]) -> u64 {
+    let mut count = 1u64;
+    let mut rest = lines;
+    for _ in 0..lines.len() {
+        let Some((line, behind)) = next_line(rest) else {
+            break;
+        };
+        count = count.saturating_mul(count_ways(line, behind));
+        rest = behind;
+    }
+    count
+}
+
+/// Which of the passages between `EITHER` and `END` a plan has, and which of them is read.
+#[derive(Clone, Copy)]
+struct Passages {
+    has: u64,
+    at: u64,
+}
+
+const NO_PASSAGES: Passages = Passages { has: 0, at: 0 };
+
+/// Adds a route by the list of a number.
+fn put_route(
+    choice: Choice<'_>,
+    groups: &Words<'_>,
+    number: u64,
+    text: &mut Vec<u8>,
+) -> Result<(), NoMemory> {
+    put_words(&[b"\nROUTE".as_slice(), choice.first, choice.second], text)?;
+    put_list(groups, number, b"", b"", text)
+}
+
+/// Adds no line, or the route that a line `ROUTES` says.
+fn put_routes(line: &[u8], number: u64, text: &mut Vec<u8>) -> Result<(), NoMemory> {
+    if number == 0 {
         return Ok(());
     }
-    match families.last_mut() {
-        Some(family) => take_line(alloc, &mut family.choices, line),
-        None => Err(Stop::BadFamilies),
-    }
+    let mut groups = words(line);
+    let choice = choice_of(&mut groups, true);
+    put_route(choice, &groups, number, text)
 }
 
-/// The families of a text.
-pub fn read_families(alloc: Global, text: &[u8]) -> Result<Vec<Family<'_>>, Stop> {
-    let mut families = Vec::new(alloc);
-    for line in Lines::new(text) {
-        match line {
-            Ok(line) => take(alloc, &mut families, line.text)?,
-            Err(_) => return Err(Stop::BadFamilies),
+/// Adds a line for each code of the list that a line `CODES` says.
+fn put_codes(line: &[u8], number: u64, text: &mut Vec<u8>) -> Result<(), NoMemory> {
+    let mut codes = words(line);
+    let choice = choice_of(&mut codes, false);
+    put_list(&codes, number, b"\nCODE", choice.first, text)
+}
+
+/// Adds what a line of a family says, of which the plan goes the way of a number.
+fn put_line(
+    line: &[u8],
+    way: u64,
+    passages: &mut Passages,
+    text: &mut Vec<u8>,
+) -> Result<(), NoMemory> {
+    match kind_of(line) {
+        Kind::Either => *passages = Passages { has: way, at: 0 },
+        Kind::Or => passages.at = passages.at.saturating_add(1),
+        Kind::End => *passages = NO_PASSAGES,
+        Kind::Routes => put_routes(line, way, text)?,
+        Kind::Codes => put_codes(line, way, text)?,
+        Kind::Plain => {
+            if passages.at == passages.has {
+                put_words(&[b"\n", line], text)?;
+            }
         }
     }
-    Ok(families)
+    Ok(())
+}
+
+/// Adds the lines of the plan of a number.
+fn put_lines(lines: &[u8], number: u64, text: &mut Vec<u8>) -> Result<(), NoMemory> {
+    let mut passages = NO_PASSAGES;
+    let mut left = number;
+    let mut rest = lines;
+    for _ in 0..lines.len() {
+        let Some((line, behind)) = next_line(rest) else {
+            break;
+        };
+        let ways = count_ways(line, behind).max(1);
+        put_line(line, left % ways, &mut passages, text)?;
+        left /= ways;
+        rest = behind;
+    }
+    Ok(())
+}
+
+/// Makes the text of the plan of a number.
+pub fn put_plan(lines: &[u8], number: u64, text: &mut Vec<u8>) -> Result<(), NoMemory> {
+    text.clear();
+    text.extend_from_slice(b"PLAN 2")?;
+    put_lines(lines, number, text)?;
+    text.extend_from_slice(b"\nEND\n")?;
+    Ok(())
 }

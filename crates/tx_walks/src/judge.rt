@@ -1,25 +1,65 @@
 // The plans of a family, judged one after another.
 ghost use Rattle.std.specs.Prelude.{◌≤◌};
+ghost use Rattle.std.specs.List.{AllByRecursion};
+ghost use Rattle.tx_rank.specs.Findings.{IsTrueOf};
 
 use crate::compare::{Difference, findings_differ, ranks_differ};
-use crate::families::Family;
-use crate::plans::{plan_of, turn};
-use crate::scripts::{ScriptTally, scripts_differ};
+use crate::families::{count_plans, put_plan};
+use crate::replay::Replay;
+use crate::scripts::{Judged, ScriptTally, scripts_differ};
 use crate::stop::Stop;
-use crate::survey::{Survey, surveys_of};
-use crate::tally::Tally;
-use crate::wanted::{Wanted, wanted_of};
+use crate::survey::Survey;
+use crate::tally::{Tally, write_tally};
+use crate::walks::{Steps, note_all_walks};
+use crate::wanted::{Wanted, put_wanted};
 use std::alloc::Global;
-use std::io;
+use tx_cases::next_case;
 use tx_cert::Cert;
 use tx_check::{Verdict, check};
-use tx_plan::Plan;
-use tx_plantext::write_plan;
-use tx_rank::{Ranking, rank};
-use tx_text::ToWrite;
+use tx_plan::{CodeId, Plan};
+use tx_plantext::read_plan;
+use tx_rank::{Finding, Ranking, rank};
+use tx_text::{NoMemory, Sink};
 
 /// The limits 0 to 2 are tried, and the spare numbers 0 to 2.
 const NUMBERS: u8 = 3;
+
+/// What the walks of a plan show, and what a run of its events: one of each kind serves all plans.
+#[derive(Drop)]
+struct Work {
+    steps: Steps,
+    surveys: Vec<Survey>,
+    wanted: Vec<Wanted>,
+    told: Replay,
+    differs: Option<Difference>,
+}
+
+/// The text of the plan in hand, and the work on it.
+#[derive(Drop)]
+pub struct Room {
+    pub plan: Vec<u8>,
+    work: Work,
+}
+
+impl Room {
+    pub fn new(alloc: Global) -> Room {
+        Room {
+            plan: Vec::new(alloc),
+            work: Work {
+                steps: Vec::new(alloc),
+                surveys: Vec::new(alloc),
+                wanted: Vec::new(alloc),
+                told: Replay::new(alloc),
+                differs: None,
+            },
+        }
+    }
+
+    /// How an answer differs from what the walks show, where one does.
+    pub fn difference(&self) -> Option<Difference> {
+        self.work.differs
+    }
+}
 
 /// How a certificate differs from what the walks show.
 fn found_differs(
@@ -38,145 +78,184 @@ fn found_differs(
     }
 }
 
-/// How the ranking of a plan differs from what the walks show, and the events of its findings from what they have to show.
+/// How findings differ from what the walks show, and their events from what they have to show.
+fn failed_differs(
+    alloc: Global,
+    plan: &Plan,
+    findings: &[Finding],
+    wanted: &[Wanted],
+    judged: Judged<'_>,
+    told: &mut Replay,
+    tally: &mut ScriptTally,
+) -> Result<Option<Difference>, NoMemory>
+    requires limit { judged.limit ≤ 62 }
+    requires spare { judged.spare ≤ 15 }
+    requires each { AllByRecursion (IsTrueOf plan.now judged.limit judged.spare) findings.now }
+{
+    let difference = findings_differ(plan, findings, wanted, judged.limit, judged.spare);
+    if difference.is_some() {
+        return Ok(difference);
+    }
+    scripts_differ(alloc, plan, findings, judged, told, tally)
+}
+
+/// How the ranking of a plan differs from what the walks show.
 fn ranking_differs(
     alloc: Global,
     plan: &Plan,
     surveys: &[Survey],
     wanted: &[Wanted],
-    limit: u8,
-    spare: u8,
-    scripts: &mut ScriptTally,
-) -> Result<Option<Difference>, Stop>
-    requires limit { limit ≤ 62 }
-    requires spare { spare ≤ 15 }
+    judged: Judged<'_>,
+    told: &mut Replay,
+    tally: &mut ScriptTally,
+) -> Result<Option<Difference>, NoMemory>
+    requires limit { judged.limit ≤ 62 }
+    requires spare { judged.spare ≤ 15 }
 {
-    match rank(alloc, plan, limit, spare)? {
+    match rank(alloc, plan, judged.limit, judged.spare)? {
         Ranking::Found(cert) => {
-            if wanted.is_empty() {
-                Ok(found_differs(plan, surveys, &cert, limit, spare))
+            let difference = if wanted.is_empty() {
+                found_differs(plan, surveys, &cert, judged.limit, judged.spare)
             } else {
-                Ok(Some(Difference::Found))
-            }
+                Some(Difference::Found)
+            };
+            drop(cert);
+            Ok(difference)
         }
         Ranking::Fails(findings) => {
-            let difference = findings_differ(alloc, plan, &findings, wanted, limit, spare)?;
-            if difference.is_some() {
-                return Ok(difference);
-            }
-            scripts_differ(alloc, plan, &findings, limit, spare, scripts)
+            let difference = failed_differs(alloc, plan, &findings, wanted, judged, told, tally);
+            drop(findings);
+            difference
         }
     }
 }
 
-/// Prints how an answer differs, and the plan.
-fn report<R: Print>(
-    rt: &R,
-    plan: &Plan,
-    wanted: &[Wanted],
-    limit: u8,
-    spare: u8,
-    difference: Difference,
-) -> Result<(), Stop> {
-    println!(rt;
-        "limit {limit}, spare {spare}: {difference:?}, where the walks call for {wanted:?}"
-    )?;
-    let mut out = ToWrite::new(io::writer(rt));
-    let _ = write_plan(plan, &mut out);
-    Ok(())
-}
-
 /// Judges the ranking of a plan for a limit and a spare number.
-fn judge_numbers<R: AllocGlobal + Print>(
-    rt: &R,
+fn judge_numbers(
+    alloc: Global,
     plan: &Plan,
-    surveys: &[Survey],
-    limit: u8,
-    spare: u8,
+    judged: Judged<'_>,
+    work: &mut Work,
     tally: &mut Tally,
 ) -> Result<(), Stop>
-    requires limit { limit ≤ 62 }
-    requires spare { spare ≤ 15 }
+    requires limit { judged.limit ≤ 62 }
+    requires spare { judged.spare ≤ 15 }
 {
-    let wanted = wanted_of(rt.alloc(), plan, surveys, limit, spare)?;
-    let difference = ranking_differs(
-        rt.alloc(),
-        plan,
-        surveys,
-        &wanted,
-        limit,
-        spare,
-        &mut tally.scripts,
-    )?;
-    if let Some(difference) = difference {
-        report(rt, plan, &wanted, limit, spare, difference)?;
-        return Err(Stop::Differs);
+    let (limit, spare) = (judged.limit, judged.spare);
+    let surveys = work.surveys.as_slice();
+    put_wanted(plan, surveys, limit, spare, &mut work.wanted)?;
+    let wanted = work.wanted.as_slice();
+    let (told, scripts) = (&mut work.told, &mut tally.scripts);
+    if let Some(difference) = ranking_differs(
+        alloc, plan, surveys, wanted, judged, told, scripts,
+    )? {
+        work.differs = Some(difference);
+        return Err(Stop::Differs(limit, spare));
     }
     if wanted.is_empty() {
         tally.add_found(surveys);
     } else {
-        tally.add_failed(&wanted);
+        tally.add_failed(wanted);
     }
     Ok(())
 }
 
-/// Judges the rankings of a plan.
-fn judge_plan<R: AllocGlobal + Print>(rt: &R, plan: &Plan, tally: &mut Tally) -> Result<(), Stop> {
-    let surveys = surveys_of(rt.alloc(), plan)?;
+/// Looks at all walks for a code.
+fn survey_of(
+    alloc: Global,
+    plan: &Plan,
+    code: CodeId,
+    steps: &mut Steps,
+) -> Result<Survey, NoMemory> {
+    let mut survey = Survey::new(alloc, plan, code)?;
+    match note_all_walks(plan, steps, &mut survey) {
+        Ok(()) => Ok(survey),
+        Err(fault) => {
+            drop(survey);
+            Err(fault)
+        }
+    }
+}
+
+/// Looks at all walks for each code.
+fn survey_codes(
+    alloc: Global,
+    plan: &Plan,
+    steps: &mut Steps,
+    surveys: &mut Vec<Survey>,
+) -> Result<(), NoMemory> {
+    surveys.clear();
+    for place in 0..plan.codes() {
+        if let Some(code) = plan.code_at(place) {
+            surveys.push(survey_of(alloc, plan, code, steps)?)?;
+        }
+    }
+    Ok(())
+}
+
+/// Judges the rankings of a plan, which has this text.
+fn judge_plan(
+    alloc: Global,
+    plan: &Plan,
+    text: &[u8],
+    work: &mut Work,
+    tally: &mut Tally,
+) -> Result<(), Stop> {
+    survey_codes(alloc, plan, &mut work.steps, &mut work.surveys)?;
     tally.add_plan();
     for limit in 0..NUMBERS {
         for spare in 0..NUMBERS {
-            judge_numbers(rt, plan, &surveys, limit, spare, tally)?;
+            let judged = Judged { text, limit, spare };
+            judge_numbers(alloc, plan, judged, work, tally)?;
         }
     }
     Ok(())
 }
 
-/// Makes the plan of these picks, and judges its rankings.
-fn judge_picks<R: AllocGlobal + Print>(
-    rt: &R,
-    family: &Family<'_>,
-    picks: &[usize],
+/// Makes the plan of a number, and judges its rankings.
+fn judge_number(
+    alloc: Global,
+    lines: &[u8],
+    number: u64,
+    room: &mut Room,
     tally: &mut Tally,
 ) -> Result<(), Stop> {
-    let plan = plan_of(rt.alloc(), &family.choices, picks)?;
-    let judged = judge_plan(rt, &plan, tally);
-    drop(plan);
-    judged
+    put_plan(lines, number, &mut room.plan)?;
+    let text = room.plan.as_slice();
+    match read_plan(alloc, text) {
+        Ok(plan) => {
+            let judged = judge_plan(alloc, &plan, text, &mut room.work, tally);
+            drop(plan);
+            judged
+        }
+        Err(fault) => Err(Stop::Refused(fault.line)),
+    }
 }
 
-/// Judges all plans of a family.
-fn judge_picks_in_turn<R: AllocGlobal + Print>(rt: &R, family: &Family<'_>) -> Result<Tally, Stop> {
-    let mut tally = Tally::default();
-    let mut picks = vec![in rt.alloc(); 0usize; family.choices.len()]?;
-    for _ in 0..u64::MAX {
-        judge_picks(rt, family, &picks, &mut tally)?;
-        if !turn(&family.choices, &mut picks) {
-            break;
-        }
+/// Judges all plans that the lines of a family give.
+fn judge_family(alloc: Global, lines: &[u8], room: &mut Room) -> Result<Tally, Stop> {
+    let mut tally = Tally::new();
+    for number in 0..count_plans(lines) {
+        judge_number(alloc, lines, number, room, &mut tally)?;
     }
     Ok(tally)
 }
 
-/// Judges all plans of a family, and prints what there was.
-pub fn judge_family<R: AllocGlobal + Print>(rt: &R, family: &Family<'_>) -> Result<(), Stop> {
-    let tally = judge_picks_in_turn(rt, family)?;
-    let name = str::from_utf8(family.name).unwrap_or("?");
-    println!(rt;
-        "{name}: {} plans, {} rankings",
-        tally.plans, tally.rankings
-    )?;
-    println!(rt;
-        "- {} found, with ranks of {} in all",
-        tally.found, tally.ranks
-    )?;
-    println!(rt;
-        "- {} fail, by {} ambiguous pairs, {} loops, {} short walks of {} steps in all, {} long walks",
-        tally.failed, tally.ambiguous, tally.loops, tally.shorts, tally.steps, tally.longs
-    )?;
-    println!(rt;
-        "- {} loops and walks judged by their events",
-        tally.scripts.findings
-    )?;
+/// Judges all families of a text, and writes what there was.
+pub fn judge_families<W: Sink>(
+    alloc: Global,
+    text: &[u8],
+    room: &mut Room,
+    out: &mut W,
+) -> Result<(), Stop> {
+    let mut rest = text;
+    for _ in 0..text.len() {
+        let Some((family, more)) = next_case(rest) else {
+            break;
+        };
+        let tally = judge_family(alloc, family.texts, room)?;
+        write_tally(family.head, &tally, out)?;
+        rest = more;
+    }
     Ok(())
 }

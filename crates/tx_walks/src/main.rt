@@ -1,5 +1,5 @@
-//! Judges the ranking by brute force. It makes all plans of some families, lists every walk of each of their codes, and compares what these show with
-//! what the ranking answers. It runs the events of each finding over the plain network too, and judges by the replies whether they show it.
+//! Judges the ranking by brute force. It makes all plans of some families, goes every walk of each of their codes, and compares what these show with what
+//! the ranking answers. It runs the events of each finding over the plain network too, and judges by the replies whether they show it.
 //!
 //! The file `families` says which plans there are.
 #![tactic(auto)]
@@ -8,7 +8,6 @@ mod compare;
 mod families;
 mod judge;
 mod lists;
-mod plans;
 mod refusals;
 mod replay;
 mod scripts;
@@ -20,22 +19,24 @@ mod trail;
 mod walks;
 mod wanted;
 
-use families::read_families;
-use judge::judge_family;
-use std::fs;
-use stop::Stop;
+use crate::judge::{Room, judge_families};
+use crate::stop::write_stop;
+use std::io::{BufWriter, Write};
+use std::{fs, io};
+use tx_text::{ToWrite, write_bytes};
 
-/// Judges all families of a text, and prints a line for each.
-fn judge_all<R: AllocGlobal + Print>(rt: &R, text: &[u8]) -> Result<(), Stop> {
-    let families = read_families(rt.alloc(), text)?;
-    for family in &families {
-        judge_family(rt, family)?;
-    }
-    println!(rt; "all agree")?;
+/// Judges all families of a text, and writes what there was, or why it stopped and the plan where it did.
+fn judge_all(rt: &HostRuntime, text: &[u8]) -> io::Result<()> {
+    let mut out = ToWrite::new(BufWriter::new(rt.alloc(), rt.stdout())?);
+    let mut room = Room::new(rt.alloc());
+    let _ = match judge_families(rt.alloc(), text, &mut room, &mut out) {
+        Ok(()) => write_bytes(b"all agree\n", &mut out),
+        Err(stop) => write_stop(stop, room.difference(), room.plan.as_slice(), &mut out),
+    };
     Ok(())
 }
 
-fn main(rt: HostRuntime) -> Result<(), Stop> {
+fn main(rt: HostRuntime) -> io::Result<()> {
     let text = fs::read(&rt, "families")?;
     judge_all(&rt, text.as_slice())
 }

@@ -3,15 +3,13 @@ ghost use Rattle.std.specs.Prelude.{◌≤◌};
 ghost use Rattle.std.specs.List.{AllByRecursion};
 ghost use Rattle.tx_rank.specs.Findings.{IsTrueOf};
 
-use crate::stop::Stop;
 use refusing::Refusing;
 use std::alloc::{Allocator, Global};
 use tx_counter::first_counter;
 use tx_machine::Event;
 use tx_plan::Plan;
-use tx_plantext::{read_plan, write_plan};
+use tx_plantext::read_plan;
 use tx_rank::{Finding, Ranking, rank};
-use tx_text::MemorySink;
 
 /// How a try ends in which one request for memory may be refused.
 #[derive(Clone, Copy)]
@@ -26,6 +24,15 @@ enum Tried {
     Wrong,
 }
 
+/// Judges the events that were made.
+fn judged(events: &[Event], wanted: &[Event]) -> Tried {
+    if events == wanted {
+        Tried::Right
+    } else {
+        Tried::Wrong
+    }
+}
+
 /// Asks for the events of the first finding that has some.
 fn try_findings<A: Allocator + Copy>(
     alloc: A,
@@ -38,8 +45,12 @@ fn try_findings<A: Allocator + Copy>(
     requires { AllByRecursion (IsTrueOf plan.now limit spare) findings.now }
 {
     match first_counter(alloc, plan, findings, limit, spare) {
-        Ok(Some(events)) if events.as_slice() == wanted => Tried::Right,
-        Ok(_) => Tried::Wrong,
+        Ok(Some(events)) => {
+            let tried = judged(events.as_slice(), wanted);
+            drop(events);
+            tried
+        }
+        Ok(None) => Tried::Wrong,
         Err(_) => Tried::Told,
     }
 }
@@ -56,9 +67,15 @@ fn try_plan<A: Allocator + Copy>(
 {
     match rank(alloc, plan, limit, spare) {
         Ok(Ranking::Fails(findings)) => {
-            try_findings(alloc, plan, &findings, limit, spare, wanted)
+            let tried = try_findings(alloc, plan, &findings, limit, spare, wanted);
+            drop(findings);
+            tried
         }
-        _ => Tried::Early,
+        Ok(Ranking::Found(cert)) => {
+            drop(cert);
+            Tried::Early
+        }
+        Err(_) => Tried::Early,
     }
 }
 
@@ -82,8 +99,9 @@ fn try_text<A: Allocator + Copy>(
     }
 }
 
-/// Whether each refused request is told, and the events are right where none is.
-fn tells_each(alloc: Global, text: &[u8], limit: u8, spare: u8, wanted: &[Event]) -> bool
+/// Refuses each request for memory in turn, from the plan's first one on, where the events of the first finding that has some are made. Whether each
+/// that was refused is told, and the events are these where none is.
+pub fn refusals_are_told(alloc: Global, text: &[u8], limit: u8, spare: u8, wanted: &[Event]) -> bool
     requires limit { limit ≤ 62 }
     requires spare { spare ≤ 15 }
 {
@@ -99,21 +117,4 @@ fn tells_each(alloc: Global, text: &[u8], limit: u8, spare: u8, wanted: &[Event]
         }
     }
     false
-}
-
-/// Refuses each request for memory in turn, from the plan's first one on, where the events of the first finding that has some are made. Whether each
-/// that was refused is told, and the events are these where none is.
-pub fn refusals_are_told(
-    alloc: Global,
-    plan: &Plan,
-    limit: u8,
-    spare: u8,
-    wanted: &[Event],
-) -> Result<bool, Stop>
-    requires limit { limit ≤ 62 }
-    requires spare { spare ≤ 15 }
-{
-    let mut text = MemorySink::new(alloc, 4096)?;
-    let done = write_plan(plan, &mut text);
-    Ok(done.is_ok() && tells_each(alloc, text.taken(), limit, spare, wanted))
 }

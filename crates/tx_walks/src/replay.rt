@@ -1,36 +1,51 @@
 // What a call shows that goes along some events, told by the replies of the plain network.
-use std::alloc::{AllocError, Global};
+use std::alloc::Global;
 use tx_machine::{Event, Plain, Reply, drive};
 use tx_plan::{CodeId, ExchangeId, Plan};
 use tx_text::NoMemory;
 
-/// The replies to some events, from the opening state on.
-pub fn replies_to(alloc: Global, plan: &Plan, events: &[Event]) -> Result<Vec<Reply>, NoMemory> {
-    let mut network = Plain::new(alloc, plan)?;
-    let mut replies = Vec::new(alloc);
-    let done = drive(&mut network, events, &mut replies);
-    drop(network);
-    match done {
-        Ok(()) => Ok(replies),
+/// The replies to some events, and the exchanges that their call passes.
+#[derive(Drop)]
+pub struct Replay {
+    pub replies: Vec<Reply>,
+    pub passed: Vec<ExchangeId>,
+}
+
+impl Replay {
+    pub fn new(alloc: Global) -> Replay {
+        Replay {
+            replies: Vec::new(alloc),
+            passed: Vec::new(alloc),
+        }
+    }
+}
+
+/// Makes the list of the replies to some events, from the opening state on.
+fn put_replies(
+    alloc: Global,
+    plan: &Plan,
+    events: &[Event],
+    replies: &mut Vec<Reply>,
+) -> Result<(), NoMemory> {
+    replies.clear();
+    match Plain::new(alloc, plan) {
+        Ok(mut network) => {
+            let driven = drive(&mut network, events, replies);
+            drop(network);
+            driven
+        }
         Err(fault) => Err(fault),
     }
 }
 
-/// Whether some event was refused.
-pub fn has_refused(replies: &[Reply]) -> bool {
-    replies
-        .iter()
-        .any(|reply| matches!(reply, Reply::Refused(_)))
-}
-
-/// The exchanges that the call passes: where its line is at home, and each to which it went on. No event is of another call.
-pub fn passed_by(
-    alloc: Global,
+/// Makes the list of the exchanges that the call passes: where its line is at home, and each to which it went on. No event is of another call.
+fn put_passed(
     plan: &Plan,
     events: &[Event],
     replies: &[Reply],
-) -> Result<Vec<ExchangeId>, AllocError> {
-    let mut passed = Vec::new(alloc);
+    passed: &mut Vec<ExchangeId>,
+) -> Result<(), NoMemory> {
+    passed.clear();
     for (event, reply) in events.iter().zip(replies) {
         if let Event::Key { line, keyed: _ } = event {
             passed.push(plan.home(line.code))?;
@@ -39,7 +54,28 @@ pub fn passed_by(
             passed.push(*exchange)?;
         }
     }
-    Ok(passed)
+    Ok(())
+}
+
+/// Runs some events over a new network.
+pub fn run_events(
+    alloc: Global,
+    plan: &Plan,
+    events: &[Event],
+    told: &mut Replay,
+) -> Result<(), NoMemory> {
+    put_replies(alloc, plan, events, &mut told.replies)?;
+    put_passed(plan, events, told.replies.as_slice(), &mut told.passed)
+}
+
+/// Whether some event was refused.
+pub fn has_refused(replies: &[Reply]) -> bool {
+    for reply in replies {
+        if matches!(reply, Reply::Refused(_)) {
+            return true;
+        }
+    }
+    false
 }
 
 /// Whether the first event keys the code alone.

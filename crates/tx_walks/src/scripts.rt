@@ -2,20 +2,21 @@
 ghost use Rattle.std.specs.Prelude.{◌≤◌};
 ghost use Rattle.std.specs.List.{AllByRecursion};
 ghost use Rattle.tx_rank.specs.Findings.{IsTrueOf};
+ghost use Rattle.tx_script.specs.Events.{IsWritable};
 
 use crate::compare::Difference;
 use crate::refusals::refusals_are_told;
-use crate::replay::{has_refused, keys_code, passed_by, replies_to};
-use crate::stop::Stop;
+use crate::replay::{Replay, has_refused, keys_code, run_events};
 use crate::texts::reads_back;
 use std::alloc::Global;
 use tx_counter::{counter, first_counter};
 use tx_machine::{Event, Reply, Service};
 use tx_plan::{CodeId, Direction, ExchangeId, Plan};
 use tx_rank::{Finding, Walk};
+use tx_text::NoMemory;
 
 /// What was judged.
-#[derive(Clone, Copy, Debug, Default)]
+#[derive(Clone, Copy)]
 pub struct ScriptTally {
     /// The loops and walks that were judged by their events.
     pub findings: u64,
@@ -24,6 +25,13 @@ pub struct ScriptTally {
 }
 
 impl ScriptTally {
+    pub fn new() -> ScriptTally {
+        ScriptTally {
+            findings: 0,
+            rankings: 0,
+        }
+    }
+
     /// One finding more.
     fn add(&mut self, finding: &Finding) {
         match finding {
@@ -113,30 +121,44 @@ fn transits(plan: &Plan, code: CodeId, passed: &[ExchangeId]) -> usize {
     count
 }
 
-/// Whether the run of the events shows the finding.
+/// Whether a run of some events, of which none was refused, shows the finding.
 fn shows(
+    plan: &Plan,
+    finding: &Finding,
+    events: &[Event],
+    told: &Replay,
+    limit: u8,
+    spare: u8,
+) -> bool {
+    let passed = told.passed.as_slice();
+    match finding {
+        Finding::Ambiguous(_, _) => false,
+        Finding::Loop(code, _) => keys_code(plan, *code, events) && comes_back(passed),
+        Finding::Short(code, _) => {
+            keys_code(plan, *code, events)
+                && is_bare(plan, *code, passed, told.replies.last(), spare)
+        }
+        Finding::Long(code, _) => {
+            keys_code(plan, *code, events) && transits(plan, *code, passed) > usize::from(limit)
+        }
+    }
+}
+
+/// Runs some events, and tells whether none is refused and they show the finding.
+fn runs_and_shows(
     alloc: Global,
     plan: &Plan,
     finding: &Finding,
     events: &[Event],
     limit: u8,
     spare: u8,
-) -> Result<bool, Stop> {
-    let replies = replies_to(alloc, plan, events)?;
-    if replies.len() != events.len() || has_refused(&replies) {
+    told: &mut Replay,
+) -> Result<bool, NoMemory> {
+    run_events(alloc, plan, events, told)?;
+    if told.replies.len() != events.len() || has_refused(told.replies.as_slice()) {
         return Ok(false);
     }
-    let passed = passed_by(alloc, plan, events, &replies)?;
-    Ok(match finding {
-        Finding::Ambiguous(_, _) => false,
-        Finding::Loop(code, _) => keys_code(plan, *code, events) && comes_back(&passed),
-        Finding::Short(code, _) => {
-            keys_code(plan, *code, events) && is_bare(plan, *code, &passed, replies.last(), spare)
-        }
-        Finding::Long(code, _) => {
-            keys_code(plan, *code, events) && transits(plan, *code, &passed) > usize::from(limit)
-        }
-    })
+    Ok(shows(plan, finding, events, told, limit, spare))
 }
 
 /// Whether a finding has the events that it has to have, or rightly none.
@@ -144,13 +166,17 @@ fn is_right(
     alloc: Global,
     plan: &Plan,
     finding: &Finding,
-    events: Option<&Vec<Event>>,
     limit: u8,
     spare: u8,
-) -> Result<bool, Stop> {
-    match events {
+    told: &mut Replay,
+) -> Result<bool, NoMemory>
+    requires { IsTrueOf plan.now limit spare finding.now }
+{
+    match counter(alloc, plan, finding, limit, spare)? {
         Some(events) => {
-            Ok(has_script(plan, finding) && shows(alloc, plan, finding, events, limit, spare)?)
+            let shows = runs_and_shows(alloc, plan, finding, &events, limit, spare, told);
+            drop(events);
+            Ok(shows? && has_script(plan, finding))
         }
         None => Ok(!has_script(plan, finding)),
     }
@@ -163,14 +189,14 @@ fn wrong_finding(
     findings: &[Finding],
     limit: u8,
     spare: u8,
+    told: &mut Replay,
     tally: &mut ScriptTally,
-) -> Result<Option<usize>, Stop>
+) -> Result<Option<usize>, NoMemory>
     requires { AllByRecursion (IsTrueOf plan.now limit spare) findings.now }
 {
     for place in 0..findings.len() {
         let finding = &findings[place];
-        let events = counter(alloc, plan, finding, limit, spare)?;
-        if !is_right(alloc, plan, finding, events.as_ref(), limit, spare)? {
+        if !is_right(alloc, plan, finding, limit, spare, told)? {
             return Ok(Some(place));
         }
         tally.add(finding);
@@ -178,34 +204,84 @@ fn wrong_finding(
     Ok(None)
 }
 
+/// What is judged beside the findings: the text of the plan, and a limit and a spare number.
+#[derive(Clone, Copy)]
+pub struct Judged<'a> {
+    pub text: &'a [u8],
+    pub limit: u8,
+    pub spare: u8,
+}
+
+/// Whether the script of the events is one of these events, and want of memory is told where they are made.
+fn holds_as_sample(
+    alloc: Global,
+    plan: &Plan,
+    judged: Judged<'_>,
+    events: &[Event],
+) -> Result<bool, NoMemory>
+    requires limit { judged.limit ≤ 62 }
+    requires spare { judged.spare ≤ 15 }
+    requires writable { AllByRecursion (IsWritable plan.now) events.now }
+{
+    if !reads_back(alloc, plan, events)? {
+        return Ok(false);
+    }
+    Ok(refusals_are_told(alloc, judged.text, judged.limit, judged.spare, events))
+}
+
 /// Whether the events of the first finding that has some show the first that has to have some. Of a sample, their script has to be one of these events,
 /// and want of memory has to be told where they are made.
+fn are_first(
+    alloc: Global,
+    plan: &Plan,
+    findings: &[Finding],
+    events: &[Event],
+    judged: Judged<'_>,
+    told: &mut Replay,
+    tally: &mut ScriptTally,
+) -> Result<bool, NoMemory>
+    requires limit { judged.limit ≤ 62 }
+    requires spare { judged.spare ≤ 15 }
+    requires writable { AllByRecursion (IsWritable plan.now) events.now }
+{
+    let Some(finding) = first_with_script(plan, findings) else {
+        return Ok(false);
+    };
+    if tally.is_sample() && !holds_as_sample(alloc, plan, judged, events)? {
+        return Ok(false);
+    }
+    runs_and_shows(
+        alloc,
+        plan,
+        finding,
+        events,
+        judged.limit,
+        judged.spare,
+        told,
+    )
+}
+
+/// Whether the first finding that has to have events has them, or rightly none has.
 fn is_first_right(
     alloc: Global,
     plan: &Plan,
     findings: &[Finding],
-    limit: u8,
-    spare: u8,
+    judged: Judged<'_>,
+    told: &mut Replay,
     tally: &mut ScriptTally,
-) -> Result<bool, Stop>
-    requires limit { limit ≤ 62 }
-    requires spare { spare ≤ 15 }
-    requires each { AllByRecursion (IsTrueOf plan.now limit spare) findings.now }
+) -> Result<bool, NoMemory>
+    requires limit { judged.limit ≤ 62 }
+    requires spare { judged.spare ≤ 15 }
+    requires each { AllByRecursion (IsTrueOf plan.now judged.limit judged.spare) findings.now }
 {
-    let first = first_with_script(plan, findings);
-    let Some(events) = first_counter(alloc, plan, findings, limit, spare)? else {
-        return Ok(first.is_none());
-    };
-    let Some(finding) = first else {
-        return Ok(false);
-    };
-    if tally.is_sample()
-        && !(reads_back(alloc, plan, &events)?
-            && refusals_are_told(alloc, plan, limit, spare, &events)?)
-    {
-        return Ok(false);
+    match first_counter(alloc, plan, findings, judged.limit, judged.spare)? {
+        Some(events) => {
+            let right = are_first(alloc, plan, findings, &events, judged, told, tally);
+            drop(events);
+            right
+        }
+        None => Ok(first_with_script(plan, findings).is_none()),
     }
-    shows(alloc, plan, finding, &events, limit, spare)
 }
 
 /// Judges the events of each finding, and those of the first that has some.
@@ -213,18 +289,19 @@ pub fn scripts_differ(
     alloc: Global,
     plan: &Plan,
     findings: &[Finding],
-    limit: u8,
-    spare: u8,
+    judged: Judged<'_>,
+    told: &mut Replay,
     tally: &mut ScriptTally,
-) -> Result<Option<Difference>, Stop>
-    requires limit { limit ≤ 62 }
-    requires spare { spare ≤ 15 }
-    requires each { AllByRecursion (IsTrueOf plan.now limit spare) findings.now }
+) -> Result<Option<Difference>, NoMemory>
+    requires limit { judged.limit ≤ 62 }
+    requires spare { judged.spare ≤ 15 }
+    requires each { AllByRecursion (IsTrueOf plan.now judged.limit judged.spare) findings.now }
 {
-    if let Some(place) = wrong_finding(alloc, plan, findings, limit, spare, tally)? {
+    let (limit, spare) = (judged.limit, judged.spare);
+    if let Some(place) = wrong_finding(alloc, plan, findings, limit, spare, told, tally)? {
         return Ok(Some(Difference::ScriptAt(place)));
     }
-    if !is_first_right(alloc, plan, findings, limit, spare, tally)? {
+    if !is_first_right(alloc, plan, findings, judged, told, tally)? {
         return Ok(Some(Difference::FirstScript));
     }
     Ok(None)

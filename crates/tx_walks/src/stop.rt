@@ -1,27 +1,17 @@
 // Why the program stops before its end.
-use std::alloc::{AllocError, AllocFailed};
-use std::io;
-use tx_plan::PlanRefusal;
-use tx_text::NoMemory;
+use crate::compare::Difference;
+use tx_cases::write_count;
+use tx_text::{NoMemory, Sink, WriteFault, write_bytes};
 
 /// Why the program stops before its end.
-#[derive(Debug, Drop)]
+#[derive(Clone, Copy)]
 pub enum Stop {
-    /// The text of the families is none.
-    BadFamilies,
-    /// A line of a plan is refused.
-    Refused(PlanRefusal),
+    /// The text of a plan is refused, at this line.
+    Refused(u64),
     NoMemory,
-    /// Nothing can be read or printed.
-    Io(io::Error),
-    /// An answer differs from what the walks show.
-    Differs,
-}
-
-impl From<PlanRefusal> for Stop {
-    fn from(refusal: PlanRefusal) -> Stop {
-        Stop::Refused(refusal)
-    }
+    Write,
+    /// The answer for this limit and spare number differs from what the walks show.
+    Differs(u8, u8),
 }
 
 impl From<NoMemory> for Stop {
@@ -30,20 +20,42 @@ impl From<NoMemory> for Stop {
     }
 }
 
-impl From<AllocError> for Stop {
-    fn from(_: AllocError) -> Stop {
-        Stop::NoMemory
+impl From<WriteFault> for Stop {
+    fn from(_: WriteFault) -> Stop {
+        Stop::Write
     }
 }
 
-impl<T: Drop> From<AllocFailed<T>> for Stop {
-    fn from(_: AllocFailed<T>) -> Stop {
-        Stop::NoMemory
+/// How an answer differs, in a word, and the place of the finding or of the exchange.
+fn said(difference: Difference) -> (&'static [u8], u64) {
+    match difference {
+        Difference::Found => (b"found ", 0),
+        Difference::Count => (b"count ", 0),
+        Difference::FindingAt(place) => (b"finding ", place as u64),
+        Difference::RankAt(_, exchange) => (b"rank ", exchange.index() as u64),
+        Difference::Refused => (b"refused ", 0),
+        Difference::ScriptAt(place) => (b"script ", place as u64),
+        Difference::FirstScript => (b"first script ", 0),
     }
 }
 
-impl From<io::Error> for Stop {
-    fn from(error: io::Error) -> Stop {
-        Stop::Io(error)
+/// Writes why the program stopped, and the plan where it did.
+pub fn write_stop<W: Sink>(
+    stop: Stop,
+    difference: Option<Difference>,
+    plan: &[u8],
+    out: &mut W,
+) -> Result<(), WriteFault> {
+    match stop {
+        Stop::Refused(line) => write_count(b"refused: line ", line, b"\n", out)?,
+        Stop::NoMemory => write_bytes(b"no memory\n", out)?,
+        Stop::Write => {}
+        Stop::Differs(limit, spare) => {
+            write_count(b"limit ", u64::from(limit), b", ", out)?;
+            write_count(b"spare ", u64::from(spare), b": ", out)?;
+            let (word, place) = said(difference.unwrap_or(Difference::Count));
+            write_count(word, place, b"\n", out)?;
+        }
     }
+    write_bytes(plan, out)
 }

@@ -1,89 +1,89 @@
 // What the walks for a code show.
 use crate::trail::Trail;
-use crate::walks::all_walks;
-use std::alloc::{AllocError, Global};
-use tx_plan::{CodeId, Plan};
+use std::alloc::Global;
+use tx_plan::{CodeId, ExchangeId, Plan};
+use tx_text::NoMemory;
 
 /// What the walks for a code show.
 #[derive(Drop)]
 pub struct Survey {
     pub code: CodeId,
-    /// All walks.
-    pub walks: Vec<Trail>,
+    pub home: ExchangeId,
     /// Whether one of them is a loop.
     pub has_loop: bool,
+    /// For each number of steps, whether one of so many steps repeats nothing and ends away from the home.
+    pub away: Vec<bool>,
     /// For each exchange, the steps of a shortest walk to it.
     pub nearest: Vec<Option<usize>>,
     /// For each exchange, the steps of the longest part of a walk from it to the home; 0 for the home.
     pub heights: Vec<Option<usize>>,
 }
 
-/// The lesser of two counts.
-fn lesser(known: Option<usize>, count: usize) -> Option<usize> {
-    match known {
-        Some(other) => Some(other.min(count)),
-        None => Some(count),
+/// Takes in a count for an exchange, where it is the greater.
+fn note_greater(counts: &mut [Option<usize>], exchange: ExchangeId, count: usize) {
+    if let Some(known) = counts.get_mut(exchange.index()) {
+        *known = Some(known.unwrap_or(0).max(count));
     }
 }
 
-/// The greater of two counts.
-fn greater(known: Option<usize>, count: usize) -> Option<usize> {
-    match known {
-        Some(other) => Some(other.max(count)),
-        None => Some(count),
+/// Takes in a count for an exchange, where it is the lesser.
+fn note_lesser(counts: &mut [Option<usize>], exchange: ExchangeId, count: usize) {
+    if let Some(known) = counts.get_mut(exchange.index()) {
+        *known = Some(known.unwrap_or(count).min(count));
     }
 }
 
-/// Takes in how far its end is.
-fn note_end(nearest: &mut [Option<usize>], trail: &Trail) {
-    if let Some(end) = trail.end() {
-        if let Some(known) = nearest.get_mut(end.index()) {
-            *known = lesser(*known, trail.steps());
-        }
+fn mark(marks: &mut [bool], place: usize) {
+    if let Some(known) = marks.get_mut(place) {
+        *known = true;
     }
 }
 
 /// Takes in how far a walk that ends at the home goes from each exchange that it passes.
-fn note_heights(heights: &mut [Option<usize>], trail: &Trail) {
-    for (place, exchange) in trail.passed.iter().enumerate() {
-        if let Some(known) = heights.get_mut(exchange.index()) {
-            *known = greater(*known, trail.steps().saturating_sub(place));
-        }
+fn note_heights(heights: &mut [Option<usize>], trail: &Trail<'_>) {
+    let mut left = trail.steps.len();
+    note_greater(heights, trail.start, left);
+    for (_, exchange) in trail.steps {
+        left = left.saturating_sub(1);
+        note_greater(heights, *exchange, left);
     }
 }
 
-/// Looks at all walks for a code.
-pub fn survey_of(alloc: Global, plan: &Plan, code: CodeId) -> Result<Survey, AllocError> {
-    let walks = all_walks(alloc, plan, code)?;
-    let home = plan.home(code);
-    let mut nearest = vec![in alloc; None; plan.exchanges()]?;
-    let mut heights = vec![in alloc; None; plan.exchanges()]?;
-    if let Some(known) = heights.get_mut(home.index()) {
-        *known = Some(0);
+impl Survey {
+    /// What no walks show.
+    pub fn new(alloc: Global, plan: &Plan, code: CodeId) -> Result<Survey, NoMemory> {
+        let home = plan.home(code);
+        let mut heights = vec![in alloc; None; plan.exchanges()]?;
+        note_greater(&mut heights, home, 0);
+        Ok(Survey {
+            code,
+            home,
+            has_loop: false,
+            away: vec![in alloc; false; plan.exchanges()]?,
+            nearest: vec![in alloc; None; plan.exchanges()]?,
+            heights,
+        })
     }
-    for trail in &walks {
-        note_end(&mut nearest, trail);
-        if trail.end() == Some(home) {
-            note_heights(&mut heights, trail);
-        }
-    }
-    let has_loop = walks.iter().any(|trail| trail.is_loop());
-    Ok(Survey {
-        code,
-        walks,
-        has_loop,
-        nearest,
-        heights,
-    })
-}
 
-/// Looks at all walks for each code.
-pub fn surveys_of(alloc: Global, plan: &Plan) -> Result<Vec<Survey>, AllocError> {
-    let mut surveys = Vec::new(alloc);
-    for place in 0..plan.codes() {
-        if let Some(code) = plan.code_at(place) {
-            surveys.push(survey_of(alloc, plan, code)?)?;
+    /// Takes in a walk.
+    pub fn note(&mut self, trail: &Trail<'_>) {
+        let steps = trail.steps.len();
+        note_lesser(&mut self.nearest, trail.end(), steps);
+        if trail.is_loop() {
+            self.has_loop = true;
+        }
+        if trail.end() == self.home {
+            note_heights(&mut self.heights, trail);
+        } else if trail.is_simple() {
+            mark(&mut self.away, steps);
         }
     }
-    Ok(surveys)
+
+    /// Whether a walk is too long for a limit.
+    pub fn has_long(&self, limit: u8) -> bool {
+        match self.away.get(usize::from(limit).saturating_add(1)) {
+            Some(away) => *away,
+            None => false,
+        }
+    }
 }

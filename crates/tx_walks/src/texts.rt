@@ -3,6 +3,7 @@ ghost use Rattle.std.specs.List.{AllByRecursion};
 ghost use Rattle.tx_script.specs.Events.{IsWritable};
 
 use std::alloc::Global;
+use tx_cases::Judge;
 use tx_counter::write_counter;
 use tx_machine::{Event, Plain};
 use tx_plan::Plan;
@@ -12,11 +13,11 @@ use tx_text::{MemorySink, MemorySource, NoMemory};
 /// Runs a script over a new network: how many events were accepted, where all were read and none was refused.
 fn accepted(alloc: Global, plan: &Plan, script: &[u8]) -> Result<Option<u64>, NoMemory> {
     let mut network = Plain::new(alloc, plan)?;
-    let mut out = MemorySink::new(alloc, 65_536)?;
+    let mut out = Judge::new(b"", usize::MAX);
     let mut source = MemorySource::new(script, 4096, None);
-    let done = run(alloc, plan, &mut network, &mut source, &mut out);
+    let end = run(alloc, plan, &mut network, &mut source, &mut out);
     drop(network);
-    match done {
+    match end {
         Ok(summary) if summary.refused == 0 => Ok(Some(summary.events)),
         _ => Ok(None),
     }
@@ -27,7 +28,11 @@ pub fn reads_back(alloc: Global, plan: &Plan, events: &[Event]) -> Result<bool, 
     requires { AllByRecursion (IsWritable plan.now) events.now }
 {
     let mut script = MemorySink::new(alloc, 65_536)?;
-    let done = write_counter(plan, events, &mut script);
-    let count = accepted(alloc, plan, script.taken())?;
-    Ok(done.is_ok() && count == Some(events.len() as u64))
+    let done = write_counter(plan, events, &mut script).is_ok();
+    let count = accepted(alloc, plan, script.taken());
+    drop(script);
+    match count {
+        Ok(count) => Ok(done && count == Some(events.len() as u64)),
+        Err(fault) => Err(fault),
+    }
 }

@@ -1,39 +1,47 @@
 // All walks for a code.
+use crate::survey::Survey;
 use crate::trail::Trail;
-use std::alloc::{AllocError, Global};
-use tx_plan::{CodeId, Plan};
+use tx_plan::{ExchangeId, GroupId, Plan};
+use tx_text::NoMemory;
 
-/// Adds a walk, and all that go on from it by at most so many steps, until they repeat an exchange or come home.
-fn add_walks(
+/// The steps of the walk in hand.
+pub type Steps = Vec<(GroupId, ExchangeId)>;
+
+/// Takes in the walk in hand, and all that go on from it by at most so many steps, until they repeat an exchange or come home.
+fn note_walks(
     plan: &Plan,
-    code: CodeId,
-    trail: Trail,
+    start: ExchangeId,
+    steps: &mut Steps,
     more: usize,
-    walks: &mut Vec<Trail>,
-) -> Result<(), AllocError> {
-    if let Some(at) = trail.end() {
-        if more > 0 && at != plan.home(code) && trail.is_simple() {
-            for group in plan.list(at, code) {
-                if let Some(to) = plan.other_end(*group, at) {
-                    add_walks(plan, code, trail.with(*group, to)?, more - 1, walks)?;
-                }
+    survey: &mut Survey,
+) -> Result<(), NoMemory> {
+    let trail = Trail {
+        start,
+        steps: steps.as_slice(),
+    };
+    survey.note(&trail);
+    let at = trail.end();
+    if more > 0 && at != survey.home && trail.is_simple() {
+        for group in plan.list(at, survey.code) {
+            if let Some(to) = plan.other_end(*group, at) {
+                steps.push((*group, to))?;
+                note_walks(plan, start, steps, more - 1, survey)?;
+                let _last = steps.pop();
             }
         }
     }
-    walks.push(trail)?;
     Ok(())
 }
 
-/// All walks for a code of which nothing but the last exchange repeats. None of them has more steps than there are exchanges.
-pub fn all_walks(alloc: Global, plan: &Plan, code: CodeId) -> Result<Vec<Trail>, AllocError> {
-    let mut walks = Vec::new(alloc);
+/// Takes in all walks for a code of which nothing but the last exchange repeats. None of them has more steps than there are exchanges.
+pub fn note_all_walks(plan: &Plan, steps: &mut Steps, survey: &mut Survey) -> Result<(), NoMemory> {
     for place in 0..plan.exchanges() {
         if let Some(origin) = plan.exchange_at(place) {
-            if plan.is_origin_for(origin, code) {
-                let trail = Trail::start(alloc, origin)?;
-                add_walks(plan, code, trail, plan.exchanges(), &mut walks)?;
+            if plan.is_origin_for(origin, survey.code) {
+                steps.clear();
+                note_walks(plan, origin, steps, plan.exchanges(), survey)?;
             }
         }
     }
-    Ok(walks)
+    Ok(())
 }

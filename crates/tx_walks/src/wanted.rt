@@ -1,10 +1,10 @@
 // The findings that the walks call for.
 use crate::survey::Survey;
-use std::alloc::{AllocError, Global};
 use tx_plan::{CodeId, ExchangeId, Plan};
+use tx_text::NoMemory;
 
 /// A finding that there is to be.
-#[derive(Clone, Copy, Debug, PartialEq, Eq)]
+#[derive(Clone, Copy)]
 pub enum Wanted {
     /// This pair.
     Ambiguous(CodeId, CodeId),
@@ -63,11 +63,11 @@ fn add_shorts(
     survey: &Survey,
     spare: u8,
     wanted: &mut Vec<Wanted>,
-) -> Result<(), AllocError> {
+) -> Result<(), NoMemory> {
     for (place, nearest) in survey.nearest.iter().enumerate() {
         if let (Some(exchange), Some(steps)) = (plan.exchange_at(place), *nearest) {
             let groups = plan.list(exchange, survey.code).len();
-            if exchange != plan.home(survey.code) && groups <= usize::from(spare) {
+            if exchange != survey.home && groups <= usize::from(spare) {
                 wanted.push(Wanted::Short(survey.code, exchange, steps))?;
             }
         }
@@ -82,36 +82,32 @@ fn add_code(
     limit: u8,
     spare: u8,
     wanted: &mut Vec<Wanted>,
-) -> Result<(), AllocError> {
+) -> Result<(), NoMemory> {
     if survey.has_loop {
         wanted.push(Wanted::Loop(survey.code))?;
         return Ok(());
     }
     add_shorts(plan, survey, spare, wanted)?;
-    if survey
-        .walks
-        .iter()
-        .any(|trail| trail.is_long(plan, survey.code, limit))
-    {
+    if survey.has_long(limit) {
         wanted.push(Wanted::Long(survey.code))?;
     }
     Ok(())
 }
 
-/// All findings, in order.
-pub fn wanted_of(
-    alloc: Global,
+/// Makes the list of all findings, in order.
+pub fn put_wanted(
     plan: &Plan,
     surveys: &[Survey],
     limit: u8,
     spare: u8,
-) -> Result<Vec<Wanted>, AllocError> {
-    let mut wanted = Vec::new(alloc);
+    wanted: &mut Vec<Wanted>,
+) -> Result<(), NoMemory> {
+    wanted.clear();
     if let Some(finding) = ambiguous(plan) {
         wanted.push(finding)?;
     }
     for survey in surveys {
-        add_code(plan, survey, limit, spare, &mut wanted)?;
+        add_code(plan, survey, limit, spare, wanted)?;
     }
-    Ok(wanted)
+    Ok(())
 }
