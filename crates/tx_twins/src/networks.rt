@@ -18,11 +18,16 @@ fn play_engine<M: Network, A: Allocator + Copy>(
     script: Script,
     plain: &mut M,
     (engine_alloc, engine_plan): (A, &Plan<A>),
+    memory: &Refusing<Global>,
     tally: &mut Tally,
 ) -> Result<(), Stop> {
-    match Engine::starting_at(engine_alloc, engine_plan, script.numbers, script.events) {
+    let made = match (script.numbers, script.events) {
+        (0, 0) => Engine::new(engine_alloc, engine_plan),
+        (numbers, events) => Engine::starting_at(engine_alloc, engine_plan, numbers, events),
+    };
+    match made {
         Ok(mut engine) => {
-            let played = play(alloc, plan, script, plain, &mut engine, tally);
+            let played = play(alloc, plan, script, plain, &mut engine, memory, tally);
             drop(engine);
             played
         }
@@ -36,11 +41,12 @@ fn play_both<A: Allocator + Copy>(
     plan: &Plan,
     script: Script,
     engine: (A, &Plan<A>),
+    memory: &Refusing<Global>,
     tally: &mut Tally,
 ) -> Result<(), Stop> {
     match Plain::starting_at(alloc, plan, script.numbers, script.events) {
         Ok(mut plain) => {
-            let played = play_engine(alloc, plan, script, &mut plain, engine, tally);
+            let played = play_engine(alloc, plan, script, &mut plain, engine, memory, tally);
             drop(plain);
             played
         }
@@ -55,21 +61,24 @@ pub fn play_script(
     script: Script,
     tally: &mut Tally,
 ) -> Result<(), Stop> {
-    play_both(alloc, plan, script, (alloc, plan), tally)
+    let memory = Refusing::new(alloc, 0);
+    let played = play_both(alloc, plan, script, (alloc, plan), &memory, tally);
+    drop(memory);
+    played
 }
 
-/// Plays a script through both networks, of which the engine has its plan read with its own allocator.
-fn play_reading<A: Allocator + Copy>(
+/// Plays a script through both networks, of which the engine has its plan read with its own memory.
+fn play_reading(
     alloc: Global,
     plan: &Plan,
     script: Script,
-    engine_alloc: A,
+    memory: &Refusing<Global>,
     text: &[u8],
     tally: &mut Tally,
 ) -> Result<(), Stop> {
-    match read_plan(engine_alloc, text) {
+    match read_plan(memory, text) {
         Ok(engine_plan) => {
-            let played = play_both(alloc, plan, script, (engine_alloc, &engine_plan), tally);
+            let played = play_both(alloc, plan, script, (memory, &engine_plan), memory, tally);
             drop(engine_plan);
             played
         }

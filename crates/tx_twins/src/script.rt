@@ -5,6 +5,7 @@ use crate::picture::Picture;
 use crate::stop::{Differs, Stop};
 use crate::tally::Tally;
 use crate::twins::{Difference, apply_to_both, compare_tickets};
+use refusing::Refusing;
 use std::alloc::{Allocator, Global};
 use tx_plan::Plan;
 use tx_state::{Event, Network, Ticket};
@@ -46,15 +47,16 @@ impl From<NoMemory> for Halt {
     }
 }
 
-/// Applies an event to both networks.
+/// Applies an event to both networks, of which the second has this memory.
 fn play_event<M: Network, N: Network>(
     first: &mut M,
     second: &mut N,
+    memory: &Refusing<Global>,
     event: &Event,
     picture: &mut Picture,
     tally: &mut Tally,
 ) -> Result<(), Halt> {
-    let answer = apply_to_both(first, second, event)?;
+    let answer = apply_to_both(first, second, memory, event)?;
     if answer.was_refused {
         tally.note_want(event);
     }
@@ -115,12 +117,13 @@ fn take_tickets<M: Network, N: Network>(
 fn go_on<M: Network, N: Network>(
     first: &mut M,
     second: &mut N,
+    memory: &Refusing<Global>,
     event: &Event,
     takes_tickets: bool,
     picture: &mut Picture,
     tally: &mut Tally,
 ) -> Result<(), Halt> {
-    play_event(first, second, event, picture, tally)?;
+    play_event(first, second, memory, event, picture, tally)?;
     if takes_tickets {
         take_tickets(first, second, picture, tally)?;
     }
@@ -133,6 +136,7 @@ fn play_events<M: Network, N: Network>(
     script: Script,
     first: &mut M,
     second: &mut N,
+    memory: &Refusing<Global>,
     picture: &mut Picture,
     tally: &mut Tally,
 ) -> Result<(), Stop> {
@@ -141,7 +145,7 @@ fn play_events<M: Network, N: Network>(
         let mood = script.seed.wrapping_add(u64::from(place / MOOD_EVENTS));
         let event = next_event(plan, picture, &mut chance, mood, script.most);
         let takes_tickets = !chance.one_in(4);
-        let played = go_on(first, second, &event, takes_tickets, picture, tally);
+        let played = go_on(first, second, memory, &event, takes_tickets, picture, tally);
         match played {
             Ok(()) => {}
             Err(Halt::NoMemory) => return Err(Stop::NoMemory),
@@ -159,17 +163,18 @@ fn play_events<M: Network, N: Network>(
     Ok(())
 }
 
-/// Plays a script through two networks.
+/// Plays a script through two networks, of which the second has this memory.
 pub fn play<M: Network, N: Network>(
     alloc: Global,
     plan: &Plan,
     script: Script,
     first: &mut M,
     second: &mut N,
+    memory: &Refusing<Global>,
     tally: &mut Tally,
 ) -> Result<(), Stop> {
     let mut picture = Picture::new(alloc, script.numbers);
-    let played = play_events(plan, script, first, second, &mut picture, tally);
+    let played = play_events(plan, script, first, second, memory, &mut picture, tally);
     drop(picture);
     played
 }

@@ -1,5 +1,6 @@
 // Two networks, and one event after another.
-use std::alloc::Allocator;
+use refusing::Refusing;
+use std::alloc::{Allocator, Global};
 use tx_state::{Event, Network, Reply, Ticket};
 use tx_text::NoMemory;
 
@@ -14,6 +15,8 @@ pub enum Difference {
     ChangedByRefusal(Counts, Counts),
     /// Memory was wanting again, where no request was refused any more.
     NoMemory,
+    /// Memory was wanting where no request was refused, or a refused request was passed over: whether memory was wanting.
+    Wanting(bool),
 }
 
 /// How many calls are open in a network, and how many events it accepted.
@@ -59,14 +62,20 @@ fn apply<N: Network>(net: &mut N, event: &Event) -> Result<Answer, Difference> {
     }
 }
 
-/// Applies an event to both networks, and compares their replies and counts. The answer is that of the second network.
+/// Applies an event to both networks, and compares their replies and counts. The answer is that of the second network, in which memory has to be wanting
+/// just where its memory refuses a request.
 pub fn apply_to_both<M: Network, N: Network>(
     first: &mut M,
     second: &mut N,
+    memory: &Refusing<Global>,
     event: &Event,
 ) -> Result<Answer, Difference> {
     let wanted = apply(first, event)?;
+    let was_over = memory.has_refused();
     let answer = apply(second, event)?;
+    if answer.was_refused != (memory.has_refused() && !was_over) {
+        return Err(Difference::Wanting(answer.was_refused));
+    }
     if answer.reply != wanted.reply {
         return Err(Difference::Reply(wanted.reply, answer.reply));
     }
