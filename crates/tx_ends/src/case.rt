@@ -15,6 +15,8 @@ pub(crate) struct Case<'a> {
     /// The file to be shown in the end.
     pub shows: Option<&'a str>,
     pub what: What,
+    /// Whether a setting is none, or a number is missing.
+    pub is_bad: bool,
     pub words: Vec<&'a str>,
 }
 
@@ -28,14 +30,6 @@ pub(crate) enum What {
     Read,
 }
 
-/// The number that a word spells, and 0 where it spells none.
-fn number(word: Option<&str>) -> u32 {
-    match word {
-        Some(word) => word.parse::<u32>().unwrap_or(0),
-        None => 0,
-    }
-}
-
 impl<'a> Case<'a> {
     pub(crate) fn read(alloc: Global, line: &'a str) -> Result<Case<'a>, AllocError> {
         let mut case = Case {
@@ -45,6 +39,7 @@ impl<'a> Case<'a> {
             room: None,
             shows: None,
             what: What::Run,
+            is_bad: false,
             words: Vec::new(alloc),
         };
         let (settings, words) = match line.split_once(':') {
@@ -58,24 +53,37 @@ impl<'a> Case<'a> {
         Ok(case)
     }
 
+    /// The number that a word spells. Where it spells none, the case is bad.
+    fn number(&mut self, word: Option<&str>) -> u32 {
+        if let Some(word) = word {
+            if let Ok(number) = word.parse::<u32>() {
+                return number;
+            }
+        }
+        self.is_bad = true;
+        0
+    }
+
+    /// Takes the settings, which stand behind the name of the case.
     fn set(&mut self, settings: &'a str) {
         let mut settings = settings.split_whitespace();
+        let _name = settings.next();
         while let Some(setting) = settings.next() {
             match setting {
                 "input" => self.input = settings.next().unwrap_or(""),
-                "piece" => self.piece = number(settings.next()).max(1) as usize,
+                "piece" => self.piece = self.number(settings.next()).max(1) as usize,
                 "fails" => {
                     let name = settings.next().unwrap_or("");
-                    self.fails = Some((name, u64::from(number(settings.next()))));
+                    self.fails = Some((name, u64::from(self.number(settings.next()))));
                 }
                 "room" => {
                     let name = settings.next().unwrap_or("");
-                    self.room = Some((name, number(settings.next()) as usize));
+                    self.room = Some((name, self.number(settings.next()) as usize));
                 }
                 "shows" => self.shows = settings.next(),
                 "each-request" => self.what = What::RunWithout,
                 "words" => self.what = What::Read,
-                _ => {}
+                _ => self.is_bad = true,
             }
         }
     }

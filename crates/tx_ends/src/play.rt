@@ -11,6 +11,9 @@ use tx_words::{Command, WordsFault, read_command};
 
 /// Plays a case, and tells what happens.
 pub(crate) fn play(rt: &HostRuntime, case: &Case<'_>, log: &Log) -> io::Result<()> {
+    if case.is_bad {
+        log.tell("BROKEN:", "no such setting");
+    }
     match case.what {
         What::Run => run(rt, case, log)?,
         What::RunWithout => run_without(rt, case, log)?,

@@ -5,21 +5,24 @@ use tx_lines::{LineAnswer, LineBook};
 use tx_plan::{CodeId, Line};
 use tx_text::{NoMemory, Sink, WriteFault, words, write_bytes, write_parts};
 
+/// Lets a thing happen to a line. Only a new mark takes room.
 fn happen<A: Allocator>(
     book: &mut LineBook<A>,
     line: &Line,
     happens: &[u8],
 ) -> Result<(), NoMemory> {
-    book.reserve_one()?;
     if happens == b"fault".as_slice() {
+        book.reserve_one()?;
         book.set_fault(line, true);
     } else if happens == b"repair".as_slice() {
         book.set_fault(line, false);
     } else if happens == b"away".as_slice() {
+        book.reserve_one()?;
         book.set_away(line, true);
     } else if happens == b"back".as_slice() {
         book.set_away(line, false);
     } else if happens == b"engage".as_slice() {
+        book.reserve_one()?;
         book.engage(line);
     } else if happens == b"free".as_slice() {
         book.free(line);

@@ -5,9 +5,9 @@ use std::alloc::Allocator;
 use tx_cases::{Stop, write_broken, write_count};
 use tx_circuits::CircuitTable;
 use tx_lines::{LineAnswer, LineBook};
-use tx_plan::{CodeId, Plan};
-use tx_plantext::read_plan;
-use tx_text::{LineFeeder, MemorySink, Sink, TextFault, write_bytes};
+use tx_plan::{CodeId, Plan, PlanRefusal};
+use tx_plantext::{PlanWord, read_plan};
+use tx_text::{FrameFault, Kind, LineFault, LineFeeder, MemorySink, Sink, TextFault, write_bytes};
 use tx_trie::CodeTrie;
 
 /// What is made: the last three of them over a plan.
@@ -160,7 +160,11 @@ fn make<A: Allocator + Copy>(alloc: A, made: Made, plan: &[u8]) -> Came {
             drop(plan);
             came
         }
-        Err(_) => Came::NoPlan,
+        Err(fault) => match fault.kind {
+            Kind::Frame(FrameFault::Line(LineFault::Text(TextFault::NoMemory)))
+            | Kind::Word(PlanWord::Refused(PlanRefusal::NoMemory)) => Came::NoPlan,
+            _ => Came::Wrong,
+        },
     }
 }
 

@@ -5,7 +5,7 @@ use std::alloc::Allocator;
 use tx_cases::{Stop, next_line, two_texts, write_broken, write_count};
 use tx_cert::read_cert;
 use tx_check::{Verdict, check};
-use tx_engine::Engine;
+use tx_engine::{Played, play};
 use tx_machine::Plain;
 use tx_plan::Plan;
 use tx_plantext::read_plan;
@@ -93,6 +93,29 @@ fn drive_events<A: Allocator, N: Network, B: Allocator, W: Sink>(
     }
 }
 
+/// Tells what events that were played on the engine came to, and keeps their replies.
+fn tell_played<A: Allocator + Copy, B: Allocator, W: Sink>(
+    plan: &Plan<A>,
+    played: &Played<'_, A>,
+    replies: &mut Vec<Reply, B>,
+    out: &mut W,
+) -> Result<(), Stop> {
+    if replies
+        .extend_from_slice(played.replies.as_slice())
+        .is_err()
+    {
+        return Err(Stop::NoMemory);
+    }
+    for reply in played.replies.as_slice() {
+        write_reply(reply, plan, out)?;
+    }
+    for ticket in played.tickets.as_slice() {
+        write_ticket(ticket, plan, out)?;
+    }
+    write_count(b"END EVENTS ", played.network.events(), b"", out)?;
+    Ok(write_count(b" OPEN ", played.network.open_calls(), b"\n", out)?)
+}
+
 /// The same through a new network of the plan.
 fn drive_over<A: Allocator + Copy, W: Sink>(
     alloc: A,
@@ -111,11 +134,11 @@ fn drive_over<A: Allocator + Copy, W: Sink>(
             }
             Err(NoMemory) => Err(Stop::NoMemory),
         },
-        Over::Engine => match Engine::new(alloc, plan) {
-            Ok(mut net) => {
-                let driven = drive_events(plan, &mut net, events, replies, out);
-                drop(net);
-                driven
+        Over::Engine => match play(alloc, plan, 0, 0, events) {
+            Ok(played) => {
+                let told = tell_played(plan, &played, replies, out);
+                drop(played);
+                told
             }
             Err(NoMemory) => Err(Stop::NoMemory),
         },

@@ -3,7 +3,7 @@ use crate::checked::play_certified;
 use crate::head::{Head, Mode, head_of, job_of, limit_and_spare, long_number, number_of};
 use crate::job::{Ends, Job, ROOM, Task, Whole, do_task};
 use crate::listings::{count_calls, list_prefixes};
-use crate::runs::{Over, Script};
+use crate::runs::{Over, Script, run_beside};
 use crate::trials::{tell, try_ends, try_pieces, try_refusals};
 use crate::whole_runs::{Told, play_run};
 use crate::written::{play_cert, play_plan};
@@ -169,6 +169,25 @@ fn task_of<'a>(job: Job, first: &'a [u8], rest: &'a [u8]) -> Task<'a> {
     }
 }
 
+/// Tries that a script writes over the plain network what the job writes, which runs it over the engine.
+fn try_plain<A: Allocator + Copy, W: Sink>(
+    alloc: A,
+    run: Task<'_>,
+    job: &[u8],
+    out: &mut W,
+) -> Result<(), Stop> {
+    let text = opening(Over::Plain, run.first, run.second);
+    let ran = run_beside(alloc, text, 4096, None, job, ROOM);
+    if !ran.is_front || ran.written != job.len() {
+        write_broken(
+            b"not the same over the plain network, bytes",
+            ran.written as u64,
+            out,
+        )?;
+    }
+    Ok(())
+}
+
 /// Tells a task that was done whole, and tries its laws, or plays each front of its last text.
 fn play_whole<A: Allocator + Copy, W: Sink>(
     alloc: A,
@@ -177,6 +196,9 @@ fn play_whole<A: Allocator + Copy, W: Sink>(
     mode: Mode,
     out: &mut W,
 ) -> Result<(), Stop> {
+    if matches!(task.job, Job::Run) {
+        try_plain(alloc, task, whole.text, out)?;
+    }
     match mode {
         Mode::Prefixes => list_prefixes(alloc, task, whole, out),
         Mode::Plain => {
@@ -227,6 +249,7 @@ fn try_both<A: Allocator + Copy, W: Sink>(
     head: Head<'_>,
     out: &mut W,
 ) -> Result<(), Stop> {
+    try_plain(alloc, run, whole.text, out)?;
     try_pieces(alloc, run, whole, out)?;
     try_pieces(alloc, pipe, whole, out)?;
     match head.mode {
