@@ -3,7 +3,7 @@ use Rattle.std.specs.Io.KnownBytes.{IsAtEnd}
 use Rattle.tx_text.specs.Calls.{CallsAtMost, Broken, source_calls}
 use Rattle.tx_pipe.specs.declared.two_texts.Part.TheVariants.{Script}
 use Rattle.tx_pipe.specs.Telling.{text_in_hand, text_behind, at_script, PipeCall}
-use Rattle.tx_jobs.specs.Jobs.{Simulated}
+use Rattle.tx_jobs.specs.Jobs.{ScriptRan}
 use Rattle.tx_jobs.specs.PipeJobs.{PipeBroken}
 use Rattle.tx_jobs.proofs.Piping.{begins_behind, pipe_calls, plan_broken, script_broken}
 use Rattle.tx_jobs.proofs.Breaking.{refused_with, simulated_with}
@@ -25,7 +25,7 @@ returns-in-Ok-clause-answers g c =
     let b : text_in_hand rest (at_script mid) ≡ text_behind rest old = begins_behind rest failed called old mid (at_script mid) c.requires plan c.in-Ok.ensures.answer.1 (subst (λ s. mid.part ≢ Script → IsAtEnd (text_in_hand rest mid) → text_in_hand rest s ≡ text_behind rest mid) on c.go_on.ensures.script) in
     let ran =
     subst
-    (λ s. Simulated c.in-Ok.plan
+    (λ s. ScriptRan c.in-Ok.plan
     (record { rest_old = text_in_hand rest s; rest_new = text_in_hand rest new; taken_old = g.W.Sink.taken c.args.out.now; taken_new = g.W.Sink.taken out })
     (Broken read new.failed source_calls s new) ((new ≡ s) × (out ≡ c.args.out.now)) c.simulate.result)
     on c.simulate.ensures.answers in
@@ -46,7 +46,7 @@ returns-in-Ok-clause-answers g c =
             read = c.in-Ok.ensures.answer;
             goes_on =
                 subst
-                (λ r. Simulated c.in-Ok.plan (record { rest_old = r; rest_new = text_in_hand rest new; taken_old = g.W.Sink.taken c.args.out.now; taken_new = g.W.Sink.taken out })
+                (λ r. ScriptRan c.in-Ok.plan (record { rest_old = r; rest_new = text_in_hand rest new; taken_old = g.W.Sink.taken c.args.out.now; taken_new = g.W.Sink.taken out })
                 (PipeBroken rest failed called old (at_script mid) new) ((new ≡ at_script mid) × (out ≡ c.args.out.now)) c.simulate.result)
                 b told;
           };
