@@ -59,7 +59,7 @@ module _ (n : Net) where
   trail_on old new start steps s before last next grew h k =
       record {
         lists = subst (λ (l : List ℕ). AreTried n new l (before ++ last ∷ [])) (sym (before_longer start steps s))
-        (one_more new (before_end start steps) before (end_of start steps) last (all_grow old new grew (before_end start steps) before h.lists) (tried_grows old new grew (end_of start steps) last h.list));
+            (one_more new (before_end start steps) before (end_of start steps) last (all_grow old new grew (before_end start steps) before h.lists) (tried_grows old new grew (end_of start steps) last h.list));
         list = subst (λ (x : ℕ). IsTried n new x next) (sym (end_push start steps s)) k;
       }
 

@@ -134,7 +134,10 @@ fn settle<'a, A: Allocator, N: Routes>(
 }
 
 /// A turn of the pass: it opens an exchange, or ranks one.
-fn advance<'a, A: Allocator, N: Routes>(net: &'a N, search: &mut Search<'a, A>) -> Result<Progress, NoMemory>
+fn advance<'a, A: Allocator, N: Routes>(
+    net: &'a N,
+    search: &mut Search<'a, A>,
+) -> Result<Progress, NoMemory>
     requires marked { IsMarked (N.net net.now) search.old.marks.items }
     requires hand { IsInHand (N.net net.now) search.old.marks.items search.old.start search.old.steps.items }
     requires tried { IsTrail (N.net net.now) search.old.marks.items search.old.start search.old.steps.items search.old.before.items search.old.last }
@@ -151,7 +154,10 @@ fn advance<'a, A: Allocator, N: Routes>(net: &'a N, search: &mut Search<'a, A>) 
 }
 
 /// Goes over all walks that go on from the walk in hand: true if one of them is a loop, which is then in hand.
-fn explore<'a, A: Allocator, N: Routes>(net: &'a N, search: &mut Search<'a, A>) -> Result<bool, NoMemory>
+fn explore<'a, A: Allocator, N: Routes>(
+    net: &'a N,
+    search: &mut Search<'a, A>,
+) -> Result<bool, NoMemory>
     requires marked { IsMarked (N.net net.now) search.old.marks.items }
     requires hand { IsInHand (N.net net.now) search.old.marks.items search.old.start search.old.steps.items }
     requires tried { IsTrail (N.net net.now) search.old.marks.items search.old.start search.old.steps.items search.old.before.items search.old.last }
@@ -212,7 +218,10 @@ fn start_from<'a, A: Allocator, N: Routes>(
 }
 
 /// Goes over all walks: true if one is a loop, which is then in hand. Each exchange is opened once and ranked once, however many walks pass it.
-pub fn pass<'a, A: Allocator, N: Routes>(net: &'a N, search: &mut Search<'a, A>) -> Result<bool, NoMemory>
+pub fn pass<'a, A: Allocator, N: Routes>(
+    net: &'a N,
+    search: &mut Search<'a, A>,
+) -> Result<bool, NoMemory>
     requires marked { IsMarked (N.net net.now) search.old.marks.items }
     requires none { NoneOpen search.old.marks.items }
     ensures closed { IfOk result (λ closed. closed ≡ true → IsLoop (N.net net.now) search.new.start search.new.steps.items) }
