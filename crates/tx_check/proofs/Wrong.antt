@@ -1,6 +1,6 @@
 -- A list without an element of either kind has none of the one, and none of the other.
 use Rattle.std.specs.Prelude.{find}
-use Rattle.std.proofs.Common.{◌≡◌, Bool, true, false, cond, ◌||◌, List, [], ◌∷◌, Option, None, Some, refl}
+use Rattle.std.proofs.Common.{◌≡◌, Bool, true, false, cond, ◌||◌, List, [], ◌∷◌, None, Some, refl}
 
 pub none_unranked : {X : Type 0} (p q : X → Bool) (xs : List X) → find (λ x. p x || q x) xs ≡ None → None ≡ find p xs
 none_unranked p q [] h = refl
