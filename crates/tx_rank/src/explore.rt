@@ -208,12 +208,15 @@ fn start_from<'a, A: Allocator, N: Routes>(
     ensures done { IfOk result (λ closed. closed ≡ false → IsPassing (N.net net.now) search.new.marks.items (place + 1)) }
 {
     let origin = net.exchange(place);
-    if !net.is_origin(origin) {
-        return Ok(false);
-    }
     match rank_at(&search.marks, origin) {
         Some(_) => Ok(false),
-        None => start_at(net, search, origin),
+        None => {
+            if net.is_origin(origin) {
+                start_at(net, search, origin)
+            } else {
+                Ok(false)
+            }
+        }
     }
 }
 
