@@ -4,6 +4,7 @@ pub mod Turns
 pub mod Heights
 pub mod Looks
 pub mod Passes
+pub mod Trails
 pub mod Linking
 pub mod Tracing
 pub mod Walked
