@@ -3,6 +3,7 @@ pub mod Among
 pub mod Ambiguity
 pub mod Lookups
 pub mod Tables
+pub mod PlaceTable
 pub mod Absent
 pub mod LineFound
 pub mod Lists
