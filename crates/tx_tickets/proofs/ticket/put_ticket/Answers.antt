@@ -3,7 +3,7 @@ use Rattle.std.specs.List.{flat_map}
 use Rattle.tx_text.proofs.Writing.{stops_first, stops_later, on_err}
 use Rattle.tx_tickets.specs.Texts.{caller_text, events_text, why_text, hop_text}
 use Rattle.tx_tickets.proofs.Taking.{then_took, err_so, ok_so}
-use Rattle.tx_tickets.proofs.ticket.write_ticket.Goals as goal
+use Rattle.tx_tickets.proofs.ticket.put_ticket.Goals as goal
 
 pub returns-in_err-write_caller-clause-err : goal.returns-in_err-write_caller-clause-err
 returns-in_err-write_caller-clause-err g c = on_err c.from_residual.result (stops_first _ c.in_err-write_caller.ensures.err)
