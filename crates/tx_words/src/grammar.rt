@@ -6,6 +6,9 @@ ghost use Rattle.tx_words.specs.Grammar as grammar;
 use clap::{Arg, ArgAction, value_parser};
 use std::alloc::{AllocError, Global};
 
+/// The version of the program.
+const VERSION: &str = "1.0.0";
+
 /// A file, which has to be named.
 fn file<'a>(alloc: Global, id: &'a str, shown: &'a str, help: &'a str) -> Arg<'a>
     ensures rule { rule_of result ≡ grammar.file id.now }
@@ -149,6 +152,8 @@ pub(crate) fn grammar<'a>(alloc: Global) -> Result<clap::Command<'a>, AllocError
     ensures { IfOk result (λ c. app_of c ≡ grammar.program_words) }
 {
     clap::Command::new(alloc, "telexplan")
+        .bin_name("telexplan")?
+        .version(VERSION)
         .about(
             "Audit the route plan of an automatic telex network, and simulate calls over it. Without words, a plan and a script are read from standard input.",
         )
