@@ -198,7 +198,6 @@ def chosen(names):
 def compare(programs, cases, folder, seed, events, times):
     inputs, told = Inputs(folder, seed, events), []
     for file in sorted({it for case in cases for it in case.files}):
-        print(f"making {file}", end="\033[K\r", file=sys.stderr)
         inputs.path(file)
     found = measure(cases, programs, inputs, times, told.append)
     print(table(cases, programs, found, inputs))
@@ -218,6 +217,10 @@ def main(words):
         print(__doc__)
         return 64
     programs = [Program(it) for it in words or [os.path.join(TOP, "crates/telexplan/out/telexplan")]]
+    absent = [it.command[0] for it in programs if not os.access(it.command[0], os.X_OK)]
+    if absent:
+        print(f"no program at {', '.join(absent)}")
+        return 64
     numbers = [int(it) for it in numbers]
     if options["--folder"]:
         os.makedirs(options["--folder"], exist_ok=True)
