@@ -15,3 +15,5 @@ pub mod Origins
 pub mod Judging
 pub mod Certifying
 pub mod Listing
+pub mod Bounding
+pub mod Unmended

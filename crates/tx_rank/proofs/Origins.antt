@@ -12,7 +12,7 @@ pub record AreOriginsBelow (p : Plan) (i : ℕ) (origins : List Bool) : Type 0 w
 pub origins_none : (p : Plan) → AreOriginsBelow p 0 []
 origins_none p = record { long = cc; each = λ x b h. let bad : ⊥ = cc in absurd bad }
 
-at_push : {A : Type 0} (xs : List A) (y z : A) (i : ℕ) → slice_get (xs ++ y ∷ []) i ≡ Some z → (slice_get xs i ≡ Some z) ⊎ ((i ≡ length xs) × (z ≡ y))
+pub at_push : {A : Type 0} (xs : List A) (y z : A) (i : ℕ) → slice_get (xs ++ y ∷ []) i ≡ Some z → (slice_get xs i ≡ Some z) ⊎ ((i ≡ length xs) × (z ≡ y))
 at_push [] y z zero h = inr (cc, cc)
 at_push [] y z (suc i) h = absurd (let bad : ⊥ = cc in bad)
 at_push (x ∷ xs) y z zero h = inl h
