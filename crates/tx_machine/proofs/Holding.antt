@@ -10,10 +10,10 @@ use Rattle.tx_state.specs.Routing.{set_call}
 use Rattle.tx_state.specs.Step.{keyed_call}
 use Rattle.tx_state.specs.Members.{Mem}
 use Rattle.tx_state.proofs.Lists.{mem_append, mem_filter, mem_map}
-use Rattle.tx_lists.proofs.Sweeps.{mem_mapped}
+use Rattle.tx_plain_parts.proofs.Sweeps.{mem_mapped}
 use Rattle.tx_network.specs.Seen.{call_seen}
-use Rattle.tx_lists.specs.Seen.{HasRoom, IsReady}
-use Rattle.tx_lists.specs.GivenUp.{AreMarked}
+use Rattle.tx_plain_parts.specs.Seen.{HasRoom, IsReady}
+use Rattle.tx_plain_parts.specs.GivenUp.{AreMarked}
 use Rattle.tx_machine.specs.Whole.{AreHeld}
 use Rattle.tx_network.specs.declared.open_call.OpenCall.{OpenCall}
 
