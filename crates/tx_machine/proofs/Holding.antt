@@ -26,20 +26,6 @@ module _ (groups numbers : ℕ) (cs : List Call) (h : AreHeld groups numbers cs)
       let old = λ (c : Call) (m : Mem (filter keeps cs) c). (mem_filter keeps cs c m).0 in
       record { marked = λ c m. h.marked c (old c m); one = λ c d m n e. h.one c d (old c m) (old d n) e; given = λ c m. h.given c (old c m) }
 
-  -- a new call
-  pub held_more : (line : Line) (keyed : List ℕ) (event : ℕ) → AreHeld groups (numbers + 1) (cs ++ keyed_call (numbers + 1) line keyed event ∷ [])
-  held_more line keyed event = record {
-    marked = λ c m. elim (cases c m) [ inl o ↦ h.marked c o | inr e ↦ subst (λ c. AreMarked groups (circuits_used c)) e (λ x n. elim n [ ]) ];
-    one = λ c d m n e. elim (cases c m) [
-      | inl a ↦ elim (cases d n) [ inl b ↦ h.one c d a b e | inr f ↦ let le = h.given c a in let q : numbers + 1 ≡ d.number = ap (λ (z : Call). z.number) f in absurd (omega arith) ]
-      | inr f ↦ elim (cases d n) [ inl b ↦ let le = h.given d b in let q : numbers + 1 ≡ c.number = ap (λ (z : Call). z.number) f in absurd (omega arith) | inr k ↦ sym f ∙ k ]
-    ];
-    given = λ c m. elim (cases c m) [ inl o ↦ let le = h.given c o in omega arith | inr f ↦ let q : numbers + 1 ≡ c.number = ap (λ (z : Call). z.number) f in omega arith ];
-  }
-    where
-      cases : (c : Call) → Mem (cs ++ keyed_call (numbers + 1) line keyed event ∷ []) c → Mem cs c ⊎ (keyed_call (numbers + 1) line keyed event ≡ c)
-      cases c m = elim (mem_append cs (keyed_call (numbers + 1) line keyed event ∷ []) c m) [ inl o ↦ inl o | inr r ↦ elim r [ inl e ↦ inr e | inr b ↦ absurd b ] ]
-
   -- calls of one number change
   pub held_set : (n : ℕ) (f : Call → Call) → ((c : Call) → (f c).number ≡ c.number) → ((c : Call) → Mem cs c → c.number ≡ n → AreMarked groups (circuits_used (f c))) → AreHeld groups numbers (set_call n f cs)
   held_set n f same marked = record {
@@ -67,9 +53,6 @@ held_map groups numbers cs h F same marked = record {
   one = λ c d m k e. let q = mem_map F cs c m in let r = mem_map F cs d k in sym q.2 ∙ ap F (h.one q.0 r.0 q.1 r.1 (sym (same q.0) ∙ ap (λ (z : Call). z.number) q.2 ∙ e ∙ sym (ap (λ (z : Call). z.number) r.2) ∙ same r.0)) ∙ r.2;
   given = λ c m. let q = mem_map F cs c m in subst (λ k. k ≤ numbers) (sym (same q.0) ∙ ap (λ (z : Call). z.number) q.2) (h.given q.0 q.1);
 }
-
-pub in_one : {x y : Circuit} (xs : List Circuit) → Mem (xs ++ x ∷ []) y → Mem xs y ⊎ (x ≡ y)
-in_one {x} {y} xs m = elim (mem_append xs (x ∷ []) y m) [ inl o ↦ inl o | inr r ↦ elim r [ inl e ↦ inr e | inr b ↦ absurd b ] ]
 
 -- the calls with the number of a call that seizes a circuit have room
 pub calling_ready : {A : Type 0} (groups numbers n : ℕ) (calls : List (OpenCall A)) → AreHeld groups numbers (map call_seen calls) → ((c : OpenCall A) → Mem calls c → HasRoom c) → (k : Call) (x : Circuit) → Mem (map call_seen calls) k → k.number ≡ n → k.phase ≡ Calling x → (c : OpenCall A) → Mem calls c → IsReady n c

@@ -19,16 +19,6 @@ pub record IsBest (p : Plan) (keyed : List ℕ) (place : ℕ) (best : Option ℕ
   pub code : option_map (λ e. e.0) (longest (codes_from p keyed place)) ≡ best
   pub width_is : width_of (longest (codes_from p keyed place)) ≡ width
 
-pub best_none : (p : Plan) (keyed : List ℕ) → IsBest p keyed (length p.codes) None 0
-best_none p keyed = record { within = omega arith; code = ap (λ es. option_map (λ e. e.0) (longest es)) none; width_is = ap (λ es. width_of (longest es)) none }
-  where
-    drop_all : (cs : List Code) → drop (length cs) cs ≡ []
-    drop_all [] = refl
-    drop_all (c ∷ cs) = drop_all cs
-
-    none : codes_from p keyed (length p.codes) ≡ []
-    none = ap (λ cs. filter (λ e. is_prefix e.1.figures keyed) (enumerate_from (length p.codes) cs)) (drop_all p.codes)
-
 module _ (p : Plan) (keyed : List ℕ) (place : ℕ) (best : Option ℕ) (width : ℕ) where
   row_at : (cs : List Code) (n : ℕ) → n < length cs → (c : Code) × (slice_get cs n ≡ Some c) × (drop n cs ≡ c ∷ drop (suc n) cs)
   row_at [] n h = absurd (omega arith)

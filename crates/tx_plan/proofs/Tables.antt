@@ -29,10 +29,6 @@ nat_eq-sym m n = nat_eq_equiv.symm m n
 turned : (x y : Pair) → same_pair x y ≡ ((y.exchange == x.exchange) && (y.code == x.code))
 turned x y = λ i. nat_eq-sym x.exchange y.exchange i && nat_eq-sym x.code y.code i
 
-pub pairs_any : (x : Pair) (ps : List Pair) → list_any (same_pair x) ps ≡ list_any (λ b. (b.exchange == x.exchange) && (b.code == x.code)) ps
-pairs_any x [] = refl
-pairs_any x (p ∷ ps) = λ i. turned x p i || pairs_any x ps i
-
 pub routes_any : (x : Pair) (es : List (Pair × List ℕ)) → list_any (same_pair x) (keys_of es) ≡ list_any (λ r. (r.exchange == x.exchange) && (r.code == x.code)) (map route_of_row es)
 routes_any x [] = refl
 routes_any x (e ∷ es) = λ i. turned x e.0 i || routes_any x es i

@@ -1,5 +1,5 @@
 use Rattle.tx_jobs.proofs.CheckedRun.{told_run_by}
-use Rattle.tx_jobs.proofs.allowed.run_or_tell.Goals as goal
+use Rattle.tx_jobs.proofs.run_checked.run_or_tell.Goals as goal
 
 pub returns-in-Ok-tell_no-clause-told : goal.returns-in-Ok-tell_no-clause-told
 returns-in-Ok-tell_no-clause-told g c =

@@ -7,7 +7,7 @@ ghost use Rattle.tx_audit.specs.Audits.{OnUnsound};
 ghost use Rattle.tx_jobs.specs.JobFaults.{mark_after};
 ghost use Rattle.tx_jobs.specs.Evidences.{EvidenceJobAnswers, IsEvidenceOf, IsScriptOf};
 
-use crate::audits::audit_job;
+use crate::audit::audit_job;
 use crate::evidence::{CounterScript, Evidence};
 use crate::job_fault::JobFault;
 use std::alloc::Allocator;

@@ -7,7 +7,7 @@ use Rattle.tx_jobs.specs.Jobs.{Simulated}
 use Rattle.tx_jobs.specs.PipeJobs.{PipeBroken}
 use Rattle.tx_jobs.proofs.Piping.{begins_behind, pipe_calls, plan_broken, script_broken}
 use Rattle.tx_jobs.proofs.Breaking.{refused_with, simulated_with}
-use Rattle.tx_jobs.proofs.piped.run_two_texts.Goals as goal
+use Rattle.tx_jobs.proofs.pipe.run_two_texts.Goals as goal
 
 pub returns-in-Ok-clause-answers : goal.returns-in-Ok-clause-answers
 returns-in-Ok-clause-answers g c =
