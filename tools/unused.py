@@ -41,6 +41,13 @@ def defined(lines):
             yield found[3], at + 1
 
 
+def defines(line):
+    """The name that a line gives a type or a value, if it does: what stands before the sign has its brackets closed."""
+    found = re.match(rf"(?:(?:pub|abbrev) )*({WORD})( :(?!:)|(?: [^=]*)? =(?: |$))", line)
+    is_closed = found and all(found[2].count(a) == found[2].count(b) for a, b in ("()", "{}", "[]"))
+    return found[1] if is_closed else None
+
+
 def uses(lines, is_code):
     """The words of a text outside of imports, comments and the clauses of the word itself; and the words that an import gives another name."""
     inside = False
@@ -52,10 +59,8 @@ def uses(lines, is_code):
             continue
         if stripped.startswith("--") or is_code and stripped.startswith("//"):
             continue
-        own = re.match(rf"(?:(?:pub|abbrev) )*({WORD})(?: :(?!:)|(?: .*)? =(?: |$))", stripped)
-        for word in re.findall(WORD, stripped):
-            if is_code or not own or word != own[1]:
-                yield word
+        own = None if is_code else defines(stripped)
+        yield from (word for word in re.findall(WORD, stripped) if word != own)
 
 
 def main(crates):

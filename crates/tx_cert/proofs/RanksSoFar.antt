@@ -76,3 +76,16 @@ pub so_far_none : (t : Certificate) (n : ℕ) → n ≡ 0 → so_far t n ≡ rec
 so_far_none t n h =
     let z : length t.ranks - 0 ≡ length t.ranks = omega arith in
     rw (h, z) refl
+
+take_whole : {X : Type 0} (xs : List X) (n : ℕ) → n ≡ length xs → take n xs ≡ xs
+take_whole [] zero h = refl
+take_whole [] (suc n) h = refl
+take_whole (x ∷ xs) zero h = absurd (omega (arith, h))
+take_whole (x ∷ xs) (suc n) h = ap (λ l. x ∷ l) (take_whole xs n (omega (arith, h)))
+
+-- all places
+pub so_far_all : (t : Certificate) (n : ℕ) → n ≡ length t.ranks → so_far t n ≡ t
+so_far_all t n h =
+    let z : length t.ranks - n ≡ 0 = omega (arith, h) in
+    let e = take_whole t.ranks n h in
+    ap (λ (rs : List (Option ℕ)). record t { ranks = rs }) (rw (z, e) (append-nil t.ranks))

@@ -26,6 +26,20 @@ module _ (groups numbers : ℕ) (cs : List Call) (h : AreHeld groups numbers cs)
       let old = λ (c : Call) (m : Mem (filter keeps cs) c). (mem_filter keeps cs c m).0 in
       record { marked = λ c m. h.marked c (old c m); one = λ c d m n e. h.one c d (old c m) (old d n) e; given = λ c m. h.given c (old c m) }
 
+  -- a new call
+  pub held_more : (line : Line) (keyed : List ℕ) (event : ℕ) → AreHeld groups (numbers + 1) (cs ++ keyed_call (numbers + 1) line keyed event ∷ [])
+  held_more line keyed event = record {
+    marked = λ c m. elim (cases c m) [ inl o ↦ h.marked c o | inr e ↦ subst (λ c. AreMarked groups (circuits_used c)) e (λ x n. elim n [ ]) ];
+    one = λ c d m n e. elim (cases c m) [
+      | inl a ↦ elim (cases d n) [ inl b ↦ h.one c d a b e | inr f ↦ let le = h.given c a in let q : numbers + 1 ≡ d.number = ap (λ (z : Call). z.number) f in absurd (omega arith) ]
+      | inr f ↦ elim (cases d n) [ inl b ↦ let le = h.given d b in let q : numbers + 1 ≡ c.number = ap (λ (z : Call). z.number) f in absurd (omega arith) | inr k ↦ sym f ∙ k ]
+    ];
+    given = λ c m. elim (cases c m) [ inl o ↦ let le = h.given c o in omega arith | inr f ↦ let q : numbers + 1 ≡ c.number = ap (λ (z : Call). z.number) f in omega arith ];
+  }
+    where
+      cases : (c : Call) → Mem (cs ++ keyed_call (numbers + 1) line keyed event ∷ []) c → Mem cs c ⊎ (keyed_call (numbers + 1) line keyed event ≡ c)
+      cases c m = elim (mem_append cs (keyed_call (numbers + 1) line keyed event ∷ []) c m) [ inl o ↦ inl o | inr r ↦ elim r [ inl e ↦ inr e | inr b ↦ absurd b ] ]
+
   -- calls of one number change
   pub held_set : (n : ℕ) (f : Call → Call) → ((c : Call) → (f c).number ≡ c.number) → ((c : Call) → Mem cs c → c.number ≡ n → AreMarked groups (circuits_used (f c))) → AreHeld groups numbers (set_call n f cs)
   held_set n f same marked = record {

@@ -178,6 +178,22 @@ module _ {A : Type 0} (p : Plan) (calls : Vec (OpenCall A) A) (tickets : Vec End
   pub whole_out : (out' : Circuits) → out'.groups ≡ out.groups → IsWhole p calls tickets failed blocked releasing out' numbers
   whole_out out' e = record { rules = w.rules; room = w.room; held = w.held; hops = w.hops; failed_all = w.failed_all; blocked_all = w.blocked_all; releasing_all = w.releasing_all; out_all = e ∙ w.out_all }
 
+  -- one more call
+  pub whole_more : (calls' : Vec (OpenCall A) A) (tickets' : Vec Ended A) (c : OpenCall A) (line : Line) (keyed : List ℕ) (event : ℕ) → calls'.items ≡ calls.items ++ c ∷ [] → call_seen c ≡ keyed_call (numbers + 1) line keyed event → vec_len tickets' + vec_len calls' ≤ vec_capacity tickets' → IsWhole p calls' tickets' failed blocked releasing out (numbers + 1)
+  whole_more calls' tickets' c line keyed event e is room = record {
+    rules = w.rules;
+    room = room;
+    held = subst (AreHeld (length p.groups) (numbers + 1)) (ap (λ k. map call_seen calls.items ++ k ∷ []) (sym is) ∙ sym (map_push call_seen calls.items c) ∙ ap (map call_seen) (sym e)) (held_more (length p.groups) numbers (map call_seen calls.items) w.held line keyed event);
+    hops = λ d m. elim (mem_append calls.items (c ∷ []) d (subst (λ l. Mem l d) e m)) [
+      | inl o ↦ w.hops d o
+      | inr q ↦ elim q [ inl f ↦ subst HasRoom f (λ t. absurd (false≢true (sym (ap (λ (z : Call). is_calling z.phase) is) ∙ t))) | inr b ↦ absurd b ]
+    ];
+    failed_all = w.failed_all;
+    blocked_all = w.blocked_all;
+    releasing_all = w.releasing_all;
+    out_all = w.out_all;
+  }
+
 -- what is given up, in the words of the machine
 pub given_same : (ends : Ends) (calls : List Call) → filter (is_given ends calls) (flat_map circuits_used (filter (ends_by ends) calls)) ≡ given_up (filter (ends_by ends) calls) (filter (λ c. not (ends_by ends c)) calls)
 given_same ends calls = λ i. filter (λ x. not (any_filter (λ c. not (ends_by ends c)) (λ c. seizes c x) calls i)) (flat_map circuits_used (filter (ends_by ends) calls))
