@@ -4,6 +4,7 @@
 mod confirm;
 mod ending;
 mod facts;
+mod keying;
 mod looking;
 mod meeting;
 mod plain;

@@ -10,3 +10,5 @@ pub mod Lists
 pub mod Growing
 pub mod Made
 pub mod SeenWords
+pub mod Fronts
+pub mod Longest
