@@ -13,12 +13,12 @@ pub struct OpenCall<A: Allocator = Global> {
     pub line: Line,
     /// The figures that were keyed.
     pub keyed: Figures,
-    /// The event by which they were.
+    /// Whether a head-on collision threw it back to the exchange where it stands.
+    pub collided: bool,
+    /// What it waits for.
+    pub phase: Phase,
+    /// The event by which the figures were keyed.
     pub keyed_at: u64,
     /// The hops so far.
     pub hops: Vec<Hop, A>,
-    /// What it waits for.
-    pub phase: Phase,
-    /// Whether a head-on collision threw it back to the exchange where it stands.
-    pub collided: bool,
 }
