@@ -7,6 +7,7 @@ use crate::folder::Folder;
 use crate::opened::{Bounds, Opened};
 use std::alloc::Allocator;
 use std::io::{Read, Write};
+use tx_explain::{Entry, write_explanation};
 use tx_jobs::{JobFault, check_status, codes_status, pipe_job, run_checked_status, run_job};
 use tx_words::Command;
 
@@ -49,6 +50,7 @@ fn do_job<A: Allocator + Copy, F: Folder, I: Read + Drop, O: Write + Drop>(
         Opened::Audit { plan, bounds, keep } => {
             audit_file(alloc, plan, bounds, keep, folder, output)
         }
+        Opened::Explain { entry } => explain(entry, output),
     }
 }
 
@@ -115,4 +117,15 @@ fn check_files<A: Allocator + Copy, R: Read + Drop, O: Write + Drop>(
         bounds.spare,
         &mut output.sink(),
     )
+}
+
+/// `explain [CODE]`.
+fn explain<A: Allocator, O: Write + Drop>(
+    entry: Option<Entry>,
+    output: &Output<O, A>,
+) -> Result<u8, JobFault> {
+    match write_explanation(entry, &mut output.sink()) {
+        Ok(()) => Ok(0),
+        Err(_) => Err(JobFault::Write),
+    }
 }

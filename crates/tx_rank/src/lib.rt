@@ -1,4 +1,19 @@
-// The ranking of a plan: a certificate where there is one, else the findings: what is wrong, with walks that show it. And its grade: the limits and spare numbers with which there is one.
+//! The ranking of a plan: a certificate that it is safe for a transit limit and a spare number, or all that is wrong with it.
+//!
+//! `rank` finds a certificate wherever there is one. Else it answers the ambiguous pair of codes, and for each code a loop, or a walk to each short list and
+//! one that is too long; the lists of the plan allow each walk.
+//!
+//! `grade` tells for which limits and spare numbers there is one.
+//!
+//! ```
+//! /// Whether no call passes a transit, with no group to spare.
+//! fn is_direct(alloc: Global, plan: &Plan) -> Result<bool, NoMemory> {
+//!     match rank(alloc, plan, 0, 0)? {
+//!         Ranking::Found(_) => Ok(true),
+//!         Ranking::Fails(_) => Ok(false),
+//!     }
+//! }
+//! ```
 #![tactic(auto)]
 
 mod bounds;
