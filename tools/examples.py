@@ -95,7 +95,7 @@ def difference(wanted, given):
 
 
 def check_examples(program, tell):
-    named = {"examples/list", "examples/README.md"}
+    named = {"examples/list", "examples/README.md"} | pictures()
     for example in examples():
         named.update(example.files + example.input + example.made + [out_of(example)])
         status, printed, made = run(program, example)
@@ -111,6 +111,11 @@ def check_examples(program, tell):
     for it in sorted(os.listdir(os.path.join(TOP, "examples"))):
         if f"examples/{it}" not in named:
             tell(f"examples/{it}: no example has it")
+
+
+def pictures():
+    """The pictures of plans, and the images that are made of them."""
+    return {f"examples/{it}" for it in os.listdir(os.path.join(TOP, "examples")) if it.endswith((".dot", ".svg"))}
 
 
 def write_examples(program):
