@@ -3,6 +3,7 @@
 A network is a ring of layers of four exchanges, and its groups join each exchange to those of the two layers beside its own. For a code the layer beside its home
 lists the groups to the home, and each other exchange up to sixteen groups to layers that are nearer. So ranks are the distances on the ring, and the plan is safe for
 a limit and a spare number that are known without an audit."""
+import hashlib
 import json
 import os
 import random
@@ -206,7 +207,7 @@ class Inputs:
         self.networks, self.lines = {}, {}
         self.list = os.path.join(folder, "inputs.json")
         with open(__file__, "rb") as it:
-            made_by = len(it.read())
+            made_by = hashlib.sha256(it.read()).hexdigest()
         self.key = [seed, events, made_by]
         if os.path.exists(self.list):
             with open(self.list, encoding="ascii") as it:
