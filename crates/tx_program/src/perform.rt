@@ -43,7 +43,9 @@ fn do_job<A: Allocator + Copy, F: Folder, I: Read + Drop, O: Write + Drop>(
             bounds,
         } => run_checked_files(alloc, plan, cert, bounds, script, output),
         Opened::Check { plan, cert, bounds } => check_files(alloc, plan, cert, bounds, output),
-        Opened::Codes { plan } => codes_status(alloc, &mut output.source(plan), &mut output.sink()),
+        Opened::Codes { plan } => {
+            codes_status(alloc, &mut output.source(alloc, plan)?, &mut output.sink())
+        }
         Opened::Audit { plan, bounds, keep } => {
             audit_file(alloc, plan, bounds, keep, folder, output)
         }
@@ -56,7 +58,7 @@ fn run_input<A: Allocator + Copy, I: Read + Drop, O: Write + Drop>(
     input: I,
     output: &Output<O, A>,
 ) -> Result<u8, JobFault> {
-    let input = output.source(input);
+    let input = output.source(alloc, input)?;
     pipe_job(alloc, input, &mut output.sink()).map(|_| 0)
 }
 
@@ -67,8 +69,8 @@ fn run_files<A: Allocator + Copy, R: Read + Drop, O: Write + Drop>(
     script: R,
     output: &Output<O, A>,
 ) -> Result<u8, JobFault> {
-    let mut plan = output.source(plan);
-    let mut script = output.source(script);
+    let mut plan = output.source(alloc, plan)?;
+    let mut script = output.source(alloc, script)?;
     run_job(alloc, &mut plan, &mut script, &mut output.sink()).map(|_| 0)
 }
 
@@ -81,9 +83,9 @@ fn run_checked_files<A: Allocator + Copy, R: Read + Drop, O: Write + Drop>(
     script: R,
     output: &Output<O, A>,
 ) -> Result<u8, JobFault> {
-    let mut plan = output.source(plan);
-    let mut cert = output.source(cert);
-    let mut script = output.source(script);
+    let mut plan = output.source(alloc, plan)?;
+    let mut cert = output.source(alloc, cert)?;
+    let mut script = output.source(alloc, script)?;
     run_checked_status(
         alloc,
         &mut plan,
@@ -103,8 +105,8 @@ fn check_files<A: Allocator + Copy, R: Read + Drop, O: Write + Drop>(
     bounds: Bounds,
     output: &Output<O, A>,
 ) -> Result<u8, JobFault> {
-    let mut plan = output.source(plan);
-    let mut cert = output.source(cert);
+    let mut plan = output.source(alloc, plan)?;
+    let mut cert = output.source(alloc, cert)?;
     check_status(
         alloc,
         &mut plan,
