@@ -5,6 +5,7 @@ ghost use Rattle.tx_state.specs.State.{opening};
 ghost use Rattle.tx_state.specs.Refusals.{refusal};
 
 use crate::parts::Parts;
+use crate::tickets::take_oldest;
 use std::alloc::{Allocator, Global};
 use std::marker::Model;
 use tx_network::refusal;
@@ -119,7 +120,7 @@ impl<'p, A: Allocator + Copy> Network for Engine<'p, A> {
     }
 
     fn next_ticket(&mut self) -> Option<Ticket<A>> {
-        self.parts.tickets.pop_front()
+        take_oldest(&mut self.parts.tickets)
     }
 
     fn open_calls(&self) -> u64 {
