@@ -23,7 +23,7 @@ pub(crate) fn reserve_tickets<A: Allocator>(
     Ok(())
 }
 
-/// Takes the oldest ticket out. One that is alone leaves from the back: then the next comes to the same place, and most of the room is never written.
+/// Takes the oldest ticket out. One that is alone leaves from the back, so that the next comes to the same place.
 pub(crate) fn take_oldest<A: Allocator>(tickets: &mut VecDeque<Ticket<A>, A>) -> Option<Ticket<A>>
     ensures first { result ≡ slice_get tickets.old.items 0 }
     ensures rest { tickets.new.items ≡ drop 1 tickets.old.items }
