@@ -1,12 +1,17 @@
 #!/usr/bin/env python3
 """usage: tools/examples.py [PROGRAM]
+       tools/examples.py --pages
        tools/examples.py --write PROGRAM
        tools/examples.py --cases FOLDER
 
 Runs each example of examples/list with a built program (crates/telexplan/out/telexplan where none is named), in a folder of its own, and compares what it prints,
 its exit status and the files that it makes with what stands in examples/. Then checks README.md and docs/FORMATS.md: each block there says, in a comment before
-it, what it shows, and has to show just that; the table of codes has to be that of the definitions, the map of the crates that of crates.txt, and what the pages name
-has to be there. Prints a line for each difference; the status is 1 if there is one.
+it, what it shows, and has to show just that; the table of codes has to be the program's and to have the codes of the definitions, the map of the crates has to be that
+of crates.txt, what the pages name has to be there, and the players of the gate, crates/tx_worked and crates/tx_ends, have to have the examples as they stand. Prints a
+line for each difference; the status is 1 if there is one.
+
+--pages runs nothing: it checks the pages and the players' cases alone. Each example is such a case, and the gate plays them, so the pages then show what the
+program prints.
 
 --write writes the outputs and the files that are made, for you to read through: they are right only once somebody has.
 --cases writes the examples as cases for the player of worked examples, crates/tx_worked, into the files `cases` and `stdout` of a folder. They are appended by hand
@@ -90,7 +95,7 @@ def difference(wanted, given):
 
 
 def check_examples(program, tell):
-    named = {"examples/list", "examples/README.md"}
+    named = {"examples/list", "examples/README.md"} | pictures()
     for example in examples():
         named.update(example.files + example.input + example.made + [out_of(example)])
         status, printed, made = run(program, example)
@@ -106,6 +111,11 @@ def check_examples(program, tell):
     for it in sorted(os.listdir(os.path.join(TOP, "examples"))):
         if f"examples/{it}" not in named:
             tell(f"examples/{it}: no example has it")
+
+
+def pictures():
+    """The pictures of plans, and the images that are made of them."""
+    return {f"examples/{it}" for it in os.listdir(os.path.join(TOP, "examples")) if it.endswith((".dot", ".svg"))}
 
 
 def write_examples(program):
@@ -187,6 +197,11 @@ def lines_quoted(page):
     return [it for it in re.findall(r"`([A-Z]+(?: [A-Z0-9.]+)+)`", text) if re.search("[0-9]", it)]
 
 
+def codes_explained():
+    """The program's table of codes: a code, its name, what it means and what to do."""
+    return re.findall(r'\(\s*"(.*?)",\s*"(.*?)",\s*"(.*?)",\s*"(.*?)",?\s*\)', read("crates/tx_explain/src/table.rt").decode())
+
+
 def codes_defined():
     """The codes and names of the definitions."""
     text = lambda crate, name: read(f"crates/{crate}/specs/{name}.antt").decode()
@@ -205,15 +220,15 @@ def check_table(mark, rows, known_lines):
         texts = [it for row in rows for it in re.findall(r"`([^`]+)`", row[-1])]
         return [f"no example has the line {it!r}" for it in texts if plain(it) not in known_lines] + ([] if texts else ["no examples stand in it"])
     if mark == "codes":
-        told = {tuple(re.findall(r"\w+", row[0] + " " + row[1])[:2]) for row in rows}
-        return [f"{' '.join(it)} is not of the definitions" for it in sorted(told - codes_defined())]
+        told, wanted = [tuple(it.replace("`", "") for it in row) for row in rows], codes_explained()
+        return [f"{row[0]} is not what the program explains" for row in told if row not in wanted] + ([] if told == wanted else ["the rows are not those of the program's table"])
     return [f"no such comment: {mark}"]
 
 
 def check_pages(tell):
     known = {it.name: it for it in examples()}
     known_lines = lines_of_examples()
-    told = set()
+    is_shown = False
     for page in PAGES:
         for line, mark, text in blocks(page):
             wrong = check_block(mark, text, known)
@@ -226,9 +241,11 @@ def check_pages(tell):
             for wrong in check_table(mark, rows, known_lines):
                 tell(f"{page} line {line}: {wrong}")
             if mark == "codes":
-                told.update(tuple(re.findall(r"\w+", row[0] + " " + row[1])[:2]) for row in rows)
-    for it in sorted(codes_defined() - told):
-        tell(f"docs/FORMATS.md: {' '.join(it)} is missing")
+                is_shown = True
+    if not is_shown:
+        tell("docs/FORMATS.md: the table of codes is missing")
+    for it in sorted(codes_defined() ^ {row[:2] for row in codes_explained()}):
+        tell(f"crates/tx_explain: {' '.join(it)} stands in the table or in the definitions alone")
 
 
 # WHAT THE PAGES NAME
@@ -292,8 +309,8 @@ def case_of(example):
     if verb == "run" and example.option("--cert"):
         plan, script, cert = texts
         return f"checked{bounds}", b"---\n".join([plan, cert, script])
-    kind = {"run": "run", "codes": "codes", "check": f"check{bounds}", "audit": f"audit{bounds}"}[verb]
-    return kind, b"---\n".join(texts)
+    kinds = {"run": "run", "codes": "codes", "check": f"check{bounds}", "audit": f"audit{bounds}"}
+    return (kinds[verb], b"---\n".join(texts)) if verb in kinds else None
 
 
 def evidence_of(example):
@@ -332,10 +349,27 @@ def check_cases(tell):
                 tell(f"crates/tx_worked: the case {case.split()[1].decode()} is not as in examples/")
 
 
+def case_of_ends(block):
+    """What a case of the player of the program's ends prints: the words, the text on both ends, and the status."""
+    head, _, body = block.partition("\n")
+    return head.partition(" : ")[2], "".join(re.findall(r"(?m)^(?:out|errors)\| (.*\n)", body)), body.split()[-1:]
+
+
+def check_ends(tell):
+    """The player of the program's ends has the examples that are no worked cases: words that are refused, files that are missing, what is explained."""
+    told = [case_of_ends(it) for it in re.split(r"(?m)^=== ", read("crates/tx_ends/stdout").decode())]
+    for example in examples():
+        wanted = " ".join(example.words), read(out_of(example)).decode(), [str(example.status)]
+        if not case_of(example) and wanted not in told:
+            tell(f"crates/tx_ends: no case has what {example.name} prints")
+
+
 def main(words):
     if words[:1] == ["--cases"] and len(words) == 2:
         write_cases(words[1])
         return 0
+    only_pages = words == ["--pages"]
+    words = [] if only_pages else words
     write = words[:1] == ["--write"]
     words = words[1:] if write else words
     if len(words) > 1 or any(it.startswith("-") for it in words) or (write and not words):
@@ -346,11 +380,13 @@ def main(words):
         write_examples(program)
         return 0
     told = []
-    check_examples(program, told.append)
+    if not only_pages:
+        check_examples(program, told.append)
     check_pages(told.append)
     check_names(told.append)
     check_map(told.append)
     check_cases(told.append)
+    check_ends(told.append)
     print("".join(f"{it}\n" for it in told) + f"{len(examples())} examples, {len(told)} differences")
     return 1 if told else 0
 

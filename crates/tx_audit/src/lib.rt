@@ -1,4 +1,4 @@
-//! The audit of a plan text, and runs of scripts over the engine, also after a check.
+//! The audit of a plan: its report, and runs of scripts over the engine, also after a check.
 #![tactic(auto)]
 
 mod audited;

@@ -21,13 +21,3 @@ code_within p w c h = place_within (λ (r : Code). bytes_eq w r.figures) p.codes
 
 pub exchange_within : (p : Plan) (w : List ℕ) (x : ℕ) → exchange_named p w ≡ Some x → x < length p.exchanges
 exchange_within p w x h = place_within (bytes_eq w) p.exchanges x h
-
--- a number that was read is not above the most
-pub number_within : (most : ℕ) (w : List ℕ) (n : ℕ) → number_of most w ≡ Some n → n ≤ most
-number_within most w n h = by (is_numeral w && nat_le (digits_value 10 w) most) refl h
-  where
-    by : (b : Bool) → (is_numeral w && nat_le (digits_value 10 w) most) ≡ b → (if b then Some (digits_value 10 w) else None) ≡ Some n → n ≤ most
-    by true e k =
-        let s : digits_value 10 w ≡ n = cc in
-        subst (λ m. m ≤ most) s (leb-true (digits_value 10 w) most (and_parts (is_numeral w) (nat_le (digits_value 10 w) most) e).1)
-    by false e k = absurd (let z : ⊥ = cc in z)

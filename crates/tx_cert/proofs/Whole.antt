@@ -6,12 +6,6 @@ use Rattle.std.proofs.lemmas.List.{length-set, length-replicate}
 use Rattle.std.proofs.lemmas.List.Elements.{All-set, All-replicate}
 use Rattle.tx_cert.specs.Certificate.{Certificate, IsWhole}
 
-pub whole_none : (rows width : ℕ) (rs : List (Option ℕ)) → rs ≡ replicate (rows * width) None → IsWhole (record { codes = rows; exchanges = width; ranks = rs })
-whole_none rows width rs e = record {
-  places = ap length e ∙ length-replicate (rows * width) None;
-  small = subst (All (λ r. IfSome r (λ n. n ≤ 65535))) (sym e) (All-replicate (λ r. IfSome r (λ n. n ≤ 65535)) (rows * width) None tt);
-}
-
 pub whole_set : (t : Certificate) (i r : ℕ) → IsWhole t → r ≤ 65535 → IsWhole (record t { ranks = slice_set t.ranks i (Some r) })
 whole_set t i r h l = record {
   places = length-set t.ranks i (Some r) ∙ h.places;

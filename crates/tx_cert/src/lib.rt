@@ -1,4 +1,4 @@
-// Certificates of plans, and their texts.
+//! A certificate of a plan: ranks of exchanges for each code, and its text both ways.
 #![tactic(auto)]
 
 mod cert;

@@ -1,20 +1,21 @@
 -- The least of the ambiguous pairs, as one pair after another is looked at.
 use Rattle.std.specs.Prelude.{if◌then◌else◌, slice_get}
-use Rattle.std.proofs.Common.{◌≡◌, ◌⊎◌, ℕ, ◌+◌, ◌<◌, Bool, true, false, ◌&&◌, nat_lt, ◌==◌, List, [], ◌∷◌, length, take, Option, Some, None, is_some, refl, sym, ap, ◌∙◌, subst, inl, inr, arith}
+use Rattle.std.proofs.Common.{◌≡◌, ◌⊎◌, ℕ, ◌+◌, ◌<◌, ◌≤◌, Bool, true, false, ◌&&◌, nat_lt, ◌==◌, List, [], ◌∷◌, length, take, Option, Some, None, is_some, refl, sym, ap, ◌∙◌, subst, inl, inr, arith}
 use Rattle.std.specs.Ordering.{is_lt}
 use Rattle.std.specs.declared.cmp.Ordering.{Ordering}
 use Rattle.std.specs.declared.cmp.Ordering.TheVariants.{Less, Equal, Greater}
 use Rattle.std.specs.Cmp.{IsTotalOrder}
 use Rattle.std.specs.Cmp.Lexicographic.{nat_list_cmp_total, pointwise}
 use Rattle.std.proofs.lemmas.Cmp.{on_total, then_total, tied_itself}
-use Rattle.std.proofs.lemmas.Bool.{ltb-true, ltb-false}
+use Rattle.std.proofs.lemmas.Bool.{ltb-true, ltb-false, and_parts}
 use Rattle.std.proofs.lemmas.Option.{slice_get_within}
 use Rattle.tx_plan.specs.Plan.{Plan, Code, figures_of, code_named}
 use Rattle.tx_plan.specs.Codes.{is_prefix, after}
 use Rattle.tx_plan.specs.Ambiguous.{ambiguous_of, IsAmbiguousAt}
 use Rattle.tx_plan.specs.Rules.{IsPlan}
+use Rattle.tx_plan.proofs.Absent.{short_code}
 use Rattle.tx_plan.proofs.Ambiguity.{ambiguous-none, ambiguous-some}
-use Rattle.tx_cert.proofs.Names.{entry_at, code_back}
+use Rattle.tx_cert.proofs.Names.{entry_at, code_back, figures_are_code}
 use Rattle.tx_check.specs.LeastPair.{begins, places_cmp, comes_first, lesser_of, with_pair, IsLeastOf, SeenBelow, IsLeastBelow}
 
 module _ (p : Plan) where
@@ -138,6 +139,26 @@ module _ (p : Plan) where
           by : (b : Bool) → nat_lt y.0 first ≡ b → SeenUpTo first n y
           by true t = (s.1, inl (ltb-true y.0 first t))
           by false t = (s.1, inr ((let g = ltb-false y.0 first t in omega (arith, g, s.0)), omega (arith, e, s.1)))
+
+  only_begun : (Seen More : ℕ × ℕ → Type 0) → ((y : ℕ × ℕ) → More y → begins p y ≡ true → Seen y) → (o : Option (ℕ × ℕ)) → IsLeastOf p Seen o → IsLeastOf p More o
+  only_begun Seen More f None h = λ y m b. h y (f y m b) b
+  only_begun Seen More f (Some z) h = (h.0, h.1, h.2, λ y m b. h.3 y (f y m b) b)
+
+  -- a code of three figures begins no longer one
+  pub row_skip : (rules : IsPlan p) (first : ℕ) (o : Option (ℕ × ℕ)) → 3 ≤ length (figures_of p first) → IsLeastBelow p first o → IsLeastBelow p (first + 1) o
+  row_skip rules first o long h = only_begun (SeenBelow p first) (SeenBelow p (first + 1)) step o h
+    where
+      step : (y : ℕ × ℕ) → SeenBelow p (first + 1) y → begins p y ≡ true → SeenBelow p first y
+      step y s b = by (nat_lt y.0 first) refl
+        where
+          by : (t : Bool) → nat_lt y.0 first ≡ t → SeenBelow p first y
+          by true t = (ltb-true y.0 first t, s.1)
+          by false t =
+              let same : y.0 ≡ first = let g = ltb-false y.0 first t in omega (arith, g, s.0) in
+              let e = ap (λ k. length (figures_of p k)) same in
+              let l = ltb-true (length (figures_of p y.0)) (length (figures_of p y.1)) (and_parts (is_prefix (figures_of p y.0) (figures_of p y.1)) (nat_lt (length (figures_of p y.0)) (length (figures_of p y.1))) b).1 in
+              let few = short_code (figures_of p y.1) (figures_are_code p rules y.1 s.1) in
+              absurd (omega (arith, e, l, few, long))
 
   -- nothing was seen yet
   pub no_rows : IsLeastBelow p 0 None

@@ -31,6 +31,10 @@ fn least_with<A: Allocator>(
     ensures { IsLeastBelow plan.now (first + 1) result }
 {
     plan.rules();
+    // No code is longer than three figures.
+    if plan.code_figures(first).len() >= 3 {
+        return least;
+    }
     let mut least = least;
     for place in 0..plan.codes() {
         least = with_pair(plan, first, CodeId::at(place as u16), least);

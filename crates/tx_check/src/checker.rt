@@ -17,7 +17,7 @@ use tx_state::certified_is_sound;
 /// Whether the ranks of the certificate show that no call of the plan passes more than `limit` transits, and that NC is answered only after a second
 /// head-on collision, or where more than `spare` listed groups are all down or have no free circuit.
 /// A Yes means that the plan is certified, and so sound: in every run, whatever the events, every state is safe and every NC is excused, and at most
-/// twice `limit` and three Routes of one call are accepted. Takes no memory, and looks at each route list once.
+/// twice `limit` and three Routes of one call are accepted. Takes no memory, and looks at each route list once where nothing is wrong with it.
 pub fn check<A: Allocator>(plan: &Plan<A>, cert: &Cert<A>, limit: u8, spare: u8) -> Verdict
     requires limit { limit ≤ 62 }
     requires spare { spare ≤ 15 }

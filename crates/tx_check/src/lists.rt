@@ -1,5 +1,5 @@
 // The faults of route lists.
-ghost use Rattle.std.specs.Prelude.{◌≡◌, is_none, find, length, nat_le, option_map};
+ghost use Rattle.std.specs.Prelude.{◌≡◌, ◌||◌, is_none, find, length, nat_le, option_map};
 ghost use Rattle.tx_check.specs.declared.fault.CheckFault.TheVariants.{Short, TargetUnranked, NotLower};
 ghost use Rattle.tx_check.specs.Firsts.{firsts_of, or_later};
 ghost use Rattle.tx_check.specs.Checks.{ranks_for, foremost, fault_if, at_pairs, at_exchanges, is_at_least, rank_beyond, k5_at, k6_at, k7_at, k5_faults, k6_faults, k7_faults};
@@ -95,8 +95,7 @@ fn pair_faults<A: Allocator>(
         return Firsts::none();
     };
     let list = plan.list(exchange, code);
-    let unranked = first_unranked(plan, cert, code, exchange, list);
-    let not_lower = first_not_lower(plan, cert, code, exchange, rank, list);
+    let (unranked, not_lower) = first_wrong(plan, cert, code, exchange, rank, list);
     Firsts {
         short: short_fault(code, exchange, list, spare),
         unranked: unranked_fault(code, exchange, unranked),
@@ -136,6 +135,52 @@ fn not_lower_fault(code: CodeId, exchange: ExchangeId, group: Option<GroupId>) -
         Some(group) => Some(CheckFault::NotLower(code, exchange, group)),
         None => None,
     }
+}
+
+/// The first group of the list that leads to an exchange without rank, and the first that leads to a rank that is not smaller.
+fn first_wrong<A: Allocator>(
+    plan: &Plan<A>,
+    cert: &Cert<A>,
+    code: CodeId,
+    exchange: ExchangeId,
+    rank: u16,
+    list: &[GroupId],
+) -> (Option<GroupId>, Option<GroupId>)
+    ensures unranked { result.0 ≡ find (λ g. is_none (rank_beyond plan.now (ranks_for plan.now cert.now) code exchange g)) list.now }
+    ensures not_lower { result.1 ≡ find (λ g. is_at_least (rank_beyond plan.now (ranks_for plan.now cert.now) code exchange g) rank) list.now }
+{
+    // Where nothing is wrong, one pass over the list tells it.
+    match first_either(plan, cert, code, exchange, rank, list) {
+        None => (None, None),
+        Some(_) => (
+            first_unranked(plan, cert, code, exchange, list),
+            first_not_lower(plan, cert, code, exchange, rank, list),
+        ),
+    }
+}
+
+/// The first group of the list that leads to an exchange without rank, or to a rank that is not smaller.
+fn first_either<A: Allocator>(
+    plan: &Plan<A>,
+    cert: &Cert<A>,
+    code: CodeId,
+    exchange: ExchangeId,
+    rank: u16,
+    list: &[GroupId],
+) -> Option<GroupId>
+    ensures { result ≡ find (λ g. is_none (rank_beyond plan.now (ranks_for plan.now cert.now) code exchange g)
+        || is_at_least (rank_beyond plan.now (ranks_for plan.now cert.now) code exchange g) rank) list.now }
+{
+    list.iter().copied().find(|group| is_wrong(
+        rank_beyond(plan, cert, code, exchange, *group),
+        rank,
+    ))
+}
+
+fn is_wrong(rank: Option<u16>, least: u16) -> bool
+    ensures { result ≡ (is_none rank || is_at_least rank least) }
+{
+    rank.is_none() || is_at_least(rank, least)
 }
 
 /// The first group of the list that leads to an exchange without rank.

@@ -1,4 +1,4 @@
-//! The states of all circuits of a plan, with free lists by index.
+//! The states of all circuits of a plan: which are seized, carried, releasing or out of service, with the circuits that an end may seize in free lists.
 #![tactic(auto)]
 
 mod chain;

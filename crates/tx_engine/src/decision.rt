@@ -9,8 +9,8 @@ ghost use Rattle.tx_engine.specs.Decided.{decided, by_line};
 use std::alloc::Allocator;
 use tx_circuits::CircuitTable;
 use tx_lines::{LineAnswer, LineBook};
-use tx_network::{OpenCall, place_of, rest_after};
-use tx_plan::{Circuit, CodeId, ExchangeId, Line, Plan};
+use tx_network::{OpenCall, place_of};
+use tx_plan::{Circuit, CodeId, ExchangeId, Line, Plan, rest_after};
 use tx_state::Service;
 use tx_trie::CodeTrie;
 

@@ -1,4 +1,15 @@
-// The indexed network: open calls under keys and by number, and the states of lines and circuits by index.
+//! The indexed network: the engine that runs play on.
+//!
+//! An `Engine` keeps the open calls under keys, by number and by circuit, and the states of lines and circuits by index. It replies as the definitions of
+//! tx_state do, event by event, as every `Network`. `play` takes a list of events.
+//!
+//! ```
+//! /// The reply where the first group of a plan fails before any call: that none was lost.
+//! fn fail_first_group(alloc: Global, plan: &Plan) -> Result<Reply, NoMemory> {
+//!     let mut network = Engine::new(alloc, plan)?;
+//!     network.apply(Event::Fail(GroupId::at(0)))
+//! }
+//! ```
 #![tactic(auto)]
 
 mod confirm;

@@ -14,7 +14,7 @@ use Rattle.tx_script.specs.declared.run_cause.RunCause.TheVariants.{Read, Write,
 use Rattle.tx_script.specs.Answers.{Moved, Stopped, RunAnswers}
 use Rattle.tx_audit.specs.CheckedRuns.{Bytes}
 use Rattle.tx_jobs.specs.declared.job_fault.JobFault.{JobFault}
-use Rattle.tx_jobs.specs.Jobs.{Simulated}
+use Rattle.tx_jobs.specs.Jobs.{ScriptRan}
 
 module _ (B D : Type 0) (f : B → D) where
   pub refused_with : (old new : Option (List ℕ)) (U : Type 0) (n : ℕ) (k : Kind PlanWord) → ReadsPlan old new B U (Err (n, k)) → ReadsPlan old new D U (Err (n, k))
@@ -32,6 +32,6 @@ module _ (B D : Type 0) (f : B → D) where
     ran_with x U (Ok summary) h = h
     ran_with x U (Err q) h = stopped_with x U q.event q.cause h
 
-    pub simulated_with : (x : Bytes) (U : Type 0) (result : Result Summary JobFault) → Simulated p x B U result → Simulated p x D U result
+    pub simulated_with : (x : Bytes) (U : Type 0) (result : Result Summary JobFault) → ScriptRan p x B U result → ScriptRan p x D U result
     simulated_with x U result (inl h) = inl (record { answer = h.answer; ran = record { state = h.ran.state; ran = ran_with _ _ h.answer h.ran.ran }; told = h.told })
     simulated_with x U result (inr h) = inr h

@@ -2,12 +2,12 @@
 use Rattle.std.proofs.Common.{◌≡◌, ◌∙◌, inl, inr, Err, ap}
 use Rattle.tx_plan.specs.Plan.{Plan}
 use Rattle.tx_script.specs.declared.run_fault.RunFault.{RunFault}
-use Rattle.tx_audit.specs.CheckedRuns.{Bytes, Simulated as RanSo}
+use Rattle.tx_audit.specs.CheckedRuns.{Bytes, Simulated}
 use Rattle.tx_jobs.specs.declared.job_fault.JobFault.{JobFault}
 use Rattle.tx_jobs.specs.JobFaults.{run_fault}
-use Rattle.tx_jobs.specs.Jobs.{Simulated}
+use Rattle.tx_jobs.specs.Jobs.{ScriptRan}
 
 module _ (p : Plan) (x : Bytes) (broken untouched : Type 0) (f : RunFault) (told : JobFault) (by : told ≡ run_fault f) where
-  pub told_stop : RanSo p x broken untouched (Err f) → Simulated p x broken untouched (Err told)
+  pub told_stop : Simulated p x broken untouched (Err f) → ScriptRan p x broken untouched (Err told)
   told_stop (inl h) = inl (record { answer = Err f; ran = h; told = ap Err by })
   told_stop (inr h) = inr (ap Err (by ∙ ap run_fault h.0), h.1)

@@ -31,8 +31,9 @@ pub record RanPlan (p : Plan) (x : Bytes) (broken untouched : Type 0) (result : 
 abbrev pub HadNoRoom : Type 0 → Result Summary JobFault → Type 0
 HadNoRoom untouched result = (result ≡ Err NoMemory) × untouched
 
-abbrev pub Simulated : Plan → Bytes → (broken untouched : Type 0) → Result Summary JobFault → Type 0
-Simulated p x broken untouched result = RanPlan p x broken untouched result ⊎ HadNoRoom untouched result
+-- the script was run, or there was no memory for the network
+abbrev pub ScriptRan : Plan → Bytes → (broken untouched : Type 0) → Result Summary JobFault → Type 0
+ScriptRan p x broken untouched result = RanPlan p x broken untouched result ⊎ HadNoRoom untouched result
 
 -- the plan was read, and then the script was run
 pub record PlanRead (old new : Option (List ℕ)) (after : Plan → Type 0) : Type 0 where
@@ -51,7 +52,7 @@ pub record PlanRefused {X : Type 0} (old new : Option (List ℕ)) (broken unread
 -- `run PLAN SCRIPT`
 abbrev pub RunJobAnswers : (old new : Option (List ℕ)) → Bytes → (plan_broken unread script_broken untouched : Type 0) → Result Summary JobFault → Type 0
 RunJobAnswers old new x plan_broken unread script_broken untouched result =
-    PlanRead old new (λ p. Simulated p x script_broken untouched result) ⊎ PlanRefused old new plan_broken unread untouched result
+    PlanRead old new (λ p. ScriptRan p x script_broken untouched result) ⊎ PlanRefused old new plan_broken unread untouched result
 
 -- `codes PLAN`: the codes and the least ambiguous pair were written, and that pair is told
 abbrev pub ToldCodes : Plan → (old new : Option (List ℕ)) → (untouched : Type 0) → Result (Option (ℕ × ℕ)) JobFault → Type 0

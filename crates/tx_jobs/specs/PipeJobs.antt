@@ -8,7 +8,7 @@ use Rattle.tx_pipe.specs.InputCalls.{FailedLast, calls_of_input}
 use Rattle.tx_pipe.specs.Telling.{text_in_hand, text_behind, at_script, PipeCall}
 use Rattle.tx_script.specs.declared.summary.Summary.{Summary}
 use Rattle.tx_jobs.specs.declared.job_fault.JobFault.{JobFault}
-use Rattle.tx_jobs.specs.Jobs.{PlanRead, PlanRefused, Simulated}
+use Rattle.tx_jobs.specs.Jobs.{PlanRead, PlanRefused, ScriptRan}
 
 -- A text was read by at most so many calls of `read`, and so by at most so many calls of the source inside.
 pub record PipeCalls {R : Type 0} (rest : R → Option (List ℕ)) (failed : R → Bool) (called : ℕ → Result ℕ ReadFault → R → R → Type 0) (a c : TwoTexts R) : Type 0 where
@@ -37,7 +37,7 @@ pub record PipeRan {R : Type 0} (rest : R → Option (List ℕ)) (failed : R →
   pub script_calls : PipeCalls rest failed called (at_script read_to) new
   pub answers :
       PlanRead (text_in_hand rest old) (text_in_hand rest read_to)
-      (λ p. Simulated p (record { rest_old = text_behind rest old; rest_new = text_in_hand rest new; taken_old = taken_old; taken_new = taken_new }) (PipeBroken rest failed called old (at_script read_to) new) ((new ≡ at_script read_to) × silent) result)
+      (λ p. ScriptRan p (record { rest_old = text_behind rest old; rest_new = text_in_hand rest new; taken_old = taken_old; taken_new = taken_new }) (PipeBroken rest failed called old (at_script read_to) new) ((new ≡ at_script read_to) × silent) result)
 
 -- The plan was refused, and nothing was written.
 pub record PipeRefused {R : Type 0} (rest : R → Option (List ℕ)) (failed : R → Bool) (called : ℕ → Result ℕ ReadFault → R → R → Type 0) (old new : TwoTexts R) (silent : Type 0) (result : Result Summary JobFault) : Type 0 where

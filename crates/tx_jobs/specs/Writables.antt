@@ -1,4 +1,4 @@
--- Events can be written in at most one way, as a type that keeps it has to know.
+-- That events can be written is known in at most one way. A type that keeps it needs that.
 use Rattle.std.specs.Prelude.{List}
 use Rattle.std.specs.Coded.{Unit-prop, le_prop}
 use Rattle.std.specs.List.{AllByRecursion, AllByRecursion-prop}

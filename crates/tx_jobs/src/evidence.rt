@@ -6,7 +6,7 @@ use tx_cert::Cert;
 use tx_plan::Plan;
 use tx_state::Event;
 
-/// Events that show what is wrong with a plan. They can be written as a script.
+/// A plan, and events that can be written as a script for it. `evidence_job` says that they show what is wrong with the plan.
 #[derive(Drop)]
 pub struct CounterScript<A: Allocator = Global> {
     pub plan: Plan<A>,

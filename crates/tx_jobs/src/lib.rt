@@ -1,25 +1,25 @@
 //! One job per command, over sources and a sink.
 #![tactic(auto)]
 
-mod allowed;
-mod audits;
+mod audit;
+mod audit_evidence;
+mod check;
+mod codes;
 mod evidence;
-mod evidenced;
 mod fault_line;
 mod job_fault;
-mod judged;
-mod listed;
-mod piped;
-mod scripted;
+mod pipe;
+mod run;
+mod run_checked;
 mod simulate;
 
-pub use allowed::{run_checked_job, run_checked_status};
-pub use audits::audit_job;
+pub use audit::audit_job;
+pub use audit_evidence::evidence_job;
+pub use check::{check_job, check_status};
+pub use codes::{codes_job, codes_status};
 pub use evidence::{CounterScript, Evidence};
-pub use evidenced::evidence_job;
 pub use fault_line::write_fault;
 pub use job_fault::JobFault;
-pub use judged::{check_job, check_status};
-pub use listed::{codes_job, codes_status};
-pub use piped::pipe_job;
-pub use scripted::run_job;
+pub use pipe::pipe_job;
+pub use run::run_job;
+pub use run_checked::{run_checked_job, run_checked_status};

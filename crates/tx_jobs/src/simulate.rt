@@ -2,7 +2,7 @@
 ghost use Rattle.std.specs.Prelude.{◌≡◌};
 ghost use Rattle.tx_text.specs.Calls.{Broken, CallsAtMost, source_calls};
 ghost use Rattle.tx_jobs.specs.JobFaults.{mark_after};
-ghost use Rattle.tx_jobs.specs.Jobs.{Simulated};
+ghost use Rattle.tx_jobs.specs.Jobs.{ScriptRan};
 
 use crate::job_fault::JobFault;
 use std::alloc::Allocator;
@@ -18,7 +18,7 @@ pub(crate) fn simulate<A: Allocator + Copy, R: Source, W: Sink>(
     script: &mut R,
     out: &mut W,
 ) -> Result<Summary, JobFault>
-    ensures answers { Simulated plan.now (record { rest_old = R.rest script.old; rest_new = R.rest script.new; taken_old = W.taken out.old; taken_new = W.taken out.new })
+    ensures answers { ScriptRan plan.now (record { rest_old = R.rest script.old; rest_new = R.rest script.new; taken_old = W.taken out.old; taken_new = W.taken out.new })
         (Broken R.called (R.failed script.new) source_calls script.old script.new) ((script.new ≡ script.old) × (out.new ≡ out.old)) result }
     ensures mark { W.failed out.new ≡ mark_after (W.failed out.old) result }
     ensures calls { CallsAtMost R.called source_calls script.old script.new }

@@ -130,12 +130,6 @@ module _ {S : Type 0} where
       by None = none k
       by (Some s) = refl
 
-  -- a mark's own set
-  pub marked_is : (k : Mark) (m : IndexMap Line Status S) → with_status (has k) m ≡ marked k (sets_of m)
-  marked_is Faulty m = refl
-  marked_is Away m = refl
-  marked_is Engaged m = refl
-
   -- a line that has no entry may be said to have none
   pub still : (m : IndexMap Line Status S) (line : Line) → index.get same_line m line ≡ None → (q : Line) → index.get same_line m q ≡ cond (same_line line q) None (index.get same_line m q)
   still m line none q =
@@ -209,10 +203,6 @@ kept_has s k = by (is_unmarked s) refl k
     by true e Faulty = let p = and_parts (not s.faulty) (not s.away && not s.engaged) e in unset s.faulty p.0
     by true e Away = let p = and_parts (not s.faulty) (not s.away && not s.engaged) e in let q = and_parts (not s.away) (not s.engaged) p.1 in unset s.away q.0
     by true e Engaged = let p = and_parts (not s.faulty) (not s.away && not s.engaged) e in let q = and_parts (not s.away) (not s.engaged) p.1 in unset s.engaged q.1
-
-pub ok_of : {T E : Type 0} {A : Type 0} (r : Result T E) → OnErr r A → (A → ⊥) → IsOk r
-ok_of (Ok x) h f = refl
-ok_of (Err e) h f = absurd (f h)
 
 -- there is room for a new key
 pub entry_ok : {T E : Type 0} {A B : Type 0} (r : Result T E) → OnErr r A → (B → IsOk r) → (A → B) → IsOk r

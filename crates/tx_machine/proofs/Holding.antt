@@ -10,10 +10,10 @@ use Rattle.tx_state.specs.Routing.{set_call}
 use Rattle.tx_state.specs.Step.{keyed_call}
 use Rattle.tx_state.specs.Members.{Mem}
 use Rattle.tx_state.proofs.Lists.{mem_append, mem_filter, mem_map}
-use Rattle.tx_lists.proofs.Sweeps.{mem_mapped}
+use Rattle.tx_plain_parts.proofs.Sweeps.{mem_mapped}
 use Rattle.tx_network.specs.Seen.{call_seen}
-use Rattle.tx_lists.specs.Seen.{HasRoom, IsReady}
-use Rattle.tx_lists.specs.GivenUp.{AreMarked}
+use Rattle.tx_plain_parts.specs.Seen.{HasRoom, IsReady}
+use Rattle.tx_plain_parts.specs.GivenUp.{AreMarked}
 use Rattle.tx_machine.specs.Whole.{AreHeld}
 use Rattle.tx_network.specs.declared.open_call.OpenCall.{OpenCall}
 
@@ -67,9 +67,6 @@ held_map groups numbers cs h F same marked = record {
   one = λ c d m k e. let q = mem_map F cs c m in let r = mem_map F cs d k in sym q.2 ∙ ap F (h.one q.0 r.0 q.1 r.1 (sym (same q.0) ∙ ap (λ (z : Call). z.number) q.2 ∙ e ∙ sym (ap (λ (z : Call). z.number) r.2) ∙ same r.0)) ∙ r.2;
   given = λ c m. let q = mem_map F cs c m in subst (λ k. k ≤ numbers) (sym (same q.0) ∙ ap (λ (z : Call). z.number) q.2) (h.given q.0 q.1);
 }
-
-pub in_one : {x y : Circuit} (xs : List Circuit) → Mem (xs ++ x ∷ []) y → Mem xs y ⊎ (x ≡ y)
-in_one {x} {y} xs m = elim (mem_append xs (x ∷ []) y m) [ inl o ↦ inl o | inr r ↦ elim r [ inl e ↦ inr e | inr b ↦ absurd b ] ]
 
 -- the calls with the number of a call that seizes a circuit have room
 pub calling_ready : {A : Type 0} (groups numbers n : ℕ) (calls : List (OpenCall A)) → AreHeld groups numbers (map call_seen calls) → ((c : OpenCall A) → Mem calls c → HasRoom c) → (k : Call) (x : Circuit) → Mem (map call_seen calls) k → k.number ≡ n → k.phase ≡ Calling x → (c : OpenCall A) → Mem calls c → IsReady n c

@@ -9,10 +9,10 @@ use Rattle.tx_state.specs.Call.{Call}
 use Rattle.tx_state.specs.Ended.{Ended}
 use Rattle.tx_state.specs.State.{Net}
 use Rattle.tx_state.specs.InUse.{circuits_used}
-use Rattle.tx_marks.specs.Marks.{Circuits, Groups}
+use Rattle.tx_plain_parts.specs.Marks.{Circuits, Groups}
 use Rattle.tx_network.specs.Seen.{call_seen}
-use Rattle.tx_lists.specs.Seen.{HasRoom}
-use Rattle.tx_lists.specs.GivenUp.{AreMarked}
+use Rattle.tx_plain_parts.specs.Seen.{HasRoom}
+use Rattle.tx_plain_parts.specs.GivenUp.{AreMarked}
 use Rattle.tx_network.specs.declared.open_call.OpenCall.{OpenCall}
 
 -- what holds of the calls: their circuits have marks, each has a number of its own, and its number was given

@@ -1,9 +1,10 @@
-// The plain network, over the state and the step of a network.
+//! The plain network: a network of exchanges as lists and marks, which replies as the definitions of tx_state do.
 #![tactic(auto)]
 
 mod confirm;
 mod ending;
 mod facts;
+mod keying;
 mod looking;
 mod meeting;
 mod plain;

@@ -6,7 +6,7 @@ ghost use Rattle.tx_plan.specs.Circuits.{upward, downward};
 use crate::plain::Plain;
 use crate::truth::none_of;
 use std::alloc::Allocator;
-use tx_lists::{carried_by, seized_from};
+use tx_plain_parts::{carried_by, seized_from};
 use tx_plan::{Circuit, CodeId, ExchangeId, GroupId};
 
 impl<'p, A: Allocator + Copy> Plain<'p, A> {

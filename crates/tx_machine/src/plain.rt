@@ -6,8 +6,8 @@ ghost use Rattle.tx_state.specs.Refusals.{refusal};
 
 use std::alloc::{Allocator, Global};
 use std::marker::Model;
-use tx_marks::{CircuitMarks, GroupMarks};
 use tx_network::{OpenCall, refusal};
+use tx_plain_parts::{CircuitMarks, GroupMarks};
 use tx_plan::{Line, Plan};
 use tx_state::{Event, Network, Refusal, Reply, Ticket};
 use tx_text::NoMemory;

@@ -16,9 +16,9 @@ use crate::plain::Plain;
 use crate::routing::Routing;
 use crate::truth::both;
 use std::alloc::Allocator;
-use tx_lists::{Change, Ends, call_of, change_numbered, code_of, reserve_hop};
-use tx_network::{Facts, OpenCall, place_of, rest_after};
-use tx_plan::{Circuit, CodeId, ExchangeId, Line};
+use tx_network::{Facts, OpenCall, place_of};
+use tx_plain_parts::{Change, Ends, call_of, change_numbered, reserve_hop};
+use tx_plan::{Circuit, CodeId, ExchangeId, Line, code_of, rest_after};
 use tx_state::{Cause, Hop, Phase, Reply, Service};
 use tx_text::NoMemory;
 

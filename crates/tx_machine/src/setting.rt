@@ -1,45 +1,17 @@
-// Events that change one thing.
-ghost use Rattle.std.specs.Prelude.{◌≡◌, ◌<◌, ◌+◌, ◌-◌, ◌^◌, IfOk, OnErr, length, true, false};
-ghost use Rattle.tx_state.specs.Step.{step, accepted, counted};
+// Events that change one mark.
+ghost use Rattle.std.specs.Prelude.{◌≡◌, ◌<◌, ◌-◌, ◌^◌, IfOk, OnErr, length, true};
+ghost use Rattle.tx_state.specs.Step.{accepted, counted};
 ghost use Rattle.tx_plan.specs.Circuits.{is_circuit};
-ghost use Rattle.tx_state.specs.declared.event.Event.TheVariants.{Key, LineFault, LineAway, LineMend, LineBack, Released, CircuitOut, CircuitIn, Block, Unblock, Restore};
+ghost use Rattle.tx_state.specs.declared.event.Event.TheVariants.{LineFault, LineAway, LineMend, LineBack, Released, CircuitOut, CircuitIn, Block, Unblock, Restore};
 
 use crate::plain::Plain;
 use std::alloc::Allocator;
-use tx_lists::take_line;
-use tx_network::OpenCall;
+use tx_plain_parts::take_line;
 use tx_plan::{Circuit, GroupId, Line};
-use tx_state::{Phase, Reply, put};
-use tx_text::{Figures, NoMemory};
+use tx_state::Reply;
+use tx_text::NoMemory;
 
 impl<'p, A: Allocator + Copy> Plain<'p, A> {
-    /// A new call.
-    pub(crate) fn key(&mut self, line: Line, keyed: Figures) -> Result<Reply, NoMemory>
-        requires numbers { self.old.state.numbers < 2 ^ 32 - 1 }
-        requires events { self.old.state.events < 2 ^ 64 - 1 }
-        ensures plan { self.new.plan ≡ self.old.plan }
-        ensures ok { IfOk result (λ reply. counted (accepted self.old.plan self.old.state (Key line keyed)) ≡ (reply, self.new.state)) }
-        ensures err { OnErr result (self.new ≡ self.old) }
-    {
-        self.calls.reserve(1)?;
-        let open = self.calls.len();
-        self.tickets.reserve(open + 1)?;
-        let number = self.numbers + 1;
-        let call = OpenCall {
-            number,
-            line,
-            keyed,
-            keyed_at: self.events + 1,
-            hops: Vec::new(self.alloc),
-            phase: Phase::Standing,
-            collided: false,
-        };
-        put(&mut self.calls, call);
-        self.numbers = number;
-        self.events += 1;
-        Ok(Reply::Keyed(number))
-    }
-
     /// A circuit is released.
     pub(crate) fn release(&mut self, circuit: &Circuit) -> Reply
         requires events { self.old.state.events < 2 ^ 64 - 1 }
@@ -139,7 +111,7 @@ impl<'p, A: Allocator + Copy> Plain<'p, A> {
     }
 
     /// A line is mended.
-    #[tactic(auto, using(tx_lists::proofs::LineSets::lines_without))]
+    #[tactic(auto, using(tx_plain_parts::proofs::LineSets::lines_without))]
     pub(crate) fn line_mend(&mut self, line: &Line) -> Reply
         requires events { self.old.state.events < 2 ^ 64 - 1 }
         ensures step { counted (accepted self.old.plan self.old.state (LineMend line.now)) ≡ (result, self.new.state) }
@@ -151,7 +123,7 @@ impl<'p, A: Allocator + Copy> Plain<'p, A> {
     }
 
     /// A line is back.
-    #[tactic(auto, using(tx_lists::proofs::LineSets::lines_without))]
+    #[tactic(auto, using(tx_plain_parts::proofs::LineSets::lines_without))]
     pub(crate) fn line_back(&mut self, line: &Line) -> Reply
         requires events { self.old.state.events < 2 ^ 64 - 1 }
         ensures step { counted (accepted self.old.plan self.old.state (LineBack line.now)) ≡ (result, self.new.state) }

@@ -2,13 +2,11 @@
 #![tactic(auto)]
 
 mod facts;
-mod figures;
 mod open_call;
 mod places;
 mod refusals;
 
 pub use facts::Facts;
-pub use figures::{after, rest_after};
 pub use open_call::OpenCall;
 pub use places::{far_of, place_of};
 pub use refusals::refusal;

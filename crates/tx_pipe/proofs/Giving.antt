@@ -18,13 +18,6 @@ next_of_script line held n le = record { within = le; hand = hand; behind = λ _
     hand None = refl
     hand (Some more) = ap Some (split_at n held more)
 
-pub next_of_none : (line : Option (List ℕ)) (held : List ℕ) → IsNext PlanOver line held PlanOver line 0
-next_of_none line held = record { within = omega arith; hand = hand; behind = λ _. refl }
-  where
-    hand : (input : Option (List ℕ)) → in_hand PlanOver line held input ≡ prepend_known (take 0 held) (in_hand PlanOver line (drop 0 held) input)
-    hand None = refl
-    hand (Some more) = refl
-
 module _ (line new : Option (List ℕ)) (held : List ℕ) (n : ℕ) (le : n ≤ length held) where
   pub next_of_plan : Finds line (take n held) new None → IsNext Plan line held Plan new n
   next_of_plan f = record { within = le; hand = hand; behind = rest }

@@ -12,9 +12,6 @@ pub record Parted (old : Option (List ℕ)) (bytes : List ℕ) (line : Option (L
   pub plan : (more : List ℕ) → plan_part old (bytes ++ more) ≡ taken ++ plan_part line (rest ++ more)
   pub script : (more : List ℕ) → script_part old (bytes ++ more) ≡ script_part line (rest ++ more)
 
-pub parted_start : (line : Option (List ℕ)) (bytes : List ℕ) → Parted line bytes line bytes
-parted_start line bytes = record { taken = []; whole = refl; plan = λ _. refl; script = λ _. refl }
-
 plan_on : (line : Option (List ℕ)) (b : ℕ) (bs : List ℕ) → ends_plan line b ≡ false → plan_part line (b ∷ bs) ≡ b ∷ plan_part (next_line line b) bs
 unfolding plan_part
 plan_on line b bs e = ap (λ t. b ∷ (if t then [] else plan_part (next_line line b) bs)) e
@@ -53,8 +50,3 @@ module _ (old line : Option (List ℕ)) (bytes : List ℕ) (b : ℕ) (rest : Lis
       let taken : take n bytes ≡ front = ap (λ k. take k bytes) count ∙ ap (take (length front)) further ∙ take-append_seam front rest in
       let left : drop n bytes ≡ rest = ap (λ k. drop k bytes) count ∙ ap (drop (length front)) further ∙ drop-append_seam front rest in
       (omega (arith, count, some), omega (arith, count, size), λ more. (p.plan more ∙ ap (λ t. p.taken ++ t) (plan_over line b (rest ++ more) e) ∙ sym taken, p.script more ∙ script_over line b (rest ++ more) e ∙ ap (λ t. t ++ more) (sym left)))
-
-pub parted_all : (old line : Option (List ℕ)) (bytes : List ℕ) → Parted old bytes line [] → Finds old bytes line None
-parted_all old line bytes p more =
-    let all : p.taken ≡ bytes = sym (p.whole ∙ append-nil p.taken) in
-    (p.plan more ∙ ap (λ t. t ++ plan_part line more) all, p.script more)

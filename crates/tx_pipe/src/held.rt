@@ -27,6 +27,7 @@ impl Model for Held {
 }
 
 impl Held {
+    #[inline(always)]
     pub(crate) fn new() -> Held
         ensures { result ≡ [] }
     {
@@ -37,6 +38,7 @@ impl Held {
         }
     }
 
+    #[inline(always)]
     pub(crate) fn bytes(&self) -> &[u8]
         ensures bytes { result.now ≡ self.now }
         ensures short { length result.now ≤ 4096 }
@@ -45,6 +47,7 @@ impl Held {
     }
 
     /// Gives so many bytes on.
+    #[inline(always)]
     pub(crate) fn give(&mut self, n: usize)
         requires { n ≤ length self.old }
         ensures { self.new ≡ drop n self.old }
@@ -53,6 +56,7 @@ impl Held {
     }
 
     /// Reads the next piece.
+    #[inline(always)]
     pub(crate) fn fill<R: Source>(&mut self, source: &mut R) -> Result<(), ReadFault>
         requires { self.old ≡ [] }
         ensures bytes { R.rest source.old ≡ prepend_known self.new (R.rest source.new) }

@@ -23,6 +23,7 @@ impl Model for LineSoFar {
 }
 
 impl LineSoFar {
+    #[inline(always)]
     pub(crate) fn new() -> LineSoFar
         ensures { result ≡ Some [] }
     {
@@ -34,6 +35,7 @@ impl LineSoFar {
 
     /// Whether the one word of the line is END.
     #[tactic(auto, unfolding(crate::specs::Parts::is_end_line))]
+    #[inline(always)]
     fn is_end(&self) -> bool
         ensures { result ≡ is_end_line self.now }
     {
@@ -41,6 +43,7 @@ impl LineSoFar {
     }
 
     /// Takes the next byte, and tells whether it is the LF of a line whose one word is END.
+    #[inline(always)]
     fn take(&mut self, byte: u8) -> bool
         ensures ends { result ≡ ends_plan self.old byte }
         ensures line { self.new ≡ next_line self.old byte }
@@ -58,6 +61,7 @@ impl LineSoFar {
     }
 
     /// Takes the bytes up to and with the LF of the first line whose one word is END, and tells how many those are; or takes all.
+    #[inline(always)]
     pub(crate) fn find_end(&mut self, bytes: &[u8]) -> Option<usize>
         ensures { Finds self.old bytes.now self.new result }
     {

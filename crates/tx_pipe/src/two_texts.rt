@@ -28,6 +28,7 @@ pub struct TwoTexts<R> {
 }
 
 impl<R: Source> TwoTexts<R> {
+    #[inline(always)]
     pub fn new(source: R) -> TwoTexts<R>
         ensures source { result.source ≡ source }
         ensures held { result.held ≡ [] }
@@ -45,6 +46,7 @@ impl<R: Source> TwoTexts<R> {
     }
 
     /// Goes on to the script. Where the plan was read to its end, all that stands behind it is then to come.
+    #[inline(always)]
     pub fn go_on(&mut self)
         ensures on { self.new ≡ at_script self.old }
         ensures script { self.old.part ≢ Part.Script → IsAtEnd (text_in_hand R.rest self.old) → text_in_hand R.rest self.new ≡ text_behind R.rest self.old }
@@ -53,6 +55,7 @@ impl<R: Source> TwoTexts<R> {
     }
 
     /// Reads the next piece where the last one was given whole.
+    #[inline(always)]
     fn refill(&mut self) -> Result<(), ReadFault>
         requires failed { self.old.failed ≡ false }
         requires part { self.old.part ≢ Part.PlanOver }
@@ -74,6 +77,7 @@ impl<R: Source> TwoTexts<R> {
     }
 
     /// How many of the bytes that were read ahead belong to the text in hand, where there is room for so many.
+    #[inline(always)]
     fn next(&mut self, room: usize) -> usize
         ensures source { self.new.source ≡ self.old.source }
         ensures held { self.new.held ≡ self.old.held }
@@ -110,6 +114,7 @@ impl<R: Source> Source for TwoTexts<R> {
 
     ghost called = { PipeCall R.rest R.failed R.called };
 
+    #[inline(always)]
     fn read(&mut self, buf: &mut [u8]) -> Result<usize, ReadFault> {
         if self.failed {
             return Err(ReadFault);

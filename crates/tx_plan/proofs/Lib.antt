@@ -3,9 +3,12 @@ pub mod Among
 pub mod Ambiguity
 pub mod Lookups
 pub mod Tables
+pub mod PlaceTable
 pub mod Absent
 pub mod LineFound
 pub mod Lists
 pub mod Growing
 pub mod Made
 pub mod SeenWords
+pub mod Fronts
+pub mod Longest

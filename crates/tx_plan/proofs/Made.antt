@@ -6,7 +6,7 @@ use Rattle.tx_plan.specs.declared.pair.Pair.{Pair}
 use Rattle.tx_plan.specs.declared.range.LineRange.{LineRange}
 use Rattle.tx_plan.specs.Plan.{Plan}
 use Rattle.tx_plan.specs.Rules.{IsPlan}
-use Rattle.tx_plan.specs.Tables.{code_of_row, group_of_row, route_of_row}
+use Rattle.tx_plan.specs.Tables.{code_of_row, group_of_row}
 use Rattle.tx_plan.specs.Declaring.{first_true, exchange_refusals, code_refusals, lines_refusals, group_refusals, route_refusals, bar_refusals, exchange_at, code_at, group_at}
 use Rattle.tx_plan.proofs.Growing.{kept_exchange, kept_code, kept_lines, kept_group, kept_route, kept_bar}
 
@@ -28,7 +28,7 @@ module _ (p now : Plan) (v : p ≡ now) (m : IsPlan p) where
   pub made_group : (name a b : List ℕ) (d : Direction) (count : ℕ) (e : List ℕ × GroupRow) → first_true (group_refusals now name a b count) ≡ None → e ≡ (name, record { a = exchange_at now a; b = exchange_at now b; direction = d; count = count }) → IsPlan (record p { groups = p.groups ++ group_of_row e ∷ [] })
   made_group name a b d count e h k = rw (k, ← v) (kept_group p name a b d count m (subst (λ q. first_true (group_refusals q name a b count) ≡ None) (sym v) h))
 
-  pub made_route : (x c : List ℕ) (gs : List (List ℕ)) (e : Pair × List ℕ) → first_true (route_refusals now x c gs) ≡ None → e ≡ (record { exchange = exchange_at now x; code = code_at now c }, map (group_at now) gs) → IsPlan (record p { routes = p.routes ++ route_of_row e ∷ [] })
+  pub made_route : (x c : List ℕ) (gs : List (List ℕ)) (e : Pair × List ℕ) → first_true (route_refusals now x c gs) ≡ None → e ≡ (record { exchange = exchange_at now x; code = code_at now c }, map (group_at now) gs) → IsPlan (record p { routes = p.routes ++ record { exchange = e.0.exchange; code = e.0.code; groups = e.1 } ∷ [] })
   made_route x c gs e h k = rw (k, ← v) (kept_route p x c gs m (subst (λ q. first_true (route_refusals q x c gs) ≡ None) (sym v) h))
 
   pub made_bar : (x c : List ℕ) (e : Pair) → first_true (bar_refusals now x c) ≡ None → e ≡ record { exchange = exchange_at now x; code = code_at now c } → IsPlan (record p { bars = p.bars ++ e ∷ [] })

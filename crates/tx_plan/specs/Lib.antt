@@ -10,4 +10,5 @@ pub mod Declaring
 pub mod Certified
 pub mod Orders
 pub mod Tables
+pub mod Places
 pub mod Seen

@@ -2,7 +2,7 @@
 use Rattle.std.specs.Prelude.{ℕ, List}
 use Rattle.tx_plan.specs.Plan.{Code, Group, Route}
 use Rattle.tx_plan.specs.declared.group_row.GroupRow.{GroupRow}
-use Rattle.tx_plan.specs.declared.pair.Pair.{Pair}
+use Rattle.tx_plan.specs.declared.route_row.RouteRow.{RouteRow}
 
 -- figures, and the home of their code
 abbrev pub code_of_row : List ℕ × ℕ → Code
@@ -17,5 +17,5 @@ abbrev pub row_of : Group → GroupRow
 row_of g = record { a = g.a; b = g.b; direction = g.direction; count = g.count }
 
 -- a pair, and the groups of its route
-abbrev pub route_of_row : Pair × List ℕ → Route
-route_of_row e = record { exchange = e.0.exchange; code = e.0.code; groups = e.1 }
+abbrev pub route_of_row : RouteRow → Route
+route_of_row e = record { exchange = e.pair.exchange; code = e.pair.code; groups = e.groups }

@@ -1,5 +1,5 @@
 // What a declaration adds to a plan, or why it is refused.
-ghost use Rattle.std.specs.Prelude.{◌≡◌, ◌≤◌, Some, None, is_some, true, false, not, map, ◌||◌, ◌&&◌, nat_le, IfNone, IfSome, IfOk, IfErr, OnOk, length};
+ghost use Rattle.std.specs.Prelude.{◌≡◌, ◌≤◌, ◌<◌, Some, None, is_some, true, false, not, map, ◌||◌, ◌&&◌, nat_le, IfNone, IfSome, IfOk, IfErr, OnOk, length};
 ghost use Rattle.std.specs.List.{list_any};
 ghost use Rattle.tx_text.specs.Words.{is_name};
 ghost use Rattle.tx_plan.specs.Plan.{exchange_named, code_named, group_named};
@@ -221,7 +221,7 @@ pub(crate) fn group_entry<A: Allocator>(
         a: first,
         b: second,
         direction,
-        count,
+        count: count as u8,
     };
     Ok((Short::new(name), row))
 }
@@ -231,7 +231,9 @@ pub(crate) fn group_entry<A: Allocator>(
 fn pair_of<A: Allocator>(plan: &Plan<A>, exchange: &[u8], code: &[u8]) -> Option<Pair>
     ensures pair { result ≡ pair_named plan.now exchange.now code.now }
     ensures named { IfSome result (λ x. x ≡ record { exchange = exchange_at plan.now exchange.now; code = code_at plan.now code.now }) }
+    ensures few { IfSome result (λ x. x.exchange < 256) }
 {
+    plan.rules();
     let exchange = plan.exchange_named(exchange);
     let code = plan.code_named(code);
     match exchange {
@@ -359,6 +361,7 @@ pub(crate) fn route_entry<A: Allocator>(
     ensures ok { OnOk result (first_true (route_refusals plan.now exchange.now code.now groups.entry) ≡ None) }
     ensures entry { IfOk result (λ e. e ≡ (record { exchange = exchange_at plan.now exchange.now; code = code_at plan.now code.now }, map (group_at plan.now) groups.entry)) }
     ensures fresh { IfOk result (λ e. has_route plan.now e.0.exchange e.0.code ≡ false) }
+    ensures few { IfOk result (λ e. e.0.exchange < 256) }
 {
     let pair = pair_of(plan, exchange, code);
     let seen = see(plan, &pair, groups.again());

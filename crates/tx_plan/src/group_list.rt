@@ -10,7 +10,7 @@ use std::marker::Model;
 #[derive(Drop)]
 pub(crate) struct GroupList {
     groups: [GroupId; 16],
-    len: usize,
+    len: u8,
 }
 
 impl Model for GroupList {
@@ -43,7 +43,7 @@ impl GroupList {
         if self.len >= 16 {
             return false;
         }
-        self.groups[self.len] = group;
+        self.groups[usize::from(self.len)] = group;
         self.len += 1;
         true
     }
@@ -71,7 +71,7 @@ impl GroupList {
     pub fn groups(&self) -> &[GroupId]
         ensures { result.now ≡ self.now }
     {
-        &self.groups[..self.len]
+        &self.groups[..usize::from(self.len)]
     }
 }
 

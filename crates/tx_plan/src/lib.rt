@@ -1,4 +1,23 @@
-// A route plan: what it declares, who makes it, and who reads it.
+//! A route plan: its exchanges, destination codes, subscribers' lines, circuit groups, routes and bars.
+//!
+//! A `PlanBuilder` takes one declaration after another, and refuses each that breaks a rule. A `Plan` that it gives is never changed, and keeps the rules of
+//! all six lists. Exchanges, codes and groups are spoken of by ids, which are places in the order of declaration.
+//!
+//! ```
+//! fn two_exchanges(alloc: Global) -> Result<Plan, PlanRefusal> {
+//!     let mut builder = PlanBuilder::new(alloc);
+//!     builder.exchange(b"NORTH")?;
+//!     builder.exchange(b"SOUTH")?;
+//!     builder.code(b"22", b"NORTH")?;
+//!     builder.code(b"24", b"SOUTH")?;
+//!     builder.lines(b"22", b"31000", b"32999")?;
+//!     builder.lines(b"24", b"51000", b"52999")?;
+//!     builder.group(b"NOSO1", b"NORTH", b"SOUTH", Direction::BothWay, 6)?;
+//!     builder.route(b"NORTH", b"24", words(b"NOSO1"))?;
+//!     builder.route(b"SOUTH", b"22", words(b"NOSO1"))?;
+//!     Ok(builder.finish())
+//! }
+//! ```
 #![tactic(auto)]
 
 mod bars;
@@ -13,14 +32,17 @@ mod group_row;
 mod group_words;
 mod groups;
 mod ids;
+mod keyed;
 mod keys;
 mod line;
 mod national;
 mod pair;
+mod places;
 mod plan;
 mod range;
 mod ranges;
 mod refusal;
+mod route_row;
 mod routes;
 mod rows;
 mod seen;
@@ -29,6 +51,7 @@ pub use builder::PlanBuilder;
 pub use circuit::Circuit;
 pub use direction::Direction;
 pub use ids::{CodeId, ExchangeId, GroupId};
+pub use keyed::{code_of, rest_after};
 pub use line::Line;
 pub use national::National;
 pub use pair::Pair;

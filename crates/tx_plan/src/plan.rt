@@ -339,7 +339,7 @@ impl<A: Allocator> Plan<A> {
         ensures few { result ≤ 240 }
     {
         match self.groups.at(group.index()) {
-            Some(row) => row.count,
+            Some(row) => u32::from(row.count),
             None => 0,
         }
     }

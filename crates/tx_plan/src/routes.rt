@@ -6,7 +6,8 @@ ghost use Rattle.std.specs.Option.{option_map, option_map_or, option_copied};
 use crate::group_list::GroupList;
 use crate::ids::GroupId;
 use crate::pair::Pair;
-use crate::rows::Rows;
+use crate::places::Places;
+use crate::route_row::RouteRow;
 use std::alloc::{Allocator, Global};
 use std::marker::Model;
 use tx_text::NoMemory;
@@ -14,17 +15,21 @@ use tx_text::NoMemory;
 /// Pairs of an exchange and a code, and the groups that the exchange tries for the code.
 #[derive(Drop)]
 pub(crate) struct Routes<A: Allocator = Global> {
-    rows: Rows<Pair, GroupList, A>,
+    rows: Vec<RouteRow, A>,
+    places: Places<A>,
 }
 
 impl<A: Allocator> Model for Routes<A> {
     ghost use Rattle.std.specs.Prelude.{List, map};
     ghost use Rattle.tx_plan.specs.Plan.{Route};
+    ghost use Rattle.tx_plan.specs.Places.{IsIndex};
     ghost use Rattle.tx_plan.specs.Tables.{route_of_row};
 
     ghost Value = { List Route };
 
-    ghost view = { λ t. map route_of_row t.rows };
+    ghost view = { λ t. map route_of_row t.rows.items };
+
+    ghost invariant = { λ t. IsIndex (map route_of_row t.rows.items) t.places };
 }
 
 impl<A: Allocator + Copy> Routes<A> {
@@ -32,7 +37,8 @@ impl<A: Allocator + Copy> Routes<A> {
         ensures { result ≡ [] }
     {
         Routes {
-            rows: Rows::new(alloc),
+            rows: Vec::new(alloc),
+            places: Places::new(alloc),
         }
     }
 }
@@ -50,7 +56,7 @@ impl<A: Allocator> Routes<A> {
     pub fn has(&self, pair: &Pair) -> bool
         ensures { result ≡ list_any (λ r. (r.exchange == pair.now.exchange) && (r.code == pair.now.code)) self.now }
     {
-        self.rows.find(pair).is_some()
+        self.places.find(pair).is_some()
     }
 
     /// The groups of the pair's route.
@@ -58,8 +64,8 @@ impl<A: Allocator> Routes<A> {
     pub fn list(&self, pair: &Pair) -> &[GroupId]
         ensures { result.now ≡ option_map_or (λ r. r.groups) (find (λ r. (r.exchange == pair.now.exchange) && (r.code == pair.now.code)) self.now) [] }
     {
-        match self.rows.get(pair) {
-            Some(list) => list.groups(),
+        match self.places.find(pair) {
+            Some(place) => self.rows[place].groups.groups(),
             None => &[],
         }
     }
@@ -69,16 +75,28 @@ impl<A: Allocator> Routes<A> {
     pub fn pair_at(&self, place: usize) -> Option<&Pair>
         ensures { option_copied result ≡ option_map (λ r. record { exchange = r.exchange; code = r.code }) (slice_get self.now place) }
     {
-        self.rows.key_at(place)
+        match self.rows.get(place) {
+            Some(row) => Some(&row.pair),
+            None => None,
+        }
     }
 
-    /// Appends a route.
+    /// Appends a route. Its place has to be one that a cell can hold; a plan has far fewer.
     #[inline(always)]
     pub fn add(&mut self, pair: Pair, groups: GroupList) -> Result<(), NoMemory>
-        requires { list_any (λ r. (r.exchange == pair.exchange) && (r.code == pair.code)) self.old ≡ false }
+        requires new { list_any (λ r. (r.exchange == pair.exchange) && (r.code == pair.code)) self.old ≡ false }
+        requires few { pair.exchange < 256 }
         ensures ok { OnOk result (self.new ≡ self.old ++ record { exchange = pair.exchange; code = pair.code; groups = groups } ∷ []) }
         ensures err { OnErr result (self.new ≡ self.old) }
     {
-        self.rows.add(pair, groups)
+        let place = self.rows.len();
+        if place >= u32::MAX as usize {
+            return Err(NoMemory);
+        }
+        self.rows.reserve(1)?;
+        self.places.make_room(&pair)?;
+        self.places.put(&pair, place as u32);
+        self.rows.push_reserved(RouteRow { pair, groups });
+        Ok(())
     }
 }

@@ -2,7 +2,7 @@
 ghost use Rattle.std.specs.Prelude.{◌≡◌, ◌++◌, ◌∷◌, ◌<◌, [], false, is_some, OnOk, OnErr, IfSome, length, slice_get, position};
 ghost use Rattle.std.specs.Option.{option_copied, option_map};
 ghost use Rattle.std.specs.List.{list_any};
-ghost use Rattle.std.specs.Map.{keys_of, lookup};
+ghost use Rattle.std.specs.Map.{keys_of};
 
 use indexmap::IndexMap;
 use std::alloc::{Allocator, Global};
@@ -50,14 +50,6 @@ impl<K: Eq + Hash + Drop, V: Drop, A: Allocator> Rows<K, V, A> {
         ensures within { IfSome result (λ i. i < length self.now) }
     {
         self.rows.get_index_of(key)
-    }
-
-    /// The value of a key.
-    #[inline(always)]
-    pub fn get(&self, key: &K) -> Option<&V>
-        ensures { option_copied result ≡ lookup (K.eq key.now) self.now }
-    {
-        self.rows.get(key)
     }
 
     /// The key at a place.

@@ -23,10 +23,6 @@ module _ {A : Type 0} where
   all_between P [] x back h = h.0
   all_between P (y ∷ front) x back h = all_between P front x back h.1
 
-  pub all_front : (P : A → Type 0) (front back : List A) → AllByRecursion P (front ++ back) → AllByRecursion P front
-  all_front P [] back h = tt
-  all_front P (y ∷ front) back h = (h.0, all_front P front back h.1)
-
   pub apart_front : (R : A → A → Type 0) (front : List A) (x : A) (back : List A) → AllPairs R (front ++ x ∷ back) → AllByRecursion (λ y. R y x) front
   apart_front R [] x back h = tt
   apart_front R (y ∷ front) x back h = (all_between (R y) front x back h.0, apart_front R front x back h.1)

@@ -9,6 +9,7 @@ use tx_plan::{Direction, PlanBuilder, PlanRefusal};
 use tx_text::{Words, number};
 
 /// A refusal of the builder as a fault of the line's words.
+#[inline(always)]
 fn told(answer: Result<(), PlanRefusal>) -> Result<(), PlanWord>
     ensures { result ≡ word_told answer }
 {
@@ -74,6 +75,7 @@ fn lines_line<A: Allocator>(plan: &mut PlanBuilder<A>, words: Words<'_>) -> Resu
 
 /// The words after GROUP, where there are as many as there must be.
 #[tactic(auto, using(crate::proofs::Entries::declared_from))]
+#[inline(always)]
 fn group_by<A: Allocator>(
     plan: &mut PlanBuilder<A>,
     name: &[u8],
@@ -118,6 +120,7 @@ fn group_line<A: Allocator>(plan: &mut PlanBuilder<A>, words: Words<'_>) -> Resu
 
 /// ROUTE exchange code groups.
 #[tactic(auto, using(crate::proofs::Entries::declared_from))]
+#[inline(always)]
 fn route_line<A: Allocator>(plan: &mut PlanBuilder<A>, words: Words<'_>) -> Result<(), PlanWord>
     ensures { Declared is_memory (route_line plan.old words.entry) plan.new result }
 {
@@ -149,6 +152,7 @@ fn bar_line<A: Allocator>(plan: &mut PlanBuilder<A>, words: Words<'_>) -> Result
     told(plan.bar(exchange, code))
 }
 
+#[inline(always)]
 fn direction_of(word: &[u8]) -> Option<Direction>
     ensures { result ≡ direction_of word.now }
 {
@@ -161,6 +165,7 @@ fn direction_of(word: &[u8]) -> Option<Direction>
     None
 }
 
+#[inline(always)]
 fn count_of(word: &[u8]) -> u32
     ensures { result ≡ count_of word.now }
 {
@@ -169,6 +174,7 @@ fn count_of(word: &[u8]) -> u32
 
 /// What the line declares under a header of this version.
 #[tactic(auto, unfolding(crate::specs::PlanText::declare))]
+#[inline(always)]
 pub(crate) fn declare<A: Allocator>(
     plan: &mut PlanBuilder<A>,
     version: u8,

@@ -1,4 +1,7 @@
-// Plan texts.
+//! The text of a route plan, both ways.
+//!
+//! `read_plan` and `read_plan_from` take a text exactly where it keeps to the format, and else tell its first fault with its line. What `write_plan` writes
+//! reads back as the same plan.
 #![tactic(auto)]
 
 mod declaring;

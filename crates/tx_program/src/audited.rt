@@ -19,7 +19,7 @@ pub(crate) fn audit_file<A: Allocator + Copy, R: Read + Drop, F: Folder, O: Writ
     folder: &F,
     output: &Output<O, A>,
 ) -> Result<u8, JobFault> {
-    let mut plan = output.source(plan);
+    let mut plan = output.source(alloc, plan)?;
     let mut sink = output.sink();
     let with_script = keep.counter.is_some();
     let evidence = evidence_job(

@@ -1,10 +1,13 @@
-// The ends of a command. Output is buffered, and goes out before the program waits for input.
+// The ends of a command. Input and output are buffered, and the output goes out before the program waits for input.
 use std::alloc::Allocator;
 use std::cell::RefCell;
 use std::io;
-use std::io::{BufWriter, Read, Write};
+use std::io::{BufReader, BufWriter, Read, Write};
 use tx_jobs::JobFault;
 use tx_text::{FromRead, ToWrite};
+
+/// How many bytes an output holds, and how many are read of an input at a time.
+const ROOM: usize = 65_536;
 
 /// A writer whose failure stays. One that takes nothing has failed; an interrupted call may be tried again.
 #[derive(Drop)]
@@ -51,7 +54,7 @@ impl<W: Write + Drop, A: Allocator> Output<W, A> {
             writer,
             failed: false,
         };
-        match BufWriter::new(alloc, steady) {
+        match BufWriter::with_capacity(alloc, ROOM, steady) {
             Ok(writer) => Ok(Output {
                 writer: RefCell::new(writer),
             }),
@@ -70,11 +73,18 @@ impl<W: Write + Drop, A: Allocator> Output<W, A> {
 
     /// A source over a reader, before each of whose reads the output goes out. An output that fails then is a failure of the source too: the program tells
     /// it as the output's.
-    pub(crate) fn source<R: Read + Drop>(&self, reader: R) -> FromRead<Flushing<'_, R, W, A>> {
-        FromRead::new(Flushing {
-            reader,
-            output: self,
-        })
+    pub(crate) fn source<R: Read + Drop>(
+        &self,
+        alloc: A,
+        reader: R,
+    ) -> Result<FromRead<Flushing<'_, R, W, A>>, JobFault> {
+        match BufReader::with_capacity(alloc, ROOM, reader) {
+            Ok(reader) => Ok(FromRead::new(Flushing {
+                reader,
+                output: self,
+            })),
+            Err(_) => Err(JobFault::NoMemory),
+        }
     }
 }
 
@@ -100,19 +110,21 @@ impl<'a, W: Write + Drop, A: Allocator> Write for Buffer<'a, W, A> {
     }
 }
 
-/// A reader before each of whose reads an output goes out.
+/// A reader before each of whose reads an output goes out. What it has read ahead it gives without one.
 #[derive(Drop)]
 pub(crate) struct Flushing<'a, R: Read + Drop, W: Write + Drop, A: Allocator> {
-    reader: R,
+    reader: BufReader<R, A>,
     output: &'a Output<W, A>,
 }
 
 impl<'a, R: Read + Drop, W: Write + Drop, A: Allocator> Read for Flushing<'a, R, W, A> {
     fn read(&mut self, buf: &mut [u8]) -> io::Result<usize> {
-        Buffer {
-            output: self.output,
+        if self.reader.buffer().is_empty() {
+            Buffer {
+                output: self.output,
+            }
+            .flush()?;
         }
-        .flush()?;
         self.reader.read(buf)
     }
 }

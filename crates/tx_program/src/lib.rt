@@ -3,6 +3,7 @@
 
 mod audited;
 mod ends;
+mod explained;
 mod folder;
 mod new_file;
 mod opened;
@@ -10,6 +11,7 @@ mod perform;
 mod program;
 mod tell;
 
+pub use explained::codes_are_explained;
 pub use folder::Folder;
 pub use program::{Ends, run_command, run_words};
 pub use tell::refuse_arguments;

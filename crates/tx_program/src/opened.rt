@@ -4,6 +4,7 @@ ghost use Rattle.tx_words.specs.Commands.{IsInRange};
 
 use crate::folder::Folder;
 use std::io::Read;
+use tx_explain::Entry;
 use tx_jobs::JobFault;
 use tx_words::Command;
 
@@ -53,6 +54,9 @@ pub(crate) enum Opened<'a, I: Read + Drop, R: Read + Drop> {
         plan: R,
         bounds: Bounds,
         keep: Keep<'a>,
+    },
+    Explain {
+        entry: Option<Entry>,
     },
 }
 
@@ -108,6 +112,7 @@ impl<'a, I: Read + Drop, R: Read + Drop> Opened<'a, I, R> {
             Command::Codes { plan } => Ok(Opened::Codes {
                 plan: open(folder, plan.as_str())?,
             }),
+            Command::Explain { entry } => Ok(Opened::Explain { entry: *entry }),
             Command::Audit {
                 plan,
                 limit,

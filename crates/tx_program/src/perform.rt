@@ -7,6 +7,7 @@ use crate::folder::Folder;
 use crate::opened::{Bounds, Opened};
 use std::alloc::Allocator;
 use std::io::{Read, Write};
+use tx_explain::{Entry, write_explanation};
 use tx_jobs::{JobFault, check_status, codes_status, pipe_job, run_checked_status, run_job};
 use tx_words::Command;
 
@@ -43,10 +44,13 @@ fn do_job<A: Allocator + Copy, F: Folder, I: Read + Drop, O: Write + Drop>(
             bounds,
         } => run_checked_files(alloc, plan, cert, bounds, script, output),
         Opened::Check { plan, cert, bounds } => check_files(alloc, plan, cert, bounds, output),
-        Opened::Codes { plan } => codes_status(alloc, &mut output.source(plan), &mut output.sink()),
+        Opened::Codes { plan } => {
+            codes_status(alloc, &mut output.source(alloc, plan)?, &mut output.sink())
+        }
         Opened::Audit { plan, bounds, keep } => {
             audit_file(alloc, plan, bounds, keep, folder, output)
         }
+        Opened::Explain { entry } => explain(entry, output),
     }
 }
 
@@ -56,7 +60,7 @@ fn run_input<A: Allocator + Copy, I: Read + Drop, O: Write + Drop>(
     input: I,
     output: &Output<O, A>,
 ) -> Result<u8, JobFault> {
-    let input = output.source(input);
+    let input = output.source(alloc, input)?;
     pipe_job(alloc, input, &mut output.sink()).map(|_| 0)
 }
 
@@ -67,8 +71,8 @@ fn run_files<A: Allocator + Copy, R: Read + Drop, O: Write + Drop>(
     script: R,
     output: &Output<O, A>,
 ) -> Result<u8, JobFault> {
-    let mut plan = output.source(plan);
-    let mut script = output.source(script);
+    let mut plan = output.source(alloc, plan)?;
+    let mut script = output.source(alloc, script)?;
     run_job(alloc, &mut plan, &mut script, &mut output.sink()).map(|_| 0)
 }
 
@@ -81,9 +85,9 @@ fn run_checked_files<A: Allocator + Copy, R: Read + Drop, O: Write + Drop>(
     script: R,
     output: &Output<O, A>,
 ) -> Result<u8, JobFault> {
-    let mut plan = output.source(plan);
-    let mut cert = output.source(cert);
-    let mut script = output.source(script);
+    let mut plan = output.source(alloc, plan)?;
+    let mut cert = output.source(alloc, cert)?;
+    let mut script = output.source(alloc, script)?;
     run_checked_status(
         alloc,
         &mut plan,
@@ -103,8 +107,8 @@ fn check_files<A: Allocator + Copy, R: Read + Drop, O: Write + Drop>(
     bounds: Bounds,
     output: &Output<O, A>,
 ) -> Result<u8, JobFault> {
-    let mut plan = output.source(plan);
-    let mut cert = output.source(cert);
+    let mut plan = output.source(alloc, plan)?;
+    let mut cert = output.source(alloc, cert)?;
     check_status(
         alloc,
         &mut plan,
@@ -113,4 +117,15 @@ fn check_files<A: Allocator + Copy, R: Read + Drop, O: Write + Drop>(
         bounds.spare,
         &mut output.sink(),
     )
+}
+
+/// `explain [CODE]`.
+fn explain<A: Allocator, O: Write + Drop>(
+    entry: Option<Entry>,
+    output: &Output<O, A>,
+) -> Result<u8, JobFault> {
+    match write_explanation(entry, &mut output.sink()) {
+        Ok(()) => Ok(0),
+        Err(_) => Err(JobFault::Write),
+    }
 }

@@ -25,9 +25,6 @@ pub record AddsBelow {A : Type 0} (n : Net) (code spare i : ℕ) (old new : List
   pub all : (x : ℕ) (steps : List (ℕ × ℕ)) → IsShort n spare x steps → end_of x steps < i → Among (end_of x steps) (map end_at walks)
 
 module _ {A : Type 0} (n : Net) (code spare : ℕ) where
-  pub below_none : (old : List (Finding A)) → AddsBelow n code spare 0 old old
-  below_none old = record { walks = []; added = sym (append-nil old); each = λ w m. absurd m; order = tt; below = λ y m. absurd m; all = λ x steps s h. absurd (omega arith) }
-
   module _ (ranks : ℕ → Option ℕ) (done : AreSettled n ranks) where
     -- no walk to the exchange at place i is short
     pub below_skip : (old new : List (Finding A)) (i : ℕ) → AddsBelow n code spare i old new → (IsShortAt n ranks spare i → ⊥) → AddsBelow n code spare (i + 1) old new

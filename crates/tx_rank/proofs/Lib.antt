@@ -4,6 +4,7 @@ pub mod Turns
 pub mod Heights
 pub mod Looks
 pub mod Passes
+pub mod Trails
 pub mod Linking
 pub mod Tracing
 pub mod Walked
@@ -14,3 +15,5 @@ pub mod Origins
 pub mod Judging
 pub mod Certifying
 pub mod Listing
+pub mod Bounding
+pub mod Unmended

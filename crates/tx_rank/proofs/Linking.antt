@@ -19,9 +19,6 @@ pub record IsLinking (n : Net) (ranks : ℕ → Option ℕ) (p : ℕ) (groups : 
   pub all : LinksAll n links p groups
 
 module _ (n : Net) (ranks : ℕ → Option ℕ) (p : ℕ) where
-  pub linking_none : (old : List (Option (ℕ × ℕ))) → length old ≡ n.exchanges → AreLinks n ranks old → IsLinking n ranks p [] old old
-  linking_none old long links = record { long = long; true_of = links; stays = λ y s h. (s, h); all = λ g y m. absurd m }
-
   put : (links : List (Option (ℕ × ℕ))) (y : ℕ) (s : ℕ × ℕ) → y < length links → slice_get (set links y (Some s)) y ≡ Some (Some s)
   put links y s h = set_same links y (get_or links y None) (Some s) (slice_get-get_or links y None h)
 
@@ -80,30 +77,11 @@ module _ (n : Net) (ranks : ℕ → Option ℕ) (p : ℕ) where
         ];
       })
 
-  pub linking_all : (i : ℕ) (old links : List (Option (ℕ × ℕ))) → length (n.list p) ≤ i → IsLinking n ranks p (take i (n.list p)) old links → LinksAll n links p (n.list p)
-  linking_all i old links h l = subst (λ (x : List ℕ). LinksAll n links p x) (take_all i (n.list p) h) l.all
-
 -- the links of the exchanges before place i
 pub record IsLinkedBelow (n : Net) (ranks : ℕ → Option ℕ) (links : List (Option (ℕ × ℕ))) (i : ℕ) : Type 0 where
   pub long : length links ≡ n.exchanges
   pub true_of : AreLinks n ranks links
   pub below : LinksBelow n ranks links i
-
-no_links : (k y : ℕ) (s : ℕ × ℕ) → slice_get (replicate k None) y ≡ Some (Some s) → ⊥
-no_links zero y s h = cc
-no_links (suc k) zero s h = cc
-no_links (suc k) (suc y) s h = no_links k y s h
-
-pub linked_none : (n : Net) (ranks : ℕ → Option ℕ) (links : List (Option (ℕ × ℕ))) (k : ℕ) → links ≡ replicate k None → k ≡ n.exchanges → IsLinkedBelow n ranks links 0
-linked_none n ranks links k e h =
-    record {
-      long = ap length e ∙ length-replicate k None ∙ h;
-      true_of = λ y s l. absurd (no_links k y s (ap (λ x. slice_get x y) (sym e) ∙ l));
-      below = λ p r l. absurd (omega arith);
-    }
-
-pub linked_all : (n : Net) (ranks : ℕ → Option ℕ) (links : List (Option (ℕ × ℕ))) (i : ℕ) → i ≡ n.exchanges → IsLinkedBelow n ranks links i → IsLinked n ranks links
-linked_all n ranks links i e l = record { long = l.long; true_of = l.true_of; all = subst (LinksBelow n ranks links) e l.below }
 
 module _ (n : Net) (ranks : ℕ → Option ℕ) where
   -- the next place has nothing to link

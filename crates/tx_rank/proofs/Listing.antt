@@ -96,19 +96,6 @@ none_ranked codes exchanges d x =
     ]
 
 module _ {A : Type 0} (p : Plan) (limit spare : ℕ) where
-  pub ranked_none : (cert : Certificate) (findings : List (Finding A)) → cert ≡ no_ranks_for p → findings ≡ pair_findings (ambiguous_of p.codes) → IsRankedBelow p limit spare 0 cert findings
-  ranked_none cert findings e f =
-      record {
-        rest = [];
-        joined = f ∙ sym (append-nil (pair_findings (ambiguous_of p.codes)));
-        listed = refl;
-        heights = λ _ d h. absurd (omega arith);
-        certified = λ _ d h. absurd (omega arith);
-        blank = λ d x _. ap (λ t. rank_at t d x) e ∙ none_ranked (length p.codes) (length p.exchanges) d x;
-        codes = ap (λ (t : Certificate). t.codes) e;
-        exchanges = ap (λ (t : Certificate). t.exchanges) e;
-      }
-
   module _ (c : ℕ) (cert cert' : Certificate) (old new : List (Finding A))
       (r : IsRankedBelow p limit spare c cert old) (j : IsJudged (net_of p c) c limit spare old new (rank_at cert' c))
       (others : (d x : ℕ) → d ≢ c → rank_at cert' d x ≡ rank_at cert d x) where

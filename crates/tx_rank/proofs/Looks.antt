@@ -26,9 +26,6 @@ pub leads_within : (n : Net) (x g y : ℕ) → IsNet n → Among g (n.list x) �
 leads_within n x g y ok m leads = let l = ok.leads x g m in let same : l.0 ≡ y = let e = l.1 in cc in let w = l.2 in omega arith
 
 module _ (n : Net) (marks : List Mark) (x : ℕ) where
-  pub top_none : IsTop n marks x [] 0
-  top_none = record { lower = λ g m. absurd m; tight = inl refl }
-
   -- one more group, which leads to rank r
   top_more : (groups : List ℕ) (top next g y r : ℕ) → IsTop n marks x groups top → n.far g x ≡ Some y → rank_in marks y ≡ Some r → top ≤ next → r ≤ next → (next ≡ top) ⊎ (next ≡ r) → IsTop n marks x (groups ++ g ∷ []) next
   top_more groups top next g y r t leads ranked a b either =

@@ -9,21 +9,8 @@ pub record AreOriginsBelow (p : Plan) (i : ℕ) (origins : List Bool) : Type 0 w
   pub long : length origins ≡ i
   pub each : (x : ℕ) (b : Bool) → slice_get origins x ≡ Some b → b ≡ is_origin p x
 
-pub origins_none : (p : Plan) → AreOriginsBelow p 0 []
-origins_none p = record { long = cc; each = λ x b h. let bad : ⊥ = cc in absurd bad }
-
-at_push : {A : Type 0} (xs : List A) (y z : A) (i : ℕ) → slice_get (xs ++ y ∷ []) i ≡ Some z → (slice_get xs i ≡ Some z) ⊎ ((i ≡ length xs) × (z ≡ y))
+pub at_push : {A : Type 0} (xs : List A) (y z : A) (i : ℕ) → slice_get (xs ++ y ∷ []) i ≡ Some z → (slice_get xs i ≡ Some z) ⊎ ((i ≡ length xs) × (z ≡ y))
 at_push [] y z zero h = inr (cc, cc)
 at_push [] y z (suc i) h = absurd (let bad : ⊥ = cc in bad)
 at_push (x ∷ xs) y z zero h = inl h
 at_push (x ∷ xs) y z (suc i) h = elim (at_push xs y z i h) [ inl a ↦ inl a | inr b ↦ inr (ap suc b.0, b.1) ]
-
-pub origins_more : (p : Plan) (i : ℕ) (origins : List Bool) (b : Bool) → AreOriginsBelow p i origins → b ≡ is_origin p i → AreOriginsBelow p (i + 1) (origins ++ b ∷ [])
-origins_more p i origins b o e =
-    record {
-      long = let l = o.long in simp length-append (omega arith);
-      each = λ x c h. elim (at_push origins b c x h) [ inl a ↦ o.each x c a | inr q ↦ q.1 ∙ e ∙ ap (is_origin p) (sym (q.0 ∙ o.long)) ];
-    }
-
-pub origins_all : (p : Plan) (i : ℕ) (origins : List Bool) → AreOriginsBelow p i origins → i ≡ length p.exchanges → AreOrigins p origins
-origins_all p i origins o e = record { long = o.long ∙ e; each = o.each }

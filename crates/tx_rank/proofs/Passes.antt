@@ -42,23 +42,6 @@ rank_within marks x r h =
       | false ↦ λ e. let over : length marks ≤ x = omega (arith, ltb-false) in let z = ap (option_and_then rank_of) (slice_get_past marks x over) in let bad : ⊥ = cc in absurd bad
     ] refl
 
-pub passed_all : (n : Net) (marks : List Mark) (i : ℕ) → IsNet n → i ≡ n.exchanges → IsPassing n marks i → IsPassed n marks
-passed_all n marks i ok e p =
-    record {
-      long = p.marked.long;
-      ranks = record {
-        home = p.marked.home;
-        origins = λ x origin. let w = ok.origins x origin in p.origins x (omega arith) origin;
-        settled = p.marked.settled;
-        ranked = p.marked.ranked;
-        low = λ x r ranked. let a = p.marked.small x r ranked in omega arith;
-        within = λ x r ranked. let w = rank_within marks x r ranked in let l = p.marked.long in omega arith;
-      };
-    }
-
-pub passing_none : (n : Net) (marks : List Mark) → IsMarked n marks → NoneOpen marks → IsPassing n marks 0
-passing_none n marks m none = record { marked = m; none = none; origins = λ x h. absurd (omega arith) }
-
 pub passing_skip : (n : Net) (marks : List Mark) (i : ℕ) → IsPassing n marks i → (n.is_origin i ≡ true → (r : ℕ) × (rank_in marks i ≡ Some r)) → IsPassing n marks (i + 1)
 passing_skip n marks i p here =
     record {

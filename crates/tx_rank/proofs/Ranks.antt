@@ -84,9 +84,6 @@ module _ (n : Net) (ranks : ℕ → Option ℕ) (done : AreSettled n ranks) wher
     pub leads : n.far group x ≡ Some to
     pub ranked : ranks to ≡ Some m
 
-  pub ranked_home : (x : ℕ) → ranks x ≡ Some 0 → (x ≡ n.home → ⊥) → ⊥
-  ranked_home x h away = let p = (done.settled x 0 h away).positive in absurd (omega arith)
-
   -- where x lists a group and has rank m + 1, a group leads to rank m
   pub one_lower : (x m : ℕ) (g : ℕ) → Among g (n.list x) → x ≢ n.home → ranks x ≡ Some (suc m) → OneLower x m
   one_lower x m g listed away ranked =

@@ -74,9 +74,6 @@ module _ (n : Net) (ranks : ℕ → Option ℕ) (done : AreSettled n ranks) wher
       let same : d.rank ≡ r = let a = d.ranked in cc in
       (l.rank, l.ranked, let w = d.within in omega arith, done.low p l.rank l.ranked)
 
-  pub down_none : (origin rank : ℕ) → ranks origin ≡ Some rank → IsDown n ranks origin rank origin []
-  down_none origin rank ranked = record { goes = tt; ends = refl; high = rank; ranked = ranked; sum = omega arith }
-
   pub down_more : (origin rank here m g y : ℕ) (steps : List (ℕ × ℕ)) → IsDown n ranks origin rank here steps → m + length steps + 1 ≡ rank → 0 < m → IsLower n ranks here (n.list here) m (Some (g, y)) → IsDown n ranks origin rank y (steps ++ (g, y) ∷ [])
   down_more origin rank here m g y steps d sum positive l =
       let away : here ≢ n.home = λ e. let h = done.home in let r = d.ranked in let z = ap ranks e in let zero_rank : d.high ≡ 0 = cc in let s = d.sum in absurd (omega arith) in
@@ -107,10 +104,6 @@ module _ (n : Net) (ranks : ℕ → Option ℕ) (done : AreSettled n ranks) wher
       let d = r.2 in
       let e = r.3 in
       omega arith
-
-  pub down_away : (origin rank here count : ℕ) (steps : List (ℕ × ℕ)) → IsDown n ranks origin rank here steps → length steps ≡ count → count < rank → end_of origin steps ≢ n.home
-  down_away origin rank here count steps d e h q =
-      let z = ap ranks (sym d.ends ∙ q) in let r = d.ranked in let k = done.home in let zero_rank : d.high ≡ 0 = cc in let s = d.sum in absurd (omega arith)
 
 pub no_link : (links : List (Option (ℕ × ℕ))) (x : ℕ) → (s : ℕ × ℕ) × (slice_get links x ≡ Some (Some s)) → slice_get links x ≡ Some None → ⊥
 no_link links x s h = let e = s.1 in let bad : ⊥ = cc in bad

@@ -205,10 +205,6 @@ module _ (n : Net) (marks : List Mark) (start : ℕ) where
         | false ↦ λ e. elim (h.only y (sym (set_other marks start y (Ranked (suc top)) (eqb-false start y e)) ∙ open')) [ inl q ↦ eqb-false start y e (sym q) | inr b ↦ b ]
       ] refl
 
--- the walk in hand ends within the exchanges
-pub open_within : (marks : List Mark) (x : ℕ) (m : Mark) → slice_get marks x ≡ Some m → x < length marks
-open_within marks x m h = slice_get_within marks x m h
-
 pub end_within : (n : Net) (marks : List Mark) (start : ℕ) (steps : List (ℕ × ℕ)) → IsMarked n marks → IsInHand n marks start steps → end_of start steps < n.exchanges
 end_within n marks start steps m h = let w = slice_get_within marks (end_of start steps) Open (h.on (end_of start steps) (end_passed start steps)) in let l = m.long in omega arith
 

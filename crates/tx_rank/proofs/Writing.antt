@@ -20,9 +20,6 @@ module _ (t : Certificate) (c x r : ℕ) (whole : IsWhole t) (code : c < t.codes
   within : place_of t c x < length t.ranks
   within = let m = mul-add-lt c t.exchanges x t.codes code exchange in let p = whole.places in omega arith
 
-  pub rank_here : rank_at (with_rank t c x r) c x ≡ Some r
-  rank_here = rw known (ap (λ o. unwrap_or o None) (set_same t.ranks (place_of t c x) _ (Some r) (slice_get-get_or t.ranks (place_of t c x) None within)))
-
   pub rank_there : (d y : ℕ) → (d ≡ c → y ≡ x → ⊥) → rank_at (with_rank t c x r) d y ≡ rank_at t d y
   rank_there d y apart =
       elim (has_pair t d y) as (λ b. has_pair t d y ≡ b → (if b then unwrap_or (slice_get (slice_set t.ranks (place_of t c x) (Some r)) (place_of t d y)) None else None) ≡ (if b then unwrap_or (slice_get t.ranks (place_of t d y)) None else None)) [
@@ -42,9 +39,6 @@ pub record IsWriting (old new : Certificate) (marks : List Mark) (code i : ℕ) 
   pub others : (d x : ℕ) → d ≢ code → rank_at new d x ≡ rank_at old d x
   pub codes : new.codes ≡ old.codes
   pub exchanges : new.exchanges ≡ old.exchanges
-
-pub writing_none : (old : Certificate) (marks : List Mark) (code : ℕ) → ((x : ℕ) → rank_at old code x ≡ None) → IsWriting old old marks code 0
-writing_none old marks code blank = record { here = λ x h. absurd (omega arith); blank = λ x h. blank x; others = λ d x h. refl; codes = refl; exchanges = refl }
 
 pub writing_more : (old now new : Certificate) (marks : List Mark) (code i : ℕ) → IsWriting old now marks code i → rank_at new code i ≡ rank_in marks i
     → ((d x : ℕ) → (d ≡ code → x ≡ i → ⊥) → rank_at new d x ≡ rank_at now d x) → new.codes ≡ now.codes → new.exchanges ≡ now.exchanges → IsWriting old new marks code (i + 1)

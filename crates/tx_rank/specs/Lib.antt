@@ -6,3 +6,5 @@ pub mod Nets
 pub mod Marks
 pub mod Links
 pub mod Judged
+pub mod Grades
+pub mod Gradings

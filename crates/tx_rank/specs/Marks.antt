@@ -1,11 +1,12 @@
 -- The marks of a ranking pass, and what holds of them and of the walk in hand.
-use Rattle.std.specs.Prelude.{◌≡◌, ◌≢◌, ℕ, suc, ◌+◌, ◌*◌, ◌<◌, ◌≤◌, true, List, [], ◌∷◌, length, Option, Some, None, ◌⊎◌, slice_get}
+use Rattle.std.specs.Prelude.{◌≡◌, ◌≢◌, ℕ, suc, ◌+◌, ◌*◌, ◌<◌, ◌≤◌, true, List, [], ◌∷◌, length, take, Option, Some, None, ◌⊎◌, slice_get}
 use Rattle.std.specs.Option.{option_and_then}
 use Rattle.tx_plan.specs.Among.{Among}
-use Rattle.tx_rank.specs.Walks.{Net, AllDiffer, passed, IsWalk, IsLoop}
+use Rattle.tx_rank.specs.Walks.{Net, AllDiffer, end_of, before_end, passed, IsWalk, IsLoop}
 use Rattle.tx_rank.specs.Heights.{IsReached}
 use Rattle.tx_rank.specs.Nets.{LeadsBelow}
 use Rattle.tx_rank.specs.declared.look.Look.{Look}
+use Rattle.tx_rank.specs.declared.look.Tried.{Tried}
 use Rattle.tx_rank.specs.declared.look.Look.TheVariants.{Onward, Settled}
 use Rattle.tx_rank.specs.declared.explore.Progress.{Progress}
 use Rattle.tx_rank.specs.declared.explore.Progress.TheVariants.{More, Done, Closed}
@@ -72,6 +73,24 @@ pub record IsOnward (n : Net) (marks : List Mark) (x : ℕ) (s : ℕ × ℕ) : T
 pub record IsTop (n : Net) (marks : List Mark) (x : ℕ) (groups : List ℕ) (top : ℕ) : Type 0 where
   pub lower : (g : ℕ) → Among g groups → LeadsBelow n (rank_in marks) x (suc top) g
   pub tight : (top ≡ 0) ⊎ ((g : ℕ) × (y : ℕ) × Among g groups × (n.far g x ≡ Some y) × (rank_in marks y ≡ Some top))
+
+-- the list of x, of which the first groups lead to ranks of at most top
+pub record IsTried (n : Net) (marks : List Mark) (x : ℕ) (t : Tried) : Type 0 where
+  pub list : t.list.now ≡ n.list x
+  pub count : t.count ≤ length (n.list x)
+  pub top : IsTop n marks x (take t.count (n.list x)) t.top
+
+-- the same of each of these exchanges
+abbrev pub AreTried : Net → List Mark → List ℕ → List Tried → Type 0
+AreTried n marks [] [] = Unit {0}
+AreTried n marks [] (t ∷ ts) = ⊥
+AreTried n marks (x ∷ xs) [] = ⊥
+AreTried n marks (x ∷ xs) (t ∷ ts) = IsTried n marks x t × AreTried n marks xs ts
+
+-- what was tried on the walk in hand: the lists of the exchanges before the last, and that of the last
+pub record IsTrail (n : Net) (marks : List Mark) (start : ℕ) (steps : List (ℕ × ℕ)) (before : List Tried) (last : Tried) : Type 0 where
+  pub lists : AreTried n marks (before_end start steps) before
+  pub list : IsTried n marks (end_of start steps) last
 
 -- what a look at the list of x finds
 abbrev pub IsLook : Net → List Mark → ℕ → Look → Type 0

@@ -38,8 +38,11 @@ pub fn rank_code<A: Allocator + Copy, N: Routes>(
     let Search {
         start,
         steps,
+        before,
         marks,
+        ..
     } = search;
+    drop(before);
     if closed {
         let walk = Walk {
             start,

@@ -1,10 +1,11 @@
 // The ranking pass: a walk in hand that grows and shrinks at its end.
-ghost use Rattle.std.specs.Prelude.{◌≡◌, ◌<◌, ◌+◌, length, true, false, None, Some, IfOk, slice_get};
+ghost use Rattle.std.specs.Prelude.{◌≡◌, ◌<◌, ◌+◌, ◌++◌, ◌∷◌, [], List, length, true, false, None, Some, IfOk, slice_get};
 ghost use Rattle.tx_rank.specs.Walks.{end_of, IsLoop};
 ghost use Rattle.tx_rank.specs.Nets.{IsNet};
-ghost use Rattle.tx_rank.specs.Marks.{IsMarked, IsInHand, IsOnward, IsTop, IsAdvanced, IsEnd, NoneOpen, IsPassing, IsPassed, rank_in};
+ghost use Rattle.tx_rank.specs.declared.look.Tried.{Tried};
+ghost use Rattle.tx_rank.specs.Marks.{IsMarked, IsInHand, IsTrail, IsOnward, IsTop, IsAdvanced, IsEnd, NoneOpen, IsPassing, IsPassed, rank_in};
 
-use crate::look::{Look, look_at, rank_at};
+use crate::look::{Look, Tried, look_on, rank_at, untried};
 use crate::mark::Mark;
 use crate::routes::Routes;
 use std::alloc::Allocator;
@@ -19,16 +20,21 @@ pub enum Progress {
     Closed,
 }
 
-/// The walk in hand, and the marks of all exchanges.
+/// The walk in hand, what was tried of the lists of its exchanges before the last and of the last one's, and the marks of all exchanges.
 #[derive(Drop)]
-pub struct Search<A: Allocator> {
+pub struct Search<'a, A: Allocator> {
     pub start: ExchangeId,
     pub steps: Vec<(GroupId, ExchangeId), A>,
+    pub before: Vec<Tried<'a>, A>,
+    pub last: Tried<'a>,
     pub marks: Vec<Mark, A>,
 }
 
 /// The marks before a pass: the home is ranked 0.
-pub fn unseen<A: Allocator + Copy, N: Routes>(alloc: A, net: &N) -> Result<Search<A>, NoMemory>
+pub fn unseen<'a, A: Allocator + Copy, N: Routes>(
+    alloc: A,
+    net: &'a N,
+) -> Result<Search<'a, A>, NoMemory>
     ensures marked { IfOk result (λ s. IsMarked (N.net net.now) s.marks.items) }
     ensures none { IfOk result (λ s. NoneOpen s.marks.items) }
 {
@@ -38,6 +44,8 @@ pub fn unseen<A: Allocator + Copy, N: Routes>(alloc: A, net: &N) -> Result<Searc
     Ok(Search {
         start: net.home(),
         steps: Vec::new(alloc),
+        before: Vec::new(alloc),
+        last: untried(net, net.home()),
         marks,
     })
 }
@@ -65,42 +73,60 @@ fn is_open(marks: &[Mark], exchange: ExchangeId) -> bool
 }
 
 /// The walk in hand goes one step on.
-fn go_on<A: Allocator, N: Routes>(
-    net: &N,
-    search: &mut Search<A>,
+fn go_on<'a, A: Allocator, N: Routes>(
+    net: &'a N,
+    search: &mut Search<'a, A>,
     group: GroupId,
     to: ExchangeId,
 ) -> Result<Progress, NoMemory>
     requires marked { IsMarked (N.net net.now) search.old.marks.items }
     requires hand { IsInHand (N.net net.now) search.old.marks.items search.old.start search.old.steps.items }
+    requires tried { IsTrail (N.net net.now) search.old.marks.items search.old.start search.old.steps.items search.old.before.items search.old.last }
     requires onward { IsOnward (N.net net.now) search.old.marks.items (end_of search.old.start search.old.steps.items) (group, to) }
     ensures start { search.new.start ≡ search.old.start }
     ensures ok { IfOk result (λ p. IsAdvanced (N.net net.now) search.old.start p search.old.marks.items search.new.marks.items search.new.steps.items) }
+    ensures tried { IfOk result (λ p. p ≡ Progress.More → IsTrail (N.net net.now) search.new.marks.items search.old.start search.new.steps.items search.new.before.items search.new.last) }
 {
     search.steps.push((group, to))?;
     if is_open(&search.marks, to) {
         return Ok(Progress::Closed);
     }
+    search.before.push(search.last)?;
+    search.last = untried(net, to);
     search.marks[to.index()] = Mark::Open;
     Ok(Progress::More)
 }
 
+/// Takes the last one away, if there is one.
+fn take_last<'a, A: Allocator>(before: &mut Vec<Tried<'a>, A>, none: Tried<'a>) -> Tried<'a>
+    ensures others { (front : List Tried) (last : Tried) → before.old.items ≡ front ++ last ∷ [] → before.new.items ≡ front }
+    ensures last { (front : List Tried) (last : Tried) → before.old.items ≡ front ++ last ∷ [] → result ≡ last }
+{
+    match before.pop() {
+        Some(last) => last,
+        None => none,
+    }
+}
+
 /// The last exchange of the walk in hand is ranked.
-fn settle<A: Allocator, N: Routes>(
-    net: &N,
-    search: &mut Search<A>,
+fn settle<'a, A: Allocator, N: Routes>(
+    net: &'a N,
+    search: &mut Search<'a, A>,
     exchange: ExchangeId,
     top: u16,
 ) -> Progress
     requires net { IsNet (N.net net.now) }
     requires marked { IsMarked (N.net net.now) search.old.marks.items }
     requires hand { IsInHand (N.net net.now) search.old.marks.items search.old.start search.old.steps.items }
+    requires tried { IsTrail (N.net net.now) search.old.marks.items search.old.start search.old.steps.items search.old.before.items search.old.last }
     requires end { exchange ≡ end_of search.old.start search.old.steps.items }
     requires top { IsTop (N.net net.now) search.old.marks.items exchange ((N.net net.now).list exchange) top }
     ensures start { search.new.start ≡ search.old.start }
     ensures ok { IsAdvanced (N.net net.now) search.old.start result search.old.marks.items search.new.marks.items search.new.steps.items }
+    ensures tried { result ≡ Progress.More → IsTrail (N.net net.now) search.new.marks.items search.old.start search.new.steps.items search.new.before.items search.new.last }
 {
     search.marks[exchange.index()] = Mark::Ranked(top + 1);
+    search.last = take_last(&mut search.before, search.last);
     match search.steps.pop() {
         Some(_) => Progress::More,
         None => Progress::Done,
@@ -108,24 +134,33 @@ fn settle<A: Allocator, N: Routes>(
 }
 
 /// A turn of the pass: it opens an exchange, or ranks one.
-fn advance<A: Allocator, N: Routes>(net: &N, search: &mut Search<A>) -> Result<Progress, NoMemory>
+fn advance<'a, A: Allocator, N: Routes>(
+    net: &'a N,
+    search: &mut Search<'a, A>,
+) -> Result<Progress, NoMemory>
     requires marked { IsMarked (N.net net.now) search.old.marks.items }
     requires hand { IsInHand (N.net net.now) search.old.marks.items search.old.start search.old.steps.items }
+    requires tried { IsTrail (N.net net.now) search.old.marks.items search.old.start search.old.steps.items search.old.before.items search.old.last }
     ensures start { search.new.start ≡ search.old.start }
     ensures ok { IfOk result (λ p. IsAdvanced (N.net net.now) search.old.start p search.old.marks.items search.new.marks.items search.new.steps.items) }
+    ensures tried { IfOk result (λ p. p ≡ Progress.More → IsTrail (N.net net.now) search.new.marks.items search.old.start search.new.steps.items search.new.before.items search.new.last) }
 {
     net.rules();
     let exchange = end(search.start, &search.steps);
-    match look_at(net, &search.marks, exchange) {
+    match look_on(net, &search.marks, exchange, &mut search.last) {
         Look::Onward(group, to) => go_on(net, search, group, to),
         Look::Settled(top) => Ok(settle(net, search, exchange, top)),
     }
 }
 
 /// Goes over all walks that go on from the walk in hand: true if one of them is a loop, which is then in hand.
-fn explore<A: Allocator, N: Routes>(net: &N, search: &mut Search<A>) -> Result<bool, NoMemory>
+fn explore<'a, A: Allocator, N: Routes>(
+    net: &'a N,
+    search: &mut Search<'a, A>,
+) -> Result<bool, NoMemory>
     requires marked { IsMarked (N.net net.now) search.old.marks.items }
     requires hand { IsInHand (N.net net.now) search.old.marks.items search.old.start search.old.steps.items }
+    requires tried { IsTrail (N.net net.now) search.old.marks.items search.old.start search.old.steps.items search.old.before.items search.old.last }
     ensures start { search.new.start ≡ search.old.start }
     ensures closed { IfOk result (λ closed. closed ≡ true → IsLoop (N.net net.now) search.new.start search.new.steps.items) }
     ensures done { IfOk result (λ closed. closed ≡ false → IsEnd (N.net net.now) search.new.start search.old.marks.items search.new.marks.items) }
@@ -140,9 +175,9 @@ fn explore<A: Allocator, N: Routes>(net: &N, search: &mut Search<A>) -> Result<b
 }
 
 /// Goes over all walks from an origin that was not seen.
-fn start_at<A: Allocator, N: Routes>(
-    net: &N,
-    search: &mut Search<A>,
+fn start_at<'a, A: Allocator, N: Routes>(
+    net: &'a N,
+    search: &mut Search<'a, A>,
     origin: ExchangeId,
 ) -> Result<bool, NoMemory>
     requires origin { (N.net net.now).is_origin origin ≡ true }
@@ -155,14 +190,16 @@ fn start_at<A: Allocator, N: Routes>(
     net.rules();
     search.start = origin;
     search.steps.clear();
+    search.before.clear();
+    search.last = untried(net, origin);
     search.marks[origin.index()] = Mark::Open;
     explore(net, search)
 }
 
 /// Goes over all walks from the exchange at a place.
-fn start_from<A: Allocator, N: Routes>(
-    net: &N,
-    search: &mut Search<A>,
+fn start_from<'a, A: Allocator, N: Routes>(
+    net: &'a N,
+    search: &mut Search<'a, A>,
     place: usize,
 ) -> Result<bool, NoMemory>
     requires place { place < (N.net net.now).exchanges }
@@ -171,17 +208,23 @@ fn start_from<A: Allocator, N: Routes>(
     ensures done { IfOk result (λ closed. closed ≡ false → IsPassing (N.net net.now) search.new.marks.items (place + 1)) }
 {
     let origin = net.exchange(place);
-    if !net.is_origin(origin) {
-        return Ok(false);
-    }
     match rank_at(&search.marks, origin) {
         Some(_) => Ok(false),
-        None => start_at(net, search, origin),
+        None => {
+            if net.is_origin(origin) {
+                start_at(net, search, origin)
+            } else {
+                Ok(false)
+            }
+        }
     }
 }
 
 /// Goes over all walks: true if one is a loop, which is then in hand. Each exchange is opened once and ranked once, however many walks pass it.
-pub fn pass<A: Allocator, N: Routes>(net: &N, search: &mut Search<A>) -> Result<bool, NoMemory>
+pub fn pass<'a, A: Allocator, N: Routes>(
+    net: &'a N,
+    search: &mut Search<'a, A>,
+) -> Result<bool, NoMemory>
     requires marked { IsMarked (N.net net.now) search.old.marks.items }
     requires none { NoneOpen search.old.marks.items }
     ensures closed { IfOk result (λ closed. closed ≡ true → IsLoop (N.net net.now) search.new.start search.new.steps.items) }

@@ -1,21 +1,43 @@
-// The ranking of a plan: a certificate where there is one, else the findings: what is wrong, with walks that show it.
+//! The ranking of a plan: a certificate that it is safe for a transit limit and a spare number, or all that is wrong with it.
+//!
+//! `rank` finds a certificate wherever there is one. Else it answers the ambiguous pair of codes, and for each code a loop, or a walk to each short list and
+//! one that is too long; the lists of the plan allow each walk.
+//!
+//! `grade` tells for which limits and spare numbers there is one.
+//!
+//! ```
+//! /// Whether no call passes a transit, with no group to spare.
+//! fn is_direct(alloc: Global, plan: &Plan) -> Result<bool, NoMemory> {
+//!     match rank(alloc, plan, 0, 0)? {
+//!         Ranking::Found(_) => Ok(true),
+//!         Ranking::Fails(_) => Ok(false),
+//!     }
+//! }
+//! ```
 #![tactic(auto)]
 
+mod bounds;
+mod code_bounds;
 mod code_ranking;
 mod code_routes;
 mod distances;
 mod explore;
 mod finding;
+mod grading;
 mod links;
 mod longs;
 mod look;
 mod mark;
+mod plan_grade;
 mod ranking;
 mod routes;
 mod shorts;
 mod walk;
 mod written;
 
+pub use bounds::Bounds;
 pub use finding::Finding;
+pub use grading::grade;
+pub use plan_grade::Grade;
 pub use ranking::{Ranking, rank};
 pub use walk::{Steps, Walk};

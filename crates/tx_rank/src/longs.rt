@@ -91,14 +91,15 @@ fn long_from<A: Allocator + Copy, N: Routes>(
     ensures { IfOk result (IsLongFrom (N.net net.now) (rank_in marks.now) limit place) }
 {
     let exchange = net.exchange(place);
-    if !net.is_origin(exchange) {
-        return Ok(None);
-    }
     let count = u16::from(limit) + 1;
     match rank_at(marks, exchange) {
-        Some(rank) if rank > count => Ok(Some(walk_down(
-            alloc, net, marks, exchange, rank, count,
-        )?)),
+        Some(rank) if rank > count => {
+            if net.is_origin(exchange) {
+                Ok(Some(walk_down(alloc, net, marks, exchange, rank, count)?))
+            } else {
+                Ok(None)
+            }
+        }
         _ => Ok(None),
     }
 }

@@ -1,6 +1,7 @@
 // A look at the list of an exchange.
-ghost use Rattle.std.specs.Prelude.{◌≡◌, ◌<◌, ◌≤◌, ◌⊎◌, length, slice_get, Some};
-ghost use Rattle.tx_rank.specs.Marks.{IsLook, rank_in};
+ghost use Rattle.std.specs.Prelude.{◌≡◌, ◌<◌, ◌≤◌, ◌⊎◌, List, length, slice_get, Some};
+ghost use Rattle.tx_rank.specs.declared.mark.Mark.{Mark};
+ghost use Rattle.tx_rank.specs.Marks.{IsLook, IsTried, rank_in};
 
 use crate::mark::Mark;
 use crate::routes::Routes;
@@ -11,6 +12,25 @@ use tx_plan::{ExchangeId, GroupId};
 pub enum Look {
     Onward(GroupId, ExchangeId),
     Settled(u16),
+}
+
+/// The list of an exchange, how many of its first groups were found to lead to ranks, and the greatest of these ranks.
+#[derive(Clone, Copy)]
+pub struct Tried<'a> {
+    pub list: &'a [GroupId],
+    pub count: usize,
+    pub top: u16,
+}
+
+/// The list of an exchange, where no group was tried yet.
+pub fn untried<N: Routes>(net: &N, exchange: ExchangeId) -> Tried<'_>
+    ensures { (marks : List Mark) → IsTried (N.net net.now) marks exchange result }
+{
+    Tried {
+        list: net.list(exchange),
+        count: 0,
+        top: 0,
+    }
 }
 
 /// The rank of an exchange, if it has one.
@@ -51,18 +71,29 @@ fn greater(a: u16, b: u16) -> u16
     if a < b { b } else { a }
 }
 
-/// Looks at the list of an exchange.
-pub fn look_at<N: Routes>(net: &N, marks: &[Mark], exchange: ExchangeId) -> Look
+/// Looks at the groups of an exchange that were not tried yet.
+pub fn look_on<N: Routes>(
+    net: &N,
+    marks: &[Mark],
+    exchange: ExchangeId,
+    tried: &mut Tried<'_>,
+) -> Look
     requires long { length marks.now ≡ (N.net net.now).exchanges }
-    ensures { IsLook (N.net net.now) marks.now exchange result }
+    requires tried { IsTried (N.net net.now) marks.now exchange tried.old }
+    ensures look { IsLook (N.net net.now) marks.now exchange result }
+    ensures tried { IsTried (N.net net.now) marks.now exchange tried.new }
 {
-    let list = net.list(exchange);
-    let mut top = 0;
-    for i in 0..list.len() {
+    let list = tried.list;
+    let mut top = tried.top;
+    for i in tried.count..list.len() {
         let (group, to) = onward(net, exchange, list, i);
         match rank_at(marks, to) {
             Some(rank) => top = greater(top, rank),
-            None => return Look::Onward(group, to),
+            None => {
+                tried.count = i;
+                tried.top = top;
+                return Look::Onward(group, to);
+            }
         }
     }
     Look::Settled(top)

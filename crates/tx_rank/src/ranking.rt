@@ -27,7 +27,10 @@ pub enum Ranking<A: Allocator = Global> {
 }
 
 /// The ambiguous pair, as a finding.
-fn pair_found<A: Allocator + Copy>(alloc: A, plan: &Plan<A>) -> Result<Vec<Finding<A>, A>, NoMemory>
+pub fn pair_found<A: Allocator + Copy>(
+    alloc: A,
+    plan: &Plan<A>,
+) -> Result<Vec<Finding<A>, A>, NoMemory>
     ensures { IfOk result (λ findings. findings.items ≡ pair_findings (ambiguous_of plan.now.codes)) }
 {
     let mut findings = Vec::new(alloc);

@@ -26,6 +26,7 @@ pub(crate) struct Answered {
 }
 
 /// Applies an event to a network whose tickets were taken, and writes the reply and the tickets.
+#[inline(always)]
 pub(crate) fn answer<B: Allocator, N: Network, W: Sink>(
     event: Event,
     plan: &Plan<B>,
@@ -52,6 +53,7 @@ pub(crate) fn answer<B: Allocator, N: Network, W: Sink>(
     })
 }
 
+#[inline(always)]
 fn is_refused(reply: &Reply) -> bool
     ensures { result ≡ is_refused reply.now }
 {
@@ -59,6 +61,7 @@ fn is_refused(reply: &Reply) -> bool
 }
 
 /// Takes the tickets out of a network and writes them, the oldest first. Tells how many there were.
+#[inline(always)]
 fn write_tickets<B: Allocator, N: Network, W: Sink>(
     plan: &Plan<B>,
     net: &mut N,

@@ -12,6 +12,7 @@ use tx_text::{Figures, Words, number};
 
 /// The event of a line's words.
 #[tactic(auto, unfolding(crate::specs::Events::event_of))]
+#[inline(always)]
 pub(crate) fn event_of<A: Allocator>(words: Words<'_>, plan: &Plan<A>) -> Result<Event, ScriptWord>
     ensures { result ≡ event_of plan.now words.entry }
 {
@@ -21,8 +22,26 @@ pub(crate) fn event_of<A: Allocator>(words: Words<'_>, plan: &Plan<A>) -> Result
     event_by(verb, words, plan)
 }
 
-/// The event of a first word and the words that follow it.
+/// The event of a first word and the words that follow it. The events of calls are made in place, and the others in a call of their own.
+#[inline(always)]
 fn event_by<A: Allocator>(verb: Verb, words: Words<'_>, plan: &Plan<A>) -> Result<Event, ScriptWord>
+    ensures { result ≡ event_by plan.now verb words.entry }
+{
+    match verb {
+        Verb::Key => key_event(words, plan),
+        Verb::Route => Ok(Event::Route(call_in(words)?)),
+        Verb::Clear => clear_event(words),
+        other => other_event(other, words, plan),
+    }
+}
+
+/// The same for all first words.
+#[inline(never)]
+fn other_event<A: Allocator>(
+    verb: Verb,
+    words: Words<'_>,
+    plan: &Plan<A>,
+) -> Result<Event, ScriptWord>
     ensures { result ≡ event_by plan.now verb words.entry }
 {
     match verb {
@@ -46,6 +65,7 @@ fn event_by<A: Allocator>(verb: Verb, words: Words<'_>, plan: &Plan<A>) -> Resul
 }
 
 /// A code, a national number and the figures that were keyed.
+#[inline(always)]
 fn key_event<A: Allocator>(words: Words<'_>, plan: &Plan<A>) -> Result<Event, ScriptWord>
     ensures { result ≡ key_event plan.now words.entry }
 {
@@ -56,6 +76,7 @@ fn key_event<A: Allocator>(words: Words<'_>, plan: &Plan<A>) -> Result<Event, Sc
 }
 
 /// A call's number.
+#[inline(always)]
 fn call_in(words: Words<'_>) -> Result<u32, ScriptWord>
     ensures { result ≡ call_in words.entry }
 {
@@ -64,6 +85,7 @@ fn call_in(words: Words<'_>) -> Result<u32, ScriptWord>
 }
 
 /// A call's number, and CALLER or CALLED.
+#[inline(always)]
 fn clear_event(words: Words<'_>) -> Result<Event, ScriptWord>
     ensures { result ≡ clear_event words.entry }
 {
@@ -73,6 +95,7 @@ fn clear_event(words: Words<'_>) -> Result<Event, ScriptWord>
     Ok(Event::Clear { call, party })
 }
 
+#[inline(always)]
 fn party_of(word: &[u8]) -> Option<Party>
     ensures { result ≡ party_of word.now }
 {
@@ -86,6 +109,7 @@ fn party_of(word: &[u8]) -> Option<Party>
 }
 
 /// A circuit.
+#[inline(always)]
 fn circuit_in<A: Allocator>(words: Words<'_>, plan: &Plan<A>) -> Result<Circuit, ScriptWord>
     ensures { result ≡ circuit_in plan.now words.entry }
 {
@@ -94,6 +118,7 @@ fn circuit_in<A: Allocator>(words: Words<'_>, plan: &Plan<A>) -> Result<Circuit,
 }
 
 /// The circuit that a word names, as G1.1.
+#[inline(always)]
 fn circuit_of<A: Allocator>(word: &[u8], plan: &Plan<A>) -> Result<Circuit, ScriptWord>
     ensures { result ≡ circuit_of plan.now word.now }
 {
@@ -104,6 +129,7 @@ fn circuit_of<A: Allocator>(word: &[u8], plan: &Plan<A>) -> Result<Circuit, Scri
 }
 
 /// A number from 1 to 240.
+#[inline(always)]
 fn circuit_number(word: &[u8]) -> Option<u32>
     ensures { result ≡ circuit_number word.now }
 {
@@ -114,6 +140,7 @@ fn circuit_number(word: &[u8]) -> Option<u32>
 }
 
 /// What stands before the first dot, and what stands behind it.
+#[inline(always)]
 fn cut_at_dot(word: &[u8]) -> Option<(&[u8], &[u8])>
     ensures { MatchOption result (cut_at_dot word.now ≡ None) (λ c. cut_at_dot word.now ≡ Some (c.0.now, c.1.now)) }
 {
@@ -124,6 +151,7 @@ fn cut_at_dot(word: &[u8]) -> Option<(&[u8], &[u8])>
 }
 
 /// Where the first dot stands.
+#[inline(always)]
 fn first_dot(word: &[u8]) -> Option<usize>
     ensures place { result ≡ position is_dot word.now }
     ensures within { IfSome result (λ dot. dot < length word.now) }
@@ -132,6 +160,7 @@ fn first_dot(word: &[u8]) -> Option<usize>
 }
 
 /// A group.
+#[inline(always)]
 fn group_in<A: Allocator>(words: Words<'_>, plan: &Plan<A>) -> Result<GroupId, ScriptWord>
     ensures { result ≡ group_in plan.now words.entry }
 {
@@ -140,6 +169,7 @@ fn group_in<A: Allocator>(words: Words<'_>, plan: &Plan<A>) -> Result<GroupId, S
 }
 
 /// A line: a code and a national number.
+#[inline(always)]
 fn line_in<A: Allocator>(words: Words<'_>, plan: &Plan<A>) -> Result<Line, ScriptWord>
     ensures { result ≡ line_in plan.now words.entry }
 {
@@ -147,6 +177,7 @@ fn line_in<A: Allocator>(words: Words<'_>, plan: &Plan<A>) -> Result<Line, Scrip
     line_of(code, national, plan)
 }
 
+#[inline(always)]
 fn line_of<A: Allocator>(code: &[u8], national: &[u8], plan: &Plan<A>) -> Result<Line, ScriptWord>
     ensures { result ≡ line_of plan.now code.now national.now }
 {
@@ -156,6 +187,7 @@ fn line_of<A: Allocator>(code: &[u8], national: &[u8], plan: &Plan<A>) -> Result
 }
 
 /// END is no event.
+#[inline(always)]
 fn end_event(words: Words<'_>) -> Result<Event, ScriptWord>
     ensures { result ≡ end_event words.entry }
 {
@@ -167,6 +199,7 @@ fn end_event(words: Words<'_>) -> Result<Event, ScriptWord>
 }
 
 /// The word, where it is the only one.
+#[inline(always)]
 fn one_word(words: Words<'_>) -> Option<&[u8]>
     ensures { MatchOption result (one_word words.entry ≡ None) (λ w. one_word words.entry ≡ Some w.now) }
 {
@@ -178,6 +211,7 @@ fn one_word(words: Words<'_>) -> Option<&[u8]>
 }
 
 /// The words, where they are two.
+#[inline(always)]
 fn two_words(words: Words<'_>) -> Option<(&[u8], &[u8])>
     ensures { MatchOption result (two_words words.entry ≡ None) (λ w. two_words words.entry ≡ Some (w.0.now, w.1.now)) }
 {
@@ -189,6 +223,7 @@ fn two_words(words: Words<'_>) -> Option<(&[u8], &[u8])>
 }
 
 /// The words, where they are three.
+#[inline(always)]
 fn three_words(words: Words<'_>) -> Option<(&[u8], &[u8], &[u8])>
     ensures { MatchOption result (three_words words.entry ≡ None) (λ w. three_words words.entry ≡ Some (w.0.now, w.1.now, w.2.now)) }
 {

@@ -1,4 +1,21 @@
-// The text of a script: its events both ways, and the run that answers them.
+//! A script: events as lines of text, and the run that plays them over a network.
+//!
+//! `run` takes any `Network` that was made for the plan, and writes each reply, and the tickets of the calls that ended, before it asks for the next line.
+//! `read_event` and `write_event` are one line, both ways.
+//!
+//! ```
+//! fn run_one_call<N: Network>(
+//!     alloc: Global,
+//!     plan: &Plan,
+//!     network: &mut N,
+//!     sink: &mut MemorySink,
+//! ) -> Result<Summary, RunFault> {
+//!     let script = b"SCRIPT 1\nKEY 22 31000 2451000\nROUTE 1\nEND\n";
+//!     run(alloc, plan, network, &mut SliceSource::new(script), sink)
+//! }
+//! ```
+//!
+//! Over an engine of the plan in tx_plan's example, the sink then has `KEYED 1`, `SEIZED NOSO1.1` and `END EVENTS 2 OPEN 1`.
 #![tactic(auto)]
 
 mod answer;

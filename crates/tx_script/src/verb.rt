@@ -25,6 +25,7 @@ pub(crate) enum Verb {
 
 impl Verb {
     /// The verb that a word is.
+    #[inline(always)]
     pub(crate) fn read(word: &[u8]) -> Option<Verb>
         ensures { result ≡ verb_of word.now }
     {

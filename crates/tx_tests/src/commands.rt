@@ -2,6 +2,7 @@
 use std::alloc::Global;
 use std::str;
 use tx_cases::{Stop, next_line, write_count};
+use tx_explain::Entry;
 use tx_text::{NoMemory, Sink, WriteFault, words, write_bytes, write_parts};
 use tx_words::{Command, read_command};
 
@@ -46,6 +47,15 @@ fn tell_run<W: Sink>(
     }
 }
 
+/// Tells the code that is to be explained, if one is.
+fn tell_entry<W: Sink>(entry: Option<Entry>, out: &mut W) -> Result<(), WriteFault> {
+    write_bytes(b"explain", out)?;
+    if let Some((code, _, _, _)) = entry {
+        write_parts(&[b" ".as_slice(), code.as_bytes()], out)?;
+    }
+    write_bytes(b"\n", out)
+}
+
 fn tell_command<W: Sink>(command: &Command, out: &mut W) -> Result<(), WriteFault> {
     match command {
         Command::Pipe => write_bytes(b"pipe\n", out),
@@ -80,6 +90,7 @@ fn tell_command<W: Sink>(command: &Command, out: &mut W) -> Result<(), WriteFaul
             tell_file(b" counter", counter.as_ref(), out)?;
             tell_numbers(Some((*limit, *spare)), out)
         }
+        Command::Explain { entry } => tell_entry(*entry, out),
     }
 }
 

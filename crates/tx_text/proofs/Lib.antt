@@ -1,6 +1,7 @@
 pub mod WordLists
 pub mod Writing
 pub mod Places
+pub mod Blocks
 pub mod LineFaults
 pub mod FeederFields
 pub mod TextLines
@@ -17,6 +18,7 @@ pub mod Wanting
 pub mod Sizes
 pub mod CallCounts
 pub mod Frames
+pub mod PlainLines
 pub mod Numbers
 pub mod ReadBack
 pub mod SliceAnswers

@@ -1,11 +1,13 @@
 // The frame of a text: its header, its lines and its END.
-ghost use Rattle.std.specs.Prelude.{◌≡◌};
+ghost use Rattle.std.specs.Prelude.{◌≡◌, ℕ, List, Option, true};
 ghost use Rattle.tx_text.specs.Words.{words_of};
 ghost use Rattle.tx_text.specs.Frame.{is_end, header_of, looked, closing, last_fault};
 ghost use Rattle.tx_text.specs.Framing.{end_as};
+ghost use Rattle.tx_text.specs.declared.frame.Phase.TheVariants.{Body};
+ghost use Rattle.tx_text.specs.declared.frame.LineForm.TheVariants.{Plain};
 
 use crate::line_fault::LineFault;
-use crate::line_words::Words;
+use crate::line_words::{Words, is_blank};
 use crate::split::words;
 
 /// What is wrong with the form of a text.
@@ -104,11 +106,26 @@ fn header(key: &[u8], most: u8, words: Words<'_>) -> Option<u8>
     None
 }
 
+/// Whether the line begins with a word that is not END, by the first byte alone. Of such a line between the header and END nothing more is to be looked at.
+#[inline(always)]
+fn begins_plain(line: &[u8]) -> bool
+    ensures { result ≡ true → (h : List (List ℕ) → Option ℕ) → looked h Body (words_of line.now) ≡ Plain }
+{
+    if line.is_empty() {
+        return false;
+    }
+    let first = line[0];
+    !is_blank(first) && first != b'#' && first != b'E'
+}
+
 /// What a finished line is.
 #[inline(always)]
 pub(crate) fn look(key: &[u8], most: u8, phase: Phase, line: &[u8]) -> LineForm
     ensures { result ≡ looked (header_of key.now most) phase (words_of line.now) }
 {
+    if matches!(phase, Phase::Body) && begins_plain(line) {
+        return LineForm::Plain;
+    }
     let mut all = words(line);
     let Some(first) = all.next() else {
         return LineForm::Blank;

@@ -27,16 +27,37 @@ fn is_text_byte(byte: u8) -> bool
     byte == b'\t' || (b' ' <= byte && byte <= b'~')
 }
 
+/// Whether all these bytes are text, looked at several at a time where their number is fixed.
+#[inline(always)]
+fn are_text(bytes: &[u8]) -> bool
+    ensures { result ≡ list_all is_text_byte bytes.now }
+{
+    let mut all = true;
+    for byte in bytes {
+        all = all & is_text_byte(*byte);
+    }
+    all
+}
+
+/// Whether all bytes of a line are text, looked at in blocks, of which the last two may overlap.
 #[inline(always)]
 fn is_text(line: &[u8]) -> bool
     ensures { result ≡ list_all is_text_byte line.now }
 {
-    // With no way out in between, so that several bytes are looked at at a time.
-    let mut all = true;
-    for byte in line {
-        all = all & is_text_byte(*byte);
+    let len = line.len();
+    if len < 8 {
+        return are_text(line);
     }
-    all
+    if len < 16 {
+        return are_text(&line[..8]) & are_text(&line[len - 8..]);
+    }
+    let mut all = true;
+    let mut done = 0;
+    while done + 16 < len {
+        all = all & are_text(&line[done..done + 16]);
+        done += 16;
+    }
+    all & are_text(&line[len - 16..])
 }
 
 /// What is wrong with the bytes of a line, given without its LF and the CR before it.

@@ -7,7 +7,7 @@ ghost use Rattle.tx_text.specs.Words.{words_of, is_blank, is_word_byte};
 use std::marker::Model;
 
 #[inline(always)]
-fn is_blank(byte: u8) -> bool
+pub(crate) fn is_blank(byte: u8) -> bool
     ensures { result ≡ is_blank byte }
 {
     byte == b' ' || byte == b'\t'

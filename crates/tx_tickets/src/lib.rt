@@ -1,4 +1,4 @@
-// The lines of replies and tickets.
+//! The lines that a run prints: replies, and tickets of the calls that ended.
 #![tactic(auto)]
 
 mod reply;

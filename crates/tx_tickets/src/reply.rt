@@ -9,10 +9,29 @@ use itoa::Buffer;
 use std::alloc::Allocator;
 use tx_plan::{Circuit, Line, Plan};
 use tx_state::Reply;
-use tx_text::{Sink, WriteFault, write_bytes, write_parts};
+use tx_text::{LineSink, Sink, WriteFault, write_bytes, write_parts};
 
 /// Writes the line of a reply, as `CONNECTED 41 10002`, with its LF.
 pub fn write_reply<A: Allocator, W: Sink>(
+    reply: &Reply,
+    plan: &Plan<A>,
+    sink: &mut W,
+) -> Result<(), WriteFault>
+    ensures ok { OnOk result (W.taken sink.new ≡ append_known (W.taken sink.old) (reply_text plan.now reply.now)) }
+    ensures err { OnErr result (StopsIn (W.taken sink.old) (W.taken sink.new) (reply_text plan.now reply.now)) }
+    ensures mark { OnErr result (W.failed sink.new ≡ true) }
+    ensures unmarked { OnOk result (W.failed sink.new ≡ W.failed sink.old) }
+{
+    let mut line: LineSink<64> = LineSink::new();
+    match put_reply(reply, plan, &mut line) {
+        Ok(()) => write_bytes(line.taken(), sink),
+        // A line that has no room there goes out in parts.
+        Err(_) => put_reply(reply, plan, sink),
+    }
+}
+
+/// Writes the parts of a reply's line.
+fn put_reply<A: Allocator, W: Sink>(
     reply: &Reply,
     plan: &Plan<A>,
     sink: &mut W,

@@ -10,10 +10,29 @@ use itoa::Buffer;
 use std::alloc::Allocator;
 use tx_plan::Plan;
 use tx_state::{Hop, Ticket};
-use tx_text::{Sink, WriteFault, write_bytes, write_parts};
+use tx_text::{LineSink, Sink, WriteFault, write_bytes, write_parts};
 
 /// Writes the line of a ticket: the call's number, its line, what was keyed, the events of its start and its end, why it ended, and its way.
 pub fn write_ticket<A: Allocator, B: Allocator, W: Sink>(
+    ticket: &Ticket<A>,
+    plan: &Plan<B>,
+    sink: &mut W,
+) -> Result<(), WriteFault>
+    ensures ok { OnOk result (W.taken sink.new ≡ append_known (W.taken sink.old) (ticket_text plan.now ticket.now)) }
+    ensures err { OnErr result (StopsIn (W.taken sink.old) (W.taken sink.new) (ticket_text plan.now ticket.now)) }
+    ensures mark { OnErr result (W.failed sink.new ≡ true) }
+    ensures unmarked { OnOk result (W.failed sink.new ≡ W.failed sink.old) }
+{
+    let mut line: LineSink<256> = LineSink::new();
+    match put_ticket(ticket, plan, &mut line) {
+        Ok(()) => write_bytes(line.taken(), sink),
+        // A line that has no room there goes out in parts.
+        Err(_) => put_ticket(ticket, plan, sink),
+    }
+}
+
+/// Writes the parts of a ticket's line.
+fn put_ticket<A: Allocator, B: Allocator, W: Sink>(
     ticket: &Ticket<A>,
     plan: &Plan<B>,
     sink: &mut W,

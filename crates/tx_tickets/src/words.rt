@@ -5,6 +5,7 @@ ghost use Rattle.tx_tickets.specs.Texts.{service_text, cause_text, refusal_text,
 use tx_state::{Cause, Refusal, Service};
 
 /// The service code (ITU-T F.60 practice).
+#[inline(always)]
 pub(crate) fn service_word<'a>(service: Service) -> &'a [u8]
     ensures { result.now ≡ service_text service }
 {
@@ -18,6 +19,7 @@ pub(crate) fn service_word<'a>(service: Service) -> &'a [u8]
     }
 }
 
+#[inline(always)]
 pub(crate) fn cause_word<'a>(cause: Cause) -> &'a [u8]
     ensures { result.now ≡ cause_text cause }
 {
@@ -29,6 +31,7 @@ pub(crate) fn cause_word<'a>(cause: Cause) -> &'a [u8]
     }
 }
 
+#[inline(always)]
 pub(crate) fn refusal_word<'a>(refusal: Refusal) -> &'a [u8]
     ensures { result.now ≡ refusal_text refusal }
 {
@@ -48,6 +51,7 @@ pub(crate) fn refusal_word<'a>(refusal: Refusal) -> &'a [u8]
     }
 }
 
+#[inline(always)]
 pub(crate) fn stands_word<'a>(stands: bool) -> &'a [u8]
     ensures { result.now ≡ stands_text stands }
 {

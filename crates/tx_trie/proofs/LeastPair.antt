@@ -92,9 +92,6 @@ module _ (codes : List Code) (nodes : List Node) (trie : IsTrie codes nodes) whe
   pairs_by_longer i j k l c d e f p q =
       (λ h. ordering_then (order ((pair_widths i j c d p).0 h) ((pair_widths k l e f q).0 h)) (order d.figures f.figures)) ∙ order_take 2 d.figures f.figures
 
-  pub none_below : IsLeastBelow codes 0 None
-  none_below i j c d h k = absurd (omega (arith, h))
-
   last_or_before : (j n : ℕ) → j < n + 1 → (j ≡ n) ⊎ (j < n)
   last_or_before j n h =
       elim (nat_lt j n) as (λ b. nat_lt j n ≡ b → (j ≡ n) ⊎ (j < n)) [

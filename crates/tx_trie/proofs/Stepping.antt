@@ -127,9 +127,6 @@ module _ (old pushed new : List Node) (place figure m k : ℕ) (d : Node)
         longer = (let l = len_new in omega arith);
       }
 
-pub grows_not : (nodes : List Node) → IsTree nodes → Grows nodes nodes
-grows_not nodes tree = record { tree = tree; ways = λ n x m h. h; looks = λ text. refl; longer = omega arith }
-
 pub grows_on : (a b c : List Node) → Grows a b → Grows b c → Grows a c
 grows_on a b c g h = record {
   tree = h.tree;

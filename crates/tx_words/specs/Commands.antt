@@ -1,11 +1,12 @@
 -- What words ask for.
-use Rattle.std.specs.Prelude.{◌≡◌, ◌≤◌, ℕ, List, Option, None, Some, map, option_map, codes, string_bytes, String}
+use Rattle.std.specs.Prelude.{◌≡◌, ◌≤◌, ℕ, List, Option, None, Some, map, option_map, option_and_then, codes, string_bytes, String}
 use Rattle.std.specs.Borrow.{Bor}
 use Rattle.std.specs.Str.Parse.{IsNumeral, digits_value, without_leading_plus}
 use Rattle.clap.specs.Words.{Row, first_of, one_of, subcommand_of}
+use Rattle.tx_explain.specs.Entries.{texts, explanation}
 use Rattle.tx_words.specs.Grammar.{program_words}
 use Rattle.tx_words.specs.declared.command.Command.{Command}
-use Rattle.tx_words.specs.declared.command.Command.TheVariants.{Pipe, Run, Check, Codes, Audit}
+use Rattle.tx_words.specs.declared.command.Command.TheVariants.{Pipe, Run, Check, Codes, Audit, Explain}
 
 -- a limit is at most 62, and a spare number at most 15
 abbrev pub IsInRange : Command → Type 0
@@ -39,6 +40,8 @@ Asks name found (Codes plan) = (name ≡ codes "codes") × Names found (codes "p
 Asks name found (Audit plan limit spare cert counter) =
     (name ≡ codes "audit") × Names found (codes "plan") plan × Gives found (codes "limit") limit × Gives found (codes "spare") spare × (first_of (codes "cert") found ≡ option_map string_bytes cert)
     × (first_of (codes "counter") found ≡ option_map string_bytes counter)
+Asks name found (Explain None) = (name ≡ codes "explain") × (first_of (codes "code") found ≡ None)
+Asks name found (Explain (Some entry)) = (name ≡ codes "explain") × (option_and_then explanation (first_of (codes "code") found) ≡ Some (texts entry))
 
 -- the command that was found, with its files and options, asks for this
 abbrev pub IsFoundIn : Option (List ℕ × List Row) → Command → Type 0

@@ -37,9 +37,13 @@ codes_words = with_rule (new_app (codes "codes")) (file (codes "plan"))
 abbrev pub audit_words : App
 audit_words = with_rule (with_rule (with_rule (with_rule (with_rule (new_app (codes "audit")) (file (codes "plan"))) (needed limit)) (needed spare)) (option (codes "cert"))) (option (codes "counter"))
 
--- the program takes its words from the first on, and has four commands
+-- a code, which need not be given
+abbrev pub explain_words : App
+explain_words = with_rule (new_app (codes "explain")) (record (new_rule (codes "code")) { value_names = 1; action = Some Set })
+
+-- the program takes its words from the first on, tells its version, and has five commands
 abbrev pub top_words : App
-top_words = let app = new_app (codes "telexplan") in record app { top = record app.top { no_binary_name = true } }
+top_words = let app = new_app (codes "telexplan") in record app { top = record app.top { no_binary_name = true; has_version = true } }
 
 abbrev pub program_words : App
-program_words = with_subcommand (with_subcommand (with_subcommand (with_subcommand top_words audit_words.top) check_words.top) run_words.top) codes_words.top
+program_words = with_subcommand (with_subcommand (with_subcommand (with_subcommand (with_subcommand top_words audit_words.top) check_words.top) run_words.top) codes_words.top) explain_words.top

@@ -9,6 +9,7 @@ use crate::grammar::grammar;
 use clap::ArgMatches;
 use clap::error::ErrorKind;
 use std::alloc::{AllocError, Global};
+use tx_explain::{Entry, entry_of};
 
 /// What the words ask for.
 #[derive(Debug, Drop)]
@@ -39,6 +40,10 @@ pub enum Command {
         spare: u8,
         cert: Option<String>,
         counter: Option<String>,
+    },
+    /// `explain [CODE]`: what a code means, or all codes.
+    Explain {
+        entry: Option<Entry>,
     },
 }
 
@@ -148,6 +153,20 @@ fn run_of(
     }))
 }
 
+/// The words of `explain`. A word that is no code is refused.
+fn explain_of(alloc: Global, matches: &ArgMatches<'_>) -> Result<Option<Command>, WordsFault>
+    ensures range { IfOk result (λ c. IfSome c IsInRange) }
+    ensures asked { IfOk result (λ c. IfSome c (Asks (codes "explain") (rows_of (found_of matches.now)))) }
+{
+    let Some(word) = text(alloc, matches, "code")? else {
+        return Ok(Some(Command::Explain { entry: None }));
+    };
+    match entry_of(word.as_str()) {
+        Some(entry) => Ok(Some(Command::Explain { entry: Some(entry) })),
+        None => Err(WordsFault::NoSuchCode(word)),
+    }
+}
+
 /// The command of a subcommand's words, or None where a word that it needs is missing, which the grammar rules out.
 fn command_of(
     alloc: Global,
@@ -157,6 +176,9 @@ fn command_of(
     ensures range { IfOk result (λ c. IfSome c IsInRange) }
     ensures asked { IfOk result (λ c. IfSome c (Asks name.now (rows_of (found_of matches.now)))) }
 {
+    if name == "explain" {
+        return explain_of(alloc, matches);
+    }
     let Some(plan) = text(alloc, matches, "plan")? else {
         return Ok(None);
     };

@@ -6,6 +6,9 @@ ghost use Rattle.tx_words.specs.Grammar as grammar;
 use clap::{Arg, ArgAction, value_parser};
 use std::alloc::{AllocError, Global};
 
+/// The version of the program.
+const VERSION: &str = "1.0.0";
+
 /// A file, which has to be named.
 fn file<'a>(alloc: Global, id: &'a str, shown: &'a str, help: &'a str) -> Arg<'a>
     ensures rule { rule_of result ≡ grammar.file id.now }
@@ -144,17 +147,43 @@ fn audit_grammar<'a>(alloc: Global) -> Result<clap::Command<'a>, AllocError>
         ))
 }
 
+fn explain_grammar<'a>(alloc: Global) -> Result<clap::Command<'a>, AllocError>
+    ensures { IfOk result (λ c. app_of c ≡ grammar.explain_words) }
+{
+    let code = Arg::new(alloc, "code")
+        .value_name("CODE")
+        .help("A code that was printed, as P11, S6, M5, K7 or F2")
+        .action(ArgAction::Set);
+    clap::Command::new(alloc, "explain")
+        .about(
+            "Say what a code of a fault, a refusal or a finding means, and what to do about it; without one, list all codes",
+        )
+        .arg(code)
+}
+
+/// The program's name, its version and what it does.
+fn top_grammar<'a>(alloc: Global) -> Result<clap::Command<'a>, AllocError>
+    ensures { IfOk result (λ c. app_of c ≡ grammar.top_words) }
+{
+    let named = clap::Command::new(alloc, "telexplan").bin_name("telexplan")?;
+    Ok(
+        named
+            .version(VERSION)
+            .about(
+                "Audit the route plan of an automatic telex network, and simulate calls over it. Without words, a plan and a script are read from standard input.",
+            )
+            .no_binary_name(true),
+    )
+}
+
 /// The words that the program takes.
 pub(crate) fn grammar<'a>(alloc: Global) -> Result<clap::Command<'a>, AllocError>
     ensures { IfOk result (λ c. app_of c ≡ grammar.program_words) }
 {
-    clap::Command::new(alloc, "telexplan")
-        .about(
-            "Audit the route plan of an automatic telex network, and simulate calls over it. Without words, a plan and a script are read from standard input.",
-        )
-        .no_binary_name(true)
+    top_grammar(alloc)?
         .subcommand(audit_grammar(alloc)?)?
         .subcommand(check_grammar(alloc)?)?
         .subcommand(run_grammar(alloc)?)?
-        .subcommand(codes_grammar(alloc)?)
+        .subcommand(codes_grammar(alloc)?)?
+        .subcommand(explain_grammar(alloc)?)
 }

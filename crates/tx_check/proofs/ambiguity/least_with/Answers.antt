@@ -1,5 +1,5 @@
-use Rattle.std.proofs.Common.{arith}
-use Rattle.tx_check.proofs.LeastFound.{row_start, row_more, row_end}
+use Rattle.std.proofs.Common.{ap, length, arith}
+use Rattle.tx_check.proofs.LeastFound.{row_start, row_more, row_end, row_skip}
 use Rattle.tx_check.proofs.ambiguity.least_with.Goals as goal
 
 pub loop-place-init : goal.loop-place-init
@@ -11,3 +11,6 @@ loop-place-preserved g c =
 
 pub returns : goal.returns
 returns g c = row_end c.args.plan.now c.args.first c.loop-place.place c.loop-place.least (omega arith) c.loop-place.invariant
+
+pub returns-then-code_figures-ge3 : goal.returns-then-code_figures-ge3
+returns-then-code_figures-ge3 g c = row_skip c.args.plan.now c.rules.ensures c.args.first c.args.least (let t = c.if-code_figures-ge3.true in let e = ap length c.code_figures.ensures in omega arith) c.requires.least

@@ -2,7 +2,7 @@ use Rattle.std.proofs.Common.{sym, ap, ◌∙◌, ◌-◌, length}
 use Rattle.std.specs.Prelude.{slice_get}
 use Rattle.tx_state.specs.Call.{start_of}
 use Rattle.tx_network.specs.Seen.{call_seen}
-use Rattle.tx_network.proofs.Fronts.{last_is}
+use Rattle.tx_network.proofs.LastHop.{last_is}
 use Rattle.tx_network.proofs.places.place_of.Goals as goal
 
 pub returns-in-Some : goal.returns-in-Some

@@ -1,7 +1,10 @@
-use Rattle.std.proofs.Common.{◌≡◌, take}
+use Rattle.std.proofs.Common.{◌≡◌, ◌≤◌, ◌-◌, length, take}
 use Rattle.std.specs.List.{list_all}
 use Rattle.tx_text.specs.Text.{is_text_byte}
 use Rattle.tx_text.proofs.line_bytes.is_text.Given as goal
 
-abbrev pub invariant-loop-byte : goal.invariant-loop-byte
-invariant-loop-byte l = l.all ≡ list_all is_text_byte (take l.byte-index l.line)
+abbrev pub invariant-loop-done : goal.invariant-loop-done
+invariant-loop-done l = (l.all ≡ list_all is_text_byte (take l.done l.line)) × (l.done ≤ length l.line)
+
+abbrev pub decreases-loop-done : goal.decreases-loop-done
+decreases-loop-done l = length l.line - l.done

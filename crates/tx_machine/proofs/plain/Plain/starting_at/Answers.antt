@@ -1,6 +1,6 @@
 use Rattle.std.proofs.Common.{◌≡◌, ap, ◌∙◌, sym, subst, arith, map, length, []}
 use Rattle.tx_state.specs.Members.{Mem}
-use Rattle.tx_marks.specs.Marks.{Circuits, Groups}
+use Rattle.tx_plain_parts.specs.Marks.{Circuits, Groups}
 use Rattle.tx_network.specs.Seen.{call_seen}
 use Rattle.tx_machine.specs.Whole.{AreHeld}
 use Rattle.tx_machine.proofs.Holding.{held_none}

@@ -1,9 +1,25 @@
-use Rattle.std.proofs.Common.{◌∙◌, Some, None}
-use Rattle.tx_plan.proofs.Tables.{listed}
+use Rattle.std.proofs.Common.{◌∙◌, ap, sym, ◌==◌, ◌&&◌, Bool, List, [], Option}
+use Rattle.std.specs.Prelude.{find}
+use Rattle.std.specs.Option.{option_map_or}
+use Rattle.tx_plan.specs.Plan.{Route}
+use Rattle.tx_plan.specs.Tables.{route_of_row}
+use Rattle.tx_plan.specs.declared.route_row.RouteRow.{RouteRow}
+use Rattle.tx_plan.proofs.PlaceTable.{found_at, not_found}
 use Rattle.tx_plan.proofs.routes.Routes.list.Goals as goal
 
 pub returns-in-Some : goal.returns-in-Some
-returns-in-Some g c = c.groups.ensures ∙ listed c.args.pair.now c.self.inside.rows _ (Some c.in-Some.list.now) c.in-Some.ensures c.self.view_is
+returns-in-Some g c =
+    let x = c.args.pair.now.exchange in
+    let y = c.args.pair.now.code in
+    let t : Route → Bool = λ r. (r.exchange == x) && (r.code == y) in
+    let f = found_at route_of_row t c.self.inside.rows.items c.in-Some.place c.index.result.now (sym c.in-Some.is ∙ c.find.ensures ∙ c.self.invariant x y) in
+    c.groups.ensures ∙ ap (λ (r : RouteRow). r.groups) c.index.ensures ∙ ap (λ (o : Option Route). option_map_or (λ r. r.groups) o []) (sym f.1)
+    ∙ ap (λ (rs : List Route). option_map_or (λ r. r.groups) (find t rs) []) c.self.view_is
 
 pub returns-in-None : goal.returns-in-None
-returns-in-None g c = listed c.args.pair.now c.self.inside.rows _ None c.in-None.ensures c.self.view_is
+returns-in-None g c =
+    let x = c.args.pair.now.exchange in
+    let y = c.args.pair.now.code in
+    let t : Route → Bool = λ r. (r.exchange == x) && (r.code == y) in
+    ap (λ (o : Option Route). option_map_or (λ r. r.groups) o []) (sym (not_found t _ (sym c.in-None.is ∙ c.find.ensures ∙ c.self.invariant x y)))
+    ∙ ap (λ (rs : List Route). option_map_or (λ r. r.groups) (find t rs) []) c.self.view_is

@@ -1,4 +1,0 @@
-use Rattle.tx_jobs.proofs.evidenced.script_of.Goals as goal
-
-pub invariant_of-result : goal.invariant_of-result
-invariant_of-result g c = record { writable = rw c.in-Ok-Some.field-0-is at c.in-Ok-Some.ensures.writable }

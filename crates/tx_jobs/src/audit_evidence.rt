@@ -1,0 +1,82 @@
+// The job of `audit PLAN --limit L --spare K` where what shows the verdict is to be kept.
+ghost use Rattle.std.specs.Prelude.{◌≡◌, ◌≤◌};
+ghost use Rattle.std.specs.List.{AllByRecursion};
+ghost use Rattle.tx_text.specs.Calls.{Broken, CallsAtMost, source_calls};
+ghost use Rattle.tx_rank.specs.Findings.{IsTrueOf};
+ghost use Rattle.tx_audit.specs.Audits.{OnUnsound};
+ghost use Rattle.tx_jobs.specs.JobFaults.{mark_after};
+ghost use Rattle.tx_jobs.specs.Evidences.{EvidenceJobAnswers, IsEvidenceOf, IsScriptOf};
+
+use crate::audit::audit_job;
+use crate::evidence::{CounterScript, Evidence};
+use crate::job_fault::JobFault;
+use std::alloc::Allocator;
+use tx_audit::{Audited, first_counter};
+use tx_plan::Plan;
+use tx_rank::Finding;
+use tx_text::{NoMemory, Sink, Source};
+
+/// Reads a plan, and writes the report of its audit. Answers what shows the verdict: after a Yes the certificate, and after a No, if it is asked for, the
+/// script of the first finding that has one. Where there is no memory for that script, the report was written.
+pub fn evidence_job<A: Allocator + Copy, P: Source, W: Sink>(
+    alloc: A,
+    plan: &mut P,
+    limit: u8,
+    spare: u8,
+    with_script: bool,
+    out: &mut W,
+) -> Result<Evidence<A>, JobFault>
+    requires limit { limit ≤ 62 }
+    requires spare { spare ≤ 15 }
+    ensures answers { EvidenceJobAnswers with_script limit spare (P.rest plan.old) (P.rest plan.new) (W.taken out.old) (W.taken out.new) (Broken P.called (P.failed plan.new) source_calls plan.old plan.new) (plan.new ≡ plan.old) (out.new ≡ out.old) result }
+    ensures mark { W.failed out.new ≡ mark_after (W.failed out.old) result }
+    ensures calls { CallsAtMost P.called source_calls plan.old plan.new }
+{
+    match audit_job(alloc, plan, limit, spare, out) {
+        Ok(audited) => evidence_of(alloc, audited, limit, spare, with_script),
+        Err(fault) => Err(fault),
+    }
+}
+
+/// What shows the verdict of an audit.
+fn evidence_of<A: Allocator + Copy>(
+    alloc: A,
+    audited: Audited<A>,
+    limit: u8,
+    spare: u8,
+    with_script: bool,
+) -> Result<Evidence<A>, JobFault>
+    requires { OnUnsound (λ p findings. AllByRecursion (IsTrueOf p limit spare) findings) audited }
+    ensures { IsEvidenceOf with_script limit spare audited result }
+{
+    match audited {
+        Audited::Sound(plan, cert) => Ok(Evidence::Sound(plan, cert)),
+        Audited::Unsound(plan, findings) => {
+            if with_script {
+                script_of(alloc, plan, findings, limit, spare)
+            } else {
+                Ok(Evidence::Unsound(None))
+            }
+        }
+    }
+}
+
+/// The script of the first finding that has one.
+fn script_of<A: Allocator + Copy>(
+    alloc: A,
+    plan: Plan<A>,
+    findings: Vec<Finding<A>, A>,
+    limit: u8,
+    spare: u8,
+) -> Result<Evidence<A>, JobFault>
+    requires { AllByRecursion (IsTrueOf plan limit spare) findings.items }
+    ensures { IsScriptOf plan limit spare findings.items result }
+{
+    let events = first_counter(alloc, &plan, findings.as_slice(), limit, spare);
+    drop(findings);
+    match events {
+        Ok(Some(events)) => Ok(Evidence::Unsound(Some(CounterScript { plan, events }))),
+        Ok(None) => Ok(Evidence::Unsound(None)),
+        Err(NoMemory) => Err(JobFault::NoMemory),
+    }
+}

@@ -1,0 +1,6 @@
+pub mod Bits
+pub mod Views
+pub mod Sweeps
+pub mod Sweeping
+pub mod Giving
+pub mod LineSets

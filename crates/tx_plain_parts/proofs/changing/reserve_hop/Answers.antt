@@ -1,0 +1,21 @@
+use Rattle.std.proofs.Common.{ap, get_or}
+use Rattle.tx_plain_parts.proofs.Sweeping.{reserved_seen, reserved_room, reserved_step, all_ready}
+use Rattle.tx_plain_parts.proofs.changing.reserve_hop.Goals as goal
+
+pub returns-in_err-reserve_one-clause-seen : goal.returns-in_err-reserve_one-clause-seen
+returns-in_err-reserve_one-clause-seen g c =
+    let x = get_or c.loop-at.calls c.loop-at.at c.index-calls-at.result in
+    reserved_seen c.args.number c.args.calls.now c.loop-at.at c.loop-at.calls x c.reserve_one.new.call c.loop-at-test.true (ap (λ d. get_or c.loop-at.calls c.loop-at.at d) c.index-calls-at.is) c.loop-at.invariant c.reserve_one.ensures.seen c.reserve_one.ensures.room
+
+pub returns-in_err-reserve_one-clause-room : goal.returns-in_err-reserve_one-clause-room
+returns-in_err-reserve_one-clause-room g c =
+    let x = get_or c.loop-at.calls c.loop-at.at c.index-calls-at.result in
+    reserved_room c.args.number c.args.calls.now c.loop-at.at c.loop-at.calls x c.reserve_one.new.call c.loop-at-test.true (ap (λ d. get_or c.loop-at.calls c.loop-at.at d) c.index-calls-at.is) c.loop-at.invariant c.reserve_one.ensures.seen c.reserve_one.ensures.room
+
+pub returns-clause-ready : goal.returns-clause-ready
+returns-clause-ready g c = all_ready c.args.number c.loop-at.at c.loop-at.calls c.loop-at.invariant.ready c.loop-at-test.false
+
+pub loop-at-preserved : goal.loop-at-preserved
+loop-at-preserved g c =
+    let x = get_or c.loop-at.calls c.loop-at.at c.index-calls-at.result in
+    reserved_step c.args.number c.args.calls.now c.loop-at.at c.loop-at.calls x c.reserve_one.new.call c.loop-at-test.true (ap (λ d. get_or c.loop-at.calls c.loop-at.at d) c.index-calls-at.is) c.loop-at.invariant c.reserve_one.ensures.seen c.reserve_one.ensures.room c.in_ok-reserve_one.ensures.ready

@@ -1,0 +1,24 @@
+use Rattle.std.proofs.Common.{ap, ◌∙◌, sym, subst, map}
+use Rattle.tx_network.specs.Seen.{call_seen}
+use Rattle.tx_plain_parts.specs.GivenUp.{is_given, with_more}
+use Rattle.tx_plain_parts.specs.Marks.{Circuits, HasMark}
+use Rattle.tx_state.specs.Call.{circuit_called}
+use Rattle.tx_state.specs.InUse.{circuits_carried}
+use Rattle.tx_state.specs.Members.{Mem}
+use Rattle.tx_state.proofs.Lists.{mem_left, mem_right}
+use Rattle.tx_state.specs.declared.hop.Hop.{Hop}
+use Rattle.std.specs.Prelude.{filter}
+use Rattle.tx_plain_parts.proofs.Giving.{more_given}
+use Rattle.tx_plain_parts.proofs.ending.give_call.Goals as goal
+
+pub give_hops-requires : goal.give_hops-requires
+give_hops-requires g c = λ x m. c.requires x (mem_left (circuits_carried (call_seen c.args.call.now)) (circuit_called c.args.call.now.phase) x (subst (λ (hs : _). Mem (map (λ (h : Hop). h.circuit) hs) x) c.deref.ensures.value m))
+
+pub give_phase-requires : goal.give_phase-requires
+give_phase-requires g c = λ x m. subst (λ n. HasMark n x) (sym (ap (λ (v : Circuits). v.groups) c.give_hops.ensures)) (c.requires x (mem_right (circuits_carried (call_seen c.args.call.now)) (circuit_called c.args.call.now.phase) x m))
+
+pub returns : goal.returns
+returns g c =
+    let t = is_given c.args.ends.now (map call_seen c.args.calls.now) in
+    more_given t c.args.releasing.now c.give_hops.new.releasing c.give_phase.new.releasing (circuits_carried (call_seen c.args.call.now)) (circuit_called c.args.call.now.phase)
+    (c.give_hops.ensures ∙ ap (λ hs. with_more c.args.releasing.now (filter t (map (λ (h : Hop). h.circuit) hs))) c.deref.ensures.value) c.give_phase.ensures

@@ -1,0 +1,20 @@
+use Rattle.tx_program.proofs.Printed.{plans, certificates, scripts, refusals, checks, findings}
+use Rattle.tx_program.proofs.explained.codes_are_explained.Goals as goal
+
+pub returns-clause-plans : goal.returns-clause-plans
+returns-clause-plans g c = plans
+
+pub returns-clause-certificates : goal.returns-clause-certificates
+returns-clause-certificates g c = certificates
+
+pub returns-clause-scripts : goal.returns-clause-scripts
+returns-clause-scripts g c = scripts
+
+pub returns-clause-refusals : goal.returns-clause-refusals
+returns-clause-refusals g c = refusals
+
+pub returns-clause-checks : goal.returns-clause-checks
+returns-clause-checks g c = checks
+
+pub returns-clause-findings : goal.returns-clause-findings
+returns-clause-findings g c = findings _

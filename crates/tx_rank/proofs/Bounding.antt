@@ -1,0 +1,174 @@
+-- Bounds of what holds together, and those that ranks by height show.
+use Rattle.std.proofs.Common.{◌≡◌, ◌≢◌, ℕ, ◌+◌, ◌-◌, ◌<◌, ◌≤◌, ◌⊎◌, inl, inr, max, min, true, false, nat_lt, unwrap_or, eqb, eqb-true, List, [], ◌∷◌, ◌++◌, length, Option, Some, None, refl, sym, ap, subst, ◌∙◌, arith, length-append}
+use Rattle.std.specs.Prelude.{◌↔◌, slice_get, if◌then◌else◌}
+use Rattle.std.proofs.lemmas.Bool.{eqb-false, and_parts, ltb-true}
+use Rattle.tx_plan.specs.Plan.{Plan}
+use Rattle.tx_plan.specs.Certified.{Ranks, IsCertified}
+use Rattle.tx_cert.specs.Certificate.{Certificate, rank_at, has_pair, place_of}
+use Rattle.tx_rank.specs.declared.bounds.Bounds.{Bounds}
+use Rattle.tx_rank.specs.Walks.{Net, net_of}
+use Rattle.tx_rank.specs.Heights.{RanksByHeight, AreHeights}
+use Rattle.tx_rank.specs.Nets.{Certifies}
+use Rattle.tx_rank.specs.Grades.{AreBounds, CanBeCertified, CanBeCertifiedFor, AreCodeBounds, Suits}
+use Rattle.tx_rank.proofs.Ranks.{Falls, all_down}
+use Rattle.tx_rank.proofs.Origins.{at_push}
+use Rattle.tx_rank.proofs.Certifying.{certifies_code, certified_codes}
+
+-- TOGETHER
+
+module _ (P : ℕ → ℕ → Type 0) where
+  pub bounds_widest : (b : Bounds) → b.limit ≡ 0 → b.spare ≡ 15 → ((l s : ℕ) → P l s) → AreBounds P b
+  bounds_widest b limit spare all = record { few = omega arith; exactly = λ l s h. (λ _. (omega arith, omega arith), λ _. all l s) }
+
+  module _ (Q R : ℕ → ℕ → Type 0) where
+    pub bounds_both : (a b c : Bounds) → AreBounds P a → AreBounds Q b → c.limit ≡ max a.limit b.limit → c.spare ≡ min a.spare b.spare → ((l s : ℕ) → R l s ↔ (P l s × Q l s)) → AreBounds R c
+    bounds_both a b c p q limit spare split =
+        record {
+          few = let f = p.few in omega arith;
+          exactly = λ l s h. (
+            λ r. let f = (p.exactly l s h).0 ((split l s).0 r).0 in let g = (q.exactly l s h).0 ((split l s).0 r).1 in let x = f.0 in let y = f.1 in let z = g.0 in let w = g.1 in (omega arith, omega arith),
+            λ k. let x = k.0 in let y = k.1 in (split l s).1 ((p.exactly l s h).1 (omega arith, omega arith), (q.exactly l s h).1 (omega arith, omega arith)),
+          );
+        }
+
+  module _ (Q : ℕ → ℕ → Type 0) where
+    pub bounds_same : (b : Bounds) → AreBounds P b → ((l s : ℕ) → P l s ↔ Q l s) → AreBounds Q b
+    bounds_same b p same = record { few = p.few; exactly = λ l s h. (λ q. (p.exactly l s h).0 ((same l s).1 q), λ k. (same l s).0 ((p.exactly l s h).1 k)) }
+
+-- ONE CODE
+
+-- what the exchanges before place i ask for
+abbrev pub SuitsBelow : Net → (ℕ → Option ℕ) → (i limit spare : ℕ) → Type 0
+SuitsBelow n ranks i limit spare = (x : ℕ) → x < i → Suits n ranks x limit spare
+
+module _ (n : Net) (ranks : ℕ → Option ℕ) where
+  pub home_bounds : (x : ℕ) (b : Bounds) → x ≡ n.home → b.limit ≡ 0 → b.spare ≡ 15 → AreBounds (Suits n ranks x) b
+  home_bounds x b e limit spare = bounds_widest (Suits n ranks x) b limit spare (λ l s r ranked away. absurd (away e))
+
+  pub unranked_bounds : (x : ℕ) (b : Bounds) → ranks x ≡ None → b.limit ≡ 0 → b.spare ≡ 15 → AreBounds (Suits n ranks x) b
+  unranked_bounds x b e limit spare = bounds_widest (Suits n ranks x) b limit spare (λ l s r ranked away. absurd (let bad : ⊥ = cc in bad))
+
+  pub ranked_bounds : (x rank : ℕ) (b : Bounds) → ranks x ≡ Some rank → x ≢ n.home → 0 < length (n.list x) → b.limit ≡ rank - 1 → b.spare ≡ min (length (n.list x) - 1) 15 → AreBounds (Suits n ranks x) b
+  ranked_bounds x rank b e away some limit spare =
+      record {
+        few = omega arith;
+        exactly = λ l s h. (
+          λ suits. let k = suits rank e away in let u = k.0 in let v = k.1 in (omega arith, omega arith),
+          λ k r ranked _. let same : r ≡ rank = cc in let u = k.0 in let v = k.1 in (omega arith, omega arith),
+        );
+      }
+
+  pub below_none : (b : Bounds) → b.limit ≡ 0 → b.spare ≡ 15 → AreBounds (SuitsBelow n ranks 0) b
+  below_none b limit spare = bounds_widest (SuitsBelow n ranks 0) b limit spare (λ l s x h. absurd (omega arith))
+
+  pub below_next : (i : ℕ) (a b c : Bounds) → AreBounds (SuitsBelow n ranks i) a → AreBounds (Suits n ranks i) b → c.limit ≡ max a.limit b.limit → c.spare ≡ min a.spare b.spare → AreBounds (SuitsBelow n ranks (i + 1)) c
+  below_next i a b c p q limit spare =
+      bounds_both (SuitsBelow n ranks i) (Suits n ranks i) (SuitsBelow n ranks (i + 1)) a b c p q limit spare
+      (λ l s. (
+        λ r. (λ x h. r x (omega arith), r i (omega arith)),
+        λ k x h. elim (eqb x i) as (λ t. eqb x i ≡ t → Suits n ranks x l s) [
+          | true ↦ λ e. subst (λ y. Suits n ranks y l s) (sym (eqb-true x i e)) k.1
+          | false ↦ λ e. let d = eqb-false x i e in k.0 x (omega arith)
+        ] refl,
+      ))
+
+  module _ (heights : RanksByHeight n ranks) (certified : Certifies n ranks 255 0) where
+    -- whatever ranks certify the code, no exchange is ranked below its height, and each has groups enough
+    pub certified_suits : (other : ℕ → Option ℕ) (l s : ℕ) → Certifies n other l s → (x : ℕ) → Suits n ranks x l s
+    certified_suits other l s c x r ranked away =
+        let falls : Falls n other = record { lower = c.lower } in
+        let w = heights.ranked x r ranked away in
+        let o = c.origins w.start w.walk.origin in
+        let to = all_down n other falls w.start o.0 w.steps o.1 w.walk.goes in
+        let at : other x ≡ Some to.rank = ap other (sym w.ends) ∙ to.ranked in
+        let h = heights.heights x r ranked in
+        let on = all_down n other falls x to.rank h.steps at h.goes in
+        let within = on.within in
+        let count = h.count in
+        let low = c.low x to.rank at in
+        (omega arith, c.enough x to.rank at away)
+
+    -- and these ranks certify it where that is so
+    pub suits_certified : (l s : ℕ) → ((x : ℕ) → Suits n ranks x l s) → Certifies n ranks l s
+    suits_certified l s suits =
+        record {
+          home = certified.home;
+          origins = certified.origins;
+          low = λ x r ranked. elim (eqb x n.home) as (λ t. eqb x n.home ≡ t → r ≤ l + 1) [
+            | true ↦ λ e. let at = ap ranks (eqb-true x n.home e) in let h = certified.home in let zero_rank : r ≡ 0 = cc in omega arith
+            | false ↦ λ e. (suits x r ranked (eqb-false x n.home e)).0
+          ] refl;
+          enough = λ x r ranked away. (suits x r ranked away).1;
+          lower = certified.lower;
+        }
+
+    pub code_bounds : (i : ℕ) (b : Bounds) → ((x r : ℕ) → ranks x ≡ Some r → x < i) → AreBounds (SuitsBelow n ranks i) b → AreBounds (λ l s. (other : ℕ → Option ℕ) × Certifies n other l s) b
+    code_bounds i b within p =
+        bounds_same (SuitsBelow n ranks i) (λ l s. (other : ℕ → Option ℕ) × Certifies n other l s) b p
+        (λ l s. (λ k. (ranks, suits_certified l s (λ x r ranked away. k x (within x r ranked) r ranked away)), λ k x _. certified_suits k.0 l s k.1 x))
+
+-- only exchanges of the certificate are ranked in it
+pub rank_within : (t : Certificate) (c x r : ℕ) → rank_at t c x ≡ Some r → x < t.exchanges
+rank_within t c x r h =
+    elim (has_pair t c x) as (λ b. has_pair t c x ≡ b → (if b then unwrap_or (slice_get t.ranks (place_of t c x)) None else None) ≡ Some r → x < t.exchanges) [
+      | true ↦ λ e _. ltb-true x t.exchanges (and_parts (nat_lt c t.codes) (nat_lt x t.exchanges) e).1
+      | false ↦ λ e q. absurd (let bad : ⊥ = cc in bad)
+    ] refl h
+
+-- ALL CODES
+
+-- these ranks certify the codes before c
+abbrev pub CertifiesBelow : Plan → Ranks → (c limit spare : ℕ) → Type 0
+CertifiesBelow p ranks c limit spare = (d : ℕ) → d < c → Certifies (net_of p d) (ranks d) limit spare
+
+-- the bounds of the codes before c, together and one by one
+pub record IsGradedBelow (p : Plan) (ranks : Ranks) (c : ℕ) (b : Bounds) (codes : List (ℕ × Bounds)) : Type 0 where
+  pub together : AreBounds (CertifiesBelow p ranks c) b
+  pub long : length codes ≡ c
+  pub each : (d : ℕ) (q : ℕ × Bounds) → slice_get codes d ≡ Some q → (q.0 ≡ d) × AreBounds (CanBeCertifiedFor p d) q.1
+
+module _ (p : Plan) (ranks : Ranks) where
+  pub graded_none : (b : Bounds) → b.limit ≡ 0 → b.spare ≡ 15 → (codes : List (ℕ × Bounds)) → codes ≡ [] → IsGradedBelow p ranks 0 b codes
+  graded_none b limit spare codes e =
+      record {
+        together = bounds_widest (CertifiesBelow p ranks 0) b limit spare (λ l s d h. absurd (omega arith));
+        long = ap length e;
+        each = λ d k at. absurd (let bad : ⊥ = cc in bad);
+      }
+
+  module _ (heights : AreHeights p ranks) (certified : IsCertified p ranks 255 0) where
+    -- what any ranks certify, these do
+    best : (c : ℕ) → c < length p.codes → (l s : ℕ) → CanBeCertifiedFor p c l s → Certifies (net_of p c) (ranks c) l s
+    best c h l s k =
+        let own = certifies_code p ranks 255 0 certified c h in
+        suits_certified (net_of p c) (ranks c) (heights c h) own l s (certified_suits (net_of p c) (ranks c) (heights c h) own k.0 l s k.1)
+
+    pub graded_next : (c : ℕ) (a b new : Bounds) (codes : List (ℕ × Bounds)) → c < length p.codes → IsGradedBelow p ranks c a codes → AreBounds (CanBeCertifiedFor p c) b
+        → new.limit ≡ max a.limit b.limit → new.spare ≡ min a.spare b.spare → IsGradedBelow p ranks (c + 1) new (codes ++ (c, b) ∷ [])
+    graded_next c a b new codes within g q limit spare =
+        record {
+          together = bounds_both (CertifiesBelow p ranks c) (CanBeCertifiedFor p c) (CertifiesBelow p ranks (c + 1)) a b new g.together q limit spare
+              (λ l s. (
+                λ r. (λ d h. r d (omega arith), (ranks c, r c (omega arith))),
+                λ k d h. elim (eqb d c) as (λ t. eqb d c ≡ t → Certifies (net_of p d) (ranks d) l s) [
+                  | true ↦ λ e. subst (λ y. Certifies (net_of p y) (ranks y) l s) (sym (eqb-true d c e)) (best c within l s k.1)
+                  | false ↦ λ e. let away = eqb-false d c e in k.0 d (omega arith)
+                ] refl,
+              ));
+          long = let l = g.long in simp length-append (omega arith);
+          each = λ d e at. elim (at_push codes (c, b) e d at) [
+            | inl m ↦ g.each d e m
+            | inr m ↦
+                let here : d ≡ c = m.0 ∙ g.long in
+                (ap (λ (y : ℕ × Bounds). y.0) m.1 ∙ sym here, subst (λ (k : ℕ). AreBounds (CanBeCertifiedFor p k) e.1) (sym here) (subst (λ (y : ℕ × Bounds). AreBounds (CanBeCertifiedFor p c) y.1) (sym m.1) q))
+          ];
+        }
+
+    module _ (c : ℕ) (b : Bounds) (codes : List (ℕ × Bounds)) (all : c ≡ length p.codes) (g : IsGradedBelow p ranks c b codes) where
+      pub graded_plan : AreBounds (CanBeCertified p) b
+      graded_plan =
+          bounds_same (CertifiesBelow p ranks c) (CanBeCertified p) b g.together
+          (λ l s. (λ k. (ranks, certified_codes p ranks l s certified.no_prefix (λ d h. k d (omega arith))), λ k d h. best d (omega arith) l s (k.0 d, certifies_code p k.0 l s k.1 d (omega arith))))
+
+      pub graded_codes : AreCodeBounds p codes
+      graded_codes = record { long = g.long ∙ all; each = g.each }

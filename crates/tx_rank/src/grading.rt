@@ -1,0 +1,93 @@
+// The grading of a plan.
+ghost use Rattle.std.specs.Prelude.{◌≡◌, ◌≢◌, ℕ, length, [], IfOk};
+ghost use Rattle.std.specs.List.{AllByRecursion};
+ghost use Rattle.tx_plan.specs.Certified.{Ranks, IsCertified};
+ghost use Rattle.tx_plan.specs.Ambiguous.{ambiguous_of};
+ghost use Rattle.tx_cert.specs.Certificate.{ranks_of};
+ghost use Rattle.tx_rank.specs.Heights.{AreHeights};
+ghost use Rattle.tx_rank.specs.Findings.{IsTrueOf, AreFindings, pair_findings};
+ghost use Rattle.tx_rank.specs.Grades.{AreBounds, CanBeCertified, AreCodeBounds, AreUnmended};
+ghost use Rattle.tx_rank.specs.Gradings.{IsGraded, OnGraded, OnUngraded};
+
+use crate::bounds::Bounds;
+use crate::code_bounds::code_bounds;
+use crate::code_ranking::rank_code;
+use crate::code_routes::{CodeRoutes, origins_of};
+use crate::finding::Finding;
+use crate::plan_grade::Grade;
+use crate::ranking::pair_found;
+use std::alloc::Allocator;
+use tx_cert::Cert;
+use tx_plan::{CodeId, Plan};
+use tx_text::NoMemory;
+
+/// Ranks the exchanges for each code, or adds what is wrong with it. No walk is too long for this limit, and only an empty list is too short.
+fn rank_codes<A: Allocator + Copy>(
+    alloc: A,
+    plan: &Plan<A>,
+    findings: &mut Vec<Finding<A>, A>,
+) -> Result<Cert<A>, NoMemory>
+    requires { findings.old.items ≡ pair_findings (ambiguous_of plan.now.codes) }
+    ensures listed { IfOk result (λ _. AreFindings plan.now 255 0 findings.new.items) }
+    ensures exchanges { IfOk result (λ cert. cert.exchanges ≡ length plan.now.exchanges) }
+    ensures heights { IfOk result (λ cert. findings.new.items ≡ [] → AreHeights plan.now (ranks_of cert)) }
+    ensures certified { IfOk result (λ cert. findings.new.items ≡ [] → IsCertified plan.now (ranks_of cert) 255 0) }
+{
+    plan.rules();
+    let mut cert = Cert::new(alloc, plan)?;
+    let origins = origins_of(alloc, plan)?;
+    for place in 0..plan.codes() {
+        let net = CodeRoutes {
+            plan,
+            origins: &origins,
+            code: CodeId::at(place as u16),
+        };
+        rank_code(alloc, &net, net.code, u8::MAX, 0, &mut cert, findings)?;
+    }
+    Ok(cert)
+}
+
+/// The grade that the ranks by height show.
+fn graded<A: Allocator + Copy>(
+    alloc: A,
+    plan: &Plan<A>,
+    cert: &Cert<A>,
+) -> Result<Grade<A>, NoMemory>
+    requires exchanges { cert.now.exchanges ≡ length plan.now.exchanges }
+    requires heights { AreHeights plan.now (ranks_of cert.now) }
+    requires certified { IsCertified plan.now (ranks_of cert.now) 255 0 }
+    ensures is_graded { IfOk result IsGraded }
+    ensures plan { IfOk result (OnGraded (λ bounds codes. AreBounds (CanBeCertified plan.now) bounds)) }
+    ensures codes { IfOk result (OnGraded (λ bounds codes. AreCodeBounds plan.now codes)) }
+{
+    plan.rules();
+    let mut bounds = Bounds::widest();
+    let mut codes = Vec::with_capacity(alloc, plan.codes())?;
+    for place in 0..plan.codes() {
+        let code = CodeId::at(place as u16);
+        let alone = code_bounds(plan, cert, code);
+        bounds = bounds.both(alone);
+        codes.push_reserved((code, alone));
+    }
+    Ok(Grade::Graded(bounds, codes))
+}
+
+/// Tells with which limits and spare numbers some ranks certify the plan, and each of its codes, or what none of them mends.
+pub fn grade<A: Allocator + Copy>(alloc: A, plan: &Plan<A>) -> Result<Grade<A>, NoMemory>
+    // A grade is told wherever any ranks certify the plan, and it says with which limits and spare numbers they do.
+    ensures wherever { IfOk result (λ g. (ranks : Ranks) (limit spare : ℕ) → IsCertified plan.now ranks limit spare → IsGraded g) }
+    ensures plan { IfOk result (OnGraded (λ bounds codes. AreBounds (CanBeCertified plan.now) bounds)) }
+    ensures codes { IfOk result (OnGraded (λ bounds codes. AreCodeBounds plan.now codes)) }
+
+    ensures fails { IfOk result (OnUngraded (λ findings. findings ≢ [])) }
+    ensures each { IfOk result (OnUngraded (λ findings. (limit spare : ℕ) → AllByRecursion (IsTrueOf plan.now limit spare) findings)) }
+    ensures listed { IfOk result (OnUngraded (AreUnmended plan.now)) }
+{
+    plan.rules();
+    let mut findings = pair_found(alloc, plan)?;
+    let cert = rank_codes(alloc, plan, &mut findings)?;
+    if findings.is_empty() {
+        return graded(alloc, plan, &cert);
+    }
+    Ok(Grade::Ungraded(findings))
+}

@@ -1,0 +1,23 @@
+# Completion of telexplan for bash: `source docs/telexplan.bash`, with telexplan on the path.
+_telexplan() {
+    local word=${COMP_WORDS[COMP_CWORD]} words=
+    case ${COMP_WORDS[COMP_CWORD - 1]} in
+        --limit) words=$(echo {0..62}) ;;
+        --spare) words=$(echo {0..15}) ;;
+        --cert | --counter) ;;
+        *)
+            case $COMP_CWORD:${COMP_WORDS[1]}:$word in
+                1:*) words="audit check run codes explain help --help --version" ;;
+                *:help:*) words="audit check run codes explain" ;;
+                *:explain:*) words="--help $(telexplan explain 2>/dev/null | cut -d ' ' -f 1)" ;;
+                *:audit:-*) words="--limit --spare --cert --counter --help" ;;
+                *:check:-*) words="--limit --spare --help" ;;
+                *:run:-*) words="--cert --limit --spare --help" ;;
+                *:codes:-*) words="--help" ;;
+            esac
+            ;;
+    esac
+    # where no words are offered, `-o default` offers files
+    COMPREPLY=($(compgen -W "$words" -- "$word"))
+}
+complete -o default -F _telexplan telexplan
