@@ -14,7 +14,7 @@ use tx_state::{Event, Network, Reply, Ticket};
 use tx_text::NoMemory;
 
 /// The indexed network. It answers each event in a number of steps that does not grow with the open calls, but where it takes more room: then it may move
-/// what it keeps. The room at least doubles, so few events take any.
+/// what it keeps.
 #[derive(Drop)]
 pub struct Engine<'p, A: Allocator = Global> {
     pub(crate) parts: Parts<'p, A>,
