@@ -1,10 +1,10 @@
 // The open calls, under keys and by number.
-ghost use Rattle.std.specs.Prelude.{◌≡◌, ◌<◌, ◌≤◌, ◌+◌, ◌++◌, ◌∷◌, [], ℕ, not, filter, length, OnOk, IfSome, IfNone, Some, None, is_some, true};
+ghost use Rattle.std.specs.Prelude.{◌≡◌, ◌<◌, ◌≤◌, ◌+◌, ◌^◌, ◌++◌, ◌∷◌, [], ℕ, not, filter, length, OnOk, IfSome, IfNone, Some, None, is_some, true};
 ghost use Rattle.tx_state.specs.Call.{Call, call_of, is_numbered};
 ghost use Rattle.tx_state.specs.Members.{Mem};
 ghost use Rattle.tx_state.specs.Routing.{in_phase, set_call};
 ghost use Rattle.tx_state.specs.Confirming.{carried_on, thrown_back};
-ghost use Rattle.slab.specs.Slab.{get, Updates};
+ghost use Rattle.slab.specs.Slab.{get, HasRoomFor, Updates};
 ghost use Rattle.tx_state.specs.declared.phase.Phase.TheVariants.{Standing};
 ghost use Rattle.tx_network.specs.declared.open_call.OpenCall.{OpenCall};
 ghost use Rattle.tx_calls.specs.Calls.{Kept, HasRoom, kept_at, Changes, calls_in, kept_of};
@@ -19,11 +19,11 @@ use tx_network::OpenCall;
 use tx_state::{Hop, Phase, put};
 use tx_text::NoMemory;
 
-/// The open calls. Each has a key from its opening to its end, and is found by its number.
+/// The open calls. Each has a key of 32 bits from its opening to its end, and is found by its number.
 #[derive(Drop)]
 pub struct OpenCalls<A: Allocator = Global> {
     calls: Slab<OpenCall<A>, A>,
-    by_number: IndexMap<u32, usize, BuildHasherDefault<FoldHasher>, A>,
+    by_number: IndexMap<u32, u32, BuildHasherDefault<FoldHasher>, A>,
 }
 
 impl<A: Allocator> Model for OpenCalls<A> {
@@ -57,18 +57,21 @@ impl<A: Allocator> OpenCalls<A> {
         self.calls.len()
     }
 
-    /// Makes room for one more call.
+    /// Makes room for one more call. Without a key of 32 bits for it there is none.
     pub fn reserve_one(&mut self) -> Result<(), NoMemory>
         ensures ok { OnOk result (HasRoom self.new) }
         ensures rest { self.new ≡ record self.old { call_room = self.new.call_room; number_room = self.new.number_room } }
     {
+        if self.calls.vacant_key() > u32::MAX as usize {
+            return Err(NoMemory);
+        }
         self.calls.reserve(1)?;
         self.by_number.reserve(1)?;
         Ok(())
     }
 
     /// The key of the call of a number.
-    pub fn find(&self, number: u32) -> Option<usize>
+    pub fn find(&self, number: u32) -> Option<u32>
         ensures found { IfSome result (λ key. (k : Kept) × (kept_at self.now key ≡ Some k) × (call_of number (calls_in self.now) ≡ Some k.call) × (k.call.number ≡ number)) }
         ensures none { IfNone result (call_of number (calls_in self.now) ≡ None) }
     {
@@ -79,18 +82,18 @@ impl<A: Allocator> OpenCalls<A> {
     }
 
     /// The call under a key.
-    pub fn at(&self, key: usize) -> &OpenCall<A>
+    pub fn at(&self, key: u32) -> &OpenCall<A>
         requires { is_some (kept_at self.now key) ≡ true }
         ensures { kept_at self.now key ≡ Some (kept_of result.now) }
     {
-        match self.calls.get(key) {
+        match self.calls.get(key as usize) {
             Some(call) => call,
             None => unreachable!(),
         }
     }
 
     /// Opens a call of the next number.
-    pub fn open(&mut self, call: OpenCall<A>) -> usize
+    pub fn open(&mut self, call: OpenCall<A>) -> u32
         requires room { HasRoom self.old }
         requires next { (d : Call) → Mem (calls_in self.old) d → d.number < call.number }
         ensures vacant { kept_at self.old result ≡ None }
@@ -98,13 +101,13 @@ impl<A: Allocator> OpenCalls<A> {
         ensures calls { calls_in self.new ≡ calls_in self.old ++ call_seen call ∷ [] }
     {
         let number = call.number;
-        let key = self.calls.insert_reserved(call);
+        let key = put_in(&mut self.calls, call);
         let _absent = self.by_number.insert(number, key).unwrap();
         key
     }
 
     /// The call under a key goes to another phase.
-    pub fn set_phase(&mut self, key: usize, phase: Phase)
+    pub fn set_phase(&mut self, key: u32, phase: Phase)
         requires { is_some (kept_at self.old key) ≡ true }
         ensures changes { (k : Kept) → kept_at self.old key ≡ Some k → Changes self.old self.new key (Some (record k { call = in_phase phase k.call })) }
         ensures calls { (k : Kept) → kept_at self.old key ≡ Some k → calls_in self.new ≡ set_call k.call.number (in_phase phase) (calls_in self.old) }
@@ -113,7 +116,7 @@ impl<A: Allocator> OpenCalls<A> {
     }
 
     /// Makes room for one more hop of the call under a key.
-    pub fn reserve_hop(&mut self, key: usize) -> Result<(), NoMemory>
+    pub fn reserve_hop(&mut self, key: u32) -> Result<(), NoMemory>
         requires { is_some (kept_at self.old key) ≡ true }
         ensures changes { (k : Kept) → kept_at self.old key ≡ Some k → (r : ℕ) × Changes self.old self.new key (Some (record k { room = r })) × (k.room ≤ r) × OnOk result (0 < r) }
         ensures calls { calls_in self.new ≡ calls_in self.old }
@@ -122,7 +125,7 @@ impl<A: Allocator> OpenCalls<A> {
     }
 
     /// The call under a key goes on over a hop.
-    pub fn go_on(&mut self, key: usize, hop: Hop)
+    pub fn go_on(&mut self, key: u32, hop: Hop)
         requires there { is_some (kept_at self.old key) ≡ true }
         requires room { (k : Kept) → kept_at self.old key ≡ Some k → 0 < k.room }
         ensures changes { (k : Kept) → kept_at self.old key ≡ Some k → (r : ℕ) × Changes self.old self.new key (Some (record { call = carried_on hop.circuit hop.far k.call; room = r })) }
@@ -132,7 +135,7 @@ impl<A: Allocator> OpenCalls<A> {
     }
 
     /// The call under a key is thrown back to where it stands.
-    pub fn throw_back(&mut self, key: usize)
+    pub fn throw_back(&mut self, key: u32)
         requires { is_some (kept_at self.old key) ≡ true }
         ensures changes { (k : Kept) → kept_at self.old key ≡ Some k → Changes self.old self.new key (Some (record k { call = thrown_back k.call })) }
         ensures calls { (k : Kept) → kept_at self.old key ≡ Some k → calls_in self.new ≡ set_call k.call.number thrown_back (calls_in self.old) }
@@ -141,53 +144,63 @@ impl<A: Allocator> OpenCalls<A> {
     }
 
     /// Takes out the call under a key.
-    pub fn take_out(&mut self, key: usize) -> OpenCall<A>
+    pub fn take_out(&mut self, key: u32) -> OpenCall<A>
         requires { is_some (kept_at self.old key) ≡ true }
         ensures value { kept_at self.old key ≡ Some (kept_of result) }
         ensures changes { Changes self.old self.new key None }
         ensures calls { calls_in self.new ≡ filter (λ c. not (is_numbered result.number c)) (calls_in self.old) }
     {
-        let call = self.calls.try_remove(key).unwrap();
+        let call = self.calls.try_remove(key as usize).unwrap();
         let _key = self.by_number.swap_remove(&call.number);
         call
     }
 }
 
+/// Puts a call in, under the next key.
+fn put_in<A: Allocator>(calls: &mut Slab<OpenCall<A>, A>, call: OpenCall<A>) -> u32
+    requires room { HasRoomFor calls.old 1 }
+    requires key { calls.old.vacant_key < 2 ^ 32 }
+    ensures was_vacant { get calls.old result ≡ None }
+    ensures updates { Updates calls.old calls.new result (Some call) }
+{
+    calls.insert_reserved(call) as u32
+}
+
 /// The call is in another phase.
-fn write_phase<A: Allocator>(calls: &mut Slab<OpenCall<A>, A>, key: usize, phase: Phase)
+fn write_phase<A: Allocator>(calls: &mut Slab<OpenCall<A>, A>, key: u32, phase: Phase)
     ensures { (c : OpenCall A) → get calls.old key ≡ Some c → Updates calls.old calls.new key (Some (record c { phase = phase })) }
 {
-    if let Some(call) = calls.get_mut(key) {
+    if let Some(call) = calls.get_mut(key as usize) {
         call.phase = phase;
     }
 }
 
 /// The call stands, and has collided.
-fn write_collision<A: Allocator>(calls: &mut Slab<OpenCall<A>, A>, key: usize)
+fn write_collision<A: Allocator>(calls: &mut Slab<OpenCall<A>, A>, key: u32)
     ensures { (c : OpenCall A) → get calls.old key ≡ Some c → Updates calls.old calls.new key (Some (record c { phase = Standing; collided = true })) }
 {
-    if let Some(call) = calls.get_mut(key) {
+    if let Some(call) = calls.get_mut(key as usize) {
         call.phase = Phase::Standing;
         call.collided = true;
     }
 }
 
 /// There is room for one more hop of the call.
-fn more_hops<A: Allocator>(calls: &mut Slab<OpenCall<A>, A>, key: usize) -> Result<(), NoMemory>
+fn more_hops<A: Allocator>(calls: &mut Slab<OpenCall<A>, A>, key: u32) -> Result<(), NoMemory>
     ensures { (c : OpenCall A) → get calls.old key ≡ Some c → (d : OpenCall A) × Updates calls.old calls.new key (Some d) × (call_seen d ≡ call_seen c) × ((kept_of c).room ≤ (kept_of d).room) × OnOk result (0 < (kept_of d).room) }
 {
-    if let Some(call) = calls.get_mut(key) {
+    if let Some(call) = calls.get_mut(key as usize) {
         call.hops.reserve(1)?;
     }
     Ok(())
 }
 
 /// The call has one hop more, and stands.
-fn add_hop<A: Allocator>(calls: &mut Slab<OpenCall<A>, A>, key: usize, hop: Hop)
+fn add_hop<A: Allocator>(calls: &mut Slab<OpenCall<A>, A>, key: u32, hop: Hop)
     requires { (c : OpenCall A) → get calls.old key ≡ Some c → 0 < (kept_of c).room }
     ensures { (c : OpenCall A) → get calls.old key ≡ Some c → (d : OpenCall A) × Updates calls.old calls.new key (Some d) × (call_seen d ≡ carried_on hop.circuit hop.far (call_seen c)) }
 {
-    if let Some(call) = calls.get_mut(key) {
+    if let Some(call) = calls.get_mut(key as usize) {
         put(&mut call.hops, hop);
         call.phase = Phase::Standing;
         call.collided = false;

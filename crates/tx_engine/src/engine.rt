@@ -5,6 +5,7 @@ ghost use Rattle.tx_state.specs.State.{opening};
 ghost use Rattle.tx_state.specs.Refusals.{refusal};
 
 use crate::parts::Parts;
+use crate::tickets::take_oldest;
 use std::alloc::{Allocator, Global};
 use std::marker::Model;
 use tx_network::refusal;
@@ -12,7 +13,8 @@ use tx_plan::Plan;
 use tx_state::{Event, Network, Reply, Ticket};
 use tx_text::NoMemory;
 
-/// The indexed network. It answers each event in a number of steps that does not grow with the open calls.
+/// The indexed network. It answers each event in a number of steps that does not grow with the open calls, but where it takes more room: then it may move
+/// what it keeps.
 #[derive(Drop)]
 pub struct Engine<'p, A: Allocator = Global> {
     pub(crate) parts: Parts<'p, A>,
@@ -72,7 +74,7 @@ impl<'p, A: Allocator + Copy> Engine<'p, A> {
         }
     }
 
-    /// One event that no refusal meets.
+    /// One event that no refusal meets. A match names each event, so the four that `apply` answers itself stand here too.
     fn accept(&mut self, event: &Event) -> Result<Reply, NoMemory>
         requires open { refusal self.old.plan self.old.state event.now ≡ None }
         ensures plan { self.new.plan ≡ self.old.plan }
@@ -118,7 +120,7 @@ impl<'p, A: Allocator + Copy> Network for Engine<'p, A> {
     }
 
     fn next_ticket(&mut self) -> Option<Ticket<A>> {
-        self.parts.tickets.pop_front()
+        take_oldest(&mut self.parts.tickets)
     }
 
     fn open_calls(&self) -> u64 {

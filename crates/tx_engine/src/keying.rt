@@ -1,34 +1,17 @@
 // A line that calls.
-ghost use Rattle.std.specs.Prelude.{◌≡◌, ◌<◌, ◌≤◌, ◌+◌, IfOk, OnOk, OnErr, None};
-ghost use Rattle.std.specs.VecDeque.{deque_len, deque_capacity};
+ghost use Rattle.std.specs.Prelude.{◌≡◌, IfOk, OnErr, None};
 ghost use Rattle.tx_state.specs.Step.{step};
 ghost use Rattle.tx_state.specs.Refusals.{refusal};
 ghost use Rattle.tx_state.specs.declared.event.Event.TheVariants.{Key};
 ghost use Rattle.tx_engine.specs.Sound.{IsSound, state_of};
 
 use crate::parts::Parts;
+use crate::tickets::reserve_tickets;
 use std::alloc::Allocator;
-use std::collections::VecDeque;
 use tx_network::OpenCall;
 use tx_plan::Line;
-use tx_state::{Phase, Reply, Ticket};
+use tx_state::{Phase, Reply};
 use tx_text::{Figures, NoMemory};
-
-/// Makes room for the tickets of so many open calls and of one more. The room at least doubles, so that few calls take any.
-fn reserve_tickets<A: Allocator>(
-    tickets: &mut VecDeque<Ticket<A>, A>,
-    calls: usize,
-) -> Result<(), NoMemory>
-    requires { deque_len tickets.old + calls ≤ deque_capacity tickets.old }
-    ensures items { tickets.new.items ≡ tickets.old.items }
-    ensures room { deque_len tickets.new + calls ≤ deque_capacity tickets.new }
-    ensures ok { OnOk result (deque_len tickets.new + (calls + 1) ≤ deque_capacity tickets.new) }
-{
-    if tickets.capacity() - tickets.len() <= calls {
-        tickets.reserve((calls + 1).saturating_add(calls))?;
-    }
-    Ok(())
-}
 
 impl<'p, A: Allocator + Copy> Parts<'p, A> {
     /// A line calls.

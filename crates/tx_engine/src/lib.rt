@@ -25,6 +25,7 @@ mod parts;
 mod playing;
 mod route;
 mod statuses;
+mod tickets;
 
 pub use engine::Engine;
 pub use playing::{Played, play};

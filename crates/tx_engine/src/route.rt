@@ -41,7 +41,7 @@ impl<'p, A: Allocator + Copy> Parts<'p, A> {
     }
 
     /// What becomes of the call under the key.
-    fn decision(&self, key: usize) -> Decision
+    fn decision(&self, key: u32) -> Decision
         requires sound { IsSound self.now }
         requires there { is_some (kept_at self.now.calls key) ≡ true }
         ensures { (k : Kept) → kept_at self.now.calls key ≡ Some k → result ≡ decided self.now.plan.now self.now.lines self.now.circuits k.call }
@@ -56,7 +56,7 @@ impl<'p, A: Allocator + Copy> Parts<'p, A> {
     }
 
     /// The call under the key is connected to the line.
-    fn connect(&mut self, key: usize, line: &Line) -> Result<Reply, NoMemory>
+    fn connect(&mut self, key: u32, line: &Line) -> Result<Reply, NoMemory>
         requires sound { IsSound self.old }
         requires decided { (k : Kept) × IsDecided self.old key k (Connect line.now) }
         requires events { self.old.events < 2 ^ 64 - 1 }
@@ -73,7 +73,7 @@ impl<'p, A: Allocator + Copy> Parts<'p, A> {
     }
 
     /// The call under the key seizes the circuit from the exchange where it stands.
-    fn seize(&mut self, key: usize, circuit: &Circuit, here: ExchangeId) -> Result<Reply, NoMemory>
+    fn seize(&mut self, key: u32, circuit: &Circuit, here: ExchangeId) -> Result<Reply, NoMemory>
         requires sound { IsSound self.old }
         requires decided { (k : Kept) × IsDecided self.old key k (Seize circuit.now here) }
         requires events { self.old.events < 2 ^ 64 - 1 }

@@ -12,31 +12,31 @@ use Rattle.tx_calls.proofs.open_calls.OpenCalls.open.Goals as goal
 pub invariant_of-self : goal.invariant_of-self
 invariant_of-self g c =
     let i = c.self.inside in
-    let key = c.insert_reserved-key.ensures in
+    let key = c.put_in-key.ensures in
     let next = subst (λ (v : Calls). (d : Call) → Mem (calls_in v) d → d.number < c.args.call.number) (sym c.self.view_is) c.requires.next in
-    let put = subst (λ r. OnOk r (index.Updates nat_eq i.by_number c.insert.new.self c.args.call.number (Some c.insert_reserved-key.result))) c.unwrap-absent.ensures c.insert.ensures.updates in
-    tied_after_put (calls_of i.calls i.by_number) (calls_of c.insert_reserved-key.new.self c.insert.new.self) i.by_number c.insert.new.self c.insert_reserved-key.result (kept_of c.args.call)
-    c.self.invariant (kept_is i.calls i.by_number c.insert_reserved-key.result ∙ ap (option_map kept_of) key.was_vacant) (absent_above (calls_of i.calls i.by_number) i.by_number c.args.call.number c.self.invariant next)
-    (changes_of i.calls c.insert_reserved-key.new.self i.by_number c.insert.new.self c.insert_reserved-key.result (Some c.args.call) key.updates) put.0
+    let put = subst (λ r. OnOk r (index.Updates nat_eq i.by_number c.insert.new.self c.args.call.number (Some c.put_in-key.result))) c.unwrap-absent.ensures c.insert.ensures.updates in
+    tied_after_put (calls_of i.calls i.by_number) (calls_of c.put_in-key.new.calls c.insert.new.self) i.by_number c.insert.new.self c.put_in-key.result (kept_of c.args.call)
+    c.self.invariant (kept_is i.calls i.by_number c.put_in-key.result ∙ ap (option_map kept_of) key.was_vacant) (absent_above (calls_of i.calls i.by_number) i.by_number c.args.call.number c.self.invariant next)
+    (changes_of i.calls c.put_in-key.new.calls i.by_number c.insert.new.self c.put_in-key.result (Some c.args.call) key.updates) put.0
 
 pub returns-clause-vacant : goal.returns-clause-vacant
 returns-clause-vacant g c =
     let i = c.self.inside in
-    ap (λ (v : Calls). kept_at v c.insert_reserved-key.result) (sym c.self.view_is) ∙ kept_is i.calls i.by_number c.insert_reserved-key.result ∙ ap (option_map kept_of) c.insert_reserved-key.ensures.was_vacant
+    ap (λ (v : Calls). kept_at v c.put_in-key.result) (sym c.self.view_is) ∙ kept_is i.calls i.by_number c.put_in-key.result ∙ ap (option_map kept_of) c.put_in-key.ensures.was_vacant
 
 pub returns-clause-changes : goal.returns-clause-changes
 returns-clause-changes g c =
     let i = c.self.inside in
-    subst (λ (v : Calls). Changes v (calls_of c.insert_reserved-key.new.self c.insert.new.self) c.insert_reserved-key.result (Some (kept_of c.args.call))) c.self.view_is
-    (changes_of i.calls c.insert_reserved-key.new.self i.by_number c.insert.new.self c.insert_reserved-key.result (Some c.args.call) c.insert_reserved-key.ensures.updates)
+    subst (λ (v : Calls). Changes v (calls_of c.put_in-key.new.calls c.insert.new.self) c.put_in-key.result (Some (kept_of c.args.call))) c.self.view_is
+    (changes_of i.calls c.put_in-key.new.calls i.by_number c.insert.new.self c.put_in-key.result (Some c.args.call) c.put_in-key.ensures.updates)
 
 pub returns-clause-calls : goal.returns-clause-calls
 returns-clause-calls g c =
     let i = c.self.inside in
-    let key = c.insert_reserved-key.ensures in
+    let key = c.put_in-key.ensures in
     let next = subst (λ (v : Calls). (d : Call) → Mem (calls_in v) d → d.number < c.args.call.number) (sym c.self.view_is) c.requires.next in
-    after_put (calls_of i.calls i.by_number) (calls_of c.insert_reserved-key.new.self c.insert.new.self) c.insert_reserved-key.result (kept_of c.args.call)
-    (calls_rising (calls_of i.calls i.by_number) i.by_number c.self.invariant) (calls_rising (calls_of c.insert_reserved-key.new.self c.insert.new.self) c.insert.new.self (invariant_of-self g c))
-    (kept_is i.calls i.by_number c.insert_reserved-key.result ∙ ap (option_map kept_of) key.was_vacant)
-    (changes_of i.calls c.insert_reserved-key.new.self i.by_number c.insert.new.self c.insert_reserved-key.result (Some c.args.call) key.updates) next
+    after_put (calls_of i.calls i.by_number) (calls_of c.put_in-key.new.calls c.insert.new.self) c.put_in-key.result (kept_of c.args.call)
+    (calls_rising (calls_of i.calls i.by_number) i.by_number c.self.invariant) (calls_rising (calls_of c.put_in-key.new.calls c.insert.new.self) c.insert.new.self (invariant_of-self g c))
+    (kept_is i.calls i.by_number c.put_in-key.result ∙ ap (option_map kept_of) key.was_vacant)
+    (changes_of i.calls c.put_in-key.new.calls i.by_number c.insert.new.self c.put_in-key.result (Some c.args.call) key.updates) next
     ∙ ap (λ (v : Calls). calls_in v ++ call_seen c.args.call ∷ []) c.self.view_is
