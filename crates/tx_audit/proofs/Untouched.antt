@@ -1,6 +1,6 @@
 -- What a run from the opening state answers, where less is said of what it left untouched.
 use Rattle.std.proofs.Common.{◌≡◌, ◌∙◌, Bool, true, false, ℕ, Result, Ok, Err, subst, inl}
-use Rattle.tx_text.specs.declared.frame.Kind.{Kind}
+use Rattle.tx_text.specs.declared.frame.FaultKind.{FaultKind}
 use Rattle.tx_plan.specs.Plan.{Plan}
 use Rattle.tx_script.specs.declared.script_word.ScriptWord.{ScriptWord}
 use Rattle.tx_script.specs.declared.summary.Summary.{Summary}
@@ -12,7 +12,7 @@ use Rattle.tx_script.specs.Answers.{Moved, FaultyBy, Stopped, RunAnswers, is_rea
 use Rattle.tx_audit.specs.CheckedRuns.{Bytes, RanFromOpening, Simulated}
 
 module _ (p : Plan) (x : Moved) (broken D E : Type 0) (f : D → E) where
-  faulty_with : (room : Bool) (event line : ℕ) (kind : Kind ScriptWord) → FaultyBy p x D room event line kind → FaultyBy p x E room event line kind
+  faulty_with : (room : Bool) (event line : ℕ) (kind : FaultKind ScriptWord) → FaultyBy p x D room event line kind → FaultyBy p x E room event line kind
   faulty_with true event line kind h = (h.0, h.1, f h.2)
   faulty_with false event line kind h = h
 

@@ -28,7 +28,7 @@ pub struct OpenCalls<A: Allocator = Global> {
 
 impl<A: Allocator> Model for OpenCalls<A> {
     ghost use Rattle.tx_calls.specs.Calls.{Calls, calls_of, slots_of};
-    ghost use Rattle.tx_calls.specs.Tied.{IsTied};
+    ghost use Rattle.tx_calls.specs.inner.Tied.{IsTied};
 
     ghost Value = { Calls };
 

@@ -7,7 +7,7 @@ use Rattle.std.proofs.lemmas.Option.{slice_get_within}
 use Rattle.std.proofs.lemmas.Slice.Eq.{bytes_eq-Decides}
 use Rattle.tx_text.specs.Words.{is_name}
 use Rattle.tx_plan.specs.Plan.{Plan, Code, exchange_named, code_named, exchange_name, figures_of}
-use Rattle.tx_plan.specs.Rules.{IsPlan, IsCode, AllPairs, is_code}
+use Rattle.tx_plan.specs.Rules.{IsPlan, IsCode, EachPair, is_code}
 
 bytes_apart : (x y : List ℕ) → (x ≡ y → ⊥) → bytes_eq x y ≡ false
 bytes_apart x y h = false_from_ne_true (bytes_eq x y) (λ e. h ((bytes_eq-Decides x y).0 e))
@@ -28,7 +28,7 @@ module _ {A : Type 0} where
   all_at P (y ∷ xs) (suc i) x h e = all_at P xs i x h.1 e
 
   module _ (key : A → List ℕ) where
-    first_at : (xs : List A) (i : ℕ) (x : A) → AllPairs (λ a b. key a ≢ key b) xs → slice_get xs i ≡ Some x → position_or_len (λ a. bytes_eq (key x) (key a)) xs ≡ i
+    first_at : (xs : List A) (i : ℕ) (x : A) → EachPair (λ a b. key a ≢ key b) xs → slice_get xs i ≡ Some x → position_or_len (λ a. bytes_eq (key x) (key a)) xs ≡ i
     first_at [] i x h e = absurd (let z : ⊥ = cc in z)
     first_at (y ∷ xs) zero x h e = let s : y ≡ x = cc in let t = bytes_same (key x) (key y) (ap key (sym s)) in rw t refl
     first_at (y ∷ xs) (suc i) x h e =
@@ -37,7 +37,7 @@ module _ {A : Type 0} where
         rw (t, r) (omega arith)
 
     -- the key of the entry at a place leads back to that place
-    pub place_back : (xs : List A) (i : ℕ) (x : A) → AllPairs (λ a b. key a ≢ key b) xs → slice_get xs i ≡ Some x → position (λ a. bytes_eq (key x) (key a)) xs ≡ Some i
+    pub place_back : (xs : List A) (i : ℕ) (x : A) → EachPair (λ a b. key a ≢ key b) xs → slice_get xs i ≡ Some x → position (λ a. bytes_eq (key x) (key a)) xs ≡ Some i
     place_back xs i x h e =
         let p = first_at xs i x h e in
         let l = lt-ltb i (length xs) (slice_get_within xs i x e) in

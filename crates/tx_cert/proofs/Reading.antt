@@ -1,6 +1,6 @@
 -- Reading a certificate text.
 use Rattle.std.proofs.Common.{◌≡◌, ◌⊎◌, ℕ, List, [], ◌∷◌, Option, None, Result, Err, Bool, true, false, codes, refl, inl, inr}
-use Rattle.tx_text.specs.declared.frame.Phase.TheVariants.{Start}
+use Rattle.tx_text.specs.declared.frame.FramePart.TheVariants.{Start}
 use Rattle.tx_text.specs.declared.frame_reader.FrameReader.{FrameReader}
 use Rattle.tx_text.specs.Told.{reading_of_calls, told_at}
 use Rattle.tx_text.specs.Frame.{ReadsOn}

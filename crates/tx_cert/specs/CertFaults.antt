@@ -5,8 +5,8 @@ use Rattle.tx_text.specs.declared.line_fault.LineFault.TheVariants.{Text, Read}
 use Rattle.tx_text.specs.declared.frame.FormFault.TheVariants.{NoHeader, NoEnd, AfterEnd}
 use Rattle.tx_text.specs.declared.frame.FrameFault.{FrameFault}
 use Rattle.tx_text.specs.declared.frame.FrameFault.TheVariants.{Line, Form}
-use Rattle.tx_text.specs.declared.frame.Kind.{Kind}
-use Rattle.tx_text.specs.declared.frame.Kind.TheVariants.{Frame, Word}
+use Rattle.tx_text.specs.declared.frame.FaultKind.{FaultKind}
+use Rattle.tx_text.specs.declared.frame.FaultKind.TheVariants.{Frame, Word}
 use Rattle.tx_cert.specs.declared.fault.CertWord.{CertWord}
 use Rattle.tx_cert.specs.declared.fault.CertWord.TheVariants.{UnknownWord, WrongCount, UnknownName, BadNumber, Duplicate, NoMemory}
 
@@ -32,6 +32,6 @@ frame_row (Line (Text BadByte)) = (codes "X2", codes "BadByte")
 frame_row (Line (Text TextNoMemory)) = (codes "X3", codes "NoMemory")
 
 -- THE TABLE
-abbrev pub fault_row : Kind CertWord → Row
+abbrev pub fault_row : FaultKind CertWord → Row
 fault_row (Frame fault) = frame_row fault
 fault_row (Word word) = word_row word

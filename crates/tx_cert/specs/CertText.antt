@@ -4,8 +4,8 @@ use Rattle.std.specs.Fmt.{decimal}
 use Rattle.std.specs.List.{flat_map, range_with_len}
 use Rattle.std.specs.Str.{bytes_eq}
 use Rattle.std.specs.Io.KnownBytes.{IsAtEnd}
-use Rattle.tx_text.specs.declared.frame.Kind.{Kind}
-use Rattle.tx_text.specs.declared.frame.Phase.TheVariants.{Start}
+use Rattle.tx_text.specs.declared.frame.FaultKind.{FaultKind}
+use Rattle.tx_text.specs.declared.frame.FramePart.TheVariants.{Start}
 use Rattle.tx_text.specs.Text.{lines_of}
 use Rattle.tx_text.specs.Words.{number_of}
 use Rattle.tx_text.specs.Told.{Ending, AtEnd, told}
@@ -46,7 +46,7 @@ declare p v t [] = Err UnknownWord
 declare p v t (w ∷ ws) = if bytes_eq w (codes "RANK") then rank_line p t ws else if bytes_eq w (codes "END") then Err WrongCount else Err UnknownWord
 
 -- THE GRAMMAR: the certificate that a text says for a plan, or its first fault, whichever way the text ends
-abbrev pub cert_of : Plan → Ending → List ℕ → Result Certificate (ℕ × Kind CertWord)
+abbrev pub cert_of : Plan → Ending → List ℕ → Result Certificate (ℕ × FaultKind CertWord)
 cert_of p e text = said (declare p) 1 (no_ranks_for p) (framed (header_of (codes "CERT") 1) Start 1 (told e (lines_of text)))
 
 -- want of memory
@@ -60,7 +60,7 @@ SaysCert p old new t = EndsAs old new (cert_of p) AtEnd (Ok t) × IsAtEnd new
 
 -- WHAT A READER OF CERTIFICATE TEXTS ANSWERS. Broken says that the source failed or met the bound on calls, unread that nothing was read. Memory can be
 -- wanting only before anything is read.
-abbrev pub ReadsCert : Plan → (old new : Option (List ℕ)) → (broken unread : Type 0) → Result Certificate (ℕ × Kind CertWord) → Type 0
+abbrev pub ReadsCert : Plan → (old new : Option (List ℕ)) → (broken unread : Type 0) → Result Certificate (ℕ × FaultKind CertWord) → Type 0
 ReadsCert p old new broken unread result = Answered is_memory old new (cert_of p) broken unread (λ n. (n ≡ 1) × unread) result
 
 -- WHAT IS WRITTEN

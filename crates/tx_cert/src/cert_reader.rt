@@ -1,9 +1,9 @@
 // The readers of certificate texts.
 ghost use Rattle.std.specs.Prelude.{◌≡◌, codes, IfOk, IfErr};
-ghost use Rattle.tx_text.specs.declared.frame.Phase.TheVariants.{Start};
+ghost use Rattle.tx_text.specs.declared.frame.FramePart.TheVariants.{Start};
 ghost use Rattle.tx_text.specs.declared.line_fault.LineFault.TheVariants.{Text};
 ghost use Rattle.tx_text.specs.declared.frame.FrameFault.TheVariants.{Line};
-ghost use Rattle.tx_text.specs.declared.frame.Kind.TheVariants.{Frame, Word};
+ghost use Rattle.tx_text.specs.declared.frame.FaultKind.TheVariants.{Frame, Word};
 ghost use Rattle.tx_text.specs.Calls.{source_calls, CallsAtMost, Broken};
 ghost use Rattle.tx_text.specs.Told.{AtEnd, reading_of_calls};
 ghost use Rattle.tx_text.specs.Said.{AnswersAs, told_fault};
@@ -16,8 +16,8 @@ use crate::fault::{CertFault, CertWord};
 use std::alloc::Allocator;
 use tx_plan::Plan;
 use tx_text::{
-    FaultAt, FrameFault, FrameReader, Kind, LineFault, SliceSource, Source, Step, TextFault,
-    slices_are_read_whole,
+    FaultAt, FaultKind, FrameFault, FrameReader, FrameStep, LineFault, SliceSource, Source,
+    TextFault, slices_are_read_whole,
 };
 
 /// Reads a certificate of the plan from a text.
@@ -70,7 +70,7 @@ fn no_memory() -> CertFault
 {
     FaultAt {
         line: 1,
-        kind: Kind::Word(CertWord::NoMemory),
+        kind: FaultKind::Word(CertWord::NoMemory),
     }
 }
 
@@ -80,7 +80,7 @@ fn no_room(fault: TextFault) -> CertFault
 {
     FaultAt {
         line: 1,
-        kind: Kind::Frame(FrameFault::Line(LineFault::Text(fault))),
+        kind: FaultKind::Frame(FrameFault::Line(LineFault::Text(fault))),
     }
 }
 
@@ -106,24 +106,24 @@ fn read_lines<A: Allocator, R: Source>(
     let mut cert = cert;
     'lines: loop {
         match frame.advance(source) {
-            Ok(Step::Header(_)) => {}
-            Ok(Step::Line) => match declare(plan, &mut cert, frame.words()) {
+            Ok(FrameStep::Header(_)) => {}
+            Ok(FrameStep::Line) => match declare(plan, &mut cert, frame.words()) {
                 Ok(()) => {}
                 Err(fault) => {
                     return Err(FaultAt {
                         line: frame.number(),
-                        kind: Kind::Word(fault),
+                        kind: FaultKind::Word(fault),
                     });
                 }
             },
-            Ok(Step::End) => {
+            Ok(FrameStep::End) => {
                 cert.whole();
                 return Ok(cert);
             }
             Err(stop) => {
                 return Err(FaultAt {
                     line: stop.line,
-                    kind: Kind::Frame(stop.fault),
+                    kind: FaultKind::Frame(stop.fault),
                 });
             }
         }

@@ -2,7 +2,7 @@
 ghost use Rattle.std.specs.Prelude.{◌≡◌};
 ghost use Rattle.tx_cert.specs.CertFaults.{word_row, frame_row, fault_row};
 
-use tx_text::{FaultAt, FormFault, FrameFault, Kind, LineFault, TextFault};
+use tx_text::{FaultAt, FaultKind, FormFault, FrameFault, LineFault, TextFault};
 
 /// What is wrong with the words of a line. Of several the first in this order is told.
 #[derive(Clone, Copy, Debug, PartialEq, Eq)]
@@ -25,12 +25,12 @@ pub enum CertWord {
 pub type CertFault = FaultAt<CertWord>;
 
 /// The code and the name of a fault, as `C5` and `Duplicate`.
-pub fn code_and_name(kind: Kind<CertWord>) -> (&'static [u8], &'static [u8])
+pub fn code_and_name(kind: FaultKind<CertWord>) -> (&'static [u8], &'static [u8])
     ensures { (result.0.now, result.1.now) ≡ fault_row kind }
 {
     match kind {
-        Kind::Frame(fault) => frame_row(fault),
-        Kind::Word(word) => word_row(word),
+        FaultKind::Frame(fault) => frame_row(fault),
+        FaultKind::Word(word) => word_row(word),
     }
 }
 

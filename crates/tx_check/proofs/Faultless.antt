@@ -15,7 +15,7 @@ use Rattle.tx_plan.proofs.Ambiguity.{none-ambiguous, ambiguous-none}
 use Rattle.tx_cert.proofs.Names.{entry_at, all_at}
 use Rattle.tx_check.specs.declared.fault.CheckFault.{CheckFault}
 use Rattle.tx_check.specs.declared.fault.CheckFault.TheVariants.{Short, TargetUnranked, NotLower}
-use Rattle.tx_check.specs.Checks.{at_exchanges, at_pairs, fault_if, is_rank, is_above, is_at_least, rank_away, rank_beyond, k1_of, k1_faults, k2_at, k2_faults, k3_at, k3_faults, k4_at, k4_faults, k5_at, k5_faults, k6_by, k6_at, k6_faults, k7_by, k7_at, k7_faults, check_faults, RanksOnly}
+use Rattle.tx_check.specs.Checks.{at_exchanges, at_pairs, fault_if, is_rank, is_above, is_at_least, rank_away, rank_beyond, ambiguous_fault, ambiguous_faults, home_not_zero_at, home_not_zero_faults, origin_unranked_at, origin_unranked_faults, too_high_at, too_high_faults, too_short_at, too_short_faults, target_unranked_by, target_unranked_at, target_unranked_faults, not_lower_by, not_lower_at, not_lower_faults, check_faults, RanksOnly}
 use Rattle.tx_check.proofs.Finding.{fault_if-none, fault_if-false, append_none, none_append, at_none, none_at, each_none, none_each, all_from, all_both}
 
 -- ---- K1
@@ -36,9 +36,9 @@ prefix_same (x ∷ a) (y ∷ b) h k =
     lt_same : (m n : ℕ) → nat_lt (suc m) (suc n) ≡ false → nat_lt m n ≡ false
     lt_same m n e = let l = ltb-false (suc m) (suc n) e in le-ltb m n (omega (arith, l))
 
-k1_none : (o : Option (ℕ × ℕ)) → k1_of o ≡ [] → o ≡ None
-k1_none None h = refl
-k1_none (Some x) h = absurd (let z : ⊥ = cc in z)
+ambiguous_none : (o : Option (ℕ × ℕ)) → ambiguous_fault o ≡ [] → o ≡ None
+ambiguous_none None h = refl
+ambiguous_none (Some x) h = absurd (let z : ⊥ = cc in z)
 
 no_prefix_of : (codes : List Code) → ambiguous_of codes ≡ None → (i j : ℕ) (c d : Code) → slice_get codes i ≡ Some c → slice_get codes j ≡ Some d → is_prefix c.figures d.figures ≡ true → c.figures ≡ d.figures
 no_prefix_of codes h i j c d e f t =
@@ -146,7 +146,7 @@ module _ (p : Plan) (ranks : Ranks) (limit spare : ℕ) (h : IsPlan p) where
   pair_none : (f : ℕ → ℕ → List CheckFault) → ((c x : ℕ) → c < length p.codes → x < length p.exchanges → f c x ≡ []) → at_pairs p f ≡ []
   pair_none f e = none_at (λ i. at_exchanges p (f i)) (length p.codes) (λ c l. none_at (f c) (length p.exchanges) (λ x m. e c x l m))
 
-  down_of : (c x r : ℕ) → rank_away p ranks c x ≡ Some r → k5_at p ranks spare c x ≡ [] → k6_at p ranks c x ≡ [] → k7_at p ranks c x ≡ [] → LeadsDown p ranks spare c x r
+  down_of : (c x r : ℕ) → rank_away p ranks c x ≡ Some r → too_short_at p ranks spare c x ≡ [] → target_unranked_at p ranks c x ≡ [] → not_lower_at p ranks c x ≡ [] → LeadsDown p ranks spare c x r
   down_of c x r e five six seven =
       let a = rw e at five in
       let b = rw e at six in
@@ -160,22 +160,22 @@ module _ (p : Plan) (ranks : Ranks) (limit spare : ℕ) (h : IsPlan p) where
             (each_none (λ g. fault_if (is_at_least (rank_beyond p ranks c x g) r) (NotLower c x g)) gs d);
       }
 
-  certified_by : RanksOnly p ranks → k1_faults p ≡ [] → k2_faults p ranks ≡ [] → k3_faults p ranks ≡ [] → k4_faults p ranks limit ≡ [] → k5_faults p ranks spare ≡ [] → k6_faults p ranks ≡ [] → k7_faults p ranks ≡ [] → IsCertified p ranks limit spare
+  certified_by : RanksOnly p ranks → ambiguous_faults p ≡ [] → home_not_zero_faults p ranks ≡ [] → origin_unranked_faults p ranks ≡ [] → too_high_faults p ranks limit ≡ [] → too_short_faults p ranks spare ≡ [] → target_unranked_faults p ranks ≡ [] → not_lower_faults p ranks ≡ [] → IsCertified p ranks limit spare
   certified_by known one two three four five six seven = record {
-    no_prefix = no_prefix_of p.codes (k1_none (ambiguous_of p.codes) one);
-    homes = λ c l. rank_of (ranks c (home_of p c)) 0 (fault_if-none _ _ (at_none (k2_at p ranks) (length p.codes) two c l));
-    origins = λ c x l o. some_of (is_origin_for p x c) (ranks c x) (fault_if-none _ _ (at_pair (k3_at p ranks) three c x l (origin_known p h x (and_parts (is_origin p x) _ o).0))) o;
-    low = λ c x r l e. low_of (ranks c x) (limit + 1) r (fault_if-none _ _ (at_pair (k4_at ranks limit) four c x l (known c x r e))) e;
+    no_prefix = no_prefix_of p.codes (ambiguous_none (ambiguous_of p.codes) one);
+    homes = λ c l. rank_of (ranks c (home_of p c)) 0 (fault_if-none _ _ (at_none (home_not_zero_at p ranks) (length p.codes) two c l));
+    origins = λ c x l o. some_of (is_origin_for p x c) (ranks c x) (fault_if-none _ _ (at_pair (origin_unranked_at p ranks) three c x l (origin_known p h x (and_parts (is_origin p x) _ o).0))) o;
+    low = λ c x r l e. low_of (ranks c x) (limit + 1) r (fault_if-none _ _ (at_pair (too_high_at ranks limit) four c x l (known c x r e))) e;
     lists = λ c x r l e ne.
         let m = known c x r e in
-        down_of c x r (away_rank p ranks c x r e ne) (at_pair (k5_at p ranks spare) five c x l m) (at_pair (k6_at p ranks) six c x l m) (at_pair (k7_at p ranks) seven c x l m);
+        down_of c x r (away_rank p ranks c x r e ne) (at_pair (too_short_at p ranks spare) five c x l m) (at_pair (target_unranked_at p ranks) six c x l m) (at_pair (not_lower_at p ranks) seven c x l m);
   }
 
   -- ---- certified: no fault
 
   module _ (k : IsCertified p ranks limit spare) where
     lists_by : (c x : ℕ) → c < length p.codes → (o : Option ℕ) → rank_away p ranks c x ≡ o
-        → (fault_if (is_some o && nat_le (length (route_list p x c)) spare) (Short c x) ≡ []) × (k6_by p ranks c x o ≡ []) × (k7_by p ranks c x o ≡ [])
+        → (fault_if (is_some o && nat_le (length (route_list p x c)) spare) (Short c x) ≡ []) × (target_unranked_by p ranks c x o ≡ []) × (not_lower_by p ranks c x o ≡ [])
     lists_by c x l None e = (refl, refl, refl)
     lists_by c x l (Some r) e =
         let a = rank_from_away p ranks c x r e in
@@ -186,29 +186,29 @@ module _ (p : Plan) (ranks : Ranks) (limit spare : ℕ) (h : IsPlan p) where
           none_each (λ g. fault_if (is_at_least (rank_beyond p ranks c x g) r) (NotLower c x g)) gs (all_from (LeadsLower p ranks c x r) _ (λ g u. fault_if-false _ _ (leads_lower p ranks c x r g u)) gs d.each),
         )
 
-    lists_at : (c x : ℕ) → c < length p.codes → (k5_at p ranks spare c x ≡ []) × (k6_at p ranks c x ≡ []) × (k7_at p ranks c x ≡ [])
+    lists_at : (c x : ℕ) → c < length p.codes → (too_short_at p ranks spare c x ≡ []) × (target_unranked_at p ranks c x ≡ []) × (not_lower_at p ranks c x ≡ [])
     lists_at c x l = lists_by c x l (rank_away p ranks c x) refl
 
     faultless_by : check_faults p ranks limit spare ≡ []
     unfolding check_faults
     faultless_by =
-        none_append (k1_faults p) _ (ap k1_of (none_of_prefix p.codes k.no_prefix))
-        (none_append (k2_faults p ranks) _ (none_at (k2_at p ranks) (length p.codes) (λ c l. fault_if-false _ _ (is_rank_of (ranks c (home_of p c)) 0 (k.homes c l))))
-        (none_append (k3_faults p ranks) _ (pair_none (k3_at p ranks) (λ c x l m. fault_if-false _ _ (not_none (is_origin_for p x c) (ranks c x) (k.origins c x l))))
-        (none_append (k4_faults p ranks limit) _ (pair_none (k4_at ranks limit) (λ c x l m. fault_if-false _ _ (not_above (ranks c x) (limit + 1) (λ r e. k.low c x r l e))))
-        (none_append (k5_faults p ranks spare) _ (pair_none (k5_at p ranks spare) (λ c x l m. (lists_at c x l).0))
-        (none_append (k6_faults p ranks) _ (pair_none (k6_at p ranks) (λ c x l m. (lists_at c x l).1))
-        (pair_none (k7_at p ranks) (λ c x l m. (lists_at c x l).2)))))))
+        none_append (ambiguous_faults p) _ (ap ambiguous_fault (none_of_prefix p.codes k.no_prefix))
+        (none_append (home_not_zero_faults p ranks) _ (none_at (home_not_zero_at p ranks) (length p.codes) (λ c l. fault_if-false _ _ (is_rank_of (ranks c (home_of p c)) 0 (k.homes c l))))
+        (none_append (origin_unranked_faults p ranks) _ (pair_none (origin_unranked_at p ranks) (λ c x l m. fault_if-false _ _ (not_none (is_origin_for p x c) (ranks c x) (k.origins c x l))))
+        (none_append (too_high_faults p ranks limit) _ (pair_none (too_high_at ranks limit) (λ c x l m. fault_if-false _ _ (not_above (ranks c x) (limit + 1) (λ r e. k.low c x r l e))))
+        (none_append (too_short_faults p ranks spare) _ (pair_none (too_short_at p ranks spare) (λ c x l m. (lists_at c x l).0))
+        (none_append (target_unranked_faults p ranks) _ (pair_none (target_unranked_at p ranks) (λ c x l m. (lists_at c x l).1))
+        (pair_none (not_lower_at p ranks) (λ c x l m. (lists_at c x l).2)))))))
 
 pub certified_of : (p : Plan) (ranks : Ranks) (limit spare : ℕ) → IsPlan p → RanksOnly p ranks → check_faults p ranks limit spare ≡ [] → IsCertified p ranks limit spare
 unfolding check_faults
 certified_of p ranks limit spare h known e =
-    let a = append_none (k1_faults p) _ e in
-    let b = append_none (k2_faults p ranks) _ a.1 in
-    let c = append_none (k3_faults p ranks) _ b.1 in
-    let d = append_none (k4_faults p ranks limit) _ c.1 in
-    let f = append_none (k5_faults p ranks spare) _ d.1 in
-    let g = append_none (k6_faults p ranks) _ f.1 in
+    let a = append_none (ambiguous_faults p) _ e in
+    let b = append_none (home_not_zero_faults p ranks) _ a.1 in
+    let c = append_none (origin_unranked_faults p ranks) _ b.1 in
+    let d = append_none (too_high_faults p ranks limit) _ c.1 in
+    let f = append_none (too_short_faults p ranks spare) _ d.1 in
+    let g = append_none (target_unranked_faults p ranks) _ f.1 in
     certified_by p ranks limit spare h known a.0 b.0 c.0 d.0 f.0 g.0 g.1
 
 pub faultless_of : (p : Plan) (ranks : Ranks) (limit spare : ℕ) → IsPlan p → IsCertified p ranks limit spare → check_faults p ranks limit spare ≡ []

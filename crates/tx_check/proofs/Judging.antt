@@ -10,7 +10,7 @@ use Rattle.tx_cert.specs.Certificate.{Certificate, rank_at}
 use Rattle.tx_check.specs.declared.fault.CheckFault.{CheckFault}
 use Rattle.tx_check.specs.declared.fault.CheckFault.TheVariants.{Ambiguous}
 use Rattle.tx_check.specs.declared.verdict.Verdict.TheVariants.{Yes, No}
-use Rattle.tx_check.specs.Checks.{ranks_for, RanksOnly, k1_of, check_faults, verdict_of, foremost}
+use Rattle.tx_check.specs.Checks.{ranks_for, RanksOnly, ambiguous_fault, check_faults, verdict_of, foremost}
 use Rattle.tx_check.proofs.Finding.{nothing}
 use Rattle.tx_check.proofs.Faultless.{certified_of, faultless_of}
 
@@ -22,13 +22,13 @@ pub first_past : (xs ys : List CheckFault) (r : Option CheckFault) → None ≡ 
 first_past [] ys r h k = k
 first_past (y ∷ xs) ys r h k = absurd (let z : ⊥ = cc in z)
 
-pub k1_first : (o : Option (ℕ × ℕ)) (x : ℕ × ℕ) → Some x ≡ o → Some (Ambiguous x.0 x.1) ≡ foremost (k1_of o)
-k1_first None x h = absurd (let z : ⊥ = cc in z)
-k1_first (Some y) x h = let e : x ≡ y = cc in ap (λ (w : ℕ × ℕ). Some (Ambiguous w.0 w.1)) e
+pub ambiguous_first : (o : Option (ℕ × ℕ)) (x : ℕ × ℕ) → Some x ≡ o → Some (Ambiguous x.0 x.1) ≡ foremost (ambiguous_fault o)
+ambiguous_first None x h = absurd (let z : ⊥ = cc in z)
+ambiguous_first (Some y) x h = let e : x ≡ y = cc in ap (λ (w : ℕ × ℕ). Some (Ambiguous w.0 w.1)) e
 
-pub k1_past : (o : Option (ℕ × ℕ)) → None ≡ o → None ≡ foremost (k1_of o)
-k1_past None h = refl
-k1_past (Some y) h = absurd (let z : ⊥ = cc in z)
+pub ambiguous_past : (o : Option (ℕ × ℕ)) → None ≡ o → None ≡ foremost (ambiguous_fault o)
+ambiguous_past None h = refl
+ambiguous_past (Some y) h = absurd (let z : ⊥ = cc in z)
 
 module _ (one two three four five six seven : List CheckFault) where
   abbrev all : List CheckFault

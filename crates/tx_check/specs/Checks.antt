@@ -63,67 +63,67 @@ rank_beyond p ranks code exchange group = option_and_then (ranks code) (other_en
 -- THE CLAUSES
 
 -- K1: a code begins another
-abbrev pub k1_of : Option (ℕ × ℕ) → List CheckFault
-k1_of None = []
-k1_of (Some pair) = Ambiguous pair.0 pair.1 ∷ []
+abbrev pub ambiguous_fault : Option (ℕ × ℕ) → List CheckFault
+ambiguous_fault None = []
+ambiguous_fault (Some pair) = Ambiguous pair.0 pair.1 ∷ []
 
-abbrev pub k1_faults : Plan → List CheckFault
-k1_faults p = k1_of (ambiguous_of p.codes)
+abbrev pub ambiguous_faults : Plan → List CheckFault
+ambiguous_faults p = ambiguous_fault (ambiguous_of p.codes)
 
 -- K2: the home's rank is not 0
-abbrev pub k2_at : Plan → Ranks → ℕ → List CheckFault
-k2_at p ranks code = fault_if (not (is_rank (ranks code (home_of p code)) 0)) (HomeNotZero code)
+abbrev pub home_not_zero_at : Plan → Ranks → ℕ → List CheckFault
+home_not_zero_at p ranks code = fault_if (not (is_rank (ranks code (home_of p code)) 0)) (HomeNotZero code)
 
-abbrev pub k2_faults : Plan → Ranks → List CheckFault
-k2_faults p ranks = at_codes p (k2_at p ranks)
+abbrev pub home_not_zero_faults : Plan → Ranks → List CheckFault
+home_not_zero_faults p ranks = at_codes p (home_not_zero_at p ranks)
 
 -- K3: an origin has no rank
-abbrev pub k3_at : Plan → Ranks → ℕ → ℕ → List CheckFault
-k3_at p ranks code exchange = fault_if (is_origin_for p exchange code && is_none (ranks code exchange)) (OriginUnranked code exchange)
+abbrev pub origin_unranked_at : Plan → Ranks → ℕ → ℕ → List CheckFault
+origin_unranked_at p ranks code exchange = fault_if (is_origin_for p exchange code && is_none (ranks code exchange)) (OriginUnranked code exchange)
 
-abbrev pub k3_faults : Plan → Ranks → List CheckFault
-k3_faults p ranks = at_pairs p (k3_at p ranks)
+abbrev pub origin_unranked_faults : Plan → Ranks → List CheckFault
+origin_unranked_faults p ranks = at_pairs p (origin_unranked_at p ranks)
 
 -- K4: a rank is above the limit and one
-abbrev pub k4_at : Ranks → ℕ → ℕ → ℕ → List CheckFault
-k4_at ranks limit code exchange = fault_if (is_above (ranks code exchange) (limit + 1)) (TooHigh code exchange)
+abbrev pub too_high_at : Ranks → ℕ → ℕ → ℕ → List CheckFault
+too_high_at ranks limit code exchange = fault_if (is_above (ranks code exchange) (limit + 1)) (TooHigh code exchange)
 
-abbrev pub k4_faults : Plan → Ranks → ℕ → List CheckFault
-k4_faults p ranks limit = at_pairs p (k4_at ranks limit)
+abbrev pub too_high_faults : Plan → Ranks → ℕ → List CheckFault
+too_high_faults p ranks limit = at_pairs p (too_high_at ranks limit)
 
 -- K5: the list of a ranked exchange other than the home has no more groups than are to spare
-abbrev pub k5_at : Plan → Ranks → ℕ → ℕ → ℕ → List CheckFault
-k5_at p ranks spare code exchange = fault_if (is_some (rank_away p ranks code exchange) && nat_le (length (route_list p exchange code)) spare) (Short code exchange)
+abbrev pub too_short_at : Plan → Ranks → ℕ → ℕ → ℕ → List CheckFault
+too_short_at p ranks spare code exchange = fault_if (is_some (rank_away p ranks code exchange) && nat_le (length (route_list p exchange code)) spare) (Short code exchange)
 
-abbrev pub k5_faults : Plan → Ranks → ℕ → List CheckFault
-k5_faults p ranks spare = at_pairs p (k5_at p ranks spare)
+abbrev pub too_short_faults : Plan → Ranks → ℕ → List CheckFault
+too_short_faults p ranks spare = at_pairs p (too_short_at p ranks spare)
 
 -- K6: a group in such a list leads to an exchange without rank
-abbrev pub k6_by : Plan → Ranks → ℕ → ℕ → Option ℕ → List CheckFault
-k6_by p ranks code exchange None = []
-k6_by p ranks code exchange (Some rank) = flat_map (λ g. fault_if (is_none (rank_beyond p ranks code exchange g)) (TargetUnranked code exchange g)) (route_list p exchange code)
+abbrev pub target_unranked_by : Plan → Ranks → ℕ → ℕ → Option ℕ → List CheckFault
+target_unranked_by p ranks code exchange None = []
+target_unranked_by p ranks code exchange (Some rank) = flat_map (λ g. fault_if (is_none (rank_beyond p ranks code exchange g)) (TargetUnranked code exchange g)) (route_list p exchange code)
 
-abbrev pub k6_at : Plan → Ranks → ℕ → ℕ → List CheckFault
-k6_at p ranks code exchange = k6_by p ranks code exchange (rank_away p ranks code exchange)
+abbrev pub target_unranked_at : Plan → Ranks → ℕ → ℕ → List CheckFault
+target_unranked_at p ranks code exchange = target_unranked_by p ranks code exchange (rank_away p ranks code exchange)
 
-abbrev pub k6_faults : Plan → Ranks → List CheckFault
-k6_faults p ranks = at_pairs p (k6_at p ranks)
+abbrev pub target_unranked_faults : Plan → Ranks → List CheckFault
+target_unranked_faults p ranks = at_pairs p (target_unranked_at p ranks)
 
 -- K7: a group in such a list leads to an exchange whose rank is not smaller
-abbrev pub k7_by : Plan → Ranks → ℕ → ℕ → Option ℕ → List CheckFault
-k7_by p ranks code exchange None = []
-k7_by p ranks code exchange (Some rank) = flat_map (λ g. fault_if (is_at_least (rank_beyond p ranks code exchange g) rank) (NotLower code exchange g)) (route_list p exchange code)
+abbrev pub not_lower_by : Plan → Ranks → ℕ → ℕ → Option ℕ → List CheckFault
+not_lower_by p ranks code exchange None = []
+not_lower_by p ranks code exchange (Some rank) = flat_map (λ g. fault_if (is_at_least (rank_beyond p ranks code exchange g) rank) (NotLower code exchange g)) (route_list p exchange code)
 
-abbrev pub k7_at : Plan → Ranks → ℕ → ℕ → List CheckFault
-k7_at p ranks code exchange = k7_by p ranks code exchange (rank_away p ranks code exchange)
+abbrev pub not_lower_at : Plan → Ranks → ℕ → ℕ → List CheckFault
+not_lower_at p ranks code exchange = not_lower_by p ranks code exchange (rank_away p ranks code exchange)
 
-abbrev pub k7_faults : Plan → Ranks → List CheckFault
-k7_faults p ranks = at_pairs p (k7_at p ranks)
+abbrev pub not_lower_faults : Plan → Ranks → List CheckFault
+not_lower_faults p ranks = at_pairs p (not_lower_at p ranks)
 
 -- all faults, by the number of their clause
 unfoldable pub check_faults : Plan → Ranks → ℕ → ℕ → List CheckFault
 check_faults p ranks limit spare =
-    k1_faults p ++ (k2_faults p ranks ++ (k3_faults p ranks ++ (k4_faults p ranks limit ++ (k5_faults p ranks spare ++ (k6_faults p ranks ++ k7_faults p ranks)))))
+    ambiguous_faults p ++ (home_not_zero_faults p ranks ++ (origin_unranked_faults p ranks ++ (too_high_faults p ranks limit ++ (too_short_faults p ranks spare ++ (target_unranked_faults p ranks ++ not_lower_faults p ranks)))))
 
 -- THE VERDICT: Yes where there is no fault, else No with the first
 abbrev pub verdict_of : List CheckFault → Verdict

@@ -2,7 +2,7 @@
 ghost use Rattle.std.specs.Prelude.{◌≡◌, ◌||◌, is_none, find, length, nat_le, option_map};
 ghost use Rattle.tx_check.specs.declared.fault.CheckFault.TheVariants.{Short, TargetUnranked, NotLower};
 ghost use Rattle.tx_check.specs.Firsts.{firsts_of, or_later};
-ghost use Rattle.tx_check.specs.Checks.{ranks_for, foremost, fault_if, at_pairs, at_exchanges, is_at_least, rank_beyond, k5_at, k6_at, k7_at, k5_faults, k6_faults, k7_faults};
+ghost use Rattle.tx_check.specs.Checks.{ranks_for, foremost, fault_if, at_pairs, at_exchanges, is_at_least, rank_beyond, too_short_at, target_unranked_at, not_lower_at, too_short_faults, target_unranked_faults, not_lower_faults};
 
 use crate::fault::CheckFault;
 use crate::ranks::{rank_away, rank_beyond};
@@ -56,8 +56,8 @@ fn earlier(first: Option<CheckFault>, later: Option<CheckFault>) -> Option<Check
 
 /// The first faults in the lists of all codes and exchanges. Looks at each list once.
 pub(crate) fn list_faults<A: Allocator>(plan: &Plan<A>, cert: &Cert<A>, spare: u8) -> Firsts
-    ensures { result ≡ firsts_of (k5_faults plan.now (ranks_for plan.now cert.now) spare) (k6_faults plan.now (ranks_for plan.now cert.now))
-        (k7_faults plan.now (ranks_for plan.now cert.now)) }
+    ensures { result ≡ firsts_of (too_short_faults plan.now (ranks_for plan.now cert.now) spare) (target_unranked_faults plan.now (ranks_for plan.now cert.now))
+        (not_lower_faults plan.now (ranks_for plan.now cert.now)) }
 {
     plan.rules();
     let mut firsts = Firsts::none();
@@ -69,8 +69,8 @@ pub(crate) fn list_faults<A: Allocator>(plan: &Plan<A>, cert: &Cert<A>, spare: u
 
 /// The first faults in the lists for a code.
 fn code_faults<A: Allocator>(plan: &Plan<A>, cert: &Cert<A>, spare: u8, code: CodeId) -> Firsts
-    ensures { result ≡ firsts_of (at_exchanges plan.now (k5_at plan.now (ranks_for plan.now cert.now) spare code))
-        (at_exchanges plan.now (k6_at plan.now (ranks_for plan.now cert.now) code)) (at_exchanges plan.now (k7_at plan.now (ranks_for plan.now cert.now) code)) }
+    ensures { result ≡ firsts_of (at_exchanges plan.now (too_short_at plan.now (ranks_for plan.now cert.now) spare code))
+        (at_exchanges plan.now (target_unranked_at plan.now (ranks_for plan.now cert.now) code)) (at_exchanges plan.now (not_lower_at plan.now (ranks_for plan.now cert.now) code)) }
 {
     plan.rules();
     let mut firsts = Firsts::none();
@@ -88,8 +88,8 @@ fn pair_faults<A: Allocator>(
     code: CodeId,
     exchange: ExchangeId,
 ) -> Firsts
-    ensures { result ≡ firsts_of (k5_at plan.now (ranks_for plan.now cert.now) spare code exchange) (k6_at plan.now (ranks_for plan.now cert.now) code exchange)
-        (k7_at plan.now (ranks_for plan.now cert.now) code exchange) }
+    ensures { result ≡ firsts_of (too_short_at plan.now (ranks_for plan.now cert.now) spare code exchange) (target_unranked_at plan.now (ranks_for plan.now cert.now) code exchange)
+        (not_lower_at plan.now (ranks_for plan.now cert.now) code exchange) }
 {
     let Some(rank) = rank_away(plan, cert, code, exchange) else {
         return Firsts::none();

@@ -1,7 +1,7 @@
 // The faults of single ranks, each looked for in order of declaration.
 ghost use Rattle.std.specs.Prelude.{◌≡◌, ◌<◌, ℕ, length, false, slice_index_or};
 ghost use Rattle.tx_plan.specs.Routes.{is_origin};
-ghost use Rattle.tx_check.specs.Checks.{ranks_for, at_exchanges, foremost, k2_at, k2_faults, k3_at, k3_faults, k4_at, k4_faults};
+ghost use Rattle.tx_check.specs.Checks.{ranks_for, at_exchanges, foremost, home_not_zero_at, home_not_zero_faults, origin_unranked_at, origin_unranked_faults, too_high_at, too_high_faults};
 
 use crate::fault::CheckFault;
 use crate::ranks::rank_of;
@@ -11,7 +11,7 @@ use tx_plan::{CodeId, ExchangeId, Plan};
 
 /// The first home whose rank is not 0.
 pub(crate) fn home_fault<A: Allocator>(plan: &Plan<A>, cert: &Cert<A>) -> Option<CheckFault>
-    ensures { result ≡ foremost (k2_faults plan.now (ranks_for plan.now cert.now)) }
+    ensures { result ≡ foremost (home_not_zero_faults plan.now (ranks_for plan.now cert.now)) }
 {
     plan.rules();
     for place in 0..plan.codes() {
@@ -24,7 +24,7 @@ pub(crate) fn home_fault<A: Allocator>(plan: &Plan<A>, cert: &Cert<A>) -> Option
 }
 
 fn home_fault_for<A: Allocator>(plan: &Plan<A>, cert: &Cert<A>, code: CodeId) -> Option<CheckFault>
-    ensures { result ≡ foremost (k2_at plan.now (ranks_for plan.now cert.now) code) }
+    ensures { result ≡ foremost (home_not_zero_at plan.now (ranks_for plan.now cert.now) code) }
 {
     match rank_of(plan, cert, code, plan.home(code)) {
         None => Some(CheckFault::HomeNotZero(code)),
@@ -40,7 +40,7 @@ fn home_fault_for<A: Allocator>(plan: &Plan<A>, cert: &Cert<A>, code: CodeId) ->
 
 /// The first origin that has no rank.
 pub(crate) fn origin_fault<A: Allocator>(plan: &Plan<A>, cert: &Cert<A>) -> Option<CheckFault>
-    ensures { result ≡ foremost (k3_faults plan.now (ranks_for plan.now cert.now)) }
+    ensures { result ≡ foremost (origin_unranked_faults plan.now (ranks_for plan.now cert.now)) }
 {
     plan.rules();
     let origins = origins(plan);
@@ -72,7 +72,7 @@ fn origin_fault_for<A: Allocator>(
     code: CodeId,
 ) -> Option<CheckFault>
     requires { (x : ℕ) → x < length plan.now.exchanges → slice_index_or origins.now x false ≡ is_origin plan.now x }
-    ensures { result ≡ foremost (at_exchanges plan.now (k3_at plan.now (ranks_for plan.now cert.now) code)) }
+    ensures { result ≡ foremost (at_exchanges plan.now (origin_unranked_at plan.now (ranks_for plan.now cert.now) code)) }
 {
     plan.rules();
     for place in 0..plan.exchanges() {
@@ -93,7 +93,7 @@ fn origin_fault_at<A: Allocator>(
     exchange: ExchangeId,
 ) -> Option<CheckFault>
     requires { origin ≡ is_origin plan.now exchange }
-    ensures { result ≡ foremost (k3_at plan.now (ranks_for plan.now cert.now) code exchange) }
+    ensures { result ≡ foremost (origin_unranked_at plan.now (ranks_for plan.now cert.now) code exchange) }
 {
     if origin && rank_of(plan, cert, code, exchange).is_none() && !plan.is_barred(exchange, code) {
         Some(CheckFault::OriginUnranked(code, exchange))
@@ -108,7 +108,7 @@ pub(crate) fn height_fault<A: Allocator>(
     cert: &Cert<A>,
     limit: u8,
 ) -> Option<CheckFault>
-    ensures { result ≡ foremost (k4_faults plan.now (ranks_for plan.now cert.now) limit) }
+    ensures { result ≡ foremost (too_high_faults plan.now (ranks_for plan.now cert.now) limit) }
 {
     plan.rules();
     for place in 0..plan.codes() {
@@ -126,7 +126,7 @@ fn height_fault_for<A: Allocator>(
     limit: u8,
     code: CodeId,
 ) -> Option<CheckFault>
-    ensures { result ≡ foremost (at_exchanges plan.now (k4_at (ranks_for plan.now cert.now) limit code)) }
+    ensures { result ≡ foremost (at_exchanges plan.now (too_high_at (ranks_for plan.now cert.now) limit code)) }
 {
     plan.rules();
     for place in 0..plan.exchanges() {
@@ -145,7 +145,7 @@ fn height_fault_at<A: Allocator>(
     code: CodeId,
     exchange: ExchangeId,
 ) -> Option<CheckFault>
-    ensures { result ≡ foremost (k4_at (ranks_for plan.now cert.now) limit code exchange) }
+    ensures { result ≡ foremost (too_high_at (ranks_for plan.now cert.now) limit code exchange) }
 {
     match rank_of(plan, cert, code, exchange) {
         None => None,

@@ -3,10 +3,10 @@ use Rattle.std.proofs.Common.{◌≡◌, ◌≢◌, ◌∙◌, ℕ, ◌+◌, ◌
 use Rattle.std.specs.Prelude.{nat_lt, ◌&&◌, unwrap_or}
 use Rattle.std.proofs.lemmas.Bool.{and_parts, and_from}
 use Rattle.std.proofs.lemmas.Bool.Decides.{eqb_tells, nat_tests}
-use Rattle.tx_circuits.specs.declared.way.Way.{Way}
-use Rattle.tx_circuits.specs.declared.way.Way.TheVariants.{Up, Down}
-use Rattle.tx_circuits.specs.Linked.{IsFirst, IsLast}
-use Rattle.tx_circuits.specs.Slots.{until, rank_of}
+use Rattle.tx_circuits.specs.declared.free_lists.Way.{Way}
+use Rattle.tx_circuits.specs.declared.free_lists.Way.TheVariants.{Up, Down}
+use Rattle.tx_circuits.specs.inner.Linked.{IsFirst, IsLast}
+use Rattle.tx_circuits.specs.inner.Slots.{until, rank_of}
 use Rattle.tx_circuits.proofs.Linked.{le_or}
 
 lt_true : (k n : ℕ) → k < n → nat_lt k n ≡ true

@@ -12,26 +12,26 @@ use Rattle.tx_plan.specs.Circuits.{direction_of, count_of, ends_of}
 use Rattle.tx_plan.specs.declared.circuit.Circuit.{Circuit}
 use Rattle.tx_plan.specs.declared.direction.Direction.TheVariants.{OneWay}
 use Rattle.tx_plan.proofs.Named.{circuits_total, exact_circuits}
-use Rattle.tx_circuits.specs.declared.end.End.{End}
-use Rattle.tx_circuits.specs.declared.end.End.TheVariants.{First, Other}
+use Rattle.tx_circuits.specs.declared.free_lists.End.{End}
+use Rattle.tx_circuits.specs.declared.free_lists.End.TheVariants.{First, Other}
 use Rattle.tx_circuits.specs.declared.state.State.{State}
-use Rattle.tx_circuits.specs.declared.trunk.Trunk.{Trunk}
-use Rattle.tx_circuits.specs.Slots.{has_seized, rising}
-use Rattle.tx_circuits.specs.Groups.{GroupState, state_at, numbered, end_at, idle}
+use Rattle.tx_circuits.specs.declared.group_head.GroupHead.{GroupHead}
+use Rattle.tx_circuits.specs.inner.Slots.{has_seized, rising}
+use Rattle.tx_circuits.specs.inner.Groups.{GroupState, state_at, numbered, end_at, idle}
 use Rattle.tx_circuits.specs.Table.{Seat, Table, all_free, unnamed}
-use Rattle.tx_circuits.specs.Seen.{group_of, circuits_of, seats_of, gathered, is_marked, holds, sits, table_of}
+use Rattle.tx_circuits.specs.inner.Seen.{group_of, circuits_of, seats_of, gathered, is_marked, holds, sits, table_of}
 use Rattle.tx_circuits.proofs.Seats.{seats_total, exact_seats}
 use Rattle.tx_circuits.proofs.Those.{those_none}
 
 -- a group with all its circuits idle
 abbrev pub fresh : Group → GroupState
-fresh r = record { trunk = record { a = r.a; b = r.b; direction = r.direction; failed = false; blocked = false }; states = replicate r.count idle }
+fresh r = record { head = record { a = r.a; b = r.b; direction = r.direction; failed = false; blocked = false }; states = replicate r.count idle }
 
 module _ (gs : List Group) where
-  unmarked : (test : Trunk → Bool) → ((r : Group) → test (fresh r).trunk ≡ false) → (g : ℕ) → is_marked test (map fresh gs) g ≡ false
-  unmarked test off g = ap (λ o. option_map_or (λ t. test t.trunk) o false) (slice_get-map fresh gs g) ∙ each (slice_get gs g)
+  unmarked : (test : GroupHead → Bool) → ((r : Group) → test (fresh r).head ≡ false) → (g : ℕ) → is_marked test (map fresh gs) g ≡ false
+  unmarked test off g = ap (λ o. option_map_or (λ t. test t.head) o false) (slice_get-map fresh gs g) ∙ each (slice_get gs g)
     where
-      each : (o : Option Group) → option_map_or (λ t. test t.trunk) (option_map fresh o) false ≡ false
+      each : (o : Option Group) → option_map_or (λ t. test t.head) (option_map fresh o) false ≡ false
       each None = refl
       each (Some r) = off r
 
@@ -92,7 +92,7 @@ entry (x ∷ xs) (suc k) h = entry xs k (omega arith)
 
 -- a group as the plan's readers tell it
 pub fresh_is : (p : Plan) (k : ℕ) (r : Group) → slice_get p.groups k ≡ Some r
-    → record { trunk = record { a = (ends_of p k).0; b = (ends_of p k).1; direction = direction_of p k; failed = false; blocked = false }; states = replicate (count_of p k) idle } ≡ fresh r
+    → record { head = record { a = (ends_of p k).0; b = (ends_of p k).1; direction = direction_of p k; failed = false; blocked = false }; states = replicate (count_of p k) idle } ≡ fresh r
 fresh_is p k r at = ap told at
   where
     ends : Option Group → ℕ × ℕ
@@ -100,6 +100,6 @@ fresh_is p k r at = ap told at
 
     told : Option Group → GroupState
     told o = record {
-      trunk = record { a = (ends o).0; b = (ends o).1; direction = option_map_or (λ g. g.direction) o OneWay; failed = false; blocked = false };
+      head = record { a = (ends o).0; b = (ends o).1; direction = option_map_or (λ g. g.direction) o OneWay; failed = false; blocked = false };
       states = replicate (option_map_or (λ g. g.count) o 0) idle;
     }

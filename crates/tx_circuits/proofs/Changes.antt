@@ -12,14 +12,14 @@ use Rattle.tx_plan.specs.Plan.{Group}
 use Rattle.tx_plan.specs.Orders.{same_circuit, circuit_cmp}
 use Rattle.tx_plan.specs.declared.circuit.Circuit.{Circuit}
 use Rattle.tx_plan.proofs.Named.{circuits_total, exact_circuits, same_circuit-is, same_circuit-itself}
-use Rattle.tx_circuits.specs.declared.end.End.{End}
-use Rattle.tx_circuits.specs.declared.end.End.TheVariants.{First, Other}
+use Rattle.tx_circuits.specs.declared.free_lists.End.{End}
+use Rattle.tx_circuits.specs.declared.free_lists.End.TheVariants.{First, Other}
 use Rattle.tx_circuits.specs.declared.state.State.{State}
-use Rattle.tx_circuits.specs.declared.trunk.Trunk.{Trunk}
-use Rattle.tx_circuits.specs.Slots.{has_seized, opposite, rising}
-use Rattle.tx_circuits.specs.Groups.{GroupState, state_at, numbered, set_numbered, seizing_end, end_at, change_at, with_state}
+use Rattle.tx_circuits.specs.declared.group_head.GroupHead.{GroupHead}
+use Rattle.tx_circuits.specs.inner.Slots.{has_seized, opposite, rising}
+use Rattle.tx_circuits.specs.inner.Groups.{GroupState, state_at, numbered, set_numbered, seizing_end, end_at, change_at, with_state}
 use Rattle.tx_circuits.specs.Table.{Seat, seat_cmp, Table}
-use Rattle.tx_circuits.specs.Seen.{those, group_of, circuits_of, seats_of, gathered, is_marked, holds, sits, table_of}
+use Rattle.tx_circuits.specs.inner.Seen.{those, group_of, circuits_of, seats_of, gathered, is_marked, holds, sits, table_of}
 use Rattle.tx_circuits.proofs.Kept.{get-change_here, get-change_there, get-set_here, get-set_there, length-change}
 use Rattle.tx_circuits.proofs.Members.{Known, holds_in, sits_in, marked_in, end_is}
 use Rattle.tx_circuits.proofs.Seats.{seats_total, exact_seats}
@@ -55,14 +55,14 @@ module _ (f : GroupState → GroupState) (g : ℕ) (ts : List GroupState) where
   pub part_same : {B : Type 0} (v : GroupState → Option B) → ((t : GroupState) → v (f t) ≡ v t) → (h : ℕ) → option_and_then v (slice_get (change_at f g ts) h) ≡ option_and_then v (slice_get ts h)
   part_same v same h = joined v (slice_get (change_at f g ts) h) ∙ ap (option_and_then (λ e. e)) (read_same v same h) ∙ sym (joined v (slice_get ts h))
 
-  pub marked_stay : (test : Trunk → Bool) → ((t : GroupState) → test (f t).trunk ≡ test t.trunk)
+  pub marked_stay : (test : GroupHead → Bool) → ((t : GroupState) → test (f t).head ≡ test t.head)
       → those {R = nat_cmp} (is_marked test (change_at f g ts)) (rising (length (change_at f g ts))) ≡ those (is_marked test ts) (rising (length ts))
   marked_stay test same =
       those_stay nat_cmp_total exact_unsigned (is_marked test ts) (is_marked test (change_at f g ts)) (rising (length ts)) (rising (length (change_at f g ts))) (marked_in test ts)
-      (marked_in test (change_at f g ts)) (test_same (λ t. test t.trunk) same)
+      (marked_in test (change_at f g ts)) (test_same (λ t. test t.head) same)
 
-  pub ends_same : ((t : GroupState) (x : ℕ) → seizing_end (f t).trunk x ≡ seizing_end t.trunk x) → (h x : ℕ) → end_at (change_at f g ts) h x ≡ end_at ts h x
-  ends_same same h x = part_same (λ t. seizing_end t.trunk x) (λ t. same t x) h
+  pub ends_same : ((t : GroupState) (x : ℕ) → seizing_end (f t).head x ≡ seizing_end t.head x) → (h x : ℕ) → end_at (change_at f g ts) h x ≡ end_at ts h x
+  ends_same same h x = part_same (λ t. seizing_end t.head x) (λ t. same t x) h
 
 pub map_same : {A B : Type 0} (v : A → B) (f : A → A) → ((x : A) → v (f x) ≡ v x) → (g : ℕ) (xs : List A) → map v (change_at f g xs) ≡ map v xs
 map_same v f e g [] = refl
@@ -108,10 +108,10 @@ module _ (ts : List GroupState) (c : Circuit) (known : Known ts c) (s to : State
       through (Some t) n = numbered_there t.states c.number d.number to n
 
   pub groups_same : map group_of after ≡ map group_of ts
-  groups_same = map_same group_of (with_state c to) (λ t i. record { name = []; a = t.trunk.a; b = t.trunk.b; direction = t.trunk.direction; count = length-set_numbered t.states c.number to i }) c.group ts
+  groups_same = map_same group_of (with_state c to) (λ t i. record { name = []; a = t.head.a; b = t.head.b; direction = t.head.direction; count = length-set_numbered t.states c.number to i }) c.group ts
 
-  pub trunks_stay : (test : Trunk → Bool) → those {R = nat_cmp} (is_marked test after) (rising (length after)) ≡ those (is_marked test ts) (rising (length ts))
-  trunks_stay test = marked_stay (with_state c to) c.group ts test (λ t. refl)
+  pub heads_stay : (test : GroupHead → Bool) → those {R = nat_cmp} (is_marked test after) (rising (length after)) ≡ those (is_marked test ts) (rising (length ts))
+  heads_stay test = marked_stay (with_state c to) c.group ts test (λ t. refl)
 
   module _ (test : State → Bool) where
     holds_there : (d : Circuit) → d ≢ c → holds test after d ≡ holds test ts d
@@ -217,11 +217,11 @@ module _ (ts : List GroupState) (c : Circuit) (known : Known ts c) (s to : State
       | inr d ↦ seats_there q d
     ]
       where
-        trunk_at : (z : ℕ) (o : Option End) → end_at ts c.group z ≡ o → seizing_end known.group.trunk z ≡ o
-        trunk_at z o e = ap (option_and_then (λ t. seizing_end t.trunk z)) (sym known.at) ∙ e
+        head_at : (z : ℕ) (o : Option End) → end_at ts c.group z ≡ o → seizing_end known.group.head z ≡ o
+        head_at z o e = ap (option_and_then (λ t. seizing_end t.head z)) (sym known.at) ∙ e
 
-        ends_apart : (e f : End) → q.1 ≢ x → ((e ≡ First) × (known.group.trunk.a ≡ q.1)) ⊎ ((e ≡ Other) × (known.group.trunk.b ≡ q.1))
-            → ((f ≡ First) × (known.group.trunk.a ≡ x)) ⊎ ((f ≡ Other) × (known.group.trunk.b ≡ x)) → e ≡ opposite f
+        ends_apart : (e f : End) → q.1 ≢ x → ((e ≡ First) × (known.group.head.a ≡ q.1)) ⊎ ((e ≡ Other) × (known.group.head.b ≡ q.1))
+            → ((f ≡ First) × (known.group.head.a ≡ x)) ⊎ ((f ≡ Other) × (known.group.head.b ≡ x)) → e ≡ opposite f
         ends_apart e f n (inl a) (inl b) = absurd (n (sym a.1 ∙ b.1))
         ends_apart e f n (inl a) (inr b) = a.0 ∙ ap opposite (sym b.0)
         ends_apart e f n (inr a) (inl b) = a.0 ∙ ap opposite (sym b.0)
@@ -231,7 +231,7 @@ module _ (ts : List GroupState) (c : Circuit) (known : Known ts c) (s to : State
         each None e n = refl
         each (Some e) f n =
             subst (λ (y : End). has_seized y to ≡ has_seized y s)
-            (sym (ends_apart e end n (end_is known.group.trunk q.1 e (trunk_at q.1 (Some e) f)) (end_is known.group.trunk x end (trunk_at x (Some end) at)))) far
+            (sym (ends_apart e end n (end_is known.group.head q.1 e (head_at q.1 (Some e) f)) (end_is known.group.head x end (head_at x (Some end) at)))) far
 
     pub seats_inserted : has_seized end to ≡ true → those {R = seat_cmp} (sits after) (gathered seats_of 0 after) ≡ insert (those (sits ts) (gathered seats_of 0 ts)) (c, x)
     seats_inserted e =

@@ -2,12 +2,12 @@
 use Rattle.std.proofs.Common.{◌≡◌, ◌∙◌, ℕ, Bool, true, false, cond, List, [], ◌∷◌, length, map, Option, Some, None, refl, sym, ap}
 use Rattle.std.specs.Prelude.{filter, find}
 use Rattle.std.proofs.lemmas.List.{length-map}
-use Rattle.tx_circuits.specs.declared.end.End.{End}
+use Rattle.tx_circuits.specs.declared.free_lists.End.{End}
 use Rattle.tx_circuits.specs.declared.slot.Slot.{Slot}
 use Rattle.tx_circuits.specs.declared.row.Row.{Row}
-use Rattle.tx_circuits.specs.Linked.{Follows}
-use Rattle.tx_circuits.specs.Slots.{chain, free_at, list_of, in_order, state_of, IsSound}
-use Rattle.tx_circuits.specs.Groups.{group_slots, group_state, first_place, way_of}
+use Rattle.tx_circuits.specs.inner.Linked.{Follows}
+use Rattle.tx_circuits.specs.inner.Slots.{chain, free_at, list_of, in_order, state_of, IsSound}
+use Rattle.tx_circuits.specs.inner.Groups.{group_slots, group_state, first_place, way_of}
 
 head_is : (next : Option ℕ → Option ℕ) (q : Option ℕ) (p : ℕ → Bool) (xs : List ℕ) → Follows next q (filter p xs) → next q ≡ find p xs
 head_is next q p [] f = f

@@ -13,9 +13,9 @@ use Rattle.tx_plan.specs.declared.circuit.Circuit.{Circuit}
 use Rattle.tx_circuits.specs.declared.slot.Slot.{Slot}
 use Rattle.tx_circuits.specs.declared.state.State.{State}
 use Rattle.tx_circuits.specs.declared.row.Row.{Row}
-use Rattle.tx_circuits.specs.declared.trunk.Trunk.{Trunk}
-use Rattle.tx_circuits.specs.Slots.{state_of, IsSound}
-use Rattle.tx_circuits.specs.Groups.{GroupState, group_slots, group_state, state_at, numbered, set_numbered, change_at, idle, AreKept, AreApart, IsAppended}
+use Rattle.tx_circuits.specs.declared.group_head.GroupHead.{GroupHead}
+use Rattle.tx_circuits.specs.inner.Slots.{state_of, IsSound}
+use Rattle.tx_circuits.specs.inner.Groups.{GroupState, group_slots, group_state, state_at, numbered, set_numbered, change_at, idle, AreKept, AreApart, IsAppended}
 use Rattle.tx_circuits.proofs.Linked.{le_or}
 
 -- LISTS AND THEIR ENTRIES
@@ -194,11 +194,6 @@ pub states_alike : (k : ℕ) (slot : Slot) → map state_of (replicate k slot) �
 states_alike zero slot = refl
 states_alike (suc k) slot = ap (λ (l : List State). slot.state ∷ l) (states_alike k slot)
 
-get-append_left : {A : Type 0} (xs ys : List A) (k : ℕ) → k < length xs → slice_get (xs ++ ys) k ≡ slice_get xs k
-get-append_left [] ys k h = absurd (omega arith)
-get-append_left (x ∷ xs) ys zero h = refl
-get-append_left (x ∷ xs) ys (suc k) h = get-append_left xs ys k (omega arith)
-
 -- an entry of a list with one more is an entry of the list, or that one
 pushed_is : {A : Type 0} (xs : List A) (y : A) (k : ℕ) (z : A) → slice_get (xs ++ y ∷ []) k ≡ Some z → (slice_get xs k ≡ Some z) ⊎ ((k ≡ length xs) × (y ≡ z))
 pushed_is {A} [] y zero z e = inr (refl, ap or_y e)
@@ -224,7 +219,7 @@ module _ (slots rest : List Slot) (rows : List Row) (kept : AreKept slots rows) 
     where
       each : (rs : List Row) → ((g : ℕ) (r : Row) → slice_get rs g ≡ Some r → group_slots rest r ≡ group_slots slots r) → map (group_state rest) rs ≡ map (group_state slots) rs
       each [] h = refl
-      each (r ∷ rs) h = λ i. record { trunk = r.trunk; states = map state_of (h zero r refl i) } ∷ each rs (λ g s e. h (suc g) s e) i
+      each (r ∷ rs) h = λ i. record { head = r.head; states = map state_of (h zero r refl i) } ∷ each rs (λ g s e. h (suc g) s e) i
 
   pub kept_push : (row : Row) → row.start ≡ length slots → row.start + row.count ≤ length rest → IsSound (group_slots rest row) row.lists → AreKept rest (rows ++ row ∷ [])
   kept_push row start fits sound = record {
@@ -264,32 +259,12 @@ number_in {A} xs (suc m) h = (m, refl, inside xs m h)
     inside (y ∷ ys) zero h = omega arith
     inside (y ∷ ys) (suc m) h = (let a : m < length ys = inside ys m h in omega arith)
 
-pub located : (slots : List Slot) (rows : List Row) → AreKept slots rows → (x : Circuit) → is_some (state_at (map (group_state slots) rows) x) ≡ true → Located slots rows x
-located slots rows kept x h = find_it (slice_get rows x.group) refl (subst (λ o. is_some (option_and_then (λ t. numbered t.states x.number) o) ≡ true) (slice_get-map (group_state slots) rows x.group) h)
-  where
-    find_it : (o : Option Row) → slice_get rows x.group ≡ o → is_some (option_and_then (λ t. numbered t.states x.number) (option_map (group_state slots) o)) ≡ true → Located slots rows x
-    find_it None e k = absurd cc
-    find_it (Some r) e k =
-        let m = number_in (map state_of (group_slots slots r)) x.number k in
-        let a : m.0 < length (map state_of (group_slots slots r)) = m.2 in
-        let b : length (map state_of (group_slots slots r)) ≡ length (group_slots slots r) = length-map (group_slots slots r) state_of in
-        let d : length (group_slots slots r) ≡ r.count = slots_length slots r (kept.within x.group r e) in
-        record { row = r; at = e; place = m.0; numbered = m.1; within = omega arith }
-
 -- a slot of a group, in the vector
 pub slot_at : (slots : List Slot) (r : Row) (m : ℕ) (d : Slot) → r.start + r.count ≤ length slots → m < r.count → slice_get (map state_of (group_slots slots r)) m ≡ Some (slice_index_or slots (r.start + m) d).state
 slot_at slots r m d h lt =
     let long = slots_length slots r h in
     slice_get-map state_of (group_slots slots r) m ∙ ap (option_map state_of) (get_is (group_slots slots r) m d (omega arith))
     ∙ ap (λ (s : Slot). Some s.state) (get_or-between slots r.start (r.start + r.count) m d (omega arith))
-
-pub slot_past : (slots : List Slot) (r : Row) (m : ℕ) → r.start + r.count ≤ length slots → r.count ≤ m → slice_get (map state_of (group_slots slots r)) m ≡ None
-slot_past slots r m h le = past (map state_of (group_slots slots r)) m (let a = slots_length slots r h in let b : length (map state_of (group_slots slots r)) ≡ length (group_slots slots r) = length-map (group_slots slots r) state_of in omega arith)
-  where
-    past : (xs : List State) (m : ℕ) → length xs ≤ m → slice_get xs m ≡ None
-    past [] m h = refl
-    past (x ∷ xs) zero h = absurd (omega arith)
-    past (x ∷ xs) (suc m) h = past xs m (omega arith)
 
 -- A GROUP'S ROW GETS OTHER LISTS
 
@@ -301,11 +276,11 @@ module _ (slots : List Slot) (rows : List Row) (now : List GroupState) (kept : A
       kept_after slots rows kept i row at new result (ap (λ (r : Row). r.start) row_is) (ap (λ (r : Row). r.count) row_is) long
       (subst (λ (r : Row). IsSound (group_slots new r) result.lists) (sym row_is) sound) (others slots rows kept i row at new rest)
 
-  pub view_updated : (f : GroupState → GroupState) → record { trunk = row.trunk; states = map state_of (group_slots new row) } ≡ f (group_state slots row)
+  pub view_updated : (f : GroupState → GroupState) → record { head = row.head; states = map state_of (group_slots new row) } ≡ f (group_state slots row)
       → map (group_state new) (slice_set rows i result) ≡ change_at f g now
   view_updated f e =
       map-set_change (group_state slots) (group_state new) f rows i row result at (ap (group_state new) row_is ∙ e)
-      (λ h s ne at_h j. record { trunk = s.trunk; states = map state_of (others slots rows kept i row at new rest h s ne at_h j) }) ∙ (λ j. change_at f (is j) (view j))
+      (λ h s ne at_h j. record { head = s.head; states = map state_of (others slots rows kept i row at new rest h s ne at_h j) }) ∙ (λ j. change_at f (is j) (view j))
 
 pub set_numbered_at : {A : Type 0} (xs : List A) (n : ℕ) (y : A) → 0 < n → slice_set xs (n - 1) y ≡ set_numbered xs n y
 set_numbered_at xs zero y h = absurd (omega arith)
@@ -334,9 +309,9 @@ module _ (slots mid new : List Slot) (row0 row : Row) (start : row0.start ≡ le
   mid_length : length mid ≡ length slots + row0.count
   mid_length = ap length mid_is ∙ length-append slots (replicate row0.count slot) ∙ ap (λ (n : ℕ). length slots + n) (length-replicate row0.count slot)
 
-  pub appended : IsAppended slots new row0.trunk row0.count row
+  pub appended : IsAppended slots new row0.head row0.count row
   appended = record {
-    trunk_is = ap (λ (r : Row). r.trunk) row_is;
+    head_is = ap (λ (r : Row). r.head) row_is;
     start_is = ap (λ (r : Row). r.start) row_is ∙ start;
     count_is = ap (λ (r : Row). r.count) row_is;
     grown = long ∙ mid_length;
@@ -347,7 +322,7 @@ module _ (slots mid new : List Slot) (row0 row : Row) (start : row0.start ≡ le
   }
 
 -- and its row joins the others, or does not
-module _ (slots new : List Slot) (rows : List Row) (kept : AreKept slots rows) (trunk : Trunk) (count : ℕ) (row : Row) (a : IsAppended slots new trunk count row) where
+module _ (slots new : List Slot) (rows : List Row) (kept : AreKept slots rows) (head : GroupHead) (count : ℕ) (row : Row) (a : IsAppended slots new head count row) where
   longer : length slots ≤ length new
   longer = (let l : length new ≡ length slots + count = a.grown in omega arith)
 
@@ -366,5 +341,5 @@ module _ (slots new : List Slot) (rows : List Row) (kept : AreKept slots rows) (
   map-push f [] y = refl
   map-push f (x ∷ xs) y = ap (λ l. f x ∷ l) (map-push f xs y)
 
-  pub view_with : map (group_state new) (rows ++ row ∷ []) ≡ map (group_state slots) rows ++ record { trunk = trunk; states = replicate count idle } ∷ []
-  view_with = map-push (group_state new) rows row ∙ (λ i. view_without i ++ record { trunk = a.trunk_is i; states = a.states i } ∷ [])
+  pub view_with : map (group_state new) (rows ++ row ∷ []) ≡ map (group_state slots) rows ++ record { head = head; states = replicate count idle } ∷ []
+  view_with = map-push (group_state new) rows row ∙ (λ i. view_without i ++ record { head = a.head_is i; states = a.states i } ∷ [])

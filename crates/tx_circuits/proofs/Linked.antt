@@ -2,10 +2,10 @@
 use Rattle.std.proofs.Common.{◌≡◌, ◌≢◌, ℕ, zero, suc, ◌+◌, ◌-◌, ◌<◌, ◌≤◌, ◌==◌, ◌⊎◌, inl, inr, Bool, true, false, cond, List, [], ◌∷◌, Option, Some, None, refl, sym, ap, subst, ◌∙◌, arith, eqb, eq-eqb}
 use Rattle.std.specs.Prelude.{unwrap_or}
 use Rattle.std.proofs.lemmas.Bool.Decides.{leb_tells, eqb_tells}
-use Rattle.tx_circuits.specs.declared.way.Way.{Way}
-use Rattle.tx_circuits.specs.declared.way.Way.TheVariants.{Up, Down}
-use Rattle.tx_circuits.specs.Linked.{IsFirst, IsLast, IsLinked, Follows, with}
-use Rattle.tx_circuits.specs.Slots.{rank_of, back}
+use Rattle.tx_circuits.specs.declared.free_lists.Way.{Way}
+use Rattle.tx_circuits.specs.declared.free_lists.Way.TheVariants.{Up, Down}
+use Rattle.tx_circuits.specs.inner.Linked.{IsFirst, IsLast, IsLinked, Follows, with}
+use Rattle.tx_circuits.specs.inner.Slots.{rank_of, back}
 
 -- a function with another value, at the place and elsewhere
 pub with_here : {A : Type 0} (f : ℕ → A) (i : ℕ) (y : A) → with f i y i ≡ y

@@ -5,15 +5,15 @@ use Rattle.std.specs.Option.{option_map, option_map_or}
 use Rattle.std.proofs.lemmas.Bool.{and_parts}
 use Rattle.tx_plan.specs.Circuits.{upward, is_both}
 use Rattle.tx_plan.specs.declared.circuit.Circuit.{Circuit}
-use Rattle.tx_circuits.specs.declared.end.End.{End}
-use Rattle.tx_circuits.specs.declared.end.End.TheVariants.{First, Other}
-use Rattle.tx_circuits.specs.declared.way.Way.TheVariants.{Up}
+use Rattle.tx_circuits.specs.declared.free_lists.End.{End}
+use Rattle.tx_circuits.specs.declared.free_lists.End.TheVariants.{First, Other}
+use Rattle.tx_circuits.specs.declared.free_lists.Way.TheVariants.{Up}
 use Rattle.tx_circuits.specs.declared.state.State.{State}
-use Rattle.tx_circuits.specs.declared.trunk.Trunk.{Trunk}
-use Rattle.tx_circuits.specs.Slots.{has_seized, rising}
-use Rattle.tx_circuits.specs.Groups.{GroupState, state_at, numbered, seizing_end, end_at}
+use Rattle.tx_circuits.specs.declared.group_head.GroupHead.{GroupHead}
+use Rattle.tx_circuits.specs.inner.Slots.{has_seized, rising}
+use Rattle.tx_circuits.specs.inner.Groups.{GroupState, state_at, numbered, seizing_end, end_at}
 use Rattle.tx_circuits.specs.Table.{Seat}
-use Rattle.tx_circuits.specs.Seen.{circuits_of, seats_of, gathered, is_marked, holds, sits}
+use Rattle.tx_circuits.specs.inner.Seen.{circuits_of, seats_of, gathered, is_marked, holds, sits}
 use Rattle.tx_circuits.proofs.Ordered.{In, from_left, from_right, member}
 use Rattle.tx_circuits.proofs.Linked.{le_or}
 use Rattle.tx_circuits.proofs.Kept.{number_in, get_within}
@@ -74,7 +74,7 @@ pub holds_in : (test : State → Bool) (ts : List GroupState) (c : Circuit) → 
 holds_in test ts c h = (let k = known ts c (some_from test (state_at ts c) h) in in_gathered circuits_of ts 0 c.group c.group k.group c (omega arith) k.at (in_circuits ts c k))
 
 -- an exchange that seizes at an end is that end
-pub end_is : (t : Trunk) (x : ℕ) (end : End) → seizing_end t x ≡ Some end → ((end ≡ First) × (t.a ≡ x)) ⊎ ((end ≡ Other) × (t.b ≡ x))
+pub end_is : (t : GroupHead) (x : ℕ) (end : End) → seizing_end t x ≡ Some end → ((end ≡ First) × (t.a ≡ x)) ⊎ ((end ≡ Other) × (t.b ≡ x))
 end_is t x end = elim (t.a == x) as (λ b. (t.a == x) ≡ b → (if b then Some First else if is_both t.direction && (t.b == x) then Some Other else None) ≡ Some end → ((end ≡ First) × (t.a ≡ x)) ⊎ ((end ≡ Other) × (t.b ≡ x))) [
   | true ↦ λ e h. inl (sym (ap (or_end end) h), eqb-true t.a x e)
   | false ↦ λ e. elim (is_both t.direction && (t.b == x)) as (λ b. (is_both t.direction && (t.b == x)) ≡ b → (if b then Some Other else None) ≡ Some end → ((end ≡ First) × (t.a ≡ x)) ⊎ ((end ≡ Other) × (t.b ≡ x))) [
@@ -90,25 +90,25 @@ end_is t x end = elim (t.a == x) as (λ b. (t.a == x) ≡ b → (if b then Some 
 pub sits_in : (ts : List GroupState) (s : Seat) → sits ts s ≡ true → In (gathered seats_of 0 ts) s
 sits_in ts s h = by_end (end_at ts s.0.group s.1) refl h
   where
-    seat : (k : Known ts s.0) (t : Trunk) (end : End) → t ≡ k.group.trunk → ((end ≡ First) × (t.a ≡ s.1)) ⊎ ((end ≡ Other) × (t.b ≡ s.1)) → In (seats_of s.0.group k.group) s
+    seat : (k : Known ts s.0) (t : GroupHead) (end : End) → t ≡ k.group.head → ((end ≡ First) × (t.a ≡ s.1)) ⊎ ((end ≡ Other) × (t.b ≡ s.1)) → In (seats_of s.0.group k.group) s
     seat k t end e (inl f) =
-        from_left (map (λ c. (c, k.group.trunk.a)) (circuits_of s.0.group k.group)) (map (λ c. (c, k.group.trunk.b)) (circuits_of s.0.group k.group)) s
-        (subst (In (map (λ c. (c, k.group.trunk.a)) (circuits_of s.0.group k.group))) (λ i. (s.0, (ap (λ (u : Trunk). u.a) (sym e) ∙ f.1) i))
-        (in_map (λ c. (c, k.group.trunk.a)) (circuits_of s.0.group k.group) s.0 (in_circuits ts s.0 k)))
+        from_left (map (λ c. (c, k.group.head.a)) (circuits_of s.0.group k.group)) (map (λ c. (c, k.group.head.b)) (circuits_of s.0.group k.group)) s
+        (subst (In (map (λ c. (c, k.group.head.a)) (circuits_of s.0.group k.group))) (λ i. (s.0, (ap (λ (u : GroupHead). u.a) (sym e) ∙ f.1) i))
+        (in_map (λ c. (c, k.group.head.a)) (circuits_of s.0.group k.group) s.0 (in_circuits ts s.0 k)))
     seat k t end e (inr f) =
-        from_right (map (λ c. (c, k.group.trunk.a)) (circuits_of s.0.group k.group)) (map (λ c. (c, k.group.trunk.b)) (circuits_of s.0.group k.group)) s
-        (subst (In (map (λ c. (c, k.group.trunk.b)) (circuits_of s.0.group k.group))) (λ i. (s.0, (ap (λ (u : Trunk). u.b) (sym e) ∙ f.1) i))
-        (in_map (λ c. (c, k.group.trunk.b)) (circuits_of s.0.group k.group) s.0 (in_circuits ts s.0 k)))
+        from_right (map (λ c. (c, k.group.head.a)) (circuits_of s.0.group k.group)) (map (λ c. (c, k.group.head.b)) (circuits_of s.0.group k.group)) s
+        (subst (In (map (λ c. (c, k.group.head.b)) (circuits_of s.0.group k.group))) (λ i. (s.0, (ap (λ (u : GroupHead). u.b) (sym e) ∙ f.1) i))
+        (in_map (λ c. (c, k.group.head.b)) (circuits_of s.0.group k.group) s.0 (in_circuits ts s.0 k)))
 
     by_end : (o : Option End) → end_at ts s.0.group s.1 ≡ o → option_map_or (λ end. holds (has_seized end) ts s.0) o false ≡ true → In (gathered seats_of 0 ts) s
     by_end None e h = absurd cc
     by_end (Some end) e h =
         let k = known ts s.0 (some_from (has_seized end) (state_at ts s.0) h) in
-        let seizes : seizing_end k.group.trunk s.1 ≡ Some end = ap (option_and_then (λ t. seizing_end t.trunk s.1)) (sym k.at) ∙ e in
-        in_gathered seats_of ts 0 s.0.group s.0.group k.group s (omega arith) k.at (seat k k.group.trunk end refl (end_is k.group.trunk s.1 end seizes))
+        let seizes : seizing_end k.group.head s.1 ≡ Some end = ap (option_and_then (λ t. seizing_end t.head s.1)) (sym k.at) ∙ e in
+        in_gathered seats_of ts 0 s.0.group s.0.group k.group s (omega arith) k.at (seat k k.group.head end refl (end_is k.group.head s.1 end seizes))
 
-pub marked_in : (test : Trunk → Bool) (ts : List GroupState) (g : ℕ) → is_marked test ts g ≡ true → In (rising (length ts)) g
-marked_in test ts g h = member Up (length ts) g (inside (slice_get ts g) refl (some_from (λ t. test t.trunk) (slice_get ts g) h))
+pub marked_in : (test : GroupHead → Bool) (ts : List GroupState) (g : ℕ) → is_marked test ts g ≡ true → In (rising (length ts)) g
+marked_in test ts g h = member Up (length ts) g (inside (slice_get ts g) refl (some_from (λ t. test t.head) (slice_get ts g) h))
   where
     inside : (o : Option GroupState) → slice_get ts g ≡ o → is_some o ≡ true → g < length ts
     inside None e k = absurd cc

@@ -2,15 +2,15 @@
 use Rattle.std.proofs.Common.{◌≡◌, ◌≢◌, ℕ, zero, suc, ◌+◌, ◌<◌, ◌≤◌, Bool, true, false, List, [], ◌∷◌, length, map, slice_index_or, Option, Some, None, refl, sym, subst, ap, ◌∙◌, arith}
 use Rattle.std.specs.Prelude.{IfSome, unwrap_or}
 use mathlib.Core.Bool.{beq}
-use Rattle.tx_circuits.specs.declared.end.End.TheVariants.{First, Other}
+use Rattle.tx_circuits.specs.declared.free_lists.End.TheVariants.{First, Other}
 use Rattle.std.proofs.lemmas.List.{length-map}
-use Rattle.tx_circuits.specs.declared.end.End.{End}
-use Rattle.tx_circuits.specs.declared.way.Way.{Way}
-use Rattle.tx_circuits.specs.declared.way.Way.TheVariants.{Up, Down}
+use Rattle.tx_circuits.specs.declared.free_lists.End.{End}
+use Rattle.tx_circuits.specs.declared.free_lists.Way.{Way}
+use Rattle.tx_circuits.specs.declared.free_lists.Way.TheVariants.{Up, Down}
 use Rattle.tx_circuits.specs.declared.slot.Slot.{Slot}
 use Rattle.tx_circuits.specs.declared.state.State.{State}
-use Rattle.tx_circuits.specs.Linked.{IsFirst, IsLast, IsLinked, with}
-use Rattle.tx_circuits.specs.Slots.{free_at, free_in, is_free, state_of, rank_of, back}
+use Rattle.tx_circuits.specs.inner.Linked.{IsFirst, IsLast, IsLinked, with}
+use Rattle.tx_circuits.specs.inner.Slots.{free_at, free_in, is_free, state_of, rank_of, back}
 use Rattle.tx_circuits.proofs.Columns.{column_at}
 use Rattle.tx_circuits.proofs.Linked.{beyond, are_ranked, with_here, with_there, after_last, to_last}
 

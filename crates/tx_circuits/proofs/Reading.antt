@@ -14,16 +14,16 @@ use Rattle.tx_plan.specs.Circuits.{is_both, is_circuit, may_seize, may_seize_row
 use Rattle.tx_plan.specs.Orders.{circuit_cmp}
 use Rattle.tx_plan.specs.declared.circuit.Circuit.{Circuit}
 use Rattle.tx_plan.proofs.Named.{circuits_total, exact_circuits}
-use Rattle.tx_circuits.specs.declared.end.End.{End}
-use Rattle.tx_circuits.specs.declared.end.End.TheVariants.{First, Other}
-use Rattle.tx_circuits.specs.declared.way.Way.{Way}
-use Rattle.tx_circuits.specs.declared.way.Way.TheVariants.{Up, Down}
+use Rattle.tx_circuits.specs.declared.free_lists.End.{End}
+use Rattle.tx_circuits.specs.declared.free_lists.End.TheVariants.{First, Other}
+use Rattle.tx_circuits.specs.declared.free_lists.Way.{Way}
+use Rattle.tx_circuits.specs.declared.free_lists.Way.TheVariants.{Up, Down}
 use Rattle.tx_circuits.specs.declared.state.State.{State}
-use Rattle.tx_circuits.specs.declared.trunk.Trunk.{Trunk}
-use Rattle.tx_circuits.specs.Slots.{has_seized, is_free, free_in, in_order, rising, falling}
-use Rattle.tx_circuits.specs.Groups.{GroupState, state_at, numbered, seizing_end, end_at, first_place, way_of, idle}
+use Rattle.tx_circuits.specs.declared.group_head.GroupHead.{GroupHead}
+use Rattle.tx_circuits.specs.inner.Slots.{has_seized, is_free, free_in, in_order, rising, falling}
+use Rattle.tx_circuits.specs.inner.Groups.{GroupState, state_at, numbered, seizing_end, end_at, first_place, way_of, idle}
 use Rattle.tx_circuits.specs.Table.{Seat, seat_cmp, Table, plan_of, is_free_at, is_down, first_free}
-use Rattle.tx_circuits.specs.Seen.{those, group_of, circuits_of, seats_of, gathered, is_marked, holds, sits, table_of}
+use Rattle.tx_circuits.specs.inner.Seen.{those, group_of, circuits_of, seats_of, gathered, is_marked, holds, sits, table_of}
 use Rattle.tx_circuits.proofs.Columns.{column_at}
 use Rattle.tx_circuits.proofs.Kept.{get_is}
 use Rattle.tx_circuits.proofs.Ordered.{In, below}
@@ -39,7 +39,7 @@ contains_circuits test ts c = contains_those circuits_total exact_circuits (hold
 pub contains_seats : (ts : List GroupState) (q : Seat) → contains (those {R = seat_cmp} (sits ts) (gathered seats_of 0 ts)) q ≡ sits ts q
 contains_seats ts q = contains_those seats_total exact_seats (sits ts) (gathered seats_of 0 ts) (sits_in ts) q
 
-pub contains_marks : (test : Trunk → Bool) (ts : List GroupState) (g : ℕ) → contains (those {R = nat_cmp} (is_marked test ts) (rising (length ts))) g ≡ is_marked test ts g
+pub contains_marks : (test : GroupHead → Bool) (ts : List GroupState) (g : ℕ) → contains (those {R = nat_cmp} (is_marked test ts) (rising (length ts))) g ≡ is_marked test ts g
 contains_marks test ts g = contains_those nat_cmp_total exact_unsigned (is_marked test ts) (rising (length ts)) (marked_in test ts) g
 
 -- THE PLAN
@@ -69,7 +69,7 @@ circuit_known ts c = ap (λ o. option_map_or (λ r. nat_le 1 c.number && nat_le 
     each None = refl
     each (Some t) = by_number t.states c.number
 
-row_end : (t : Trunk) (x : ℕ) (n : ℕ) → may_seize_row (record { name = []; a = t.a; b = t.b; direction = t.direction; count = n }) x ≡ is_some (seizing_end t x)
+row_end : (t : GroupHead) (x : ℕ) (n : ℕ) → may_seize_row (record { name = []; a = t.a; b = t.b; direction = t.direction; count = n }) x ≡ is_some (seizing_end t x)
 row_end t x n = elim (t.a == x) as (λ b. (b || (is_both t.direction && (t.b == x))) ≡ is_some (if b then Some First else if is_both t.direction && (t.b == x) then Some Other else None)) [
   | true ↦ refl
   | false ↦ elim (is_both t.direction && (t.b == x)) as (λ b. b ≡ is_some (end_if b)) [ true ↦ refl | false ↦ refl ]
@@ -81,9 +81,9 @@ row_end t x n = elim (t.a == x) as (λ b. (b || (is_both t.direction && (t.b == 
 pub end_known : (ts : List GroupState) (g x : ℕ) → may_seize (plan_of (table_of ts)) g x ≡ is_some (end_at ts g x)
 end_known ts g x = ap (λ o. option_map_or (λ r. may_seize_row r x) o false) (slice_get-map group_of ts g) ∙ each (slice_get ts g)
   where
-    each : (o : Option GroupState) → option_map_or (λ r. may_seize_row r x) (option_map group_of o) false ≡ is_some (option_and_then (λ t. seizing_end t.trunk x) o)
+    each : (o : Option GroupState) → option_map_or (λ r. may_seize_row r x) (option_map group_of o) false ≡ is_some (option_and_then (λ t. seizing_end t.head x) o)
     each None = refl
-    each (Some t) = row_end t.trunk x (length t.states)
+    each (Some t) = row_end t.head x (length t.states)
 
 -- THE FIRST FREE CIRCUIT
 
@@ -119,7 +119,7 @@ downs zero = refl
 downs (suc n) = ap (λ (l : List ℕ). suc n ∷ l) (downs n)
 
 -- the order of an exchange is that of its end
-order_is : (t : Trunk) (x n : ℕ) (end : End) → seizing_end t x ≡ Some end
+order_is : (t : GroupHead) (x n : ℕ) (end : End) → seizing_end t x ≡ Some end
     → order_at (record { name = []; a = t.a; b = t.b; direction = t.direction; count = n }) x ≡ map suc (in_order (way_of end) n)
 order_is t x n end h = elim (t.a == x) as (λ b. (if b then Some First else if is_both t.direction && (t.b == x) then Some Other else None) ≡ Some end → (if b then upward n else downward n) ≡ map suc (in_order (way_of end) n)) [
   | true ↦ λ e. ups n ∙ ap (λ (d : End). map suc (in_order (way_of d) n)) (ap (or_end First) e)
@@ -133,7 +133,7 @@ order_is t x n end h = elim (t.a == x) as (λ b. (if b then Some First else if i
     or_end d None = d
     or_end d (Some w) = w
 
-module _ (ts : List GroupState) (g x : ℕ) (t : GroupState) (at : slice_get ts g ≡ Some t) (end : End) (seizes : seizing_end t.trunk x ≡ Some end) where
+module _ (ts : List GroupState) (g x : ℕ) (t : GroupState) (at : slice_get ts g ≡ Some t) (end : End) (seizes : seizing_end t.head x ≡ Some end) where
   abbrev circuit : ℕ → Circuit
   circuit k = record { group = g; number = suc k }
 
@@ -145,7 +145,7 @@ module _ (ts : List GroupState) (g x : ℕ) (t : GroupState) (at : slice_get ts 
   free_is k h =
       let s = slice_index_or t.states k idle in
       let part = λ (test : State → Bool). contains_circuits test ts (circuit k) ∙ ap (λ o. option_map_or test o false) (state_is k h) in
-      let seat = contains_seats ts (circuit k, x) ∙ ap (λ o. option_map_or (λ e. holds (has_seized e) ts (circuit k)) o false) (ap (option_and_then (λ u. seizing_end u.trunk x)) at ∙ seizes)
+      let seat = contains_seats ts (circuit k, x) ∙ ap (λ o. option_map_or (λ e. holds (has_seized e) ts (circuit k)) o false) (ap (option_and_then (λ u. seizing_end u.head x)) at ∙ seizes)
       ∙ ap (λ o. option_map_or (has_seized end) o false) (state_is k h) in
       (λ i. not (part (λ z. z.carried) i) && (not (part (λ z. z.releasing) i) && (not (part (λ z. z.out) i) && not (seat i))))
       ∙ sym (column_at (is_free end) t.states k idle false h)
@@ -163,7 +163,7 @@ module _ (ts : List GroupState) (g x : ℕ) (t : GroupState) (at : slice_get ts 
       listed : circuits_at (plan_of (table_of ts)) g x ≡ map (λ n. record { group = g; number = n }) (map suc order)
       listed =
           ap (λ o. option_map_or (λ r. map (λ n. record { group = g; number = n }) (order_at r x)) o []) (slice_get-map group_of ts g ∙ ap (option_map group_of) at)
-          ∙ ap (map (λ n. record { group = g; number = n })) (order_is t.trunk x (length t.states) end seizes)
+          ∙ ap (map (λ n. record { group = g; number = n })) (order_is t.head x (length t.states) end seizes)
 
       twice : (o : Option ℕ) → option_map (λ n. record { group = g; number = n }) (option_map suc o) ≡ option_map circuit o
       twice None = refl

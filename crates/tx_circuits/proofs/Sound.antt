@@ -1,15 +1,15 @@
 -- The lists of a group: as they are said, and as they are linked.
 use Rattle.std.proofs.Common.{◌≡◌, ◌∙◌, ℕ, ◌<◌, ◌≤◌, ◌==◌, cond, Bool, true, false, List, [], ◌∷◌, length, map, Option, Some, None, slice_index_or, slice_set, refl, sym, ap, subst, arith}
 use Rattle.std.specs.Prelude.{filter, nat_lt, ◌&&◌}
-use Rattle.tx_circuits.specs.declared.end.End.{End}
-use Rattle.tx_circuits.specs.declared.way.Way.{Way}
+use Rattle.tx_circuits.specs.declared.free_lists.End.{End}
+use Rattle.tx_circuits.specs.declared.free_lists.Way.{Way}
 use Rattle.tx_circuits.specs.declared.slot.Slot.{Slot}
 use Rattle.tx_circuits.specs.declared.state.State.{State}
-use Rattle.tx_circuits.specs.declared.free_list.FreeList.{FreeList}
+use Rattle.tx_circuits.specs.declared.free_lists.FreeList.{FreeList}
 use Rattle.tx_circuits.specs.declared.free_lists.FreeLists.{FreeLists}
 use Rattle.std.proofs.lemmas.List.{length-map, map-set}
-use Rattle.tx_circuits.specs.Linked.{IsFirst, IsLinked, with}
-use Rattle.tx_circuits.specs.Slots.{free_at, free_in, is_free, links_of, ahead, link_at, chain, rank_of, list_of, begins, until, in_order, state_of, cleared, IsListed, AreLinked, IsSound}
+use Rattle.tx_circuits.specs.inner.Linked.{IsFirst, IsLinked, with}
+use Rattle.tx_circuits.specs.inner.Slots.{free_at, free_in, is_free, links_of, ahead, link_at, chain, rank_of, list_of, begins, until, in_order, state_of, cleared, IsListed, AreLinked, IsSound}
 use Rattle.tx_circuits.proofs.Columns.{column-set, column_same}
 use Rattle.tx_circuits.proofs.Linked.{linked_along}
 use Rattle.tx_circuits.proofs.Ordered.{linked, followed, in_order_holds}

@@ -6,13 +6,13 @@ use Rattle.std.specs.FinSet.{contains}
 use Rattle.std.proofs.lemmas.List.{length-map}
 use Rattle.tx_plan.specs.Circuits.{is_circuit, may_seize}
 use Rattle.tx_plan.specs.declared.circuit.Circuit.{Circuit}
-use Rattle.tx_circuits.specs.declared.end.End.{End}
+use Rattle.tx_circuits.specs.declared.free_lists.End.{End}
 use Rattle.tx_circuits.specs.declared.state.State.{State}
-use Rattle.tx_circuits.specs.declared.trunk.Trunk.{Trunk}
-use Rattle.tx_circuits.specs.Slots.{has_seized}
-use Rattle.tx_circuits.specs.Groups.{GroupState, state_at, end_at, seizing_end, first_place}
+use Rattle.tx_circuits.specs.declared.group_head.GroupHead.{GroupHead}
+use Rattle.tx_circuits.specs.inner.Slots.{has_seized}
+use Rattle.tx_circuits.specs.inner.Groups.{GroupState, state_at, end_at, seizing_end, first_place}
 use Rattle.tx_circuits.specs.Table.{Table, plan_of, IsSeizedBy}
-use Rattle.tx_circuits.specs.Seen.{group_of, is_marked, holds, sits, table_of}
+use Rattle.tx_circuits.specs.inner.Seen.{group_of, is_marked, holds, sits, table_of}
 use Rattle.tx_circuits.proofs.Kept.{get_within}
 use Rattle.tx_circuits.proofs.Members.{Known, known, some_from, end_is}
 use Rattle.tx_circuits.proofs.Reading.{contains_circuits, contains_seats, contains_marks, circuit_known, end_known}
@@ -20,21 +20,21 @@ use Rattle.tx_circuits.proofs.Reading.{contains_circuits, contains_seats, contai
 pub state_in : (ts : List GroupState) (c : Circuit) → is_some (state_at ts c) ≡ true → c.group < length ts
 state_in ts c h = (let k = known ts c h in get_within ts c.group k.group k.at)
 
--- a test of a group's trunk
-pub trunk_read : (test : Trunk → Bool) (o : Option GroupState) → option_map_or (λ t. test t.trunk) o false ≡ option_map_or test (option_map (λ t. t.trunk) o) false
-trunk_read test None = refl
-trunk_read test (Some t) = refl
+-- a test of a group's head
+pub head_read : (test : GroupHead → Bool) (o : Option GroupState) → option_map_or (λ t. test t.head) o false ≡ option_map_or test (option_map (λ t. t.head) o) false
+head_read test None = refl
+head_read test (Some t) = refl
 
 -- the group of an end
 pub record IsGroupAt (ts : List GroupState) (g x : ℕ) (end : End) : Type 0 where
   pub group : GroupState
   pub at : slice_get ts g ≡ Some group
-  pub seizes : seizing_end group.trunk x ≡ Some end
+  pub seizes : seizing_end group.head x ≡ Some end
 
 pub group_at : (ts : List GroupState) (g x : ℕ) (end : End) → end_at ts g x ≡ Some end → IsGroupAt ts g x end
 group_at ts g x end h = by_group (slice_get ts g) refl h
   where
-    by_group : (o : Option GroupState) → slice_get ts g ≡ o → option_and_then (λ t. seizing_end t.trunk x) o ≡ Some end → IsGroupAt ts g x end
+    by_group : (o : Option GroupState) → slice_get ts g ≡ o → option_and_then (λ t. seizing_end t.head x) o ≡ Some end → IsGroupAt ts g x end
     by_group None e f = absurd cc
     by_group (Some t) e f = record { group = t; at = e; seizes = f }
 
@@ -45,8 +45,8 @@ module _ (ts : List GroupState) (now : Table) (view : table_of ts ≡ now) where
   pub group_in : (g : ℕ) → g < length now.groups → g < length ts
   group_in g h = (let a : length (map group_of ts) ≡ length now.groups = ap (λ (t : Table). length t.groups) view in let b : length (map group_of ts) ≡ length ts = length-map ts group_of in omega arith)
 
-  inside : (test : Trunk → Bool) (g : ℕ) → is_marked test ts g ≡ true → g < length ts
-  inside test g h = by_group (slice_get ts g) refl (some_from (λ t. test t.trunk) (slice_get ts g) h)
+  inside : (test : GroupHead → Bool) (g : ℕ) → is_marked test ts g ≡ true → g < length ts
+  inside test g h = by_group (slice_get ts g) refl (some_from (λ t. test t.head) (slice_get ts g) h)
     where
       by_group : (o : Option GroupState) → slice_get ts g ≡ o → is_some o ≡ true → g < length ts
       by_group None e k = absurd cc
@@ -96,24 +96,24 @@ module _ (ts : List GroupState) (now : Table) (view : table_of ts ≡ now) where
       by_end (Some end) k = (some_from (has_seized end) (state_at ts c) k, refl)
 
   -- none but a group's ends has seized a circuit of it
-  pub seized_ends : (c : Circuit) (x : ℕ) (t : Trunk) → Some t ≡ option_map (λ u. u.trunk) (slice_get ts c.group) → contains now.seized (c, x) ≡ true → (x ≡ t.a) ⊎ (x ≡ t.b)
+  pub seized_ends : (c : Circuit) (x : ℕ) (t : GroupHead) → Some t ≡ option_map (λ u. u.head) (slice_get ts c.group) → contains now.seized (c, x) ≡ true → (x ≡ t.a) ⊎ (x ≡ t.b)
   seized_ends c x t e h = by_end (end_at ts c.group x) refl (seat_in c x h).1
     where
       by_end : (o : Option End) → end_at ts c.group x ≡ o → is_some o ≡ true → (x ≡ t.a) ⊎ (x ≡ t.b)
       by_end None f k = absurd cc
       by_end (Some end) f k =
           let at = group_at ts c.group x end f in
-          let same : t ≡ at.group.trunk = ap (or_trunk t) (e ∙ ap (option_map (λ u. u.trunk)) at.at) in
-          elim (end_is at.group.trunk x end at.seizes) [ inl l ↦ inl (sym (ap (λ (u : Trunk). u.a) same ∙ l.1)) | inr r ↦ inr (sym (ap (λ (u : Trunk). u.b) same ∙ r.1)) ]
+          let same : t ≡ at.group.head = ap (or_head t) (e ∙ ap (option_map (λ u. u.head)) at.at) in
+          elim (end_is at.group.head x end at.seizes) [ inl l ↦ inl (sym (ap (λ (u : GroupHead). u.a) same ∙ l.1)) | inr r ↦ inr (sym (ap (λ (u : GroupHead). u.b) same ∙ r.1)) ]
         where
-          or_trunk : Trunk → Option Trunk → Trunk
-          or_trunk d None = d
-          or_trunk d (Some w) = w
+          or_head : GroupHead → Option GroupHead → GroupHead
+          or_head d None = d
+          or_head d (Some w) = w
 
-  pub seized_none : (c : Circuit) (x : ℕ) → None ≡ option_map (λ u. u.trunk) (slice_get ts c.group) → contains now.seized (c, x) ≡ false
+  pub seized_none : (c : Circuit) (x : ℕ) → None ≡ option_map (λ u. u.head) (slice_get ts c.group) → contains now.seized (c, x) ≡ false
   seized_none c x e = seized_sits c x ∙ by_group (slice_get ts c.group) e
     where
-      by_group : (o : Option GroupState) → None ≡ option_map (λ u. u.trunk) o → option_map_or (λ end. holds (has_seized end) ts c) (option_and_then (λ t. seizing_end t.trunk x) o) false ≡ false
+      by_group : (o : Option GroupState) → None ≡ option_map (λ u. u.head) o → option_map_or (λ end. holds (has_seized end) ts c) (option_and_then (λ t. seizing_end t.head x) o) false ≡ false
       by_group None f = refl
       by_group (Some t) f = absurd cc
 

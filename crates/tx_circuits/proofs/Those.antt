@@ -8,7 +8,7 @@ use Rattle.std.specs.List.{list_any}
 use Rattle.std.specs.FinSet.{FinSet, empty, contains, insert, remove, retain, from_list, same_set, contains-empty, contains-insert, contains-remove, contains-retain, contains-from_list}
 use Rattle.std.proofs.Common.{refl, sym, ap, subst, ◌∙◌, inl, inr, cond}
 use Rattle.std.proofs.lemmas.Cmp.{tied_itself}
-use Rattle.tx_circuits.specs.Seen.{those}
+use Rattle.tx_circuits.specs.inner.Seen.{those}
 use Rattle.tx_circuits.proofs.Ordered.{In}
 
 module _ {K : Type 0} {R : K → K → Ordering} (o : IsTotalOrder R) (exact : (x y : K) → R x y ≡ Equal → x ≡ y) where

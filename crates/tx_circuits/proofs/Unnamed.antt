@@ -26,13 +26,6 @@ module _ (p : Plan) (t : Table) (same : t.groups ≡ map unnamed p.groups) where
       each None = refl
       each (Some r) = refl
 
-  pub other_end-same : (g x : ℕ) → other_end (plan_of t) g x ≡ other_end p g x
-  other_end-same g x = ap (option_and_then (λ r. far_end r x)) (row g) ∙ each (slice_get p.groups g)
-    where
-      each : (o : Option Group) → option_and_then (λ r. far_end r x) (option_map unnamed o) ≡ option_and_then (λ r. far_end r x) o
-      each None = refl
-      each (Some r) = refl
-
   pub circuits_at-same : (g x : ℕ) → circuits_at (plan_of t) g x ≡ circuits_at p g x
   circuits_at-same g x = ap listed (row g) ∙ each (slice_get p.groups g)
     where

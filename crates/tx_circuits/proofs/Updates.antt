@@ -10,21 +10,21 @@ use Rattle.std.proofs.lemmas.Map.Lookups.{exact_unsigned}
 use Rattle.tx_plan.specs.Orders.{same_circuit, circuit_cmp}
 use Rattle.tx_plan.specs.declared.circuit.Circuit.{Circuit}
 use Rattle.tx_plan.proofs.Named.{circuits_total, exact_circuits}
-use Rattle.tx_circuits.specs.declared.end.End.{End}
-use Rattle.tx_circuits.specs.declared.end.End.TheVariants.{First, Other}
+use Rattle.tx_circuits.specs.declared.free_lists.End.{End}
+use Rattle.tx_circuits.specs.declared.free_lists.End.TheVariants.{First, Other}
 use Rattle.tx_circuits.specs.declared.state.State.{State}
-use Rattle.tx_circuits.specs.declared.trunk.Trunk.{Trunk}
-use Rattle.tx_circuits.specs.Slots.{has_seized, with_seized, opposite, cleared, rising}
-use Rattle.tx_circuits.specs.Groups.{GroupState, state_at, numbered, seizing_end, end_at, change_at, with_state, with_failed, with_blocked}
+use Rattle.tx_circuits.specs.declared.group_head.GroupHead.{GroupHead}
+use Rattle.tx_circuits.specs.inner.Slots.{has_seized, with_seized, opposite, cleared, rising}
+use Rattle.tx_circuits.specs.inner.Groups.{GroupState, state_at, numbered, seizing_end, end_at, change_at, with_state, with_failed, with_blocked}
 use Rattle.tx_circuits.specs.Table.{Seat, seat_cmp, Table, with_held, with_released, with_failure}
-use Rattle.tx_circuits.specs.Seen.{those, group_of, circuits_of, seats_of, gathered, is_marked, holds, sits, table_of}
+use Rattle.tx_circuits.specs.inner.Seen.{those, group_of, circuits_of, seats_of, gathered, is_marked, holds, sits, table_of}
 use Rattle.std.proofs.lemmas.Option.{slice_get-map}
 use Rattle.std.proofs.lemmas.List.{length-map}
 use Rattle.tx_circuits.proofs.Kept.{get-change_here, get-change_there, length-change}
 use Rattle.tx_circuits.proofs.Members.{Known, known, holds_in, sits_in, marked_in}
 use Rattle.tx_circuits.proofs.Those.{those_stay, those_inserted, those_removed, those_retained}
 use Rattle.tx_circuits.proofs.Seats.{seats_total, exact_seats}
-use Rattle.tx_circuits.proofs.Changes.{map_same, test_same, part_same, marked_stay, ends_same, groups_same, trunks_stay, circuits_stay, circuits_inserted, circuits_removed, seats_stay, seats_cleared, seats_inserted, seats_removed}
+use Rattle.tx_circuits.proofs.Changes.{map_same, test_same, part_same, marked_stay, ends_same, groups_same, heads_stay, circuits_stay, circuits_inserted, circuits_removed, seats_stay, seats_cleared, seats_inserted, seats_removed}
 
 -- A CIRCUIT GETS ANOTHER STATE
 
@@ -41,8 +41,8 @@ module _ (ts : List GroupState) (c : Circuit) (s : State) (old : state_at ts c �
         → table_of (change_at (with_state c to) c.group ts) ≡ record (table_of ts) { releasing = releasing; out = out; carried = carried; seized = seized }
     table_after releasing out carried seized e f g h = λ i. record {
       groups = groups_same ts c found s to old i;
-      failed = trunks_stay ts c found s to old (λ t. t.failed) i;
-      blocked = trunks_stay ts c found s to old (λ t. t.blocked) i;
+      failed = heads_stay ts c found s to old (λ t. t.failed) i;
+      blocked = heads_stay ts c found s to old (λ t. t.blocked) i;
       releasing = e i;
       out = f i;
       carried = g i;
@@ -122,7 +122,7 @@ module _ (f : GroupState → GroupState) (g : ℕ) (ts : List GroupState) (state
       those_stay circuits_total exact_circuits (holds test ts) (holds test (change_at f g ts)) (gathered circuits_of 0 ts) (gathered circuits_of 0 (change_at f g ts)) (holds_in test ts)
       (holds_in test (change_at f g ts)) (holds_same test)
 
-  pub seats_same : ((t : GroupState) (x : ℕ) → seizing_end (f t).trunk x ≡ seizing_end t.trunk x)
+  pub seats_same : ((t : GroupState) (x : ℕ) → seizing_end (f t).head x ≡ seizing_end t.head x)
       → those {R = seat_cmp} (sits (change_at f g ts)) (gathered seats_of 0 (change_at f g ts)) ≡ those (sits ts) (gathered seats_of 0 ts)
   seats_same ends =
       those_stay seats_total exact_seats (sits ts) (sits (change_at f g ts)) (gathered seats_of 0 ts) (gathered seats_of 0 (change_at f g ts)) (sits_in ts) (sits_in (change_at f g ts))
@@ -132,14 +132,14 @@ module _ (f : GroupState → GroupState) (g : ℕ) (ts : List GroupState) (state
       each q None = refl
       each q (Some end) = holds_same (has_seized end) q.0
 
-module _ (ts : List GroupState) (g : ℕ) (in_it : g < length ts) (test : Trunk → Bool) (f : GroupState → GroupState) where
+module _ (ts : List GroupState) (g : ℕ) (in_it : g < length ts) (test : GroupHead → Bool) (f : GroupState → GroupState) where
   marked_rest : (h : ℕ) → h ≢ g → is_marked test (change_at f g ts) h ≡ is_marked test ts h
-  marked_rest h ne = ap (λ o. option_map_or (λ t. test t.trunk) o false) (get-change_there f ts g h ne)
+  marked_rest h ne = ap (λ o. option_map_or (λ t. test t.head) o false) (get-change_there f ts g h ne)
 
-  marked_here : (b : Bool) → ((t : GroupState) → test (f t).trunk ≡ b) → is_marked test (change_at f g ts) g ≡ b
-  marked_here b now = ap (λ o. option_map_or (λ t. test t.trunk) o false) (get-change_here f ts g) ∙ there (slice_get ts g) refl
+  marked_here : (b : Bool) → ((t : GroupState) → test (f t).head ≡ b) → is_marked test (change_at f g ts) g ≡ b
+  marked_here b now = ap (λ o. option_map_or (λ t. test t.head) o false) (get-change_here f ts g) ∙ there (slice_get ts g) refl
     where
-      there : (o : Option GroupState) → slice_get ts g ≡ o → option_map_or (λ t. test t.trunk) (option_map f o) false ≡ b
+      there : (o : Option GroupState) → slice_get ts g ≡ o → option_map_or (λ t. test t.head) (option_map f o) false ≡ b
       there None e = absurd (none ts g in_it e)
         where
           none : (us : List GroupState) (k : ℕ) → k < length us → slice_get us k ≡ None → ⊥
@@ -148,12 +148,12 @@ module _ (ts : List GroupState) (g : ℕ) (in_it : g < length ts) (test : Trunk 
           none (u ∷ us) (suc k) h e = none us k (omega arith) e
       there (Some t) e = now t
 
-  pub mark_set : ((t : GroupState) → test (f t).trunk ≡ true) → those {R = nat_cmp} (is_marked test (change_at f g ts)) (rising (length (change_at f g ts))) ≡ insert (those (is_marked test ts) (rising (length ts))) g
+  pub mark_set : ((t : GroupState) → test (f t).head ≡ true) → those {R = nat_cmp} (is_marked test (change_at f g ts)) (rising (length (change_at f g ts))) ≡ insert (those (is_marked test ts) (rising (length ts))) g
   mark_set now =
       those_inserted nat_cmp_total exact_unsigned (is_marked test ts) (is_marked test (change_at f g ts)) (rising (length ts)) (rising (length (change_at f g ts))) (marked_in test ts)
       (marked_in test (change_at f g ts)) g marked_rest (marked_here true now)
 
-  pub mark_taken : ((t : GroupState) → test (f t).trunk ≡ false) → those {R = nat_cmp} (is_marked test (change_at f g ts)) (rising (length (change_at f g ts))) ≡ remove (those (is_marked test ts) (rising (length ts))) g
+  pub mark_taken : ((t : GroupState) → test (f t).head ≡ false) → those {R = nat_cmp} (is_marked test (change_at f g ts)) (rising (length (change_at f g ts))) ≡ remove (those (is_marked test ts) (rising (length ts))) g
   mark_taken now =
       those_removed nat_cmp_total exact_unsigned (is_marked test ts) (is_marked test (change_at f g ts)) (rising (length ts)) (rising (length (change_at f g ts))) (marked_in test ts)
       (marked_in test (change_at f g ts)) g marked_rest (marked_here false now)
@@ -281,7 +281,7 @@ module _ (ts : List GroupState) (g : ℕ) where
     seized = retain (table_of ts).seized (λ q. not (q.0.group == g));
   }
   cleared_is = λ i. record {
-    groups = map_same group_of clear_group (λ t i. record { name = []; a = t.trunk.a; b = t.trunk.b; direction = t.trunk.direction; count = length-map t.states cleared i }) g ts i;
+    groups = map_same group_of clear_group (λ t i. record { name = []; a = t.head.a; b = t.head.b; direction = t.head.direction; count = length-map t.states cleared i }) g ts i;
     failed = marked_stay clear_group g ts (λ t. t.failed) (λ t. refl) i;
     blocked = marked_stay clear_group g ts (λ t. t.blocked) (λ t. refl) i;
     releasing = circuits_off (λ s. s.releasing) (λ s. refl) i;

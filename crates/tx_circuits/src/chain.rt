@@ -1,15 +1,12 @@
 // The links of the circuits that are free at an end.
 ghost use Rattle.std.specs.Prelude.{◌≡◌, ◌≢◌, ◌<◌, ◌≤◌, ℕ, Option, Some, None, true, false, map, length, IfSome};
-ghost use Rattle.tx_circuits.specs.declared.way.Way.{Way as WayValue};
-ghost use Rattle.tx_circuits.specs.Linked.{IsLinked, IsLast, with};
-ghost use Rattle.tx_circuits.specs.Slots.{free_at, link_at, chain, is_free, rank_of, state_of, back, opposite, ahead, IsListed, AreNeighbours};
+ghost use Rattle.tx_circuits.specs.declared.free_lists.Way.{Way as WayValue};
+ghost use Rattle.tx_circuits.specs.inner.Linked.{IsLinked, IsLast, with};
+ghost use Rattle.tx_circuits.specs.inner.Slots.{free_at, link_at, chain, is_free, rank_of, state_of, back, opposite, ahead, IsListed, AreNeighbours};
 
-use crate::end::End;
-use crate::free_list::FreeList;
-use crate::links::Links;
+use crate::free_lists::{End, FreeList, Links, Way};
 use crate::slot::Slot;
 use crate::state::State;
-use crate::way::Way;
 
 // The links of a circuit in the list of an end.
 fn links(slots: &[Slot], end: End, place: usize) -> Links

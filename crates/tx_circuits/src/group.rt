@@ -1,13 +1,10 @@
 // The circuits of a group, and its free lists.
 ghost use Rattle.std.specs.Prelude.{◌≡◌, ◌<◌, ◌≤◌, ◌+◌, ℕ, map, length, slice_set};
-ghost use Rattle.tx_circuits.specs.declared.way.Way.{Way as WayValue};
-ghost use Rattle.tx_circuits.specs.Slots.{IsSound, IsListed, free_at, link_at, opposite, state_of, cleared, until};
+ghost use Rattle.tx_circuits.specs.declared.free_lists.Way.{Way as WayValue};
+ghost use Rattle.tx_circuits.specs.inner.Slots.{IsSound, IsListed, free_at, link_at, opposite, state_of, cleared, until};
 
 use crate::chain::{insert, relink};
-use crate::end::End;
-use crate::free_list::FreeList;
-use crate::free_lists::FreeLists;
-use crate::links::Links;
+use crate::free_lists::{End, FreeList, FreeLists, Links};
 use crate::slot::Slot;
 use crate::state::State;
 

@@ -1,16 +1,15 @@
 // All circuits of a plan in one vector.
 ghost use Rattle.std.specs.Prelude.{◌≡◌, ◌≤◌, ◌<◌, ◌++◌, ◌∷◌, [], ℕ, true, false, is_some, map, length, replicate, Some, None, slice_get, OnOk, OnErr, IfOk, IfSome};
 ghost use Rattle.std.specs.Option.{option_map, option_map_or};
-ghost use Rattle.tx_circuits.specs.Slots.{cleared, has_seized};
-ghost use Rattle.tx_circuits.specs.Groups.{state_at, end_at, change_at, with_state, with_failed, with_blocked, first_place, idle, IsAppended};
-ghost use Rattle.tx_circuits.specs.Seen.{holds};
+ghost use Rattle.tx_circuits.specs.inner.Slots.{cleared, has_seized};
+ghost use Rattle.tx_circuits.specs.inner.Groups.{state_at, end_at, change_at, with_state, with_failed, with_blocked, first_place, idle, IsAppended};
+ghost use Rattle.tx_circuits.specs.inner.Seen.{holds};
 
-use crate::end::End;
-use crate::free_lists::FreeLists;
+use crate::free_lists::{End, FreeLists};
+use crate::group_head::GroupHead;
 use crate::row::Row;
 use crate::slot::Slot;
 use crate::state::State;
-use crate::trunk::Trunk;
 use std::alloc::{Allocator, Global};
 use std::marker::Model;
 use tx_plan::{Circuit, ExchangeId, GroupId};
@@ -25,7 +24,7 @@ pub struct Groups<A: Allocator = Global> {
 
 impl<A: Allocator> Model for Groups<A> {
     ghost use Rattle.std.specs.Prelude.{List, map};
-    ghost use Rattle.tx_circuits.specs.Groups.{GroupState, group_state, AreKept};
+    ghost use Rattle.tx_circuits.specs.inner.Groups.{GroupState, group_state, AreKept};
 
     ghost Value = { List GroupState };
 
@@ -48,15 +47,15 @@ impl<A: Allocator + Copy> Groups<A> {
 // Appends the slots of a group, all idle, and gives its row.
 fn append<A: Allocator>(
     slots: &mut Vec<Slot, A>,
-    trunk: Trunk,
+    head: GroupHead,
     count: usize,
 ) -> Result<Row, NoMemory>
     requires { count ≤ 240 }
-    ensures ok { IfOk result (IsAppended slots.old.items slots.new.items trunk count) }
+    ensures ok { IfOk result (IsAppended slots.old.items slots.new.items head count) }
     ensures err { OnErr result (slots.new.items ≡ slots.old.items) }
 {
     let row = Row {
-        trunk,
+        head,
         start: slots.len(),
         count,
         lists: FreeLists::new(),
@@ -67,12 +66,12 @@ fn append<A: Allocator>(
 
 impl<A: Allocator> Groups<A> {
     /// Appends a group with so many circuits, all free.
-    pub fn add(&mut self, trunk: Trunk, count: usize) -> Result<(), NoMemory>
+    pub fn add(&mut self, head: GroupHead, count: usize) -> Result<(), NoMemory>
         requires { count ≤ 240 }
-        ensures ok { OnOk result (self.new ≡ self.old ++ record { trunk = trunk; states = replicate count idle } ∷ []) }
+        ensures ok { OnOk result (self.new ≡ self.old ++ record { head = head; states = replicate count idle } ∷ []) }
         ensures err { OnErr result (self.new ≡ self.old) }
     {
-        let row = append(&mut self.slots, trunk, count)?;
+        let row = append(&mut self.slots, head, count)?;
         self.rows.push(row)?;
         Ok(())
     }
@@ -85,11 +84,11 @@ impl<A: Allocator> Groups<A> {
     }
 
     /// A group beside its circuits, if there is such a one.
-    pub fn trunk(&self, group: GroupId) -> Option<Trunk>
-        ensures { result ≡ option_map (λ t. t.trunk) (slice_get self.now group) }
+    pub fn head(&self, group: GroupId) -> Option<GroupHead>
+        ensures { result ≡ option_map (λ t. t.head) (slice_get self.now group) }
     {
         match self.rows.get(group.index()) {
-            Some(row) => Some(row.trunk),
+            Some(row) => Some(row.head),
             None => None,
         }
     }
@@ -109,7 +108,7 @@ impl<A: Allocator> Groups<A> {
         ensures { result ≡ end_at self.now group exchange }
     {
         match self.rows.get(group.index()) {
-            Some(row) => row.trunk.seizing_end(exchange),
+            Some(row) => row.head.seizing_end(exchange),
             None => None,
         }
     }
@@ -187,13 +186,13 @@ impl<A: Allocator> Groups<A> {
         requires { group < length self.old }
         ensures { self.new ≡ change_at (with_failed to) group self.old }
     {
-        self.rows[group.index()].trunk.failed = to;
+        self.rows[group.index()].head.failed = to;
     }
 
     pub fn set_blocked(&mut self, group: GroupId, to: bool)
         requires { group < length self.old }
         ensures { self.new ≡ change_at (with_blocked to) group self.old }
     {
-        self.rows[group.index()].trunk.blocked = to;
+        self.rows[group.index()].head.blocked = to;
     }
 }

@@ -2,17 +2,13 @@
 #![tactic(auto)]
 
 mod chain;
-mod end;
-mod free_list;
 mod free_lists;
 mod group;
+mod group_head;
 mod groups;
-mod links;
 mod row;
 mod slot;
 mod state;
 mod table;
-mod trunk;
-mod way;
 
 pub use table::CircuitTable;

@@ -1,19 +1,19 @@
 // Where the circuits of a group are.
 ghost use Rattle.std.specs.Prelude.{◌≡◌, ◌<◌, ◌≤◌, ◌+◌, map, length, slice_set};
 ghost use Rattle.tx_circuits.specs.declared.row.Row.{Row as RowValue};
-ghost use Rattle.tx_circuits.specs.Slots.{IsSound, state_of, cleared};
-ghost use Rattle.tx_circuits.specs.Groups.{group_slots, numbered, AreApart};
+ghost use Rattle.tx_circuits.specs.inner.Slots.{IsSound, state_of, cleared};
+ghost use Rattle.tx_circuits.specs.inner.Groups.{group_slots, numbered, AreApart};
 
 use crate::free_lists::FreeLists;
 use crate::group::{clear, relist, set_state};
+use crate::group_head::GroupHead;
 use crate::slot::Slot;
 use crate::state::State;
-use crate::trunk::Trunk;
 
 /// A group, where its slots begin in the vector of all, how many they are, and its free lists.
 #[derive(Clone, Copy, Debug)]
 pub struct Row {
-    pub trunk: Trunk,
+    pub head: GroupHead,
     pub start: usize,
     pub count: usize,
     pub lists: FreeLists,

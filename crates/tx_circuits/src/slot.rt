@@ -1,12 +1,10 @@
 // What is kept of a circuit.
 ghost use Rattle.std.specs.Prelude.{◌≡◌};
-ghost use Rattle.tx_circuits.specs.Groups.{idle};
-ghost use Rattle.tx_circuits.specs.Slots.{links_of, ahead, back, opposite};
+ghost use Rattle.tx_circuits.specs.inner.Groups.{idle};
+ghost use Rattle.tx_circuits.specs.inner.Slots.{links_of, ahead, back, opposite};
 
-use crate::end::End;
-use crate::links::Links;
+use crate::free_lists::{End, Links, Way};
 use crate::state::State;
-use crate::way::Way;
 
 /// A circuit's state, and its links in the list of each end.
 #[derive(Clone, Copy, Debug, PartialEq, Eq)]

@@ -1,8 +1,8 @@
 // What holds a circuit.
 ghost use Rattle.std.specs.Prelude.{◌≡◌, true, false};
-ghost use Rattle.tx_circuits.specs.Slots.{is_free, has_seized, with_seized, cleared};
+ghost use Rattle.tx_circuits.specs.inner.Slots.{is_free, has_seized, with_seized, cleared};
 
-use crate::end::End;
+use crate::free_lists::End;
 
 /// What holds a circuit.
 #[derive(Clone, Copy, Debug, PartialEq, Eq)]

@@ -4,9 +4,9 @@ ghost use Rattle.std.specs.FinSet as set;
 ghost use Rattle.tx_plan.specs.Circuits.{is_circuit, may_seize};
 ghost use Rattle.tx_circuits.specs.Table.{Table, plan_of, all_free, is_free_at, is_down, first_free, IsSeizedBy, with_held, withdrawn, with_released, released_unless, with_failure};
 
+use crate::group_head::GroupHead;
 use crate::groups::Groups;
 use crate::state::State;
-use crate::trunk::Trunk;
 use std::alloc::{Allocator, Global};
 use std::marker::Model;
 use tx_plan::{Circuit, ExchangeId, GroupId, Plan};
@@ -24,7 +24,7 @@ pub struct CircuitTable<A: Allocator = Global> {
 
 impl<A: Allocator> Model for CircuitTable<A> {
     ghost use Rattle.tx_circuits.specs.Table.{Table, table_code};
-    ghost use Rattle.tx_circuits.specs.Seen.{table_of};
+    ghost use Rattle.tx_circuits.specs.inner.Seen.{table_of};
 
     ghost Value = { Table };
 
@@ -43,14 +43,14 @@ impl<A: Allocator + Copy> CircuitTable<A> {
         for place in 0..plan.groups() {
             let group = GroupId::at(place as u16);
             let ends = plan.ends(group);
-            let trunk = Trunk {
+            let head = GroupHead {
                 a: ends.0,
                 b: ends.1,
                 direction: plan.direction(group),
                 failed: false,
                 blocked: false,
             };
-            groups.add(trunk, plan.group_count(group) as usize)?;
+            groups.add(head, plan.group_count(group) as usize)?;
         }
         Ok(CircuitTable { groups })
     }
@@ -93,8 +93,8 @@ impl<A: Allocator> CircuitTable<A> {
     pub fn is_failed(&self, group: GroupId) -> bool
         ensures { result ≡ set.contains self.now.failed group }
     {
-        match self.groups.trunk(group) {
-            Some(trunk) => trunk.failed,
+        match self.groups.head(group) {
+            Some(head) => head.failed,
             None => false,
         }
     }
@@ -103,8 +103,8 @@ impl<A: Allocator> CircuitTable<A> {
     pub fn is_blocked(&self, group: GroupId) -> bool
         ensures { result ≡ set.contains self.now.blocked group }
     {
-        match self.groups.trunk(group) {
-            Some(trunk) => trunk.blocked,
+        match self.groups.head(group) {
+            Some(head) => head.blocked,
             None => false,
         }
     }
@@ -153,8 +153,8 @@ impl<A: Allocator> CircuitTable<A> {
     pub fn is_unseized(&self, circuit: &Circuit) -> bool
         ensures { IsTrue result ↔ ((exchange : ℕ) → set.contains self.now.seized (circuit.now, exchange) ≡ false) }
     {
-        match self.groups.trunk(circuit.group) {
-            Some(trunk) => !self.is_seized(circuit, trunk.a) && !self.is_seized(circuit, trunk.b),
+        match self.groups.head(circuit.group) {
+            Some(head) => !self.is_seized(circuit, head.a) && !self.is_seized(circuit, head.b),
             None => true,
         }
     }
@@ -164,8 +164,8 @@ impl<A: Allocator> CircuitTable<A> {
         ensures alone { IfSome result (IsSeizedBy self.now circuit.now) }
         ensures none { result ≡ None → (exchange : ℕ) → IsSeizedBy self.now circuit.now exchange → ⊥ }
     {
-        match self.groups.trunk(circuit.group) {
-            Some(trunk) => self.seizer_of(circuit, trunk.a, trunk.b),
+        match self.groups.head(circuit.group) {
+            Some(head) => self.seizer_of(circuit, head.a, head.b),
             None => None,
         }
     }

@@ -1,7 +1,7 @@
 -- The script that is written for events says these events.
 use Rattle.std.proofs.Common.{◌≡◌, ℕ, ◌+◌, List, [], ◌∷◌, ◌++◌, length, codes, refl, ap, ◌∙◌, append_assoc, arith}
 use Rattle.std.specs.List.{flat_map, AllByRecursion}
-use Rattle.tx_text.specs.declared.frame.Phase.TheVariants.{Body}
+use Rattle.tx_text.specs.declared.frame.FramePart.TheVariants.{Body}
 use Rattle.tx_text.specs.Text.{lines_from}
 use Rattle.tx_text.specs.Told.{AtEnd, told}
 use Rattle.tx_text.specs.Frame.{header_of, framed}

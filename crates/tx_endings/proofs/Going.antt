@@ -29,7 +29,7 @@ use Rattle.tx_state.proofs.Changes.{key_keeps, connect_keeps, seize_keeps, carry
 use Rattle.tx_lines.specs.Book.{Book}
 use Rattle.tx_circuits.specs.Table.{Table, Seat, IsSeizedBy, with_held, is_free_at as is_free_in}
 use Rattle.tx_circuits.proofs.Seats.{seats_total, exact_seats, seat_tie}
-use Rattle.tx_endings.specs.Seen.{state_seen, AreTogether}
+use Rattle.tx_endings.specs.inner.Seen.{state_seen, AreTogether}
 use Rattle.tx_endings.proofs.Filters.{any_alike}
 use Rattle.tx_endings.proofs.Given.{any_append, any_map, or_none}
 use Rattle.tx_endings.proofs.After.{any_before, any_rest, rest, rest_mem, seizing_from, seizes_at}

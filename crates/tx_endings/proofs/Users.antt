@@ -18,9 +18,9 @@ use Rattle.tx_state.specs.Invariant.{IsRising, Inv}
 use Rattle.tx_state.proofs.Lists.{any_none, mem_any, find_mem, find_none, mem_filter}
 use Rattle.tx_state.proofs.Uses.{calling_on, an_end}
 use Rattle.tx_circuits.specs.Table.{Table}
-use Rattle.tx_endings.specs.InTurn.{uses}
-use Rattle.tx_endings.specs.Users.{AreNumbersOf, uses_up_to}
-use Rattle.tx_endings.specs.GivenBack.{AreUsed}
+use Rattle.tx_endings.specs.inner.InTurn.{uses}
+use Rattle.tx_endings.specs.inner.Users.{AreNumbersOf, uses_up_to}
+use Rattle.tx_endings.specs.inner.GivenBack.{AreUsed}
 use Rattle.tx_endings.proofs.Filters.{any_alike, least_first, find_nobody}
 use Rattle.tx_endings.proofs.Given.{uses_is}
 use Rattle.tx_endings.proofs.After.{carried_mem, seizing_from, seizes_at}
@@ -254,7 +254,3 @@ few_calls cs n r h = let all = above 0 cs r (λ c m. omega arith) (omega arith) 
         let here = a c (inl refl) in let most = h c (inl refl) in
         let all = above (c.number + 1) cs r.1 (λ d m. let q = r.0 d m in omega arith) (omega arith) (λ d m. h d (inr m)) in
         omega arith
-
-pub few_filtered : {A : Type 0} (t : A → Bool) (xs : List A) → length (filter t xs) ≤ length xs
-few_filtered t [] = omega arith
-few_filtered t (x ∷ xs) = let rest = few_filtered t xs in elim (t x) as (λ b. length (cond b (x ∷ filter t xs) (filter t xs)) ≤ suc (length xs)) [ true ↦ omega arith | false ↦ omega arith ]

@@ -1,4 +1,1 @@
-pub mod InTurn
-pub mod GivenBack
-pub mod Users
-pub mod Seen
+pub mod inner

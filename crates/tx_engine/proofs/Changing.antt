@@ -22,12 +22,12 @@ use Rattle.tx_state.proofs.Changes.{not_standing}
 use Rattle.tx_lines.specs.Book.{Book, is_line_of}
 use Rattle.tx_circuits.specs.Table.{Table, all_free, seat_cmp}
 use Rattle.tx_calls.specs.Calls.{Kept, Calls, kept_at, Changes, calls_in, sorted_calls}
-use Rattle.tx_calls.specs.Keys.{HasKeys, keys_of, pick}
+use Rattle.tx_calls.specs.inner.Keys.{HasKeys, keys_of, pick}
 use Rattle.tx_calls.specs.declared.end_keys.EndKeys.{EndKeys}
 use Rattle.tx_calls.proofs.Sorted.{sorted_mem}
-use Rattle.tx_endings.specs.Seen.{AreTogether}
+use Rattle.tx_endings.specs.inner.Seen.{AreTogether}
 use Rattle.tx_endings.proofs.Going.{keyed_together}
-use Rattle.tx_engine.specs.Sound.{AreSound, is_first_end}
+use Rattle.tx_engine.specs.inner.Sound.{AreSound, is_first_end}
 use Rattle.tx_engine.proofs.Keyed.{keyed_updated, hop_room_updated}
 
 pub length_set : (n : ℕ) (f : Call → Call) (cs : List Call) → length (set_call n f cs) ≡ length cs

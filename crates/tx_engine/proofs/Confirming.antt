@@ -22,14 +22,14 @@ use Rattle.tx_state.proofs.Lists.{mem_append}
 use Rattle.tx_state.proofs.Uses.{map_push}
 use Rattle.tx_circuits.specs.Table.{Table, IsSeizedBy, with_held}
 use Rattle.tx_calls.specs.Calls.{Kept, Calls, kept_at, Changes, calls_in}
-use Rattle.tx_calls.specs.Keys.{HasKeys, keys_at, keys_of, pick}
+use Rattle.tx_calls.specs.inner.Keys.{HasKeys, keys_at, keys_of, pick}
 use Rattle.tx_calls.specs.declared.end_keys.EndKeys.{EndKeys}
 use Rattle.tx_calls.proofs.Sorted.{sorted_mem, distinct_rising}
-use Rattle.tx_endings.specs.Seen.{AreTogether, state_seen}
+use Rattle.tx_endings.specs.inner.Seen.{AreTogether, state_seen}
 use Rattle.tx_endings.proofs.HeadOn.{told_alone}
 use Rattle.tx_endings.proofs.Going.{may_hold, carried_together, nobody_else}
 use Rattle.tx_engine.specs.declared.parts.Parts.{Parts}
-use Rattle.tx_engine.specs.Sound.{AreSound, IsSound, IsUnder, is_first_end, state_of}
+use Rattle.tx_engine.specs.inner.Sound.{AreSound, IsSound, IsUnder, is_first_end, state_of}
 use Rattle.tx_engine.proofs.Keyed.{not_so, keys_stay, keys_here, keys_else}
 use Rattle.tx_engine.proofs.Changing.{sound_after}
 

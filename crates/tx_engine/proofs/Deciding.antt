@@ -22,10 +22,10 @@ use Rattle.tx_lines.specs.Book.{Book, answer_of, is_line_of}
 use Rattle.tx_lines.specs.declared.answer.LineAnswer.TheVariants.{NoLine, OutOfOrder, Away, Engaged, Free}
 use Rattle.tx_circuits.specs.Table.{Table, is_free_at as table_frees, first_free as table_first}
 use Rattle.tx_circuits.proofs.Unnamed.{circuits_at-same}
-use Rattle.tx_engine.specs.Decided.{by_line, by_trunk, decided, decided_for, carry_out}
+use Rattle.tx_engine.specs.inner.Decided.{by_line, by_trunk, decided, decided_for, carry_out}
 use Rattle.tx_engine.specs.declared.decision.Decision.{Decision}
 use Rattle.tx_engine.specs.declared.decision.Decision.TheVariants.{Answer}
-use Rattle.tx_endings.specs.Seen.{state_seen, AreTogether}
+use Rattle.tx_endings.specs.inner.Seen.{state_seen, AreTogether}
 
 pub if_ok : {T E : Type 0} (r : Result T E) {P Q : T → Type 0} → ((x : T) → P x → Q x) → IfOk r P → IfOk r Q
 if_ok (Ok x) f h = f x h

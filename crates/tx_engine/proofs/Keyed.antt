@@ -14,9 +14,9 @@ use Rattle.tx_state.specs.InUse.{circuits_carried}
 use Rattle.tx_state.specs.Members.{Mem}
 use Rattle.tx_state.proofs.Uses.{an_end}
 use Rattle.tx_calls.specs.Calls.{Kept, Calls, kept_at, Changes}
-use Rattle.tx_calls.specs.Keys.{HasKeys, keys_at, keys_of, pick, with_key, no_keys}
+use Rattle.tx_calls.specs.inner.Keys.{HasKeys, keys_at, keys_of, pick, with_key, no_keys}
 use Rattle.tx_calls.specs.declared.end_keys.EndKeys.{EndKeys}
-use Rattle.tx_engine.specs.Sound.{AreKeyed, HasHopRoom, is_first_end}
+use Rattle.tx_engine.specs.inner.Sound.{AreKeyed, HasHopRoom, is_first_end}
 
 pub not_so : (r : Bool) → (r ≡ true → ⊥) → r ≡ false
 not_so true h = absurd (h refl)

@@ -9,11 +9,11 @@ use Rattle.tx_state.specs.InUse.{carries, seizes_from, circuits_carried}
 use Rattle.tx_state.specs.Members.{Mem}
 use Rattle.tx_state.proofs.Lists.{any_mem}
 use Rattle.tx_calls.specs.Calls.{Kept, Calls, kept_at, calls_in}
-use Rattle.tx_calls.specs.Keys.{keys_of, pick}
+use Rattle.tx_calls.specs.inner.Keys.{keys_of, pick}
 use Rattle.tx_calls.specs.declared.end_keys.EndKeys.{EndKeys}
 use Rattle.tx_calls.proofs.Sorted.{mem_sorted}
 use Rattle.tx_endings.proofs.After.{carried_mem, seizing_from}
-use Rattle.tx_engine.specs.Sound.{AreKeyed, is_first_end}
+use Rattle.tx_engine.specs.inner.Sound.{AreKeyed, is_first_end}
 
 module _ (p : Plan) (c : Calls) (ks : List (List EndKeys)) (keyed : AreKeyed p c ks) (x : Circuit) where
   pub seizer_kept : (d : Call) → Mem (calls_in c) d → d.phase ≡ Calling x → (e : Kept) × (kept_at c (pick (is_first_end p x (place_of p d)) (keys_of ks x)) ≡ Some e) × (e.call ≡ d)

@@ -13,7 +13,7 @@ use Rattle.tx_state.specs.InUse.{uses_group}
 use Rattle.tx_state.specs.Ending.{end_call}
 use Rattle.tx_state.specs.Members.{Mem}
 use Rattle.tx_state.proofs.Lists.{find_mem}
-use Rattle.tx_endings.specs.InTurn.{IsLosing}
+use Rattle.tx_endings.specs.inner.InTurn.{IsLosing}
 use Rattle.tx_endings.proofs.Losing.{losing_goes_on}
 use Rattle.tx_endings.proofs.Users.{AreLeft, first_user, left_after, left_without}
 

@@ -23,15 +23,3 @@ key_fits p s line keyed none =
 
 pub key_known : (p : Plan) (s : State) (line : Line) (keyed : _) → refusal p s (Key line keyed) ≡ None → (is_line p line ≡ true) × (is_engaged s line ≡ false)
 key_known p s line keyed none = let t = tests_false (refusals p s (Key line keyed) ++ _ ∷ []) none in (not-false (is_line p line) t.0, t.1.0)
-
-pub fail_fits : (p : Plan) (s : State) (g : ℕ) → refusal p s (Fail g) ≡ None → s.events < 2 ^ 64 - 1
-fail_fits p s g none = let t = tests_false (refusals p s (Fail g) ++ _ ∷ []) none in let a = t.1.1.0 in grind (arith, nat_tests)
-
-pub group_known : (p : Plan) (s : State) (g : ℕ) → refusal p s (Fail g) ≡ None → g < length p.groups
-group_known p s g none =
-    let t = tests_false (refusals p s (Fail g) ++ _ ∷ []) none in
-    at (slice_get p.groups g) refl (not-false (is_group p g) t.1.0)
-  where
-    at : (o : Option Group) → slice_get p.groups g ≡ o → is_some o ≡ true → g < length p.groups
-    at None q h = absurd (let bad : ⊥ = cc in bad)
-    at (Some r) q h = slice_get_within p.groups g r q

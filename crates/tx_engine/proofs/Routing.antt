@@ -28,15 +28,15 @@ use Rattle.tx_lines.specs.declared.answer.LineAnswer.TheVariants.{NoLine, OutOfO
 use Rattle.tx_circuits.specs.Table.{Table, plan_of, is_down, is_free_at as table_frees, first_free as table_first}
 use Rattle.tx_circuits.proofs.Unnamed.{is_circuit-same, may_seize-same}
 use Rattle.tx_calls.specs.Calls.{Kept, Calls, Changes, calls_in}
-use Rattle.tx_calls.specs.Keys.{HasKeys, keys_at, keys_of, pick, with_key}
+use Rattle.tx_calls.specs.inner.Keys.{HasKeys, keys_at, keys_of, pick, with_key}
 use Rattle.tx_calls.specs.declared.end_keys.EndKeys.{EndKeys}
 use Rattle.tx_calls.proofs.Sorted.{sorted_mem}
-use Rattle.tx_endings.specs.Seen.{AreTogether}
+use Rattle.tx_endings.specs.inner.Seen.{AreTogether}
 use Rattle.tx_endings.proofs.Going.{connected_together, seized_together}
 use Rattle.tx_engine.specs.declared.decision.Decision.TheVariants.{Connect, Seize, Answer}
 use Rattle.tx_engine.specs.declared.parts.Parts.{Parts}
-use Rattle.tx_engine.specs.Decided.{decided_for, by_line, by_trunk, IsDecided}
-use Rattle.tx_engine.specs.Sound.{AreSound, IsSound, is_first_end, state_of}
+use Rattle.tx_engine.specs.inner.Decided.{decided_for, by_line, by_trunk, IsDecided}
+use Rattle.tx_engine.specs.inner.Sound.{AreSound, IsSound, is_first_end, state_of}
 use Rattle.tx_engine.proofs.Keyed.{keys_stay, keys_here, keys_else, pick_same, pick_other, ends_same}
 use Rattle.tx_engine.proofs.Deciding.{first_is}
 use Rattle.tx_engine.proofs.Changing.{sound_after, together_in}

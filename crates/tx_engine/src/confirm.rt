@@ -6,7 +6,7 @@ ghost use Rattle.tx_state.specs.declared.phase.Phase.TheVariants.{Calling};
 ghost use Rattle.tx_state.specs.Confirming.{far_of};
 ghost use Rattle.tx_state.specs.Step.{step, accepted, counted};
 ghost use Rattle.tx_calls.specs.Calls.{Kept};
-ghost use Rattle.tx_engine.specs.Sound.{IsSound, IsUnder, state_of};
+ghost use Rattle.tx_engine.specs.inner.Sound.{IsSound, IsUnder, state_of};
 
 use crate::parts::Parts;
 use std::alloc::Allocator;

@@ -4,7 +4,7 @@ ghost use Rattle.tx_plan.specs.Routes.{route_list};
 ghost use Rattle.tx_state.specs.InUse.{first_in};
 ghost use Rattle.tx_network.specs.Seen.{call_seen};
 ghost use Rattle.tx_circuits.specs.Table.{first_free, unnamed};
-ghost use Rattle.tx_engine.specs.Decided.{decided, by_line};
+ghost use Rattle.tx_engine.specs.inner.Decided.{decided, by_line};
 
 use std::alloc::Allocator;
 use tx_circuits::CircuitTable;

@@ -5,8 +5,8 @@ ghost use Rattle.tx_state.specs.Ending.{end_call, ticket_of};
 ghost use Rattle.tx_state.specs.Step.{step};
 ghost use Rattle.tx_calls.specs.Calls.{Kept, kept_at};
 ghost use Rattle.tx_network.specs.Seen.{call_seen};
-ghost use Rattle.tx_endings.specs.GivenBack.{released_all, given_back, thrown_off, freed, CanReleaseAll, CanGiveBack, CanThrowOff};
-ghost use Rattle.tx_engine.specs.Sound.{IsSound, state_of};
+ghost use Rattle.tx_endings.specs.inner.GivenBack.{released_all, given_back, thrown_off, freed, CanReleaseAll, CanGiveBack, CanThrowOff};
+ghost use Rattle.tx_engine.specs.inner.Sound.{IsSound, state_of};
 
 use crate::parts::Parts;
 use std::alloc::Allocator;

@@ -32,7 +32,7 @@ impl<'p, A: Allocator> Model for Engine<'p, A> {
 
     ghost coded = { Prim.hlevel (codes, set.code {R = nat_cmp} coded_ℕ, set.code {R = circuit_cmp} coded_circuit, set.code {R = line_cmp} coded_line) };
 
-    ghost use Rattle.tx_engine.specs.Sound.{IsSound, state_of};
+    ghost use Rattle.tx_engine.specs.inner.Sound.{IsSound, state_of};
 
     ghost view = { λ n. record { plan = n.parts.plan.now; state = state_of n.parts } };
 

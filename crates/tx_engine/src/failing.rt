@@ -12,9 +12,9 @@ ghost use Rattle.tx_state.specs.InUse.{uses_group, seizes_from};
 ghost use Rattle.tx_state.specs.Refusals.{refusal};
 ghost use Rattle.tx_state.specs.Step.{step};
 ghost use Rattle.tx_calls.specs.Calls.{calls_in};
-ghost use Rattle.tx_endings.specs.InTurn.{uses, IsLosing};
-ghost use Rattle.tx_endings.specs.Users.{AreNumbersOf};
-ghost use Rattle.tx_engine.specs.Sound.{IsSound, state_of};
+ghost use Rattle.tx_endings.specs.inner.InTurn.{uses, IsLosing};
+ghost use Rattle.tx_endings.specs.inner.Users.{AreNumbersOf};
+ghost use Rattle.tx_engine.specs.inner.Sound.{IsSound, state_of};
 
 use crate::parts::Parts;
 use arrayvec::ArrayVec;

@@ -4,7 +4,7 @@ ghost use Rattle.tx_state.specs.declared.event.Event.TheVariants.{Key, Route, Co
 ghost use Rattle.tx_state.specs.declared.phase.Phase.TheVariants.{Standing, Calling};
 ghost use Rattle.tx_state.specs.Refusals.{refusal};
 ghost use Rattle.tx_calls.specs.Calls.{Kept};
-ghost use Rattle.tx_engine.specs.Sound.{IsSound, state_of, IsUnder};
+ghost use Rattle.tx_engine.specs.inner.Sound.{IsSound, state_of, IsUnder};
 
 use crate::parts::Parts;
 use std::alloc::Allocator;

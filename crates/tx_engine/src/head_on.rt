@@ -8,9 +8,9 @@ ghost use Rattle.tx_state.specs.declared.service.Service.TheVariants.{Nc};
 ghost use Rattle.tx_state.specs.Confirming.{far_of, rival, collide};
 ghost use Rattle.tx_state.specs.Step.{accepted, counted};
 ghost use Rattle.tx_calls.specs.Calls.{Kept, kept_at};
-ghost use Rattle.tx_endings.specs.InTurn.{ended_if, pair_ended};
-ghost use Rattle.tx_engine.specs.Meeting.{AreMeeting, AreThrown, IsMet};
-ghost use Rattle.tx_engine.specs.Sound.{IsSound, IsUnder, state_of};
+ghost use Rattle.tx_endings.specs.inner.InTurn.{ended_if, pair_ended};
+ghost use Rattle.tx_engine.specs.inner.Meeting.{AreMeeting, AreThrown, IsMet};
+ghost use Rattle.tx_engine.specs.inner.Sound.{IsSound, IsUnder, state_of};
 
 use crate::ending::throw_off;
 use crate::parts::Parts;

@@ -3,7 +3,7 @@ ghost use Rattle.std.specs.Prelude.{◌≡◌, IfOk, OnErr, None};
 ghost use Rattle.tx_state.specs.Step.{step};
 ghost use Rattle.tx_state.specs.Refusals.{refusal};
 ghost use Rattle.tx_state.specs.declared.event.Event.TheVariants.{Key};
-ghost use Rattle.tx_engine.specs.Sound.{IsSound, state_of};
+ghost use Rattle.tx_engine.specs.inner.Sound.{IsSound, state_of};
 
 use crate::parts::Parts;
 use crate::tickets::reserve_tickets;

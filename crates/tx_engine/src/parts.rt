@@ -1,7 +1,7 @@
 // The parts of the engine.
 ghost use Rattle.std.specs.Prelude.{◌≡◌, IfOk};
 ghost use Rattle.tx_state.specs.State.{opening};
-ghost use Rattle.tx_engine.specs.Sound.{IsSound, state_of};
+ghost use Rattle.tx_engine.specs.inner.Sound.{IsSound, state_of};
 
 use std::alloc::Allocator;
 use std::collections::VecDeque;

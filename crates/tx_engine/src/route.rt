@@ -5,8 +5,8 @@ ghost use Rattle.tx_state.specs.Refusals.{refusal};
 ghost use Rattle.tx_state.specs.Step.{step, counted};
 ghost use Rattle.tx_calls.specs.Calls.{Kept, kept_at};
 ghost use Rattle.tx_engine.specs.declared.decision.Decision.TheVariants.{Connect, Seize};
-ghost use Rattle.tx_engine.specs.Decided.{decided, carry_out, IsDecided};
-ghost use Rattle.tx_engine.specs.Sound.{IsSound, state_of};
+ghost use Rattle.tx_engine.specs.inner.Decided.{decided, carry_out, IsDecided};
+ghost use Rattle.tx_engine.specs.inner.Sound.{IsSound, state_of};
 
 use crate::decision::{Decision, decide};
 use crate::parts::Parts;

@@ -1,7 +1,7 @@
 -- Answers that tell more of why a text could not be read to its end.
 use Rattle.std.proofs.Common.{ℕ, List, Option, Result, Ok, Err, inl, inr}
-use Rattle.tx_text.specs.declared.frame.Kind.{Kind}
-use Rattle.tx_text.specs.declared.frame.Kind.TheVariants.{Frame, Word}
+use Rattle.tx_text.specs.declared.frame.FaultKind.{FaultKind}
+use Rattle.tx_text.specs.declared.frame.FaultKind.TheVariants.{Frame, Word}
 use Rattle.tx_text.specs.Said.{is_no_room}
 use Rattle.tx_text.proofs.CallCounts.{stopped_by_with}
 use Rattle.tx_plan.specs.Plan.{Plan}
@@ -17,7 +17,7 @@ use Rattle.tx_jobs.specs.declared.job_fault.JobFault.{JobFault}
 use Rattle.tx_jobs.specs.Jobs.{ScriptRan}
 
 module _ (B D : Type 0) (f : B → D) where
-  pub refused_with : (old new : Option (List ℕ)) (U : Type 0) (n : ℕ) (k : Kind PlanWord) → ReadsPlan old new B U (Err (n, k)) → ReadsPlan old new D U (Err (n, k))
+  pub refused_with : (old new : Option (List ℕ)) (U : Type 0) (n : ℕ) (k : FaultKind PlanWord) → ReadsPlan old new B U (Err (n, k)) → ReadsPlan old new D U (Err (n, k))
   refused_with old new U n (Frame k) h = stopped_by_with old new plan_of B D U (is_no_room k) n k f h
   refused_with old new U n (Word w) h = h
 

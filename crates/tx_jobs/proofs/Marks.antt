@@ -4,8 +4,8 @@ use Rattle.tx_text.specs.declared.text_fault.TextFault.TheVariants.{LineTooLong,
 use Rattle.tx_text.specs.declared.line_fault.LineFault.TheVariants.{Text, Read as LineRead}
 use Rattle.tx_text.specs.declared.frame.FrameFault.TheVariants.{Line, Form}
 use Rattle.tx_text.specs.declared.frame.FaultAt.{FaultAt}
-use Rattle.tx_text.specs.declared.frame.Kind.{Kind}
-use Rattle.tx_text.specs.declared.frame.Kind.TheVariants.{Frame, Word}
+use Rattle.tx_text.specs.declared.frame.FaultKind.{FaultKind}
+use Rattle.tx_text.specs.declared.frame.FaultKind.TheVariants.{Frame, Word}
 use Rattle.tx_plan.specs.declared.refusal.PlanRefusal.TheVariants.{WrongCount, BadName, BadCode, BadNumber, Duplicate, Unknown, RangeOrder, Overlap, SameEnds, NotOutgoing, RepeatedGroup, RouteAtHome, TooMany, BarAtHome, NoMemory as PlanNoMemory}
 use Rattle.tx_plantext.specs.declared.fault.PlanWord.{PlanWord}
 use Rattle.tx_plantext.specs.declared.fault.PlanWord.TheVariants.{UnknownWord, Refused}
@@ -17,7 +17,7 @@ use Rattle.tx_script.specs.declared.run_cause.RunCause.TheVariants.{Read as RunR
 use Rattle.tx_script.specs.Answers.{mark_by as run_mark_by}
 use Rattle.tx_jobs.specs.JobFaults.{plan_fault_by, cert_fault_by, script_fault_by, cause_fault, mark_by}
 
-plan_by : (old : Bool) (f : FaultAt PlanWord) (k : Kind PlanWord) → mark_by old (plan_fault_by f k) ≡ old
+plan_by : (old : Bool) (f : FaultAt PlanWord) (k : FaultKind PlanWord) → mark_by old (plan_fault_by f k) ≡ old
 plan_by old f (Frame (Line LineRead)) = refl
 plan_by old f (Frame (Line (Text LineTooLong))) = refl
 plan_by old f (Frame (Line (Text BadByte))) = refl
@@ -45,7 +45,7 @@ plan_by old f (Word (Refused r)) = elim r as (λ r. mark_by old (plan_fault_by f
 pub plan_unmarked : (old : Bool) (f : FaultAt PlanWord) → mark_by old (plan_fault_by f f.kind) ≡ old
 plan_unmarked old f = plan_by old f f.kind
 
-cert_by : (old : Bool) (f : FaultAt CertWord) (k : Kind CertWord) → mark_by old (cert_fault_by f k) ≡ old
+cert_by : (old : Bool) (f : FaultAt CertWord) (k : FaultKind CertWord) → mark_by old (cert_fault_by f k) ≡ old
 cert_by old f (Frame (Line LineRead)) = refl
 cert_by old f (Frame (Line (Text LineTooLong))) = refl
 cert_by old f (Frame (Line (Text BadByte))) = refl
@@ -61,7 +61,7 @@ cert_by old f (Word CertNoMemory) = refl
 pub cert_unmarked : (old : Bool) (f : FaultAt CertWord) → mark_by old (cert_fault_by f f.kind) ≡ old
 cert_unmarked old f = cert_by old f f.kind
 
-script_by : (old : Bool) (f : FaultAt ScriptWord) (k : Kind ScriptWord) → mark_by old (script_fault_by f k) ≡ old
+script_by : (old : Bool) (f : FaultAt ScriptWord) (k : FaultKind ScriptWord) → mark_by old (script_fault_by f k) ≡ old
 script_by old f (Frame (Line LineRead)) = refl
 script_by old f (Frame (Line (Text LineTooLong))) = refl
 script_by old f (Frame (Line (Text BadByte))) = refl

@@ -4,8 +4,8 @@ use Rattle.tx_text.specs.declared.text_fault.TextFault.TheVariants.{NoMemory as 
 use Rattle.tx_text.specs.declared.line_fault.LineFault.TheVariants.{Text, Read as LineRead}
 use Rattle.tx_text.specs.declared.frame.FrameFault.TheVariants.{Line}
 use Rattle.tx_text.specs.declared.frame.FaultAt.{FaultAt}
-use Rattle.tx_text.specs.declared.frame.Kind.{Kind}
-use Rattle.tx_text.specs.declared.frame.Kind.TheVariants.{Frame, Word}
+use Rattle.tx_text.specs.declared.frame.FaultKind.{FaultKind}
+use Rattle.tx_text.specs.declared.frame.FaultKind.TheVariants.{Frame, Word}
 use Rattle.tx_plan.specs.declared.refusal.PlanRefusal.TheVariants.{NoMemory as PlanNoMemory}
 use Rattle.tx_plantext.specs.declared.fault.PlanWord.{PlanWord}
 use Rattle.tx_plantext.specs.declared.fault.PlanWord.TheVariants.{Refused}
@@ -31,7 +31,7 @@ status_of Write = 3
 status_of NoMemory = 4
 
 -- A failure to read and a want of memory are told as such.
-abbrev pub plan_fault_by : FaultAt PlanWord → Kind PlanWord → JobFault
+abbrev pub plan_fault_by : FaultAt PlanWord → FaultKind PlanWord → JobFault
 plan_fault_by f (Frame (Line LineRead)) = Read
 plan_fault_by f (Frame (Line (Text TextNoMemory))) = NoMemory
 plan_fault_by f (Word (Refused PlanNoMemory)) = NoMemory
@@ -40,7 +40,7 @@ plan_fault_by f k = Plan f
 abbrev pub plan_fault : FaultAt PlanWord → JobFault
 plan_fault f = plan_fault_by f f.kind
 
-abbrev pub cert_fault_by : FaultAt CertWord → Kind CertWord → JobFault
+abbrev pub cert_fault_by : FaultAt CertWord → FaultKind CertWord → JobFault
 cert_fault_by f (Frame (Line LineRead)) = Read
 cert_fault_by f (Frame (Line (Text TextNoMemory))) = NoMemory
 cert_fault_by f (Word CertNoMemory) = NoMemory
@@ -49,7 +49,7 @@ cert_fault_by f k = Cert f
 abbrev pub cert_fault : FaultAt CertWord → JobFault
 cert_fault f = cert_fault_by f f.kind
 
-abbrev pub script_fault_by : FaultAt ScriptWord → Kind ScriptWord → JobFault
+abbrev pub script_fault_by : FaultAt ScriptWord → FaultKind ScriptWord → JobFault
 script_fault_by f (Frame (Line (Text TextNoMemory))) = NoMemory
 script_fault_by f k = Script f
 

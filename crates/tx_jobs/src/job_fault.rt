@@ -7,7 +7,7 @@ use tx_cert::{CertFault, CertWord};
 use tx_plan::PlanRefusal;
 use tx_plantext::{PlanFault, PlanWord};
 use tx_script::{RunCause, RunFault, ScriptFault};
-use tx_text::{FrameFault, Kind, LineFault, TextFault};
+use tx_text::{FaultKind, FrameFault, LineFault, TextFault};
 
 /// Why a job stopped before its end.
 #[derive(Clone, Copy, Debug, PartialEq, Eq, Error)]
@@ -49,9 +49,9 @@ impl JobFault {
         ensures { result ≡ plan_fault fault }
     {
         match fault.kind {
-            Kind::Frame(FrameFault::Line(LineFault::Read)) => JobFault::Read,
-            Kind::Frame(FrameFault::Line(LineFault::Text(TextFault::NoMemory)))
-            | Kind::Word(PlanWord::Refused(PlanRefusal::NoMemory)) => JobFault::NoMemory,
+            FaultKind::Frame(FrameFault::Line(LineFault::Read)) => JobFault::Read,
+            FaultKind::Frame(FrameFault::Line(LineFault::Text(TextFault::NoMemory)))
+            | FaultKind::Word(PlanWord::Refused(PlanRefusal::NoMemory)) => JobFault::NoMemory,
             _ => JobFault::Plan(fault),
         }
     }
@@ -60,9 +60,9 @@ impl JobFault {
         ensures { result ≡ cert_fault fault }
     {
         match fault.kind {
-            Kind::Frame(FrameFault::Line(LineFault::Read)) => JobFault::Read,
-            Kind::Frame(FrameFault::Line(LineFault::Text(TextFault::NoMemory)))
-            | Kind::Word(CertWord::NoMemory) => JobFault::NoMemory,
+            FaultKind::Frame(FrameFault::Line(LineFault::Read)) => JobFault::Read,
+            FaultKind::Frame(FrameFault::Line(LineFault::Text(TextFault::NoMemory)))
+            | FaultKind::Word(CertWord::NoMemory) => JobFault::NoMemory,
             _ => JobFault::Cert(fault),
         }
     }
@@ -82,7 +82,7 @@ impl JobFault {
         ensures { result ≡ script_fault fault }
     {
         match fault.kind {
-            Kind::Frame(FrameFault::Line(LineFault::Text(TextFault::NoMemory))) => {
+            FaultKind::Frame(FrameFault::Line(LineFault::Text(TextFault::NoMemory))) => {
                 JobFault::NoMemory
             }
             _ => JobFault::Script(fault),

@@ -8,7 +8,7 @@ use Rattle.std.specs.Prelude.{slice_get, IsPermutation}
 use Rattle.std.specs.List.{AllByRecursion, swap}
 use Rattle.tx_plan.specs.Plan.{Plan}
 use Rattle.tx_plan.specs.Lines.{at_most}
-use Rattle.tx_plan.specs.Rules.{IsPlan, IsRange, AllPairs, AreSeparate}
+use Rattle.tx_plan.specs.Rules.{IsPlan, IsRange, EachPair, AreSeparate}
 use Rattle.tx_plan.specs.declared.range.LineRange.{LineRange}
 use Rattle.std.specs.List.Sorted.{IsSortedBy}
 use Rattle.std.specs.Ordering.{is_lt}
@@ -18,7 +18,7 @@ use Rattle.std.specs.Fn.{Called, ComparesAs}
 use denote.Param.Members.{Mut}
 use denote.Ref.{Bor}
 use Rattle.std.proofs.lemmas.Fn.{always_returns_same}
-use Rattle.tx_lines.specs.Ordered.{place_cmp, start_of, IsInOrder}
+use Rattle.tx_lines.specs.inner.Ordered.{place_cmp, start_of, IsInOrder}
 
 -- of one code and width, and sharing a number
 pub record Shares (r q : LineRange) : Type 0 where
@@ -42,7 +42,7 @@ all_at P [] i x h e = let bad : ⊥ = cc in absurd bad
 all_at P (y ∷ xs) zero x h e = let s : y ≡ x = cc in subst P s h.0
 all_at P (y ∷ xs) (suc i) x h e = all_at P xs i x h.1 e
 
-apart_pairs : (xs : List LineRange) → AllPairs AreSeparate xs → Apart xs
+apart_pairs : (xs : List LineRange) → EachPair AreSeparate xs → Apart xs
 apart_pairs [] h i j r q a b s = let bad : ⊥ = cc in absurd bad
 apart_pairs (x ∷ xs) h zero zero r q a b s = refl
 apart_pairs (x ∷ xs) h zero (suc j) r q a b s = let e : x ≡ r = cc in absurd (separate r q (subst (λ w. AreSeparate w q) e (all_at (AreSeparate x) xs j q h.0 b)) s)

@@ -15,7 +15,7 @@ use Rattle.std.specs.declared.cmp.Ordering.TheVariants.{Less, Equal, Greater}
 use Rattle.std.specs.Cmp.Lexicographic.{slice_cmp}
 use Rattle.tx_plan.specs.Lines.{at_most, in_range}
 use Rattle.tx_plan.specs.declared.range.LineRange.{LineRange}
-use Rattle.tx_lines.specs.Ordered.{Place, place_cmp, start_of, IsInOrder}
+use Rattle.tx_lines.specs.inner.Ordered.{Place, place_cmp, start_of, IsInOrder}
 
 pub places_total : IsTotalOrder place_cmp
 places_total = then_total (on_total (λ (x : Place). x.0) nat_cmp_total) (then_total (on_total (λ (x : Place). length x.1) nat_cmp_total) (on_total (λ (x : Place). x.1) nat_list_cmp_total))

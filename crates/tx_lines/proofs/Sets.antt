@@ -18,7 +18,7 @@ use Rattle.tx_lines.specs.declared.status.Status.{Status}
 use Rattle.tx_lines.specs.declared.status.Mark.{Mark}
 use Rattle.tx_lines.specs.declared.status.Mark.TheVariants.{Faulty, Away, Engaged}
 use Rattle.tx_lines.specs.Status.{has, with_mark, is_unmarked, unmarked}
-use Rattle.tx_lines.specs.Statuses.{passes, with_status, sets_of, marked, with_marked, is_marked, kept, AllMarked}
+use Rattle.tx_lines.specs.inner.Statuses.{passes, with_status, sets_of, marked, with_marked, is_marked, kept, AllMarked}
 
 same_bool : (a b : Bool) → (a ≡ true → b ≡ true) → (b ≡ true → a ≡ true) → a ≡ b
 same_bool true b f g = sym (f refl)

@@ -1,4 +1,3 @@
 pub mod Status
-pub mod Statuses
-pub mod Ordered
 pub mod Book
+pub mod inner

@@ -3,7 +3,7 @@ ghost use Rattle.std.specs.Prelude.{◌≡◌, ◌&&◌, ◌==◌, IfOk, IsPermu
 ghost use Rattle.std.specs.List.{list_any};
 ghost use Rattle.std.specs.Ordering.{is_le};
 ghost use Rattle.tx_plan.specs.Lines.{at_most, in_range};
-ghost use Rattle.tx_lines.specs.Ordered.{place_cmp, start_of};
+ghost use Rattle.tx_lines.specs.inner.Ordered.{place_cmp, start_of};
 
 use std::alloc::{Allocator, Global};
 use std::cmp::Ordering;
@@ -20,7 +20,7 @@ pub struct Ranges<A: Allocator = Global> {
 impl<A: Allocator> Model for Ranges<A> {
     ghost use Rattle.std.specs.Prelude.{List};
     ghost use Rattle.tx_plan.specs.declared.range.LineRange.{LineRange};
-    ghost use Rattle.tx_lines.specs.Ordered.{IsInOrder};
+    ghost use Rattle.tx_lines.specs.inner.Ordered.{IsInOrder};
 
     ghost Value = { List LineRange };
 

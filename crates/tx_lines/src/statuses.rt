@@ -4,7 +4,7 @@ ghost use Rattle.std.specs.FinSet as set;
 ghost use Rattle.indexmap.specs.IndexMap.{Updates, get, spare, index_map_len};
 ghost use Rattle.tx_plan.specs.Orders.{same_line};
 ghost use Rattle.tx_lines.specs.Status.{with_mark, unmarked};
-ghost use Rattle.tx_lines.specs.Statuses.{Sets, marked, with_marked, is_marked, kept};
+ghost use Rattle.tx_lines.specs.inner.Statuses.{Sets, marked, with_marked, is_marked, kept};
 ghost use Rattle.tx_plan.specs.declared.line.Line.{Line};
 ghost use Rattle.tx_lines.specs.declared.status.Status.{Status};
 ghost use Rattle.tx_lines.specs.declared.status.Mark.{Mark};
@@ -24,7 +24,7 @@ pub struct Statuses<A: Allocator = Global> {
 }
 
 impl<A: Allocator> Model for Statuses<A> {
-    ghost use Rattle.tx_lines.specs.Statuses.{Sets, sets_code, sets_of, AllMarked};
+    ghost use Rattle.tx_lines.specs.inner.Statuses.{Sets, sets_code, sets_of, AllMarked};
 
     ghost Value = { Sets };
 

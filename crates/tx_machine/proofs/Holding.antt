@@ -12,9 +12,9 @@ use Rattle.tx_state.specs.Members.{Mem}
 use Rattle.tx_state.proofs.Lists.{mem_append, mem_filter, mem_map}
 use Rattle.tx_plain_parts.proofs.Sweeps.{mem_mapped}
 use Rattle.tx_network.specs.Seen.{call_seen}
-use Rattle.tx_plain_parts.specs.Seen.{HasRoom, IsReady}
-use Rattle.tx_plain_parts.specs.GivenUp.{AreMarked}
-use Rattle.tx_machine.specs.Whole.{AreHeld}
+use Rattle.tx_plain_parts.specs.inner.Seen.{HasRoom, IsReady}
+use Rattle.tx_plain_parts.specs.inner.GivenUp.{AreMarked}
+use Rattle.tx_machine.specs.inner.Whole.{AreHeld}
 use Rattle.tx_network.specs.declared.open_call.OpenCall.{OpenCall}
 
 pub held_none : (groups numbers : ℕ) → AreHeld groups numbers []

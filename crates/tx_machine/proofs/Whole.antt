@@ -24,11 +24,11 @@ use Rattle.tx_state.specs.Ending.{given_up}
 use Rattle.tx_state.specs.Members.{Mem}
 use Rattle.tx_state.proofs.Lists.{mem_append, mem_left, mem_right, mem_filter, find_mem, at_place}
 use Rattle.tx_state.proofs.Uses.{map_push}
-use Rattle.tx_plain_parts.specs.Marks.{Circuits, Groups, HasMark}
+use Rattle.tx_plain_parts.specs.inner.Marks.{Circuits, Groups, HasMark}
 use Rattle.tx_network.specs.Seen.{call_seen}
-use Rattle.tx_plain_parts.specs.Seen.{changed, thrown_at, HasRoom, IsReady}
-use Rattle.tx_plain_parts.specs.GivenUp.{ends_by, is_given, AreMarked}
-use Rattle.tx_machine.specs.Whole.{AreHeld, IsWhole}
+use Rattle.tx_plain_parts.specs.inner.Seen.{changed, thrown_at, HasRoom, IsReady}
+use Rattle.tx_plain_parts.specs.inner.GivenUp.{ends_by, is_given, AreMarked}
+use Rattle.tx_machine.specs.inner.Whole.{AreHeld, IsWhole}
 use Rattle.tx_network.specs.declared.open_call.OpenCall.{OpenCall}
 use Rattle.tx_plain_parts.specs.declared.change.Change.{Change}
 use Rattle.tx_plain_parts.specs.declared.change.Change.TheVariants.{To, Carry, ThrowBack}

@@ -1,5 +1,3 @@
-pub mod Whole
-pub mod Decided
 pub use Rattle.tx_state.specs.Members
 pub use Rattle.tx_state.specs.Call
 pub use Rattle.tx_state.specs.Ended
@@ -19,3 +17,4 @@ pub use Rattle.tx_state.specs.Sound
 pub use Rattle.tx_state.specs.Invariant
 pub use Rattle.tx_state.specs.Driven
 pub use Rattle.tx_state.specs.Drained
+pub mod inner

@@ -5,7 +5,7 @@ ghost use Rattle.tx_state.specs.Step.{step, accepted, counted};
 ghost use Rattle.tx_state.specs.InUse.{uses_group};
 ghost use Rattle.tx_state.specs.Ending.{end_calls};
 ghost use Rattle.std.specs.FinSet as set;
-ghost use Rattle.tx_plain_parts.specs.GivenUp.{ends_by};
+ghost use Rattle.tx_plain_parts.specs.inner.GivenUp.{ends_by};
 ghost use Rattle.tx_state.specs.declared.event.Event.TheVariants.{Fail, Clear};
 
 use crate::plain::Plain;

@@ -41,7 +41,7 @@ impl<'p, A: Allocator> Model for Plain<'p, A> {
 
     ghost coded = { Prim.hlevel (codes, set.code {R = nat_cmp} coded_ℕ, set.code {R = circuit_cmp} coded_circuit, set.code {R = line_cmp} coded_line) };
 
-    ghost use Rattle.tx_machine.specs.Whole.{net_of, IsWhole};
+    ghost use Rattle.tx_machine.specs.inner.Whole.{net_of, IsWhole};
 
     ghost view = { λ n. net_of n.plan.now n.calls.items n.failed n.blocked n.releasing n.out n.faulty.items n.away.items n.numbers n.events n.tickets.items };
 

@@ -8,7 +8,7 @@ ghost use Rattle.tx_state.specs.InUse.{choice};
 ghost use Rattle.tx_state.specs.Lines.{line_answer, is_engaged};
 ghost use Rattle.tx_plan.specs.Circuits.{is_circuit};
 ghost use Rattle.tx_network.specs.Seen.{call_seen};
-ghost use Rattle.tx_machine.specs.Decided.{routing_done, IsPlanned};
+ghost use Rattle.tx_machine.specs.inner.Decided.{routing_done, IsPlanned};
 ghost use Rattle.tx_state.specs.declared.event.Event.TheVariants.{Route};
 ghost use Rattle.tx_state.specs.declared.phase.Phase.TheVariants.{Calling};
 

@@ -1,4 +1,4 @@
 pub mod Parts
-pub mod Held
 pub mod InputCalls
 pub mod Telling
+pub mod inner

@@ -21,7 +21,7 @@ impl Model for Held {
 
     ghost view = { λ h. take (h.to - h.from) (drop h.from h.bytes) };
 
-    ghost use Rattle.tx_pipe.specs.Held.{IsHeld};
+    ghost use Rattle.tx_pipe.specs.inner.Held.{IsHeld};
 
     ghost invariant = { IsHeld };
 }

@@ -14,7 +14,7 @@ use Rattle.tx_plan.proofs.Named.{circuits_total, exact_circuits, by_cmp-is}
 use Rattle.tx_plan.specs.declared.circuit.Circuit.{Circuit}
 use Rattle.std.proofs.lemmas.List.{get_or-set_other}
 use Rattle.std.proofs.lemmas.Grind.{get_or-set_at}
-use Rattle.tx_plain_parts.specs.Marks.{places, circuit_at, index_of, circuits_of, groups_of, HasMark, IsCleared}
+use Rattle.tx_plain_parts.specs.inner.Marks.{places, circuit_at, index_of, circuits_of, groups_of, HasMark, IsCleared}
 
 -- no place before the first
 none_before : (bits : List Bool) (k j : ℕ) → j < k → list_any (λ i. j == i) (places k bits) ≡ false

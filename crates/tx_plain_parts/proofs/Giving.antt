@@ -9,8 +9,8 @@ use Rattle.std.specs.FinSet as set
 use Rattle.tx_plan.specs.Orders.{circuit_cmp}
 use Rattle.tx_plan.proofs.Named.{circuits_total, exact_circuits}
 use Rattle.tx_plan.specs.declared.circuit.Circuit.{Circuit}
-use Rattle.tx_plain_parts.specs.Marks.{Circuits}
-use Rattle.tx_plain_parts.specs.GivenUp.{with_more}
+use Rattle.tx_plain_parts.specs.inner.Marks.{Circuits}
+use Rattle.tx_plain_parts.specs.inner.GivenUp.{with_more}
 
 pub any_append : {A : Type 0} (t : A → Bool) (xs ys : List A) → list_any t (xs ++ ys) ≡ (list_any t xs || list_any t ys)
 any_append t [] ys = refl

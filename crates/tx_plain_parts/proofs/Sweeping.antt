@@ -5,7 +5,7 @@ use Rattle.std.proofs.lemmas.List.{length-set}
 use Rattle.tx_state.specs.Call.{Call}
 use Rattle.tx_state.specs.Members.{Mem}
 use Rattle.tx_network.specs.Seen.{call_seen}
-use Rattle.tx_plain_parts.specs.Seen.{changed, change_at, HasRoom, IsReady}
+use Rattle.tx_plain_parts.specs.inner.Seen.{changed, change_at, HasRoom, IsReady}
 use Rattle.tx_network.specs.declared.open_call.OpenCall.{OpenCall}
 use Rattle.tx_plain_parts.specs.declared.change.Change.{Change}
 use Rattle.tx_plain_parts.proofs.Sweeps.{step_seen, mem_set, mem_take_set, mem_get}

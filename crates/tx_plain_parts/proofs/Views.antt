@@ -7,7 +7,7 @@ use Rattle.tx_state.specs.declared.cause.Cause.{Cause}
 use Rattle.tx_state.specs.Ended.{Ended}
 use Rattle.tx_state.specs.Ending.{ticket_of}
 use Rattle.tx_network.specs.Seen.{call_seen}
-use Rattle.tx_plain_parts.specs.GivenUp.{ends_by}
+use Rattle.tx_plain_parts.specs.inner.GivenUp.{ends_by}
 use Rattle.tx_network.specs.declared.open_call.OpenCall.{OpenCall}
 use Rattle.tx_plain_parts.specs.declared.ends.Ends.{Ends}
 

@@ -1,3 +1,1 @@
-pub mod Marks
-pub mod Seen
-pub mod GivenUp
+pub mod inner

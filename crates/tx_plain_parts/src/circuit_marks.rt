@@ -1,7 +1,7 @@
 // A mark for each circuit.
 ghost use Rattle.std.specs.Prelude.{◌≡◌, ◌<◌, ◌≤◌, ◌+◌, ◌*◌, ◌^◌, IfOk, not, ◌==◌, length, slice_set};
 ghost use Rattle.std.specs.FinSet as set;
-ghost use Rattle.tx_plain_parts.specs.Marks.{HasMark, IsCleared, index_of};
+ghost use Rattle.tx_plain_parts.specs.inner.Marks.{HasMark, IsCleared, index_of};
 
 use crate::bit::bit_at;
 use std::alloc::{Allocator, Global};
@@ -18,7 +18,7 @@ pub struct CircuitMarks<A: Allocator = Global> {
 
 impl<A: Allocator> Model for CircuitMarks<A> {
     ghost use Rattle.std.specs.Prelude.{◌≡◌, ◌*◌, length};
-    ghost use Rattle.tx_plain_parts.specs.Marks.{Circuits, circuits_of, circuits_code};
+    ghost use Rattle.tx_plain_parts.specs.inner.Marks.{Circuits, circuits_of, circuits_code};
 
     ghost Value = { Circuits };
 

@@ -5,9 +5,9 @@ ghost use Rattle.tx_state.specs.Ending.{ticket_of};
 ghost use Rattle.tx_state.specs.InUse.{seizes, circuits_used};
 ghost use Rattle.tx_state.specs.Call.{circuit_called};
 ghost use Rattle.tx_state.specs.Members.{Mem};
-ghost use Rattle.tx_plain_parts.specs.Marks.{HasMark};
+ghost use Rattle.tx_plain_parts.specs.inner.Marks.{HasMark};
 ghost use Rattle.tx_network.specs.Seen.{call_seen};
-ghost use Rattle.tx_plain_parts.specs.GivenUp.{ends_by, with_more, is_given, AreMarked};
+ghost use Rattle.tx_plain_parts.specs.inner.GivenUp.{ends_by, with_more, is_given, AreMarked};
 
 use crate::calls::seizes;
 use crate::circuit_marks::CircuitMarks;

@@ -17,7 +17,7 @@ pub struct GroupMarks<A: Allocator = Global> {
 
 impl<A: Allocator> Model for GroupMarks<A> {
     ghost use Rattle.std.specs.Prelude.{◌≡◌, length};
-    ghost use Rattle.tx_plain_parts.specs.Marks.{Groups, groups_of, groups_code};
+    ghost use Rattle.tx_plain_parts.specs.inner.Marks.{Groups, groups_of, groups_code};
 
     ghost Value = { Groups };
 

@@ -13,7 +13,7 @@ use Rattle.tx_plan.specs.Plan.{Plan, Code, Group, Route, exchange_named, code_na
 use Rattle.tx_plan.specs.Lines.{at_most}
 use Rattle.tx_plan.specs.Circuits.{may_seize, may_seize_row}
 use Rattle.tx_plan.specs.Routes.{is_barred}
-use Rattle.tx_plan.specs.Rules.{AllPairs, IsCode, IsRange, IsGroup, IsRoute, IsBar, IsPlan, AreSeparate, is_code, is_national}
+use Rattle.tx_plan.specs.Rules.{EachPair, IsCode, IsRange, IsGroup, IsRoute, IsBar, IsPlan, AreSeparate, is_code, is_national}
 use Rattle.tx_plan.specs.Declaring.{first_true, exchange_refusals, code_refusals, lines_refusals, group_refusals, route_refusals, bar_refusals, with_exchange, with_code, with_lines, with_group, with_route, with_bar, exchange_at, code_at, group_at, has_exchange, has_code, has_group, has_route, pair_of, pair_named, holds_at, shares, overlaps, is_not_outgoing, none_twice}
 use Rattle.tx_plan.specs.declared.direction.Direction.{Direction}
 use Rattle.tx_plan.specs.declared.direction.Direction.TheVariants.{OneWay}
@@ -308,7 +308,7 @@ within : (n : ℕ) → nat_lt 16 n ≡ false → n ≤ 16
 within n h = grind (arith, nat_tests)
 
 -- the words of a list are of groups that differ
-groups_differ_at : (p : Plan) (words : List (List ℕ)) → none_twice words ≡ true → AllByRecursion (λ w. has_group p w ≡ true) words → AllPairs (λ g h. g ≢ h) (map (group_at p) words)
+groups_differ_at : (p : Plan) (words : List (List ℕ)) → none_twice words ≡ true → AllByRecursion (λ w. has_group p w ≡ true) words → EachPair (λ g h. g ≢ h) (map (group_at p) words)
 groups_differ_at p [] h known = tt
 groups_differ_at p (w ∷ ws) h known =
     let t = both (not (list_any (bytes_eq w) ws)) (none_twice ws) h in (

@@ -7,7 +7,7 @@ use Rattle.std.proofs.lemmas.Bool.{leb-false}
 use Rattle.std.proofs.lemmas.Bool.Decides.{nat_tests}
 use Rattle.std.proofs.lemmas.List.Quantifiers.{position-Some}
 use Rattle.std.proofs.lemmas.Slice.Eq.{bytes_eq-Decides}
-use Rattle.tx_plan.specs.Rules.{AllPairs}
+use Rattle.tx_plan.specs.Rules.{EachPair}
 use Rattle.tx_plan.proofs.Absent.{no_place}
 
 -- TESTS
@@ -47,7 +47,7 @@ pub all_put : {A : Type 0} (P : A → Type 0) (xs : List A) (y : A) → AllByRec
 all_put P [] y h k = (k, tt)
 all_put P (x ∷ xs) y h k = (h.0, all_put P xs y h.1 k)
 
-pub pairs_put : {A : Type 0} (R : A → A → Type 0) (xs : List A) (y : A) → AllPairs R xs → AllByRecursion (λ x. R x y) xs → AllPairs R (xs ++ y ∷ [])
+pub pairs_put : {A : Type 0} (R : A → A → Type 0) (xs : List A) (y : A) → EachPair R xs → AllByRecursion (λ x. R x y) xs → EachPair R (xs ++ y ∷ [])
 pairs_put R [] y h k = (tt, tt)
 pairs_put R (x ∷ xs) y h k = (all_put (R x) xs y h.0 k.0, pairs_put R xs y h.1 k.1)
 

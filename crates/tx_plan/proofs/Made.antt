@@ -6,7 +6,7 @@ use Rattle.tx_plan.specs.declared.pair.Pair.{Pair}
 use Rattle.tx_plan.specs.declared.range.LineRange.{LineRange}
 use Rattle.tx_plan.specs.Plan.{Plan}
 use Rattle.tx_plan.specs.Rules.{IsPlan}
-use Rattle.tx_plan.specs.Tables.{code_of_row, group_of_row}
+use Rattle.tx_plan.specs.inner.Tables.{code_of_row, group_of_row}
 use Rattle.tx_plan.specs.Declaring.{first_true, exchange_refusals, code_refusals, lines_refusals, group_refusals, route_refusals, bar_refusals, exchange_at, code_at, group_at}
 use Rattle.tx_plan.proofs.Growing.{kept_exchange, kept_code, kept_lines, kept_group, kept_route, kept_bar}
 

@@ -10,7 +10,7 @@ use Rattle.std.proofs.lemmas.List.{get_or-set_same, get_or-set_other, length-map
 use Rattle.std.proofs.lemmas.List.Folds.{find_at}
 use Rattle.std.proofs.lemmas.Option.{cond_some, none-some, slice_get-map, slice_get-get_or, slice_get_past}
 use Rattle.tx_plan.specs.Plan.{Route}
-use Rattle.tx_plan.specs.Places.{no_place, named_by, cell_of, place_at, IsIndex}
+use Rattle.tx_plan.specs.inner.Places.{no_place, named_by, cell_of, place_at, IsIndex}
 use Rattle.tx_plan.proofs.Lists.{below, both, neither, opposed}
 
 -- CELLS

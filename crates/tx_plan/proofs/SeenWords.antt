@@ -9,7 +9,7 @@ use Rattle.tx_text.specs.Words.{is_name}
 use Rattle.tx_plan.specs.Plan.{Plan, Group, group_named}
 use Rattle.tx_plan.specs.Rules.{IsPlan, IsGroup}
 use Rattle.tx_plan.specs.Declaring.{has_group, group_at, none_twice}
-use Rattle.tx_plan.specs.Seen.{differ}
+use Rattle.tx_plan.specs.inner.Seen.{differ}
 use Rattle.tx_plan.specs.declared.direction.Direction.TheVariants.{OneWay}
 use Rattle.tx_plan.proofs.Absent.{unnamed}
 use Rattle.tx_plan.proofs.Lists.{opposed, neither, not_not, one_word, below}

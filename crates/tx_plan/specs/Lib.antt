@@ -9,6 +9,4 @@ pub mod Rules
 pub mod Declaring
 pub mod Certified
 pub mod Orders
-pub mod Tables
-pub mod Places
-pub mod Seen
+pub mod inner

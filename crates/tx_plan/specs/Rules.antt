@@ -9,9 +9,9 @@ use Rattle.tx_plan.specs.declared.pair.Pair.{Pair}
 use Rattle.tx_plan.specs.declared.range.LineRange.{LineRange}
 
 -- each member of a list stands so to each later one
-abbrev pub AllPairs : {A : Type 0} → (A → A → Type 0) → List A → Type 0
-AllPairs Apart [] = Unit {0}
-AllPairs Apart (x ∷ xs) = AllByRecursion (Apart x) xs × AllPairs Apart xs
+abbrev pub EachPair : {A : Type 0} → (A → A → Type 0) → List A → Type 0
+EachPair Apart [] = Unit {0}
+EachPair Apart (x ∷ xs) = AllByRecursion (Apart x) xs × EachPair Apart xs
 
 -- two or three figures
 abbrev pub is_code : List ℕ → Bool
@@ -50,7 +50,7 @@ pub record IsRoute (p : Plan) (r : Route) : Type 0 where
   pub some : 1 ≤ length r.groups
   pub few : length r.groups ≤ 16
   pub outgoing : AllByRecursion (λ g. may_seize p g r.exchange ≡ true) r.groups
-  pub differ : AllPairs (λ g h. g ≢ h) r.groups
+  pub differ : EachPair (λ g h. g ≢ h) r.groups
 
 -- away from the code's home
 pub record IsBar (p : Plan) (b : Pair) : Type 0 where
@@ -65,18 +65,18 @@ AreSeparate r q = r.code ≡ q.code → length r.low ≡ length q.low → (at_mo
 -- THE RULES OF A PLAN
 pub record IsPlan (p : Plan) : Type 0 where
   pub exchanges : AllByRecursion (λ x. is_name x ≡ true) p.exchanges
-  pub exchanges_differ : AllPairs (λ x y. x ≢ y) p.exchanges
+  pub exchanges_differ : EachPair (λ x y. x ≢ y) p.exchanges
   pub few_exchanges : length p.exchanges ≤ 256
   pub codes : AllByRecursion (IsCode p) p.codes
-  pub codes_differ : AllPairs (λ c d. c.figures ≢ d.figures) p.codes
+  pub codes_differ : EachPair (λ c d. c.figures ≢ d.figures) p.codes
   pub few_codes : length p.codes ≤ 1100
   pub ranges : AllByRecursion (IsRange p) p.ranges
-  pub ranges_apart : AllPairs AreSeparate p.ranges
+  pub ranges_apart : EachPair AreSeparate p.ranges
   pub few_ranges : length p.ranges ≤ 4096
   pub groups : AllByRecursion (IsGroup p) p.groups
-  pub groups_differ : AllPairs (λ g h. g.name ≢ h.name) p.groups
+  pub groups_differ : EachPair (λ g h. g.name ≢ h.name) p.groups
   pub few_groups : length p.groups ≤ 4096
   pub routes : AllByRecursion (IsRoute p) p.routes
-  pub routes_differ : AllPairs (λ r q. r.exchange ≡ q.exchange → r.code ≢ q.code) p.routes
+  pub routes_differ : EachPair (λ r q. r.exchange ≡ q.exchange → r.code ≢ q.code) p.routes
   pub bars : AllByRecursion (IsBar p) p.bars
-  pub bars_differ : AllPairs (λ b c. b.exchange ≡ c.exchange → b.code ≢ c.code) p.bars
+  pub bars_differ : EachPair (λ b c. b.exchange ≡ c.exchange → b.code ≢ c.code) p.bars

@@ -19,7 +19,7 @@ pub(crate) struct Codes<A: Allocator = Global> {
 impl<A: Allocator> Model for Codes<A> {
     ghost use Rattle.std.specs.Prelude.{List, map};
     ghost use Rattle.tx_plan.specs.Plan.{Code};
-    ghost use Rattle.tx_plan.specs.Tables.{code_of_row};
+    ghost use Rattle.tx_plan.specs.inner.Tables.{code_of_row};
 
     ghost Value = { List Code };
 

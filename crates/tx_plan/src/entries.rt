@@ -4,7 +4,7 @@ ghost use Rattle.std.specs.List.{list_any};
 ghost use Rattle.tx_text.specs.Words.{is_name};
 ghost use Rattle.tx_plan.specs.Plan.{exchange_named, code_named, group_named};
 ghost use Rattle.tx_plan.specs.Routes.{is_barred};
-ghost use Rattle.tx_plan.specs.Seen.{IsSeen};
+ghost use Rattle.tx_plan.specs.inner.Seen.{IsSeen};
 ghost use Rattle.tx_plan.specs.Declaring.{first_true, exchange_refusals, code_refusals, lines_refusals, group_refusals, route_refusals, route_plan_refusals, route_group_refusals, bar_refusals, route_word_refusals, has_exchange, has_code, has_group, has_route, pair_named, is_ordered, exchange_at, code_at, group_at};
 
 use crate::direction::Direction;
@@ -18,7 +18,7 @@ use crate::plan::Plan;
 use crate::range::LineRange;
 use crate::ranges::at_most;
 use crate::refusal::PlanRefusal;
-use crate::seen::{Seen, see};
+use crate::route_words::{Seen, see};
 use std::alloc::Allocator;
 use tx_text::{Short, Words, are_figures, is_name};
 

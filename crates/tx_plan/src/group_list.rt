@@ -1,7 +1,7 @@
 // The groups of a route.
 ghost use Rattle.std.specs.Prelude.{◌≡◌, ◌==◌, ◌++◌, ◌∷◌, [], if◌then◌else◌, nat_lt, length};
 ghost use Rattle.std.specs.List.{list_any};
-ghost use Rattle.tx_plan.specs.Seen.{differ};
+ghost use Rattle.tx_plan.specs.inner.Seen.{differ};
 
 use crate::ids::GroupId;
 use std::marker::Model;

@@ -3,7 +3,7 @@ ghost use Rattle.std.specs.Prelude.{◌≡◌, ◌≤◌, ◌<◌, ◌++◌, ◌
 ghost use Rattle.std.specs.List.{list_any};
 ghost use Rattle.std.specs.Option.{option_map, option_map_or, option_copied};
 ghost use Rattle.std.specs.Str.{bytes_eq};
-ghost use Rattle.tx_plan.specs.Tables.{row_of};
+ghost use Rattle.tx_plan.specs.inner.Tables.{row_of};
 
 use crate::group_row::GroupRow;
 use crate::rows::Rows;
@@ -20,7 +20,7 @@ pub(crate) struct Groups<A: Allocator = Global> {
 impl<A: Allocator> Model for Groups<A> {
     ghost use Rattle.std.specs.Prelude.{List, map};
     ghost use Rattle.tx_plan.specs.Plan.{Group};
-    ghost use Rattle.tx_plan.specs.Tables.{group_of_row};
+    ghost use Rattle.tx_plan.specs.inner.Tables.{group_of_row};
 
     ghost Value = { List Group };
 

@@ -43,9 +43,9 @@ mod range;
 mod ranges;
 mod refusal;
 mod route_row;
+mod route_words;
 mod routes;
 mod rows;
-mod seen;
 
 pub use builder::PlanBuilder;
 pub use circuit::Circuit;

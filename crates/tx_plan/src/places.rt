@@ -1,6 +1,6 @@
 // Where the route of an exchange and a code stands.
 ghost use Rattle.std.specs.Prelude.{◌≡◌, ◌<◌, ℕ, [], length, slice_set, OnOk};
-ghost use Rattle.tx_plan.specs.Places.{place_at, cell_of};
+ghost use Rattle.tx_plan.specs.inner.Places.{place_at, cell_of};
 
 use crate::pair::Pair;
 use std::alloc::{Allocator, Global};

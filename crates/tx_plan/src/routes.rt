@@ -22,8 +22,8 @@ pub(crate) struct Routes<A: Allocator = Global> {
 impl<A: Allocator> Model for Routes<A> {
     ghost use Rattle.std.specs.Prelude.{List, map};
     ghost use Rattle.tx_plan.specs.Plan.{Route};
-    ghost use Rattle.tx_plan.specs.Places.{IsIndex};
-    ghost use Rattle.tx_plan.specs.Tables.{route_of_row};
+    ghost use Rattle.tx_plan.specs.inner.Places.{IsIndex};
+    ghost use Rattle.tx_plan.specs.inner.Tables.{route_of_row};
 
     ghost Value = { List Route };
 

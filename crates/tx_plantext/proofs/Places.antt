@@ -5,7 +5,7 @@ use Rattle.std.specs.Str.{bytes_eq}
 use Rattle.std.proofs.lemmas.Bool.{false_from_ne_true, lt-ltb, or_from}
 use Rattle.std.proofs.lemmas.Slice.Eq.{bytes_eq-Decides}
 use Rattle.std.proofs.lemmas.Map.Keys.{any_passes_from_place}
-use Rattle.tx_plan.specs.Rules.{AllPairs}
+use Rattle.tx_plan.specs.Rules.{EachPair}
 
 pub bytes_apart : (x y : List ℕ) → (x ≡ y → ⊥) → bytes_eq x y ≡ false
 bytes_apart x y h = false_from_ne_true (bytes_eq x y) (λ e. h ((bytes_eq-Decides x y).0 e))
@@ -23,7 +23,7 @@ module _ {A : Type 0} where
   all_between P [] x back h = h.0
   all_between P (y ∷ front) x back h = all_between P front x back h.1
 
-  pub apart_front : (R : A → A → Type 0) (front : List A) (x : A) (back : List A) → AllPairs R (front ++ x ∷ back) → AllByRecursion (λ y. R y x) front
+  pub apart_front : (R : A → A → Type 0) (front : List A) (x : A) (back : List A) → EachPair R (front ++ x ∷ back) → AllByRecursion (λ y. R y x) front
   apart_front R [] x back h = tt
   apart_front R (y ∷ front) x back h = (all_between (R y) front x back h.0, apart_front R front x back h.1)
 
@@ -46,7 +46,7 @@ module _ {A : Type 0} where
   all_at P (y ∷ xs) (suc i) x h e = all_at P xs i x h.1 e
 
   module _ (key : A → List ℕ) where
-    first_at : (xs : List A) (i : ℕ) (x : A) → AllPairs (λ a b. key a ≢ key b) xs → slice_get xs i ≡ Some x → position_or_len (λ a. bytes_eq (key x) (key a)) xs ≡ i
+    first_at : (xs : List A) (i : ℕ) (x : A) → EachPair (λ a b. key a ≢ key b) xs → slice_get xs i ≡ Some x → position_or_len (λ a. bytes_eq (key x) (key a)) xs ≡ i
     first_at [] i x h e = absurd (let z : ⊥ = cc in z)
     first_at (y ∷ xs) zero x h e = let s : y ≡ x = cc in let t = bytes_same (key x) (key y) (ap key (sym s)) in rw t refl
     first_at (y ∷ xs) (suc i) x h e =
@@ -60,7 +60,7 @@ module _ {A : Type 0} where
     within (y ∷ xs) (suc i) x e = let h = within xs i x e in omega arith
 
     -- the key of the entry at a place leads back to that place
-    pub place_back : (xs : List A) (i : ℕ) (x : A) → AllPairs (λ a b. key a ≢ key b) xs → slice_get xs i ≡ Some x → position (λ a. bytes_eq (key x) (key a)) xs ≡ Some i
+    pub place_back : (xs : List A) (i : ℕ) (x : A) → EachPair (λ a b. key a ≢ key b) xs → slice_get xs i ≡ Some x → position (λ a. bytes_eq (key x) (key a)) xs ≡ Some i
     place_back xs i x h e =
         let p = first_at xs i x h e in
         let l = lt-ltb i (length xs) (within xs i x e) in

@@ -10,7 +10,7 @@ use Rattle.tx_plan.specs.declared.direction.Direction.TheVariants.{OneWay, BothW
 use Rattle.tx_plan.specs.declared.range.LineRange.{LineRange}
 use Rattle.tx_plan.specs.Plan.{Plan, Code, Group, exchange_named, code_named, exchange_name, figures_of}
 use Rattle.tx_plan.specs.Lines.{at_most}
-use Rattle.tx_plan.specs.Rules.{IsPlan, AllPairs, IsCode, IsRange, IsGroup, AreSeparate}
+use Rattle.tx_plan.specs.Rules.{IsPlan, EachPair, IsCode, IsRange, IsGroup, AreSeparate}
 use Rattle.tx_plan.specs.Declaring.{exchange_refusals, code_refusals, lines_refusals, group_refusals, has_exchange, has_code, has_group, shares, overlaps, is_ordered}
 use Rattle.tx_plantext.specs.PlanText.{declare, direction_of, count_of, group_by}
 use Rattle.tx_plantext.specs.PlanWritten.{exchange_words, code_words, range_words, group_words, direction_word}
@@ -37,7 +37,7 @@ module _ (v : ℕ) (p : Plan) (h : IsPlan p) where
   exchange_new : (f : List (List ℕ)) (x : List ℕ) (b : List (List ℕ)) → f ++ x ∷ b ≡ p.exchanges → has_exchange (exchanges_so_far f) x ≡ false
   exchange_new f x b e =
       none_passes (bytes_eq x) f (all_weaker (λ y. y ≢ x) (λ y. bytes_eq x y ≡ false) (λ y k. bytes_apart x y (λ q. k (sym q))) f
-      (apart_front (λ y z. y ≢ z) f x b (subst (AllPairs (λ y z. y ≢ z)) (sym e) h.exchanges_differ)))
+      (apart_front (λ y z. y ≢ z) f x b (subst (EachPair (λ y z. y ≢ z)) (sym e) h.exchanges_differ)))
 
   pub exchange_declared : (f : List (List ℕ)) (x : List ℕ) (b : List (List ℕ)) → f ++ x ∷ b ≡ p.exchanges → IsLineOf declare v exchanges_so_far exchange_words f x
   unfolding declare
@@ -57,7 +57,7 @@ module _ (v : ℕ) (p : Plan) (h : IsPlan p) where
   code_new : (f : List Code) (x : Code) (b : List Code) → f ++ x ∷ b ≡ p.codes → has_code (codes_so_far f) x.figures ≡ false
   code_new f x b e =
       none_passes (λ c. bytes_eq x.figures c.figures) f (all_weaker (λ y. y.figures ≢ x.figures) (λ y. bytes_eq x.figures y.figures ≡ false) (λ y k. bytes_apart x.figures y.figures (λ q. k (sym q))) f
-      (apart_front (λ y z. y.figures ≢ z.figures) f x b (subst (AllPairs (λ (y z : Code). y.figures ≢ z.figures)) (sym e) h.codes_differ)))
+      (apart_front (λ y z. y.figures ≢ z.figures) f x b (subst (EachPair (λ (y z : Code). y.figures ≢ z.figures)) (sym e) h.codes_differ)))
 
   pub code_declared : (f : List Code) (x : Code) (b : List Code) → f ++ x ∷ b ≡ p.codes → IsLineOf declare v codes_so_far (code_words p) f x
   unfolding declare
@@ -102,7 +102,7 @@ module _ (v : ℕ) (p : Plan) (h : IsPlan p) where
   range_new : (f : List LineRange) (x : LineRange) (b : List LineRange) → f ++ x ∷ b ≡ p.ranges → list_any (shares x.code x.low x.high) f ≡ false
   range_new f x b e =
       none_passes (shares x.code x.low x.high) f (all_weaker (λ y. AreSeparate y x) (λ y. shares x.code x.low x.high y ≡ false) (λ y k. apart_shares y x k) f
-      (apart_front AreSeparate f x b (subst (AllPairs AreSeparate) (sym e) h.ranges_apart)))
+      (apart_front AreSeparate f x b (subst (EachPair AreSeparate) (sym e) h.ranges_apart)))
 
   pub range_declared : (f : List LineRange) (x : LineRange) (b : List LineRange) → f ++ x ∷ b ≡ p.ranges → IsLineOf declare v ranges_so_far (range_words p) f x
   unfolding declare
@@ -138,7 +138,7 @@ module _ (v : ℕ) (p : Plan) (h : IsPlan p) where
   group_new : (f : List Group) (x : Group) (b : List Group) → f ++ x ∷ b ≡ p.groups → has_group (groups_so_far f) x.name ≡ false
   group_new f x b e =
       none_passes (λ c. bytes_eq x.name c.name) f (all_weaker (λ y. y.name ≢ x.name) (λ y. bytes_eq x.name y.name ≡ false) (λ y k. bytes_apart x.name y.name (λ q. k (sym q))) f
-      (apart_front (λ y z. y.name ≢ z.name) f x b (subst (AllPairs (λ (y z : Group). y.name ≢ z.name)) (sym e) h.groups_differ)))
+      (apart_front (λ y z. y.name ≢ z.name) f x b (subst (EachPair (λ (y z : Group). y.name ≢ z.name)) (sym e) h.groups_differ)))
 
   -- exchanges at two places have two names
   ends_apart : (a b : ℕ) → a < length p.exchanges → b < length p.exchanges → a ≢ b → bytes_eq (exchange_name p a) (exchange_name p b) ≡ false

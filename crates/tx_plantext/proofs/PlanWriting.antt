@@ -15,7 +15,7 @@ use Rattle.tx_plan.specs.declared.direction.Direction.{Direction}
 use Rattle.tx_plan.specs.Plan.{Plan, Route, exchange_name, figures_of, group_name, home_of}
 use Rattle.tx_plan.specs.Circuits.{direction_of, count_of, ends_of}
 use Rattle.tx_plan.specs.Routes.{route_list}
-use Rattle.tx_plan.specs.Rules.{IsPlan, AllPairs}
+use Rattle.tx_plan.specs.Rules.{IsPlan, EachPair}
 use Rattle.tx_plantext.specs.PlanWritten.{plan_written, has_bars, head_of, exchange_words, code_words, range_words, direction_word, group_words, route_words, bar_words}
 use Rattle.tx_plantext.specs.Wrote.{Wrote, lines_of_list, line_at}
 use Rattle.tx_plantext.proofs.Places.{entry_at, all_at}
@@ -162,7 +162,7 @@ joined_after p w [] = sym (append-nil w)
 joined_after p w (g ∷ gs) = ap (λ l. w ++ 32 ∷ l) (joined_after p (group_name p g) gs)
 
 -- the list of a route is found by its exchange and code
-found_at : (r : Route) (rs : List Route) (k : ℕ) → AllPairs (λ q s. q.exchange ≡ s.exchange → q.code ≢ s.code) rs → slice_get rs k ≡ Some r → find (λ q. (q.exchange == r.exchange) && (q.code == r.code)) rs ≡ Some r
+found_at : (r : Route) (rs : List Route) (k : ℕ) → EachPair (λ q s. q.exchange ≡ s.exchange → q.code ≢ s.code) rs → slice_get rs k ≡ Some r → find (λ q. (q.exchange == r.exchange) && (q.code == r.code)) rs ≡ Some r
 found_at r [] k d at = absurd (let z : ⊥ = cc in z)
 found_at r (q ∷ rs) zero d at =
     let s : q ≡ r = cc in

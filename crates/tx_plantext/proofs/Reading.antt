@@ -1,6 +1,6 @@
 -- Reading a plan text.
 use Rattle.std.proofs.Common.{◌≡◌, ◌⊎◌, ℕ, Bool, List, [], Option, None, codes, refl, inl, inr}
-use Rattle.tx_text.specs.declared.frame.Phase.TheVariants.{Start}
+use Rattle.tx_text.specs.declared.frame.FramePart.TheVariants.{Start}
 use Rattle.tx_text.specs.declared.frame_reader.FrameReader.{FrameReader}
 use Rattle.tx_text.specs.Told.{Ending, reading_of_calls, told_at}
 use Rattle.tx_text.specs.Frame.{ReadsOn}

@@ -9,7 +9,7 @@ use Rattle.tx_plan.specs.declared.pair.Pair.{Pair}
 use Rattle.tx_plan.specs.Plan.{Plan, Group, Route, group_named, exchange_name, figures_of, group_name, home_of}
 use Rattle.tx_plan.specs.Circuits.{may_seize, may_seize_row}
 use Rattle.tx_plan.specs.Routes.{is_barred}
-use Rattle.tx_plan.specs.Rules.{IsPlan, AllPairs, IsRoute, IsBar}
+use Rattle.tx_plan.specs.Rules.{IsPlan, EachPair, IsRoute, IsBar}
 use Rattle.tx_plan.specs.Declaring.{first_true, route_refusals, bar_refusals, has_group, has_route, pair_named, is_not_outgoing, none_twice, group_at, with_route, with_bar}
 use Rattle.tx_plantext.specs.PlanText.{declare}
 use Rattle.tx_plantext.specs.PlanWritten.{route_words, bar_words}
@@ -87,7 +87,7 @@ module _ (v : ℕ) (p : Plan) (h : IsPlan p) where
         let b = (group_back p h k (seized_there k x o.0)).back in
         or_from _ _ (bytes_apart (group_name p g) (group_name p k) (λ s. let t = ap (group_named p) s in d.0 (let z : g ≡ k = cc in z))) (other_names g gs e o.1 d.1)
 
-    names_differ : (gs : List ℕ) → Outgoing gs → AllPairs (λ g k. g ≢ k) gs → none_twice (map (group_name p) gs) ≡ true
+    names_differ : (gs : List ℕ) → Outgoing gs → EachPair (λ g k. g ≢ k) gs → none_twice (map (group_name p) gs) ≡ true
     names_differ [] o d = refl
     names_differ (g ∷ gs) o d = and_from _ _ (not_from_false _ (other_names g gs o.0 o.1 d.0)) (names_differ gs o.1 d.1)
 
@@ -99,7 +99,7 @@ module _ (v : ℕ) (p : Plan) (h : IsPlan p) where
   route_new : (f : List Route) (x : Route) (b : List Route) → f ++ x ∷ b ≡ p.routes → has_route (routes_so_far f) x.exchange x.code ≡ false
   route_new f x b e =
       none_before (λ r. r.exchange) (λ r. r.code) f x
-      (apart_front (λ r q. r.exchange ≡ q.exchange → r.code ≢ q.code) f x b (subst (AllPairs (λ (r q : Route). r.exchange ≡ q.exchange → r.code ≢ q.code)) (sym e) h.routes_differ))
+      (apart_front (λ r q. r.exchange ≡ q.exchange → r.code ≢ q.code) f x b (subst (EachPair (λ (r q : Route). r.exchange ≡ q.exchange → r.code ≢ q.code)) (sym e) h.routes_differ))
 
   route_allowed : (f : List Route) (x : Route) (b : List Route) → f ++ x ∷ b ≡ p.routes → IsRoute p x
       → first_true (route_refusals (routes_so_far f) (exchange_name p x.exchange) (figures_of p x.code) (map (group_name p) x.groups)) ≡ None
@@ -163,7 +163,7 @@ module _ (v : ℕ) (p : Plan) (h : IsPlan p) where
   bar_new : (f : List Pair) (x : Pair) (b : List Pair) → f ++ x ∷ b ≡ p.bars → is_barred (bars_so_far f) x.exchange x.code ≡ false
   bar_new f x b e =
       none_before (λ r. r.exchange) (λ r. r.code) f x
-      (apart_front (λ r q. r.exchange ≡ q.exchange → r.code ≢ q.code) f x b (subst (AllPairs (λ (r q : Pair). r.exchange ≡ q.exchange → r.code ≢ q.code)) (sym e) h.bars_differ))
+      (apart_front (λ r q. r.exchange ≡ q.exchange → r.code ≢ q.code) f x b (subst (EachPair (λ (r q : Pair). r.exchange ≡ q.exchange → r.code ≢ q.code)) (sym e) h.bars_differ))
 
   bar_allowed : (f : List Pair) (x : Pair) (b : List Pair) → f ++ x ∷ b ≡ p.bars → IsBar p x → first_true (bar_refusals (bars_so_far f) (exchange_name p x.exchange) (figures_of p x.code)) ≡ None
   bar_allowed f x b e n =

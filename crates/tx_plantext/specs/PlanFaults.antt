@@ -5,8 +5,8 @@ use Rattle.tx_text.specs.declared.line_fault.LineFault.TheVariants.{Text, Read}
 use Rattle.tx_text.specs.declared.frame.FormFault.TheVariants.{NoHeader, NoEnd, AfterEnd}
 use Rattle.tx_text.specs.declared.frame.FrameFault.{FrameFault}
 use Rattle.tx_text.specs.declared.frame.FrameFault.TheVariants.{Line, Form}
-use Rattle.tx_text.specs.declared.frame.Kind.{Kind}
-use Rattle.tx_text.specs.declared.frame.Kind.TheVariants.{Frame, Word}
+use Rattle.tx_text.specs.declared.frame.FaultKind.{FaultKind}
+use Rattle.tx_text.specs.declared.frame.FaultKind.TheVariants.{Frame, Word}
 use Rattle.tx_plan.specs.declared.refusal.PlanRefusal.{PlanRefusal}
 use Rattle.tx_plan.specs.declared.refusal.PlanRefusal.TheVariants.{WrongCount, BadName, BadCode, BadNumber, Duplicate, Unknown, RangeOrder, Overlap, SameEnds, NotOutgoing, RepeatedGroup, RouteAtHome, TooMany, BarAtHome, NoMemory}
 use Rattle.tx_plantext.specs.declared.fault.PlanWord.{PlanWord}
@@ -42,7 +42,7 @@ frame_row (Line (Text LineTooLong)) = (codes "X1", codes "LineTooLong")
 frame_row (Line (Text BadByte)) = (codes "X2", codes "BadByte")
 frame_row (Line (Text TextNoMemory)) = (codes "X3", codes "NoMemory")
 
-abbrev pub fault_row : Kind PlanWord → Row
+abbrev pub fault_row : FaultKind PlanWord → Row
 fault_row (Frame k) = frame_row k
 fault_row (Word UnknownWord) = (codes "P3", codes "UnknownWord")
 fault_row (Word (Refused r)) = refusal_row r

@@ -2,8 +2,8 @@
 use Rattle.std.specs.Prelude.{ℕ, Bool, true, false, ◌&&◌, ◌==◌, List, [], ◌∷◌, Option, None, Some, Result, Ok, Err, codes, unwrap_or, if◌then◌else◌}
 use Rattle.std.specs.Str.{bytes_eq}
 use Rattle.std.specs.Io.KnownBytes.{IsAtEnd}
-use Rattle.tx_text.specs.declared.frame.Kind.{Kind}
-use Rattle.tx_text.specs.declared.frame.Phase.TheVariants.{Start}
+use Rattle.tx_text.specs.declared.frame.FaultKind.{FaultKind}
+use Rattle.tx_text.specs.declared.frame.FramePart.TheVariants.{Start}
 use Rattle.tx_text.specs.Text.{lines_of}
 use Rattle.tx_text.specs.Words.{number_of}
 use Rattle.tx_text.specs.Told.{Ending, AtEnd, told}
@@ -105,7 +105,7 @@ abbrev pub lines_within : Ending → List ℕ → Framed
 lines_within e text = framed (header_of (codes "PLAN") 2) Start 1 (told e (lines_of text))
 
 -- THE GRAMMAR: the plan that a text says, or its first fault, whichever way the text ends
-abbrev pub plan_of : Ending → List ℕ → Result Plan (ℕ × Kind PlanWord)
+abbrev pub plan_of : Ending → List ℕ → Result Plan (ℕ × FaultKind PlanWord)
 plan_of e text = said declare 1 no_plan (lines_within e text)
 
 -- line n of a text declares something, and so does each line before it: where memory can be wanting
@@ -126,7 +126,7 @@ abbrev pub SaysPlan : (old new : Option (List ℕ)) → Plan → Type 0
 SaysPlan old new p = EndsAs old new plan_of AtEnd (Ok p) × IsAtEnd new
 
 -- WHAT A READER OF PLAN TEXTS ANSWERS. Broken says that the source failed or met the bound on calls, unread that nothing was read.
-abbrev pub ReadsPlan : (old new : Option (List ℕ)) → (broken unread : Type 0) → Result Plan (ℕ × Kind PlanWord) → Type 0
+abbrev pub ReadsPlan : (old new : Option (List ℕ)) → (broken unread : Type 0) → Result Plan (ℕ × FaultKind PlanWord) → Type 0
 ReadsPlan old new broken unread result = Answered is_memory old new plan_of broken unread (WantingAt old new) result
 
 -- a refusal of the builder as a fault of the line's words

@@ -3,7 +3,7 @@ ghost use Rattle.std.specs.Prelude.{◌≡◌};
 ghost use Rattle.tx_plantext.specs.PlanFaults.{refusal_row, frame_row, fault_row};
 
 use tx_plan::PlanRefusal;
-use tx_text::{FaultAt, FormFault, FrameFault, Kind, LineFault, TextFault};
+use tx_text::{FaultAt, FaultKind, FormFault, FrameFault, LineFault, TextFault};
 
 /// What is wrong with the words of a line.
 #[derive(Clone, Copy, Debug, PartialEq, Eq)]
@@ -18,13 +18,13 @@ pub enum PlanWord {
 pub type PlanFault = FaultAt<PlanWord>;
 
 /// The code and the name of a fault, as `P11` and `Overlap`.
-pub fn code_and_name(kind: Kind<PlanWord>) -> (&'static [u8], &'static [u8])
+pub fn code_and_name(kind: FaultKind<PlanWord>) -> (&'static [u8], &'static [u8])
     ensures { (result.0.now, result.1.now) ≡ fault_row kind }
 {
     match kind {
-        Kind::Frame(fault) => frame_row(fault),
-        Kind::Word(PlanWord::UnknownWord) => (b"P3", b"UnknownWord"),
-        Kind::Word(PlanWord::Refused(refusal)) => refusal_row(refusal),
+        FaultKind::Frame(fault) => frame_row(fault),
+        FaultKind::Word(PlanWord::UnknownWord) => (b"P3", b"UnknownWord"),
+        FaultKind::Word(PlanWord::Refused(refusal)) => refusal_row(refusal),
     }
 }
 

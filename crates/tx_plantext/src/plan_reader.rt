@@ -1,6 +1,6 @@
 // The readers of plan texts.
 ghost use Rattle.std.specs.Prelude.{◌≡◌, ◌^◌, ◌<◌, length, codes, None, true};
-ghost use Rattle.tx_text.specs.declared.frame.Phase.TheVariants.{Start};
+ghost use Rattle.tx_text.specs.declared.frame.FramePart.TheVariants.{Start};
 ghost use Rattle.tx_text.specs.Calls.{CallsAtMost, Broken, source_calls};
 ghost use Rattle.tx_text.specs.Said.{AnswersAs, told_fault};
 ghost use Rattle.tx_text.specs.Told.{AtEnd, reading_of_calls};
@@ -12,8 +12,8 @@ use crate::fault::{PlanFault, PlanWord};
 use std::alloc::Allocator;
 use tx_plan::{Plan, PlanBuilder};
 use tx_text::{
-    FaultAt, FrameFault, FrameReader, Kind, LineFault, SliceSource, Source, Step, TextFault,
-    slices_are_read_whole,
+    FaultAt, FaultKind, FrameFault, FrameReader, FrameStep, LineFault, SliceSource, Source,
+    TextFault, slices_are_read_whole,
 };
 
 const KEY: &[u8] = b"PLAN";
@@ -49,11 +49,11 @@ pub fn read_plan<A: Allocator + Copy>(alloc: A, text: &[u8]) -> Result<Plan<A>, 
 /// The fault where no reader could be made.
 fn without_room(fault: TextFault) -> PlanFault
     ensures line { result.line ≡ 1 }
-    ensures kind { result.kind ≡ Kind.Frame (FrameFault.Line (LineFault.Text fault)) }
+    ensures kind { result.kind ≡ FaultKind.Frame (FrameFault.Line (LineFault.Text fault)) }
 {
     FaultAt {
         line: 1,
-        kind: Kind::Frame(FrameFault::Line(LineFault::Text(fault))),
+        kind: FaultKind::Frame(FrameFault::Line(LineFault::Text(fault))),
     }
 }
 
@@ -77,21 +77,21 @@ fn read_lines<R: Source, A: Allocator>(
     let mut version: u8 = 1;
     'lines: loop {
         match frame.advance(source) {
-            Ok(Step::Header(given)) => version = given,
-            Ok(Step::Line) => match declare(&mut plan, version, frame.words()) {
+            Ok(FrameStep::Header(given)) => version = given,
+            Ok(FrameStep::Line) => match declare(&mut plan, version, frame.words()) {
                 Ok(()) => {}
                 Err(fault) => {
                     return Err(FaultAt {
                         line: frame.number(),
-                        kind: Kind::Word(fault),
+                        kind: FaultKind::Word(fault),
                     });
                 }
             },
-            Ok(Step::End) => return Ok(plan.finish()),
+            Ok(FrameStep::End) => return Ok(plan.finish()),
             Err(stop) => {
                 return Err(FaultAt {
                     line: stop.line,
-                    kind: Kind::Frame(stop.fault),
+                    kind: FaultKind::Frame(stop.fault),
                 });
             }
         }

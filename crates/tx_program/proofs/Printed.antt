@@ -4,7 +4,7 @@ use Rattle.tx_text.specs.declared.text_fault.TextFault.TheVariants.{LineTooLong,
 use Rattle.tx_text.specs.declared.line_fault.LineFault.TheVariants.{Text, Read}
 use Rattle.tx_text.specs.declared.frame.FormFault.TheVariants.{NoHeader, NoEnd, AfterEnd}
 use Rattle.tx_text.specs.declared.frame.FrameFault.TheVariants.{Line, Form}
-use Rattle.tx_text.specs.declared.frame.Kind.TheVariants.{Frame, Word}
+use Rattle.tx_text.specs.declared.frame.FaultKind.TheVariants.{Frame, Word}
 use Rattle.tx_plan.specs.declared.refusal.PlanRefusal.TheVariants as plan
 use Rattle.tx_plantext.specs.declared.fault.PlanWord.TheVariants as plan_word
 use Rattle.tx_cert.specs.declared.fault.CertWord.TheVariants as cert

@@ -2,8 +2,8 @@
 use Rattle.std.specs.Prelude.{◌≡◌, ◌≢◌, ℕ, true, List, ◌∷◌, ◌++◌, Some, is_some, option_map, codes}
 use Rattle.tx_text.specs.declared.line_fault.LineFault.TheVariants.{Read}
 use Rattle.tx_text.specs.declared.frame.FrameFault.TheVariants.{Line}
-use Rattle.tx_text.specs.declared.frame.Kind.{Kind}
-use Rattle.tx_text.specs.declared.frame.Kind.TheVariants.{Frame}
+use Rattle.tx_text.specs.declared.frame.FaultKind.{FaultKind}
+use Rattle.tx_text.specs.declared.frame.FaultKind.TheVariants.{Frame}
 use Rattle.tx_plan.specs.Plan.{Plan}
 use Rattle.tx_plantext.specs.declared.fault.PlanWord.{PlanWord}
 use Rattle.tx_plantext.specs.PlanFaults.{fault_row as plan_row}
@@ -31,14 +31,14 @@ pub record BeginsExplained (line : List ℕ) : Type 0 where
   pub begins : line ≡ row.0 ++ (codes " " ++ (row.1 ++ (codes " " ++ rest)))
 
 abbrev pub PlanFaultsAreExplained : Type 0
-PlanFaultsAreExplained = (kind : Kind PlanWord) → IsExplained (plan_row kind)
+PlanFaultsAreExplained = (kind : FaultKind PlanWord) → IsExplained (plan_row kind)
 
 abbrev pub CertFaultsAreExplained : Type 0
-CertFaultsAreExplained = (kind : Kind CertWord) → IsExplained (cert_row kind)
+CertFaultsAreExplained = (kind : FaultKind CertWord) → IsExplained (cert_row kind)
 
 -- a source that failed is no fault of a script
 abbrev pub ScriptFaultsAreExplained : Type 0
-ScriptFaultsAreExplained = (kind : Kind ScriptWord) → kind ≢ Frame (Line Read) → IsExplained (script_row kind)
+ScriptFaultsAreExplained = (kind : FaultKind ScriptWord) → kind ≢ Frame (Line Read) → IsExplained (script_row kind)
 
 abbrev pub RefusalsAreExplained : Type 0
 RefusalsAreExplained = (refusal : Refusal) → is_some (explanation (refusal_text refusal)) ≡ true

@@ -2,7 +2,7 @@
 use Rattle.std.proofs.Common.{◌≡◌, ℕ, ◌+◌, ◌<◌, true, false, eqb, eqb-true, List, [], ◌∷◌, ◌++◌, map, inl, inr, Option, refl, sym, ap, subst, ◌∙◌, arith, append_assoc, append-nil}
 use Rattle.std.proofs.lemmas.Bool.{eqb-false}
 use Rattle.std.proofs.lemmas.List.{map-append}
-use Rattle.tx_plan.specs.Rules.{AllPairs}
+use Rattle.tx_plan.specs.Rules.{EachPair}
 use Rattle.tx_plan.specs.Among.{Among}
 use Rattle.tx_plan.proofs.Among.{among_left, among_right, among_cases}
 use Rattle.tx_plan.proofs.Lists.{pairs_put}
@@ -10,8 +10,8 @@ use Rattle.tx_rank.specs.declared.finding.Finding.{Finding}
 use Rattle.tx_rank.specs.declared.finding.Finding.TheVariants.{Short}
 use Rattle.tx_rank.specs.Walks.{Net, Walk, end_of, IsWalk, IsShort}
 use Rattle.tx_rank.specs.Findings.{end_at}
-use Rattle.tx_rank.specs.Marks.{AreSettled}
-use Rattle.tx_rank.specs.Judged.{IsShortAt, AddsShorts}
+use Rattle.tx_rank.specs.inner.Marks.{AreSettled}
+use Rattle.tx_rank.specs.inner.Judged.{IsShortAt, AddsShorts}
 use Rattle.tx_rank.proofs.Ways.{among_all}
 use Rattle.tx_rank.proofs.Walked.{short_true, short_at}
 
@@ -20,7 +20,7 @@ pub record AddsBelow {A : Type 0} (n : Net) (code spare i : ℕ) (old new : List
   pub walks : List Walk
   pub added : new ≡ old ++ map (Short code) walks
   pub each : (w : Walk) → Among w walks → IsShort n spare w.start w.steps
-  pub order : AllPairs (λ x y. x < y) (map end_at walks)
+  pub order : EachPair (λ x y. x < y) (map end_at walks)
   pub below : (y : ℕ) → Among y (map end_at walks) → y < i
   pub all : (x : ℕ) (steps : List (ℕ × ℕ)) → IsShort n spare x steps → end_of x steps < i → Among (end_of x steps) (map end_at walks)
 
@@ -50,7 +50,7 @@ module _ {A : Type 0} (n : Net) (code spare : ℕ) where
           walks = b.walks ++ w ∷ [];
           added = ap (λ l. l ++ Short code w ∷ []) b.added ∙ append_assoc old (map (Short code) b.walks) (Short code w ∷ []) ∙ ap (λ l. old ++ l) (sym (map-append (Short code) b.walks (w ∷ [])));
           each = λ v m. elim (among_cases v b.walks (w ∷ []) m) [ inl a ↦ b.each v a | inr c ↦ elim c [ inl q ↦ subst (λ (k : Walk). IsShort n spare k.start k.steps) (sym q) is | inr z ↦ absurd z ] ];
-          order = subst (AllPairs (λ x y. x < y)) (sym f) (pairs_put (λ x y. x < y) (map end_at b.walks) (end_at w) b.order (among_all (λ x. x < end_at w) (map end_at b.walks) (λ y m. let k = b.below y m in omega arith)));
+          order = subst (EachPair (λ x y. x < y)) (sym f) (pairs_put (λ x y. x < y) (map end_at b.walks) (end_at w) b.order (among_all (λ x. x < end_at w) (map end_at b.walks) (λ y m. let k = b.below y m in omega arith)));
           below = λ y m. elim (among_cases y (map end_at b.walks) (end_at w ∷ []) (subst (Among y) f m)) [ inl a ↦ let k = b.below y a in omega arith | inr c ↦ elim c [ inl q ↦ omega arith | inr z ↦ absurd z ] ];
           all = λ x steps s h. subst (Among (end_of x steps)) (sym f) (
               elim (eqb (end_of x steps) i) as (λ t. eqb (end_of x steps) i ≡ t → Among (end_of x steps) (map end_at b.walks ++ end_at w ∷ [])) [

@@ -17,9 +17,6 @@ use Rattle.tx_rank.proofs.Certifying.{certifies_code, certified_codes}
 -- TOGETHER
 
 module _ (P : ℕ → ℕ → Type 0) where
-  pub bounds_widest : (b : Bounds) → b.limit ≡ 0 → b.spare ≡ 15 → ((l s : ℕ) → P l s) → AreBounds P b
-  bounds_widest b limit spare all = record { few = omega arith; exactly = λ l s h. (λ _. (omega arith, omega arith), λ _. all l s) }
-
   module _ (Q R : ℕ → ℕ → Type 0) where
     pub bounds_both : (a b c : Bounds) → AreBounds P a → AreBounds Q b → c.limit ≡ max a.limit b.limit → c.spare ≡ min a.spare b.spare → ((l s : ℕ) → R l s ↔ (P l s × Q l s)) → AreBounds R c
     bounds_both a b c p q limit spare split =
@@ -42,25 +39,6 @@ abbrev pub SuitsBelow : Net → (ℕ → Option ℕ) → (i limit spare : ℕ) �
 SuitsBelow n ranks i limit spare = (x : ℕ) → x < i → Suits n ranks x limit spare
 
 module _ (n : Net) (ranks : ℕ → Option ℕ) where
-  pub home_bounds : (x : ℕ) (b : Bounds) → x ≡ n.home → b.limit ≡ 0 → b.spare ≡ 15 → AreBounds (Suits n ranks x) b
-  home_bounds x b e limit spare = bounds_widest (Suits n ranks x) b limit spare (λ l s r ranked away. absurd (away e))
-
-  pub unranked_bounds : (x : ℕ) (b : Bounds) → ranks x ≡ None → b.limit ≡ 0 → b.spare ≡ 15 → AreBounds (Suits n ranks x) b
-  unranked_bounds x b e limit spare = bounds_widest (Suits n ranks x) b limit spare (λ l s r ranked away. absurd (let bad : ⊥ = cc in bad))
-
-  pub ranked_bounds : (x rank : ℕ) (b : Bounds) → ranks x ≡ Some rank → x ≢ n.home → 0 < length (n.list x) → b.limit ≡ rank - 1 → b.spare ≡ min (length (n.list x) - 1) 15 → AreBounds (Suits n ranks x) b
-  ranked_bounds x rank b e away some limit spare =
-      record {
-        few = omega arith;
-        exactly = λ l s h. (
-          λ suits. let k = suits rank e away in let u = k.0 in let v = k.1 in (omega arith, omega arith),
-          λ k r ranked _. let same : r ≡ rank = cc in let u = k.0 in let v = k.1 in (omega arith, omega arith),
-        );
-      }
-
-  pub below_none : (b : Bounds) → b.limit ≡ 0 → b.spare ≡ 15 → AreBounds (SuitsBelow n ranks 0) b
-  below_none b limit spare = bounds_widest (SuitsBelow n ranks 0) b limit spare (λ l s x h. absurd (omega arith))
-
   pub below_next : (i : ℕ) (a b c : Bounds) → AreBounds (SuitsBelow n ranks i) a → AreBounds (Suits n ranks i) b → c.limit ≡ max a.limit b.limit → c.spare ≡ min a.spare b.spare → AreBounds (SuitsBelow n ranks (i + 1)) c
   below_next i a b c p q limit spare =
       bounds_both (SuitsBelow n ranks i) (Suits n ranks i) (SuitsBelow n ranks (i + 1)) a b c p q limit spare
@@ -128,14 +106,6 @@ pub record IsGradedBelow (p : Plan) (ranks : Ranks) (c : ℕ) (b : Bounds) (code
   pub each : (d : ℕ) (q : ℕ × Bounds) → slice_get codes d ≡ Some q → (q.0 ≡ d) × AreBounds (CanBeCertifiedFor p d) q.1
 
 module _ (p : Plan) (ranks : Ranks) where
-  pub graded_none : (b : Bounds) → b.limit ≡ 0 → b.spare ≡ 15 → (codes : List (ℕ × Bounds)) → codes ≡ [] → IsGradedBelow p ranks 0 b codes
-  graded_none b limit spare codes e =
-      record {
-        together = bounds_widest (CertifiesBelow p ranks 0) b limit spare (λ l s d h. absurd (omega arith));
-        long = ap length e;
-        each = λ d k at. absurd (let bad : ⊥ = cc in bad);
-      }
-
   module _ (heights : AreHeights p ranks) (certified : IsCertified p ranks 255 0) where
     -- what any ranks certify, these do
     best : (c : ℕ) → c < length p.codes → (l s : ℕ) → CanBeCertifiedFor p c l s → Certifies (net_of p c) (ranks c) l s

@@ -4,7 +4,7 @@ use Rattle.std.proofs.lemmas.Bool.{eqb-false}
 use Rattle.tx_plan.specs.Among.{Among}
 use Rattle.tx_rank.specs.Walks.{Net, Goes, end_of}
 use Rattle.tx_rank.specs.Heights.{IsHeight, RanksByHeight}
-use Rattle.tx_rank.specs.Marks.{AreSettled}
+use Rattle.tx_rank.specs.inner.Marks.{AreSettled}
 use Rattle.tx_rank.proofs.Ranks.{all_down, falling, reached_ranked, one_lower}
 
 module _ (n : Net) (ranks : ℕ → Option ℕ) (done : AreSettled n ranks) where

@@ -6,8 +6,8 @@ use Rattle.tx_rank.specs.declared.finding.Finding.TheVariants.{Loop, Short, Long
 use Rattle.tx_rank.specs.Walks.{Net, Walk, end_of, IsLoop, IsShort, IsLong}
 use Rattle.tx_rank.specs.Findings.{end_at}
 use Rattle.tx_rank.specs.Findings.AreFindingsOfCode.{looped, straight}
-use Rattle.tx_rank.specs.Marks.{AreSettled}
-use Rattle.tx_rank.specs.Judged.{LowOrigins, AddsShorts, IsJudged}
+use Rattle.tx_rank.specs.inner.Marks.{AreSettled}
+use Rattle.tx_rank.specs.inner.Judged.{LowOrigins, AddsShorts, IsJudged}
 use Rattle.tx_rank.proofs.Walked.{loops_none, longs_none, certifies, heights}
 
 abbrev shorts : {A : Type 0} → ℕ → List Walk → List (Finding A)

@@ -8,7 +8,7 @@ use Rattle.std.proofs.lemmas.List.{length-replicate, take_all}
 use Rattle.tx_plan.specs.Among.{Among}
 use Rattle.tx_plan.proofs.Among.{among_cases}
 use Rattle.tx_rank.specs.Walks.{Net, Goes, end_of}
-use Rattle.tx_rank.specs.Links.{IsLink, AreLinks, LinksAll, StaysLinked, LinksBelow, IsLinked}
+use Rattle.tx_rank.specs.inner.Links.{IsLink, AreLinks, LinksAll, StaysLinked, LinksBelow, IsLinked}
 use Rattle.tx_rank.proofs.Looks.{among_at, take_next}
 use Rattle.tx_rank.proofs.Turns.{set_same, set_other}
 

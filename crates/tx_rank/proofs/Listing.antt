@@ -15,7 +15,7 @@ use Rattle.tx_rank.specs.Heights.{RanksByHeight, AreHeights}
 use Rattle.tx_rank.specs.Findings.{IsTrueOf, IsLongIfAny, long_findings, AreFindingsOfCode, AreFindingsBelow, pair_findings, AreFindings}
 use Rattle.tx_rank.specs.Findings.AreFindingsOfCode.{looped, straight}
 use Rattle.tx_rank.specs.Nets.{Certifies}
-use Rattle.tx_rank.specs.Judged.{IsJudged}
+use Rattle.tx_rank.specs.inner.Judged.{IsJudged}
 use Rattle.tx_rank.proofs.Certifying.{none_distinct, certified_codes}
 
 -- NOTHING IN FRONT AND NOTHING BEHIND

@@ -7,7 +7,7 @@ use Rattle.tx_plan.specs.Among.{Among}
 use Rattle.tx_plan.proofs.Among.{among_left, among_right, among_cases}
 use Rattle.tx_rank.specs.Walks.{Net}
 use Rattle.tx_rank.specs.Nets.{IsNet}
-use Rattle.tx_rank.specs.Marks.{rank_in, IsOnward, IsTop}
+use Rattle.tx_rank.specs.inner.Marks.{rank_in, IsOnward, IsTop}
 use Rattle.tx_rank.specs.declared.mark.Mark.{Mark}
 
 pub among_at : {A : Type 0} (xs : List A) (i : ℕ) (x : A) → slice_get xs i ≡ Some x → Among x xs

@@ -3,7 +3,7 @@ use Rattle.std.proofs.Common.{◌≡◌, ℕ, zero, suc, ◌+◌, Bool, List, []
 use Rattle.std.specs.Prelude.{slice_get}
 use Rattle.tx_plan.specs.Plan.{Plan}
 use Rattle.tx_plan.specs.Routes.{is_origin}
-use Rattle.tx_rank.specs.Judged.{AreOrigins}
+use Rattle.tx_rank.specs.inner.Judged.{AreOrigins}
 
 pub record AreOriginsBelow (p : Plan) (i : ℕ) (origins : List Bool) : Type 0 where
   pub long : length origins ≡ i

@@ -4,7 +4,7 @@ use Rattle.tx_plan.specs.Among.{Among}
 use Rattle.tx_rank.specs.Walks.{Net, AllDiffer, Goes, end_of, before_end, passed, IsLoop}
 use Rattle.tx_rank.specs.Heights.{IsReached}
 use Rattle.tx_rank.specs.Nets.{LeadsBelow}
-use Rattle.tx_rank.specs.Marks.{AreSettled}
+use Rattle.tx_rank.specs.inner.Marks.{AreSettled}
 use Rattle.tx_rank.proofs.Ways.{once_cons}
 
 -- each step from a ranked exchange leads to a smaller rank

@@ -6,8 +6,8 @@ use Rattle.std.proofs.lemmas.List.{reverse-append}
 use Rattle.tx_plan.specs.Among.{Among}
 use Rattle.tx_plan.proofs.Among.{among_cases}
 use Rattle.tx_rank.specs.Walks.{Net, Goes, end_of}
-use Rattle.tx_rank.specs.Marks.{AreSettled, IsLower}
-use Rattle.tx_rank.specs.Links.{IsLink, LinksBelow}
+use Rattle.tx_rank.specs.inner.Marks.{AreSettled, IsLower}
+use Rattle.tx_rank.specs.inner.Links.{IsLink, LinksBelow}
 use Rattle.tx_rank.proofs.Ways.{goes_push, end_push}
 use Rattle.tx_rank.proofs.Looks.{take_next}
 use Rattle.tx_rank.proofs.Ranks.{falling, one_down, reached_ranked}

@@ -1,8 +1,8 @@
 -- What was tried of the lists of a walk in hand, as the walk grows and shrinks at its end.
 use Rattle.std.proofs.Common.{◌≡◌, ℕ, List, [], ◌∷◌, ◌++◌, take, inl, inr, refl, sym, ap, subst, ◌∙◌}
 use Rattle.tx_rank.specs.Walks.{Net, end_of, before_end, passed}
-use Rattle.tx_rank.specs.Marks.{Grew, IsTop, IsTried, AreTried, IsTrail}
-use Rattle.tx_rank.specs.declared.look.Tried.{Tried}
+use Rattle.tx_rank.specs.inner.Marks.{Grew, IsTop, IsTried, AreTried, IsTrail}
+use Rattle.tx_rank.specs.declared.list_scan.Tried.{Tried}
 use Rattle.tx_rank.specs.declared.mark.Mark.{Mark}
 use Rattle.tx_rank.proofs.Ways.{end_push, before_push}
 

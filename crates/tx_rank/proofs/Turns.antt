@@ -8,7 +8,7 @@ use Rattle.std.specs.Option.{option_and_then}
 use Rattle.tx_plan.specs.Among.{Among}
 use Rattle.tx_plan.proofs.Among.{among_left, among_right, among_cases}
 use Rattle.tx_rank.specs.Walks.{Net, AllDiffer, end_of, before_end, passed, IsWalk, IsLoop}
-use Rattle.tx_rank.specs.Marks.{rank_of, cost_of, rank_in, cost, IsSettled, IsMarked, IsInHand, Grew, NoneOpen, IsOnward, IsTop, IsStep, IsEnd}
+use Rattle.tx_rank.specs.inner.Marks.{rank_of, cost_of, rank_in, cost, IsSettled, IsMarked, IsInHand, Grew, NoneOpen, IsOnward, IsTop, IsStep, IsEnd}
 use Rattle.tx_rank.specs.declared.mark.Mark.{Mark}
 use Rattle.tx_rank.specs.declared.mark.Mark.TheVariants.{Unseen, Open, Ranked}
 use Rattle.tx_rank.proofs.Ways.{once_push, once_pop, end_push, passed_push, before_push, end_passed, goes_push, goes_pop}

@@ -6,8 +6,8 @@ use Rattle.tx_plan.specs.Among.{Among}
 use Rattle.tx_rank.specs.Walks.{Net, AllDiffer, end_of, passed, IsWalk, IsLoop, IsShort, IsLong}
 use Rattle.tx_rank.specs.Heights.{RanksByHeight}
 use Rattle.tx_rank.specs.Nets.{Certifies}
-use Rattle.tx_rank.specs.Marks.{AreSettled}
-use Rattle.tx_rank.specs.Judged.{IsShortAt, LowOrigins}
+use Rattle.tx_rank.specs.inner.Marks.{AreSettled}
+use Rattle.tx_rank.specs.inner.Judged.{IsShortAt, LowOrigins}
 use Rattle.tx_rank.proofs.Ranks.{Falls, falling, all_down, once_down, no_loop, reached_ranked}
 use Rattle.tx_rank.proofs.Heights.{ranking}
 

@@ -2,7 +2,7 @@
 use Rattle.std.specs.Prelude.{◌≡◌, ℕ, zero, suc, ◌<◌, List, [], ◌∷◌, ◌++◌, length, map, Option, Some, None}
 use Rattle.tx_plan.specs.Plan.{Plan}
 use Rattle.tx_plan.specs.Ambiguous.{ambiguous_of}
-use Rattle.tx_plan.specs.Rules.{AllPairs}
+use Rattle.tx_plan.specs.Rules.{EachPair}
 use Rattle.tx_plan.specs.Among.{Among}
 use Rattle.tx_rank.specs.declared.finding.Finding.{Finding}
 use Rattle.tx_rank.specs.declared.finding.Finding.TheVariants.{Ambiguous, Loop, Short, Long}
@@ -24,7 +24,7 @@ end_at w = end_of w.start w.steps
 -- one short walk to each exchange to which there is one, in order of the exchanges
 pub record AreShorts (n : Net) (spare : ℕ) (walks : List Walk) : Type 0 where
   pub each : (w : Walk) → Among w walks → IsShort n spare w.start w.steps
-  pub order : AllPairs (λ x y. x < y) (map end_at walks)
+  pub order : EachPair (λ x y. x < y) (map end_at walks)
   pub all : (x : ℕ) (steps : List (ℕ × ℕ)) → IsShort n spare x steps → Among (end_of x steps) (map end_at walks)
 
 -- a long walk, if there is one

@@ -3,8 +3,6 @@ pub mod Heights
 pub mod Findings
 pub mod Rankings
 pub mod Nets
-pub mod Marks
-pub mod Links
-pub mod Judged
 pub mod Grades
 pub mod Gradings
+pub mod inner

@@ -1,7 +1,7 @@
 -- The walks of calls for one code, and what may be wrong with one.
 use Rattle.std.specs.Prelude.{◌≡◌, ◌≢◌, ℕ, ◌+◌, ◌<◌, Bool, true, List, [], ◌∷◌, length, Option, Some}
 use Rattle.tx_plan.specs.Plan.{Plan, home_of}
-use Rattle.tx_plan.specs.Rules.{AllPairs}
+use Rattle.tx_plan.specs.Rules.{EachPair}
 use Rattle.tx_plan.specs.Routes.{route_list, is_origin_for}
 use Rattle.tx_plan.specs.Circuits.{other_end}
 use Rattle.tx_plan.specs.Among.{Among}
@@ -52,7 +52,7 @@ before_end x (s ∷ steps) = x ∷ before_end s.1 steps
 
 -- no two of them are the same
 abbrev pub AllDiffer : List ℕ → Type 0
-AllDiffer = AllPairs (λ x y. x ≢ y)
+AllDiffer = EachPair (λ x y. x ≢ y)
 
 -- A WALK: it begins where calls may start, and goes by the lists.
 pub record IsWalk (n : Net) (x : ℕ) (steps : List (ℕ × ℕ)) : Type 0 where

@@ -1,13 +1,13 @@
 // The ranking of one code.
 ghost use Rattle.std.specs.Prelude.{◌≡◌, ◌≢◌, ◌<◌, ℕ, None, IfOk};
 ghost use Rattle.tx_cert.specs.Certificate.{rank_at as ranked_at};
-ghost use Rattle.tx_rank.specs.Judged.{IsJudged};
+ghost use Rattle.tx_rank.specs.inner.Judged.{IsJudged};
 
 use crate::explore::{Search, pass, unseen};
 use crate::finding::Finding;
-use crate::longs::long_walk;
+use crate::long_walk::long_walk;
 use crate::routes::Routes;
-use crate::shorts::add_shorts;
+use crate::short_walks::add_shorts;
 use crate::walk::{Steps, Walk};
 use crate::written::put_ranks;
 use std::alloc::Allocator;

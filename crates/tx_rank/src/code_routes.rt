@@ -2,7 +2,7 @@
 ghost use Rattle.std.specs.Prelude.{◌≡◌, ◌<◌, ℕ, Bool, length, Some, slice_get, IfOk};
 ghost use Rattle.tx_plan.specs.Routes.{is_origin};
 ghost use Rattle.tx_rank.specs.Walks.{net_of};
-ghost use Rattle.tx_rank.specs.Judged.{AreOrigins};
+ghost use Rattle.tx_rank.specs.inner.Judged.{AreOrigins};
 
 use crate::routes::Routes;
 use std::alloc::Allocator;

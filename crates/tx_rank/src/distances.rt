@@ -1,7 +1,7 @@
 // How far exchanges are from where calls may start.
 ghost use Rattle.std.specs.Prelude.{◌≡◌, length, IfOk};
 
-use crate::look::onward;
+use crate::list_scan::onward;
 use crate::routes::Routes;
 use std::alloc::Allocator;
 use tx_plan::ExchangeId;

@@ -2,10 +2,10 @@
 ghost use Rattle.std.specs.Prelude.{◌≡◌, ◌<◌, ◌+◌, ◌++◌, ◌∷◌, [], List, length, true, false, None, Some, IfOk, slice_get};
 ghost use Rattle.tx_rank.specs.Walks.{end_of, IsLoop};
 ghost use Rattle.tx_rank.specs.Nets.{IsNet};
-ghost use Rattle.tx_rank.specs.declared.look.Tried.{Tried};
-ghost use Rattle.tx_rank.specs.Marks.{IsMarked, IsInHand, IsTrail, IsOnward, IsTop, IsAdvanced, IsEnd, NoneOpen, IsPassing, IsPassed, rank_in};
+ghost use Rattle.tx_rank.specs.declared.list_scan.Tried.{Tried};
+ghost use Rattle.tx_rank.specs.inner.Marks.{IsMarked, IsInHand, IsTrail, IsOnward, IsTop, IsAdvanced, IsEnd, NoneOpen, IsPassing, IsPassed, rank_in};
 
-use crate::look::{Look, Tried, look_on, rank_at, untried};
+use crate::list_scan::{Look, Tried, look_on, rank_at, untried};
 use crate::mark::Mark;
 use crate::routes::Routes;
 use std::alloc::Allocator;

@@ -16,6 +16,7 @@
 //! ```
 #![tactic(auto)]
 
+mod back_links;
 mod bounds;
 mod code_bounds;
 mod code_ranking;
@@ -24,14 +25,13 @@ mod distances;
 mod explore;
 mod finding;
 mod grading;
-mod links;
-mod longs;
-mod look;
+mod list_scan;
+mod long_walk;
 mod mark;
 mod plan_grade;
 mod ranking;
 mod routes;
-mod shorts;
+mod short_walks;
 mod walk;
 mod written;
 

@@ -1,9 +1,9 @@
 // The ranks of a code, written into a certificate.
 ghost use Rattle.std.specs.Prelude.{◌≡◌, ◌≢◌, ◌<◌, ℕ, length, None};
 ghost use Rattle.tx_cert.specs.Certificate.{rank_at as ranked_at};
-ghost use Rattle.tx_rank.specs.Marks.{rank_in};
+ghost use Rattle.tx_rank.specs.inner.Marks.{rank_in};
 
-use crate::look::rank_at;
+use crate::list_scan::rank_at;
 use crate::mark::Mark;
 use crate::routes::Routes;
 use std::alloc::Allocator;

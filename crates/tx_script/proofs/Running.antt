@@ -8,13 +8,13 @@ use Rattle.tx_text.specs.declared.text_fault.TextFault.TheVariants.{LineTooLong,
 use Rattle.tx_text.specs.declared.line_fault.LineFault.TheVariants.{Text, Read as line_read}
 use Rattle.tx_text.specs.declared.frame.FrameFault.{FrameFault}
 use Rattle.tx_text.specs.declared.frame.FrameFault.TheVariants.{Line as of_line, Form as of_form}
-use Rattle.tx_text.specs.declared.frame.Kind.{Kind}
-use Rattle.tx_text.specs.declared.frame.Kind.TheVariants.{Frame, Word}
+use Rattle.tx_text.specs.declared.frame.FaultKind.{FaultKind}
+use Rattle.tx_text.specs.declared.frame.FaultKind.TheVariants.{Frame, Word}
 use Rattle.tx_text.specs.Calls.{source_calls}
 use Rattle.tx_text.specs.Ends.{StopsIn}
 use Rattle.tx_text.specs.Told.{Ending, AtEnd, reading_start, reading_size}
 use Rattle.tx_text.specs.Frame.{Framed, Done, Stop, Headed, Has, ReadsOn, EndsAs, Stopped, is_read}
-use Rattle.tx_text.specs.declared.frame.Phase.TheVariants.{Start}
+use Rattle.tx_text.specs.declared.frame.FramePart.TheVariants.{Start}
 use Rattle.tx_text.specs.declared.frame_reader.FrameReader.{FrameReader}
 use Rattle.tx_text.specs.Framing.{to_come}
 use Rattle.tx_text.specs.Said.{is_no_room}
@@ -120,7 +120,7 @@ module _ (p : Plan) (a b : Option (List ℕ)) (s t : State) (u v : Option (List 
     place : tally.answered + 1 ≡ length es + 1
     place = ap (λ n. n + 1) on.far.answered
 
-    ran : (n : ℕ) (k : Kind ScriptWord) → Ran p there (faulty es n k)
+    ran : (n : ℕ) (k : FaultKind ScriptWord) → Ran p there (faulty es n k)
     ran n k = record { wrote = on.far.wrote ∙ ap (append_known u) (sym (append-nil (events_text p s es))); network = on.far.network }
 
     module _ (broken untouched : Type 0) (f : RunFault) where

@@ -1,9 +1,9 @@
 -- What was read so far, as the first events of a script.
 use Rattle.std.proofs.Common.{◌≡◌, ◌⊎◌, ℕ, List, [], ◌∷◌, ◌++◌, Option, Ok, Err, codes, refl, sym, ap, ◌∙◌, append_assoc, append-nil, subst, inl, inr}
 use Rattle.tx_text.specs.declared.frame.FrameFault.{FrameFault}
-use Rattle.tx_text.specs.declared.frame.Kind.{Kind}
-use Rattle.tx_text.specs.declared.frame.Kind.TheVariants.{Frame, Word}
-use Rattle.tx_text.specs.declared.frame.Phase.TheVariants.{Start}
+use Rattle.tx_text.specs.declared.frame.FaultKind.{FaultKind}
+use Rattle.tx_text.specs.declared.frame.FaultKind.TheVariants.{Frame, Word}
+use Rattle.tx_text.specs.declared.frame.FramePart.TheVariants.{Start}
 use Rattle.tx_text.specs.declared.frame_reader.FrameReader.{FrameReader}
 use Rattle.tx_text.specs.Told.{Ending, AtEnd, reading_start, told_at}
 use Rattle.tx_text.specs.Frame.{Framed, Done, Stop, Headed, Has, ReadsOn, EndsAs, Stopped, is_read}
@@ -27,7 +27,7 @@ SaidSoFar p a b es T = ReadsOn a b (script_of p) (λ e more. after_events es (sc
 after_whole : (es : List Event) → after_events es (whole []) ≡ whole es
 after_whole es = ap (λ (l : List Event). whole l) (append-nil es)
 
-after_fault : (es : List Event) (n : ℕ) (k : Kind ScriptWord) → after_events es (faulty [] n k) ≡ faulty es n k
+after_fault : (es : List Event) (n : ℕ) (k : FaultKind ScriptWord) → after_events es (faulty [] n k) ≡ faulty es n k
 after_fault es n k = ap (λ (l : List Event). faulty l n k) (append-nil es)
 
 after_one : (es : List Event) (e : Event) (s : Script) → after_events es (after_events (e ∷ []) s) ≡ after_events (es ++ e ∷ []) s

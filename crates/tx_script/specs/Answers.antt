@@ -1,8 +1,8 @@
 -- What a run answers: what it read, what it wrote, and where it left the network.
 use Rattle.std.specs.Prelude.{◌≡◌, ◌⊎◌, ℕ, ◌+◌, Bool, true, false, List, [], ◌∷◌, ◌++◌, length, Option, None, Result, Ok, Err}
 use Rattle.std.specs.Io.KnownBytes.{append_known, IsAtEnd}
-use Rattle.tx_text.specs.declared.frame.Kind.{Kind}
-use Rattle.tx_text.specs.declared.frame.Kind.TheVariants.{Frame, Word}
+use Rattle.tx_text.specs.declared.frame.FaultKind.{FaultKind}
+use Rattle.tx_text.specs.declared.frame.FaultKind.TheVariants.{Frame, Word}
 use Rattle.tx_text.specs.declared.frame.FrameFault.TheVariants.{Line as of_line}
 use Rattle.tx_text.specs.declared.line_fault.LineFault.TheVariants.{Read as line_read}
 use Rattle.tx_text.specs.Ends.{StopsIn}
@@ -69,7 +69,7 @@ pub record RanWhole (p : Plan) (x : Moved) (summary : Summary) : Type 0 where
   pub counted : summary ≡ summary_of p x.state_old events
 
 -- The text is faulty after the events before this one.
-pub record RanToFault (p : Plan) (x : Moved) (event line : ℕ) (kind : Kind ScriptWord) : Type 0 where
+pub record RanToFault (p : Plan) (x : Moved) (event line : ℕ) (kind : FaultKind ScriptWord) : Type 0 where
   pub events : List Event
   pub place : event ≡ length events + 1
   pub text : Stands x.rest_old x.rest_new (script_of p) (faulty events line kind)
@@ -112,11 +112,11 @@ pub record FailedAtEnd (p : Plan) (x : Moved) (event : ℕ) : Type 0 where
   pub network : x.state_new ≡ settled p x.state_old events
 
 -- Without memory for the reader of lines the first event and the first line are told, and nothing was touched.
-abbrev pub FaultyBy : Plan → Moved → Type 0 → Bool → ℕ → ℕ → Kind ScriptWord → Type 0
+abbrev pub FaultyBy : Plan → Moved → Type 0 → Bool → ℕ → ℕ → FaultKind ScriptWord → Type 0
 FaultyBy p x untouched true event line kind = (event ≡ 1) × (line ≡ 1) × untouched
 FaultyBy p x untouched false event line kind = RanToFault p x event line kind
 
-abbrev pub is_reader_room : Kind ScriptWord → Bool
+abbrev pub is_reader_room : FaultKind ScriptWord → Bool
 is_reader_room (Frame k) = is_no_room k
 is_reader_room (Word w) = false
 

@@ -16,8 +16,8 @@ use Rattle.tx_tickets.specs.Texts.{circuit_text}
 use Rattle.tx_text.specs.declared.text_fault.TextFault.{TextFault}
 use Rattle.tx_text.specs.declared.line_fault.LineFault.TheVariants.{Text as of_text}
 use Rattle.tx_text.specs.declared.frame.FrameFault.TheVariants.{Line as of_line}
-use Rattle.tx_text.specs.declared.frame.Kind.{Kind}
-use Rattle.tx_text.specs.declared.frame.Kind.TheVariants.{Frame, Word}
+use Rattle.tx_text.specs.declared.frame.FaultKind.{FaultKind}
+use Rattle.tx_text.specs.declared.frame.FaultKind.TheVariants.{Frame, Word}
 use Rattle.tx_text.specs.Text.{bytes_fault}
 use Rattle.tx_script.specs.declared.verb.Verb.{Verb}
 use Rattle.tx_script.specs.declared.verb.Verb.TheVariants.{Key as KeyVerb, Route as RouteVerb, Confirm as ConfirmVerb, Clear as ClearVerb, Released as ReleasedVerb, Fail as FailVerb, Restore as RestoreVerb, Block as BlockVerb, Unblock as UnblockVerb, Out as OutVerb, In as InVerb, Fault as FaultVerb, Mend as MendVerb, Away as AwayVerb, Back as BackVerb, End as EndVerb}
@@ -193,13 +193,13 @@ event_of p [] = Err UnknownWord
 event_of p (w ∷ ws) = event_for p (verb_of w) ws
 
 -- a fault of a line's bytes comes before those of its words
-abbrev pub event_said : Option TextFault → Said → Result Event (Kind ScriptWord)
+abbrev pub event_said : Option TextFault → Said → Result Event (FaultKind ScriptWord)
 event_said (Some f) said = Err (Frame (of_line (of_text f)))
 event_said None (Ok e) = Ok e
 event_said None (Err k) = Err (Word k)
 
 -- THE EVENT OF A LINE, given as its bytes without the LF and the CR before it
-abbrev pub event_in : Plan → List ℕ → Result Event (Kind ScriptWord)
+abbrev pub event_in : Plan → List ℕ → Result Event (FaultKind ScriptWord)
 event_in p bytes = event_said (bytes_fault bytes) (event_of p (words_of bytes))
 
 -- THE LINE OF AN EVENT

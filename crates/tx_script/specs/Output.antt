@@ -1,7 +1,7 @@
 -- What a run writes, and what is counted of it.
 use Rattle.std.specs.Prelude.{ℕ, List, [], ◌++◌, Option, None, Some, codes, decimal, drop, length}
 use Rattle.std.specs.List.{flat_map, count_by, sum_by}
-use Rattle.tx_text.specs.declared.frame.Kind.{Kind}
+use Rattle.tx_text.specs.declared.frame.FaultKind.{FaultKind}
 use Rattle.tx_plan.specs.Plan.{Plan}
 use Rattle.tx_state.specs.declared.event.Event.{Event}
 use Rattle.tx_state.specs.Ended.{Ended}
@@ -33,7 +33,7 @@ abbrev pub end_text : State → List ℕ
 end_text s = end_line s.events (length s.calls)
 
 -- after a fault there is no such line
-abbrev pub last_text : State → Option (ℕ × Kind ScriptWord) → List ℕ
+abbrev pub last_text : State → Option (ℕ × FaultKind ScriptWord) → List ℕ
 last_text s None = end_text s
 last_text s (Some x) = []
 

@@ -1,8 +1,8 @@
 -- Scripts: the events that a text says, up to its end or its first fault.
 use Rattle.std.specs.Prelude.{ℕ, List, [], ◌∷◌, ◌++◌, Option, None, Some, Result, Ok, Err, codes}
-use Rattle.tx_text.specs.declared.frame.Kind.{Kind}
-use Rattle.tx_text.specs.declared.frame.Kind.TheVariants.{Frame, Word}
-use Rattle.tx_text.specs.declared.frame.Phase.TheVariants.{Start}
+use Rattle.tx_text.specs.declared.frame.FaultKind.{FaultKind}
+use Rattle.tx_text.specs.declared.frame.FaultKind.TheVariants.{Frame, Word}
+use Rattle.tx_text.specs.declared.frame.FramePart.TheVariants.{Start}
 use Rattle.tx_text.specs.Text.{lines_of}
 use Rattle.tx_text.specs.Told.{Ending, told}
 use Rattle.tx_text.specs.Frame.{Framed, Done, Stop, Headed, Has, header_of, framed}
@@ -14,14 +14,14 @@ use Rattle.tx_script.specs.Events.{event_of}
 -- the events of a text before its end or its first fault, and that fault with its line
 pub record Script : Type 0 where
   pub events : List Event
-  pub fault : Option (ℕ × Kind ScriptWord)
+  pub fault : Option (ℕ × FaultKind ScriptWord)
 
 -- these events, and no fault
 abbrev pub whole : List Event → Script
 whole es = record { events = es; fault = None }
 
 -- these events, and then a fault in this line
-abbrev pub faulty : List Event → ℕ → Kind ScriptWord → Script
+abbrev pub faulty : List Event → ℕ → FaultKind ScriptWord → Script
 faulty es n k = record { events = es; fault = Some (n, k) }
 
 -- a script with these events before it

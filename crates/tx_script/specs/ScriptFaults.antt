@@ -5,8 +5,8 @@ use Rattle.tx_text.specs.declared.line_fault.LineFault.TheVariants.{Text, Read}
 use Rattle.tx_text.specs.declared.frame.FormFault.TheVariants.{NoHeader, NoEnd, AfterEnd}
 use Rattle.tx_text.specs.declared.frame.FrameFault.{FrameFault}
 use Rattle.tx_text.specs.declared.frame.FrameFault.TheVariants.{Line, Form}
-use Rattle.tx_text.specs.declared.frame.Kind.{Kind}
-use Rattle.tx_text.specs.declared.frame.Kind.TheVariants.{Frame, Word}
+use Rattle.tx_text.specs.declared.frame.FaultKind.{FaultKind}
+use Rattle.tx_text.specs.declared.frame.FaultKind.TheVariants.{Frame, Word}
 use Rattle.tx_script.specs.declared.script_word.ScriptWord.{ScriptWord}
 use Rattle.tx_script.specs.declared.script_word.ScriptWord.TheVariants.{UnknownWord, WrongCount, BadNumber, UnknownName}
 
@@ -30,6 +30,6 @@ frame_row (Line (Text BadByte)) = (codes "X2", codes "BadByte")
 frame_row (Line (Text NoMemory)) = (codes "X3", codes "NoMemory")
 frame_row (Line Read) = (codes "", codes "ReadFault")
 
-abbrev pub fault_row : Kind ScriptWord → Row
+abbrev pub fault_row : FaultKind ScriptWord → Row
 fault_row (Frame k) = frame_row k
 fault_row (Word w) = word_row w

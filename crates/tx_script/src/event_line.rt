@@ -7,7 +7,7 @@ use crate::script_word::ScriptKind;
 use std::alloc::Allocator;
 use tx_plan::Plan;
 use tx_state::Event;
-use tx_text::{FrameFault, Kind, LineFault, bytes_fault, words};
+use tx_text::{FaultKind, FrameFault, LineFault, bytes_fault, words};
 
 /// The event that one line of a script says, given without its LF and the CR before it. A fault of its bytes comes before those of its words. A line
 /// without words, one that begins with SCRIPT and the one word END are no events: they are S1.
@@ -17,11 +17,11 @@ pub fn read_event<A: Allocator>(line: &[u8], plan: &Plan<A>) -> Result<Event, Sc
     ensures is_event { IfOk result IsEvent }
 {
     if let Some(fault) = bytes_fault(line) {
-        return Err(Kind::Frame(FrameFault::Line(LineFault::Text(fault))));
+        return Err(FaultKind::Frame(FrameFault::Line(LineFault::Text(fault))));
     }
     match event_of(words(line), plan) {
         Ok(event) => Ok(event),
-        Err(word) => Err(Kind::Word(word)),
+        Err(word) => Err(FaultKind::Word(word)),
     }
 }
 

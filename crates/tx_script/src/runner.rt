@@ -1,7 +1,7 @@
 // The run of a script over a network.
 ghost use Rattle.std.specs.Prelude.{◌≡◌, ◌+◌, ◌<◌, ◌^◌, true, OnOk, OnErr, IfOk, IfErr, codes, length, if◌then◌else◌};
 ghost use Rattle.std.specs.Io.KnownBytes.{append_known};
-ghost use Rattle.tx_text.specs.declared.frame.Phase.TheVariants.{Start};
+ghost use Rattle.tx_text.specs.declared.frame.FramePart.TheVariants.{Start};
 ghost use Rattle.tx_text.specs.Calls.{CallsAtMost, Broken, source_calls};
 ghost use Rattle.tx_text.specs.Ends.{StopsIn};
 ghost use Rattle.tx_text.specs.Told.{reading_start};
@@ -21,8 +21,8 @@ use std::alloc::Allocator;
 use tx_plan::Plan;
 use tx_state::Network;
 use tx_text::{
-    FaultAt, FrameFault, FrameReader, Kind, LineFault, Sink, Source, Step, Stop, WriteFault,
-    write_parts,
+    FaultAt, FaultKind, FrameFault, FrameReader, FrameStep, FrameStop, LineFault, Sink, Source,
+    WriteFault, write_parts,
 };
 
 const KEY: &[u8] = b"SCRIPT";
@@ -49,7 +49,10 @@ pub fn run<A: Allocator, B: Allocator, N: Network, R: Source, W: Sink>(
         Ok(frame) => run_lines(frame, plan, net, source, sink),
         Err(fault) => Err(RunFault {
             event: 1,
-            cause: script_fault(1, Kind::Frame(FrameFault::Line(LineFault::Text(fault)))),
+            cause: script_fault(
+                1,
+                FaultKind::Frame(FrameFault::Line(LineFault::Text(fault))),
+            ),
         }),
     }
 }
@@ -83,18 +86,18 @@ fn run_lines<A: Allocator, B: Allocator, N: Network, R: Source, W: Sink>(
     };
     'lines: loop {
         match frame.advance(source) {
-            Ok(Step::Header(_)) => {}
-            Ok(Step::Line) => match event_of(frame.words(), plan) {
+            Ok(FrameStep::Header(_)) => {}
+            Ok(FrameStep::Line) => match event_of(frame.words(), plan) {
                 Ok(event) => match answer(event, plan, net, sink) {
                     Ok(answered) => tally.count(answered),
                     Err(cause) => return Err(tally.stopped(cause)),
                 },
                 Err(word) => {
-                    let cause = script_fault(frame.number(), Kind::Word(word));
+                    let cause = script_fault(frame.number(), FaultKind::Word(word));
                     return Err(tally.stopped(cause));
                 }
             },
-            Ok(Step::End) => return finish(&tally, net, sink),
+            Ok(FrameStep::End) => return finish(&tally, net, sink),
             Err(stop) => return Err(tally.stopped(frame_cause(stop))),
         }
     }
@@ -107,12 +110,12 @@ fn script_fault(line: u64, kind: ScriptKind) -> RunCause
 }
 
 /// A failure to read is a cause of its own.
-fn frame_cause(stop: Stop) -> RunCause
-    ensures { result ≡ (if is_read stop.fault then RunCause.Read else RunCause.Script (record { line = stop.line; kind = Kind.Frame stop.fault })) }
+fn frame_cause(stop: FrameStop) -> RunCause
+    ensures { result ≡ (if is_read stop.fault then RunCause.Read else RunCause.Script (record { line = stop.line; kind = FaultKind.Frame stop.fault })) }
 {
     match stop.fault {
         FrameFault::Line(LineFault::Read) => RunCause::Read,
-        fault => script_fault(stop.line, Kind::Frame(fault)),
+        fault => script_fault(stop.line, FaultKind::Frame(fault)),
     }
 }
 

@@ -2,7 +2,7 @@
 ghost use Rattle.std.specs.Prelude.{◌≡◌};
 ghost use Rattle.tx_script.specs.ScriptFaults.{frame_row, word_row, fault_row};
 
-use tx_text::{FaultAt, FormFault, FrameFault, Kind, LineFault, TextFault};
+use tx_text::{FaultAt, FaultKind, FormFault, FrameFault, LineFault, TextFault};
 
 /// What is wrong with the words of a script's line. Of several faults the first in this order is given.
 #[derive(Clone, Copy, Debug, PartialEq, Eq)]
@@ -18,7 +18,7 @@ pub enum ScriptWord {
 }
 
 /// What is wrong with a line of a script, or with its frame.
-pub type ScriptKind = Kind<ScriptWord>;
+pub type ScriptKind = FaultKind<ScriptWord>;
 
 /// A fault of a script, with its line.
 pub type ScriptFault = FaultAt<ScriptWord>;
@@ -28,8 +28,8 @@ pub fn code_and_name(kind: ScriptKind) -> (&'static [u8], &'static [u8])
     ensures { (result.0.now, result.1.now) ≡ fault_row kind }
 {
     match kind {
-        Kind::Frame(fault) => frame_row(fault),
-        Kind::Word(word) => word_row(word),
+        FaultKind::Frame(fault) => frame_row(fault),
+        FaultKind::Word(word) => word_row(word),
     }
 }
 

@@ -3,7 +3,7 @@ use Rattle.std.proofs.Common.{◌≡◌, Bool, true, false, cond, ◌||◌, List
 use Rattle.std.proofs.lemmas.Bool.{false≢true, or_parts, or_cases}
 use Rattle.std.specs.Prelude.{filter, find, slice_get}
 use Rattle.std.specs.List.{list_any, flat_map, AllByRecursion}
-use Rattle.tx_plan.specs.Rules.{AllPairs}
+use Rattle.tx_plan.specs.Rules.{EachPair}
 use Rattle.tx_state.specs.Members.{Mem}
 
 module _ {A : Type 0} where
@@ -84,7 +84,7 @@ at_place P (y ∷ ys) h zero x e = let same : y ≡ x = cc in subst P same h.0
 at_place P (y ∷ ys) h (suc i) x e = at_place P ys h.1 i x e
 
 -- where each member stands apart from each later one, two places of alike members are one
-pub places_differ : {A : Type 0} (Alike : A → A → Type 0) → ((x y : A) → Alike x y → Alike y x) → (xs : List A) → AllPairs (λ x y. Alike x y → ⊥) xs → (i j : ℕ) (x y : A) → slice_get xs i ≡ Some x → slice_get xs j ≡ Some y → Alike x y → i ≡ j
+pub places_differ : {A : Type 0} (Alike : A → A → Type 0) → ((x y : A) → Alike x y → Alike y x) → (xs : List A) → EachPair (λ x y. Alike x y → ⊥) xs → (i j : ℕ) (x y : A) → slice_get xs i ≡ Some x → slice_get xs j ≡ Some y → Alike x y → i ≡ j
 places_differ Alike turned [] h i j x y hx hy a = let bad : ⊥ = cc in absurd bad
 places_differ Alike turned (z ∷ zs) h zero zero x y hx hy a = refl
 places_differ Alike turned (z ∷ zs) h zero (suc j) x y hx hy a = let e : z ≡ x = cc in absurd (at_place (λ y. Alike z y → ⊥) zs h.0 j y hy (subst (λ w. Alike w y) (sym e) a))

@@ -5,7 +5,7 @@ use Rattle.std.specs.List.{AllByRecursion}
 use Rattle.std.specs.FinSet as set
 use Rattle.tx_plan.specs.Orders.{circuit_cmp, line_cmp}
 use Rattle.tx_plan.specs.Plan.{Plan, home_of}
-use Rattle.tx_plan.specs.Rules.{AllPairs}
+use Rattle.tx_plan.specs.Rules.{EachPair}
 use Rattle.tx_plan.specs.Codes.{code_of}
 use Rattle.tx_plan.specs.Lines.{is_line}
 use Rattle.tx_plan.specs.Routes.{is_barred}
@@ -125,7 +125,7 @@ module _ (p : Plan) where
 
   -- SEVERAL GROUPS
 
-  pub blocks : (c : Call) (b : Groups) (n : ℕ) (gs : List ℕ) → AllByRecursion (λ g. is_group p g ≡ true) gs → AllPairs (λ x y. x ≢ y) gs → ((g : ℕ) → Among g gs → set.contains b g ≡ false) → n + length gs ≤ 2 ^ 64 - 1
+  pub blocks : (c : Call) (b : Groups) (n : ℕ) (gs : List ℕ) → AllByRecursion (λ g. is_group p g ≡ true) gs → EachPair (λ x y. x ≢ y) gs → ((g : ℕ) → Among g gs → set.contains b g ≡ false) → n + length gs ≤ 2 ^ 64 - 1
       → Plays p (alone c b n) (map Block gs) (alone c (shut b gs) (n + length gs))
   blocks c b n [] known once up few = subst (λ k. Plays p (alone c b n) [] (alone c b k)) (let e : n ≡ n + 0 = omega arith in e) (plays_none p (alone c b n))
   blocks c b n (g ∷ gs) known once up few =
@@ -135,7 +135,7 @@ module _ (p : Plan) where
       plays_first p (alone c b n) (alone c (set.insert b g) (n + 1)) _ (Block g) (map Block gs) Done (block_step c b n g known.0 (up g (inl refl)) (omega arith)) refl
       (subst (λ k. Plays p (alone c (set.insert b g) (n + 1)) (map Block gs) (alone c (shut (set.insert b g) gs) k)) e rest)
 
-  pub unblocks : (c : Call) (b : Groups) (n : ℕ) (gs : List ℕ) → AllByRecursion (λ g. is_group p g ≡ true) gs → AllPairs (λ x y. x ≢ y) gs → ((g : ℕ) → Among g gs → set.contains b g ≡ true) → n + length gs ≤ 2 ^ 64 - 1
+  pub unblocks : (c : Call) (b : Groups) (n : ℕ) (gs : List ℕ) → AllByRecursion (λ g. is_group p g ≡ true) gs → EachPair (λ x y. x ≢ y) gs → ((g : ℕ) → Among g gs → set.contains b g ≡ true) → n + length gs ≤ 2 ^ 64 - 1
       → Plays p (alone c b n) (map Unblock gs) (alone c (opened b gs) (n + length gs))
   unblocks c b n [] known once down few = subst (λ k. Plays p (alone c b n) [] (alone c b k)) (let e : n ≡ n + 0 = omega arith in e) (plays_none p (alone c b n))
   unblocks c b n (g ∷ gs) known once down few =

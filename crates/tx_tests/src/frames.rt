@@ -6,8 +6,8 @@ use crate::spelling::tell_words;
 use std::alloc::Allocator;
 use tx_cases::{Judge, Stop, write_broken, write_count};
 use tx_text::{
-    FormFault, FrameFault, FrameReader, LineFault, MemorySink, MemorySource, Sink, SliceSource,
-    Source, Step, WriteFault, write_bytes, write_parts,
+    FormFault, FrameFault, FrameReader, FrameStep, LineFault, MemorySink, MemorySource, Sink,
+    SliceSource, Source, WriteFault, write_bytes, write_parts,
 };
 
 fn form_name(fault: FormFault) -> &'static [u8] {
@@ -36,14 +36,14 @@ fn tell_frame<A: Allocator, R: Source, W: Sink>(
 {
     for _ in 0..99u8 {
         match reader.advance(source) {
-            Ok(Step::Header(version)) => {
+            Ok(FrameStep::Header(version)) => {
                 write_count(b"header ", u64::from(version), b"\n", out)?;
             }
-            Ok(Step::Line) => {
+            Ok(FrameStep::Line) => {
                 write_count(b"line ", reader.number(), b", ", out)?;
                 tell_words(&reader.words(), out)?;
             }
-            Ok(Step::End) => return write_bytes(b"end\n", out),
+            Ok(FrameStep::End) => return write_bytes(b"end\n", out),
             Err(stop) => {
                 write_count(b"line ", stop.line, b": ", out)?;
                 return write_parts(&[frame_name(stop.fault), b"\n"], out);

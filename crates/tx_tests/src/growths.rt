@@ -7,7 +7,9 @@ use tx_circuits::CircuitTable;
 use tx_lines::{LineAnswer, LineBook};
 use tx_plan::{CodeId, Plan, PlanRefusal};
 use tx_plantext::{PlanWord, read_plan};
-use tx_text::{FrameFault, Kind, LineFault, LineFeeder, MemorySink, Sink, TextFault, write_bytes};
+use tx_text::{
+    FaultKind, FrameFault, LineFault, LineFeeder, MemorySink, Sink, TextFault, write_bytes,
+};
 use tx_trie::CodeTrie;
 
 /// What is made: the last three of them over a plan.
@@ -161,8 +163,8 @@ fn make<A: Allocator + Copy>(alloc: A, made: Made, plan: &[u8]) -> Came {
             came
         }
         Err(fault) => match fault.kind {
-            Kind::Frame(FrameFault::Line(LineFault::Text(TextFault::NoMemory)))
-            | Kind::Word(PlanWord::Refused(PlanRefusal::NoMemory)) => Came::NoPlan,
+            FaultKind::Frame(FrameFault::Line(LineFault::Text(TextFault::NoMemory)))
+            | FaultKind::Word(PlanWord::Refused(PlanRefusal::NoMemory)) => Came::NoPlan,
             _ => Came::Wrong,
         },
     }

@@ -3,7 +3,7 @@ use Rattle.std.proofs.Common.{◌≡◌, ℕ, zero, suc, ◌+◌, ◌*◌, ◌<�
 use Rattle.std.proofs.lemmas.List.{length-drop, drop-drop}
 use Rattle.tx_text.specs.declared.source.ReadFault.{ReadFault}
 use Rattle.tx_text.specs.declared.frame.FrameFault.{FrameFault}
-use Rattle.tx_text.specs.declared.frame.Kind.{Kind}
+use Rattle.tx_text.specs.declared.frame.FaultKind.{FaultKind}
 use Rattle.tx_text.specs.Calls.{Gives, Gave, Went, Calls, CallsAtMost, Broken}
 use Rattle.tx_text.specs.Slices.{slice_called, SlicesAreReadWhole}
 use Rattle.tx_text.specs.Told.{Ending}
@@ -58,7 +58,7 @@ pub stopped_with : {X : Type 0} (a c : Option (List ℕ)) (F : Ending → List �
 stopped_with a c F B D true x f h = (h.0, f h.1)
 stopped_with a c F B D false x f h = h
 
-pub stopped_by_with : {S W : Type 0} (a c : Option (List ℕ)) (F : Ending → List ℕ → Result S (ℕ × Kind W)) (B D U : Type 0) (b : Bool) (n : ℕ) (k : FrameFault) → (B → D) → StoppedBy a c F B U b n k → StoppedBy a c F D U b n k
+pub stopped_by_with : {S W : Type 0} (a c : Option (List ℕ)) (F : Ending → List ℕ → Result S (ℕ × FaultKind W)) (B D U : Type 0) (b : Bool) (n : ℕ) (k : FrameFault) → (B → D) → StoppedBy a c F B U b n k → StoppedBy a c F D U b n k
 stopped_by_with a c F B D U true n k f h = h
 stopped_by_with a c F B D U false n k f h = stopped_with a c F B D (is_read k) _ f h
 

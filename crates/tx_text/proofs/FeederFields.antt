@@ -2,7 +2,7 @@
 use Rattle.std.proofs.Common.{◌≡◌, Bool, true, false, cond, Option, Some, None, refl, ap, ◌∙◌}
 use Rattle.tx_text.specs.Text.{Line}
 use Rattle.tx_text.specs.Feed.{Feed}
-use Rattle.tx_text.specs.Feeder.{feed_of, held_line}
+use Rattle.tx_text.specs.inner.Feeder.{feed_of, held_line}
 use Rattle.tx_text.specs.declared.feeder.LineFeeder.TheInside.{Inside}
 
 not_complete : (b : Bool) (l : Line) → ◌≡◌ {A = Option Line} (cond b (Some l) None) None → b ≡ false

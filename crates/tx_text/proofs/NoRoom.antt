@@ -9,8 +9,8 @@ use Rattle.tx_text.specs.declared.line_fault.LineFault.TheVariants.{Text, Read}
 use Rattle.tx_text.specs.declared.frame.FormFault.{FormFault}
 use Rattle.tx_text.specs.declared.frame.FrameFault.{FrameFault}
 use Rattle.tx_text.specs.declared.frame.FrameFault.TheVariants.{Line as of_line}
-use Rattle.tx_text.specs.declared.frame.Phase.{Phase}
-use Rattle.tx_text.specs.declared.frame.Phase.TheVariants.{Start, Body, Ended}
+use Rattle.tx_text.specs.declared.frame.FramePart.{FramePart}
+use Rattle.tx_text.specs.declared.frame.FramePart.TheVariants.{Start, Body, Ended}
 use Rattle.tx_text.specs.Text.{Line, is_text_byte, bytes_fault, without_cr}
 use Rattle.tx_text.specs.Feed.{begun_fault}
 use Rattle.tx_text.specs.Words.{words_of}
@@ -70,14 +70,14 @@ end_said : (n : ℕ) (k : Option FormFault) → IsSaid (ended_by n k)
 end_said n None = tt
 end_said n (Some k) = refl
 
-line_framed : (header : List (List ℕ) → Option ℕ) (q : Phase) (finished : Bool) (n : ℕ) (ws : List (List ℕ)) (k : Phase → Framed) → ((r : Phase) → IsSaid (k r)) → IsSaid (framed_line header q finished n ws k)
+line_framed : (header : List (List ℕ) → Option ℕ) (q : FramePart) (finished : Bool) (n : ℕ) (ws : List (List ℕ)) (k : FramePart → Framed) → ((r : FramePart) → IsSaid (k r)) → IsSaid (framed_line header q finished n ws k)
 line_framed header q false n ws k h = end_said n (last_fault q ws)
 line_framed header q true n [] k h = h q
 line_framed header Start true n (w ∷ ws) k h = elim (header (w ∷ ws)) as (λ (o : Option ℕ). IsSaid (as_said (headed o) Start n (w ∷ ws) k)) [ None ↦ refl | Some v ↦ h Body ]
 line_framed header Body true n (w ∷ ws) k h = elim (is_end (w ∷ ws)) as (λ (b : Bool). IsSaid (as_said (looked_by (header (w ∷ ws)) b Body) Body n (w ∷ ws) k)) [ true ↦ h Ended | false ↦ h Body ]
 line_framed header Ended true n (w ∷ ws) k h = refl
 
-pub framed_said : (header : List (List ℕ) → Option ℕ) (q : Phase) (n : ℕ) (t : Told) → AreOfBytes t → IsSaid (framed header q n t)
+pub framed_said : (header : List (List ℕ) → Option ℕ) (q : FramePart) (n : ℕ) (t : Told) → AreOfBytes t → IsSaid (framed header q n t)
 unfolding framed
 framed_said header q n Closed h = end_said n _
 framed_said header q n (Faulty f) h = h

@@ -2,7 +2,7 @@
 use Rattle.std.proofs.Common.{◌≡◌, ℕ, ◌<◌, ◌+◌, ◌==◌, Bool, true, false, List, [], ◌∷◌, Option, take, drop, length, get_or, refl, ap, ◌∙◌, arith}
 use Rattle.std.specs.List.{prefix_len}
 use Rattle.std.proofs.Math.Numerals.{one-add}
-use Rattle.tx_text.specs.declared.frame.Phase.TheVariants.{Body}
+use Rattle.tx_text.specs.declared.frame.FramePart.TheVariants.{Body}
 use Rattle.tx_text.specs.declared.frame.LineForm.TheVariants.{Plain}
 use Rattle.tx_text.specs.Words.{words_of, is_blank, is_hash, is_word_byte}
 use Rattle.tx_text.specs.Frame.{looked}

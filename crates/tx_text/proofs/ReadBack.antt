@@ -5,7 +5,7 @@ use Rattle.std.proofs.lemmas.Bool.Decides.{nat_tests}
 use Rattle.std.proofs.lemmas.List.Splits.{slice_split_at, slice_split_none}
 use Rattle.std.proofs.lemmas.List.Elements.{All-head, All-tail, All-append, All-cons, All-nil, All-weaker}
 use Rattle.std.proofs.lemmas.List.Sums.{list_all-from_AllPass}
-use Rattle.tx_text.specs.declared.frame.Phase.TheVariants.{Start, Body, Ended}
+use Rattle.tx_text.specs.declared.frame.FramePart.TheVariants.{Start, Body, Ended}
 use Rattle.tx_text.specs.Text.{Line, is_lf, is_text_byte, without_cr, bytes_fault, lines_from, lines_of}
 use Rattle.tx_text.specs.Words.{words_of, is_blank, is_hash, is_filled, before}
 use Rattle.tx_text.specs.Told.{Ending, AtEnd, Then, told}

@@ -7,7 +7,7 @@ use Rattle.tx_text.specs.declared.feeder.Fed.{Fed}
 use Rattle.tx_text.specs.Text.{without_cr}
 use Rattle.tx_text.specs.Feed.{Feed, feed_gives, feed_leaves, finish_leaves, begun_fault}
 use Rattle.tx_text.specs.Told.{Reading, IsFeed, reading_start, fed_on}
-use Rattle.tx_text.specs.Reader.{IsReader, reading_of}
+use Rattle.tx_text.specs.inner.Reader.{IsReader, reading_of}
 use Rattle.tx_text.specs.declared.reader.TextReader.TheInside.{Inside}
 use Rattle.tx_text.proofs.FeedSteps.{fed_as, ended_as_feed}
 

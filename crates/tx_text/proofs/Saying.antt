@@ -2,8 +2,8 @@
 use Rattle.std.proofs.Common.{◌≡◌, ℕ, List, [], Option, Result, Ok, Err, Bool, true, false, refl, ap, inl}
 use Rattle.std.specs.Result.{is_ok}
 use Rattle.tx_text.specs.declared.frame.FrameFault.{FrameFault}
-use Rattle.tx_text.specs.declared.frame.Kind.{Kind}
-use Rattle.tx_text.specs.declared.frame.Kind.TheVariants.{Frame, Word}
+use Rattle.tx_text.specs.declared.frame.FaultKind.{FaultKind}
+use Rattle.tx_text.specs.declared.frame.FaultKind.TheVariants.{Frame, Word}
 use Rattle.tx_text.specs.Told.{Ending, AtEnd}
 use Rattle.tx_text.specs.Frame.{Framed, Done, Stop, Headed, Has, ReadsOn, EndsAs, Stopped, is_read}
 use Rattle.tx_text.specs.Said.{said, step_on, DeclaredBy, RefusedBy, StoppedBy, is_no_room}
@@ -13,7 +13,7 @@ use Rattle.tx_text.proofs.Framing.{on_then, end_then, map_on, map_end, stopped_m
 
 module _ {S W : Type 0} (declare : ℕ → S → List (List ℕ) → Result S W) where
   abbrev Says : Type 0
-  Says = Ending → List ℕ → Result S (ℕ × Kind W)
+  Says = Ending → List ℕ → Result S (ℕ × FaultKind W)
 
   -- the header came
   pub headed_on : (a b c : Option (List ℕ)) (F : Says) (T U : Ending → List ℕ → Framed) (v w : ℕ) (s : S)

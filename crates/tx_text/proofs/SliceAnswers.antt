@@ -2,8 +2,8 @@
 use Rattle.std.proofs.Common.{◌≡◌, ℕ, List, ◌++◌, Option, Some, None, Result, Ok, Err, Bool, true, false, refl, ap, ◌∙◌, append-nil, inl, inr}
 use Rattle.std.specs.Io.KnownBytes.{IsAtEnd}
 use Rattle.tx_text.specs.declared.frame.FrameFault.{FrameFault}
-use Rattle.tx_text.specs.declared.frame.Kind.{Kind}
-use Rattle.tx_text.specs.declared.frame.Kind.TheVariants.{Frame, Word}
+use Rattle.tx_text.specs.declared.frame.FaultKind.{FaultKind}
+use Rattle.tx_text.specs.declared.frame.FaultKind.TheVariants.{Frame, Word}
 use Rattle.tx_text.specs.Told.{Ending, AtEnd, Moves}
 use Rattle.tx_text.specs.Frame.{ReadsOn, EndsAs, Stands, Stopped, is_read}
 use Rattle.tx_text.specs.Said.{Answered, StoppedBy, RefusedBy, is_no_room, FaultsBy, AnswersAs}
@@ -37,7 +37,7 @@ module _ {X : Type 0} (text : List ℕ) (new : Option (List ℕ)) (F : Ending �
   stopped broken true none r = absurd (none r.1)
   stopped broken false none r = stands r
 
-module _ {S W : Type 0} (memory : W → Bool) (text : List ℕ) (new : Option (List ℕ)) (F : Ending → List ℕ → Result S (ℕ × Kind W)) (broken untouched : Type 0) (want wanted : ℕ → Type 0) (none : broken → ⊥) (known : (n : ℕ) → want n → wanted n) where
+module _ {S W : Type 0} (memory : W → Bool) (text : List ℕ) (new : Option (List ℕ)) (F : Ending → List ℕ → Result S (ℕ × FaultKind W)) (broken untouched : Type 0) (want wanted : ℕ → Type 0) (none : broken → ⊥) (known : (n : ℕ) → want n → wanted n) where
   of_frame : (b : Bool) (n : ℕ) (k : FrameFault) → StoppedBy (Some text) new F broken untouched b n k → FaultsBy (F AtEnd text) (n ≡ 1) b n (Frame k)
   of_frame true n k r = r.0
   of_frame false n k r = stopped text new F (Err (n, Frame k)) broken (is_read k) none r
@@ -46,7 +46,7 @@ module _ {S W : Type 0} (memory : W → Bool) (text : List ℕ) (new : Option (L
   of_word true n w r = known n r
   of_word false n w r = stands text new F (Err (n, Word w)) r
 
-  pub slice_answered : (r : Result S (ℕ × Kind W)) → Answered memory (Some text) new F broken untouched want r → AnswersAs memory (F AtEnd text) wanted r
+  pub slice_answered : (r : Result S (ℕ × FaultKind W)) → Answered memory (Some text) new F broken untouched want r → AnswersAs memory (F AtEnd text) wanted r
   slice_answered (Ok s) a = at_end text new F (Ok s) a
   slice_answered (Err (n, Frame k)) a = of_frame (is_no_room k) n k a
   slice_answered (Err (n, Word w)) a = of_word (memory w) n w a

@@ -7,8 +7,8 @@ use Rattle.tx_text.specs.declared.frame.FormFault.{FormFault}
 use Rattle.tx_text.specs.declared.frame.FormFault.TheVariants.{NoHeader, NoEnd, AfterEnd}
 use Rattle.tx_text.specs.declared.frame.FrameFault.{FrameFault}
 use Rattle.tx_text.specs.declared.frame.FrameFault.TheVariants.{Line as of_line, Form as of_form}
-use Rattle.tx_text.specs.declared.frame.Phase.{Phase}
-use Rattle.tx_text.specs.declared.frame.Phase.TheVariants.{Start, Body, Ended}
+use Rattle.tx_text.specs.declared.frame.FramePart.{FramePart}
+use Rattle.tx_text.specs.declared.frame.FramePart.TheVariants.{Start, Body, Ended}
 use Rattle.tx_text.specs.declared.frame.LineForm.{LineForm}
 use Rattle.tx_text.specs.declared.frame.LineForm.TheVariants.{Blank, Header, Plain, End, Bad}
 use Rattle.tx_text.specs.Words.{words_of}
@@ -44,30 +44,30 @@ headed None = Bad NoHeader
 headed (Some v) = Header v
 
 -- what a finished line is in the frame, by the phase that it is read in
-abbrev pub looked_by : Option ℕ → Bool → Phase → LineForm
+abbrev pub looked_by : Option ℕ → Bool → FramePart → LineForm
 looked_by header end Start = headed header
 looked_by header end Body = if end then End else Plain
 looked_by header end Ended = Bad AfterEnd
 
 -- What a finished line with these words is in the frame. One without words is passed over.
-abbrev pub looked : (List (List ℕ) → Option ℕ) → Phase → List (List ℕ) → LineForm
+abbrev pub looked : (List (List ℕ) → Option ℕ) → FramePart → List (List ℕ) → LineForm
 looked header p [] = Blank
 looked header p (w ∷ ws) = looked_by (header (w ∷ ws)) (is_end (w ∷ ws)) p
 
 -- what is wrong where the text ends in a phase
-abbrev pub closing : Phase → Option FormFault
+abbrev pub closing : FramePart → Option FormFault
 closing Start = Some NoHeader
 closing Body = Some NoEnd
 closing Ended = None
 
 -- what is wrong where an unfinished line with words stands last
-abbrev pub last_by : Bool → Phase → Option FormFault
+abbrev pub last_by : Bool → FramePart → Option FormFault
 last_by end Start = if end then Some NoHeader else Some NoEnd
 last_by end Body = if end then None else Some NoEnd
 last_by end Ended = Some AfterEnd
 
 -- What is wrong where an unfinished line with these words stands last.
-abbrev pub last_fault : Phase → List (List ℕ) → Option FormFault
+abbrev pub last_fault : FramePart → List (List ℕ) → Option FormFault
 last_fault p [] = closing p
 last_fault p (w ∷ ws) = last_by (is_end (w ∷ ws)) p
 
@@ -77,7 +77,7 @@ ended_by n None = Done
 ended_by n (Some k) = Stop n (of_form k)
 
 -- a finished line, where k goes on in a phase
-abbrev pub as_said : LineForm → Phase → ℕ → List (List ℕ) → (Phase → Framed) → Framed
+abbrev pub as_said : LineForm → FramePart → ℕ → List (List ℕ) → (FramePart → Framed) → Framed
 as_said Blank p n ws k = k p
 as_said (Header v) p n ws k = Headed v (k Body)
 as_said Plain p n ws k = Has n ws (k p)
@@ -85,12 +85,12 @@ as_said End p n ws k = k Ended
 as_said (Bad x) p n ws k = Stop n (of_form x)
 
 -- A finished line is judged by its place in the frame. An unfinished one is the last.
-abbrev pub framed_line : (List (List ℕ) → Option ℕ) → Phase → Bool → ℕ → List (List ℕ) → (Phase → Framed) → Framed
+abbrev pub framed_line : (List (List ℕ) → Option ℕ) → FramePart → Bool → ℕ → List (List ℕ) → (FramePart → Framed) → Framed
 framed_line header p true n ws k = as_said (looked header p ws) p n ws k
 framed_line header p false n ws k = ended_by n (last_fault p ws)
 
 -- n is the number of finished lines plus 1
-unfoldable pub framed : (List (List ℕ) → Option ℕ) → Phase → ℕ → Told → Framed
+unfoldable pub framed : (List (List ℕ) → Option ℕ) → FramePart → ℕ → Told → Framed
 framed header p n Closed = ended_by n (closing p)
 framed header p n (Faulty f) = Stop n (of_line f)
 framed header p n (Then l t) = framed_line header p l.finished l.number (words_of l.bytes) (λ q. framed header q (l.number + 1) t)

@@ -7,14 +7,12 @@ pub mod ReadCalls
 pub mod Slices
 pub mod Memory
 pub mod Feed
-pub mod Feeder
 pub mod Pieces
 pub mod TextLine
 pub mod Told
-pub mod Reader
 pub mod Frame
 pub mod Said
 pub mod Written
 pub mod Framing
 pub mod Lines
-pub mod LinesLeft
+pub mod inner

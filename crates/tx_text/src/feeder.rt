@@ -33,7 +33,7 @@ impl<A: Allocator> Model for LineFeeder<A> {
 
     ghost Value = { Feed };
 
-    ghost use Rattle.tx_text.specs.Feeder.{feed_of, IsFeeder};
+    ghost use Rattle.tx_text.specs.inner.Feeder.{feed_of, IsFeeder};
 
     ghost view = { feed_of };
 

@@ -3,7 +3,7 @@ ghost use Rattle.std.specs.Prelude.{◌≡◌, ℕ, List, Option, true};
 ghost use Rattle.tx_text.specs.Words.{words_of};
 ghost use Rattle.tx_text.specs.Frame.{is_end, header_of, looked, closing, last_fault};
 ghost use Rattle.tx_text.specs.Framing.{end_as};
-ghost use Rattle.tx_text.specs.declared.frame.Phase.TheVariants.{Body};
+ghost use Rattle.tx_text.specs.declared.frame.FramePart.TheVariants.{Body};
 ghost use Rattle.tx_text.specs.declared.frame.LineForm.TheVariants.{Plain};
 
 use crate::line_fault::LineFault;
@@ -27,7 +27,7 @@ pub enum FrameFault {
 
 /// What is wrong with a text: its frame, or the words of a line.
 #[derive(Clone, Copy, Debug, PartialEq, Eq)]
-pub enum Kind<W> {
+pub enum FaultKind<W> {
     Frame(FrameFault),
     Word(W),
 }
@@ -36,12 +36,12 @@ pub enum Kind<W> {
 #[derive(Clone, Copy, Debug, PartialEq, Eq)]
 pub struct FaultAt<W> {
     pub line: u64,
-    pub kind: Kind<W>,
+    pub kind: FaultKind<W>,
 }
 
 /// Which part of a text is read.
 #[derive(Clone, Copy, Debug, PartialEq, Eq)]
-pub enum Phase {
+pub enum FramePart {
     Start,
     Body,
     Ended,
@@ -49,14 +49,14 @@ pub enum Phase {
 
 /// A fault of the frame, with its line.
 #[derive(Clone, Copy, Debug, PartialEq, Eq)]
-pub struct Stop {
+pub struct FrameStop {
     pub line: u64,
     pub fault: FrameFault,
 }
 
 /// What a call that goes on in a text came to.
 #[derive(Clone, Copy, Debug, PartialEq, Eq)]
-pub enum Step {
+pub enum FrameStep {
     /// The header of this version.
     Header(u8),
     /// A line for the reader.
@@ -120,10 +120,10 @@ fn begins_plain(line: &[u8]) -> bool
 
 /// What a finished line is.
 #[inline(always)]
-pub(crate) fn look(key: &[u8], most: u8, phase: Phase, line: &[u8]) -> LineForm
+pub(crate) fn look(key: &[u8], most: u8, phase: FramePart, line: &[u8]) -> LineForm
     ensures { result ≡ looked (header_of key.now most) phase (words_of line.now) }
 {
-    if matches!(phase, Phase::Body) && begins_plain(line) {
+    if matches!(phase, FramePart::Body) && begins_plain(line) {
         return LineForm::Plain;
     }
     let mut all = words(line);
@@ -131,36 +131,36 @@ pub(crate) fn look(key: &[u8], most: u8, phase: Phase, line: &[u8]) -> LineForm
         return LineForm::Blank;
     };
     match phase {
-        Phase::Start => match header(key, most, words(line)) {
+        FramePart::Start => match header(key, most, words(line)) {
             Some(version) => LineForm::Header(version),
             None => LineForm::Bad(FormFault::NoHeader),
         },
-        Phase::Body => {
+        FramePart::Body => {
             if first == b"END".as_slice() && all.next().is_none() {
                 LineForm::End
             } else {
                 LineForm::Plain
             }
         }
-        Phase::Ended => LineForm::Bad(FormFault::AfterEnd),
+        FramePart::Ended => LineForm::Bad(FormFault::AfterEnd),
     }
 }
 
 /// What is wrong where the text ends.
 #[inline(always)]
-pub(crate) fn closing(phase: Phase) -> Option<FormFault>
+pub(crate) fn closing(phase: FramePart) -> Option<FormFault>
     ensures { result ≡ closing phase }
 {
     match phase {
-        Phase::Start => Some(FormFault::NoHeader),
-        Phase::Body => Some(FormFault::NoEnd),
-        Phase::Ended => None,
+        FramePart::Start => Some(FormFault::NoHeader),
+        FramePart::Body => Some(FormFault::NoEnd),
+        FramePart::Ended => None,
     }
 }
 
 /// What is wrong where the text ends with this unfinished line.
 #[inline(always)]
-pub(crate) fn last_fault(phase: Phase, line: &[u8]) -> Option<FormFault>
+pub(crate) fn last_fault(phase: FramePart, line: &[u8]) -> Option<FormFault>
     ensures { result ≡ last_fault phase (words_of line.now) }
 {
     let mut all = words(line);
@@ -169,26 +169,26 @@ pub(crate) fn last_fault(phase: Phase, line: &[u8]) -> Option<FormFault>
     }
     let end = is_end(words(line));
     match phase {
-        Phase::Start => {
+        FramePart::Start => {
             if end {
                 Some(FormFault::NoHeader)
             } else {
                 Some(FormFault::NoEnd)
             }
         }
-        Phase::Body => { if end { None } else { Some(FormFault::NoEnd) } }
-        Phase::Ended => Some(FormFault::AfterEnd),
+        FramePart::Body => { if end { None } else { Some(FormFault::NoEnd) } }
+        FramePart::Ended => Some(FormFault::AfterEnd),
     }
 }
 
 /// What to answer where the text ends.
 #[inline(always)]
-pub(crate) fn end_as(number: u64, fault: Option<FormFault>) -> Result<Step, Stop>
+pub(crate) fn end_as(number: u64, fault: Option<FormFault>) -> Result<FrameStep, FrameStop>
     ensures { result ≡ end_as number fault }
 {
     match fault {
-        None => Ok(Step::End),
-        Some(fault) => Err(Stop {
+        None => Ok(FrameStep::End),
+        Some(fault) => Err(FrameStop {
             line: number,
             fault: FrameFault::Form(fault),
         }),

@@ -4,7 +4,9 @@ ghost use Rattle.tx_text.specs.Calls.{Went, CallsAtMost, Broken};
 ghost use Rattle.tx_text.specs.Told.{reading_start, slice_start, reading_size};
 ghost use Rattle.tx_text.specs.Framing.{to_come, GoesOn, number_of_line, words_of_line};
 
-use crate::frame::{FrameFault, LineForm, Phase, Step, Stop, closing, end_as, last_fault, look};
+use crate::frame::{
+    FrameFault, FramePart, FrameStep, FrameStop, LineForm, closing, end_as, last_fault, look,
+};
 use crate::line_words::Words;
 use crate::reader::TextReader;
 use crate::source::Source;
@@ -18,14 +20,14 @@ pub struct FrameReader<'k, A: Allocator = Global> {
     key: &'k [u8],
     most: u8,
     reader: TextReader<A>,
-    phase: Phase,
+    phase: FramePart,
     number: u64,
 }
 
 impl<'k, A: Allocator> FrameReader<'k, A> {
     /// A reader of texts from a source, whose header has this key, of versions up to the given one.
     pub fn new(alloc: A, key: &'k [u8], most: u8) -> Result<FrameReader<'k, A>, TextFault>
-        ensures fields { IfOk result (λ r. (r.key.now ≡ key.now) × (r.most ≡ most) × (r.reader ≡ reading_start) × (r.phase ≡ Phase.Start) × (r.number ≡ 1)) }
+        ensures fields { IfOk result (λ r. (r.key.now ≡ key.now) × (r.most ≡ most) × (r.reader ≡ reading_start) × (r.phase ≡ FramePart.Start) × (r.number ≡ 1)) }
         ensures err { IfErr result (λ e. e ≡ TextFault.NoMemory) }
     {
         let reader = TextReader::new(alloc)?;
@@ -34,7 +36,7 @@ impl<'k, A: Allocator> FrameReader<'k, A> {
 
     /// The same for texts that stand in memory, whose end it always meets.
     pub fn for_slice(alloc: A, key: &'k [u8], most: u8) -> Result<FrameReader<'k, A>, TextFault>
-        ensures fields { IfOk result (λ r. (r.key.now ≡ key.now) × (r.most ≡ most) × (r.reader ≡ slice_start) × (r.phase ≡ Phase.Start) × (r.number ≡ 1)) }
+        ensures fields { IfOk result (λ r. (r.key.now ≡ key.now) × (r.most ≡ most) × (r.reader ≡ slice_start) × (r.phase ≡ FramePart.Start) × (r.number ≡ 1)) }
         ensures err { IfErr result (λ e. e ≡ TextFault.NoMemory) }
     {
         let reader = TextReader::for_slice(alloc)?;
@@ -45,35 +47,35 @@ impl<'k, A: Allocator> FrameReader<'k, A> {
         ensures key { result.key.now ≡ key.now }
         ensures most { result.most ≡ most }
         ensures reader { result.reader ≡ reader }
-        ensures phase { result.phase ≡ Phase.Start }
+        ensures phase { result.phase ≡ FramePart.Start }
         ensures number { result.number ≡ 1 }
     {
         FrameReader {
             key,
             most,
             reader,
-            phase: Phase::Start,
+            phase: FramePart::Start,
             number: 1,
         }
     }
 
     /// Goes on to the header, to the next line or to the end.
     #[inline(always)]
-    pub fn advance<R: Source>(&mut self, source: &mut R) -> Result<Step, Stop>
+    pub fn advance<R: Source>(&mut self, source: &mut R) -> Result<FrameStep, FrameStop>
         requires { self.old.reader.feed.fault ≡ None }
         ensures fault { IfOk result (λ _. self.new.reader.feed.fault ≡ None) }
         ensures gives { GoesOn (R.rest source.old) (R.rest source.new) (to_come self.old) (to_come self.new)
             self.new.reader.feed.line (Broken R.called (R.failed source.new) self.old.reader.left source.old source.new) result }
-        ensures line { result ≡ Ok Step.Line → IsSome self.new.reader.feed.line }
-        ensures went { IfOk result (λ s. (s ≡ Step.End) ⊎ Went R.called self.old.reader.left self.new.reader.left source.old source.new) }
+        ensures line { result ≡ Ok FrameStep.Line → IsSome self.new.reader.feed.line }
+        ensures went { IfOk result (λ s. (s ≡ FrameStep.End) ⊎ Went R.called self.old.reader.left self.new.reader.left source.old source.new) }
         ensures calls { CallsAtMost R.called self.old.reader.left source.old source.new }
         ensures unmarked { OnOk result (R.failed source.new ≡ R.failed source.old) }
-        ensures falls { IfOk result (λ s. (s ≡ Step.End) ⊎ (reading_size self.new.reader < reading_size self.old.reader)) }
+        ensures falls { IfOk result (λ s. (s ≡ FrameStep.End) ⊎ (reading_size self.new.reader < reading_size self.old.reader)) }
     {
         'lines: loop {
             match self.reader.advance(source) {
                 Err(fault) => {
-                    return Err(Stop {
+                    return Err(FrameStop {
                         line: self.number,
                         fault: FrameFault::Line(fault),
                     });
@@ -90,14 +92,14 @@ impl<'k, A: Allocator> FrameReader<'k, A> {
             self.number = number + 1;
             match seen {
                 LineForm::Blank => {}
-                LineForm::End => self.phase = Phase::Ended,
+                LineForm::End => self.phase = FramePart::Ended,
                 LineForm::Header(version) => {
-                    self.phase = Phase::Body;
-                    return Ok(Step::Header(version));
+                    self.phase = FramePart::Body;
+                    return Ok(FrameStep::Header(version));
                 }
-                LineForm::Plain => return Ok(Step::Line),
+                LineForm::Plain => return Ok(FrameStep::Line),
                 LineForm::Bad(fault) => {
-                    return Err(Stop {
+                    return Err(FrameStop {
                         line: number,
                         fault: FrameFault::Form(fault),
                     });

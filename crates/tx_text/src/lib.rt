@@ -33,7 +33,9 @@ mod to_write;
 
 pub use feeder::{Fed, LineFeeder};
 pub use figures::{Figures, are_figures};
-pub use frame::{FaultAt, FormFault, FrameFault, Kind, Phase, Step, Stop, is_end};
+pub use frame::{
+    FaultAt, FaultKind, FormFault, FrameFault, FramePart, FrameStep, FrameStop, is_end,
+};
 pub use frame_reader::FrameReader;
 pub use from_read::FromRead;
 pub use line::TextLine;

@@ -3,7 +3,7 @@ ghost use Rattle.std.specs.Prelude.{◌≡◌, ◌+◌, ◌-◌, ◌^◌, ◌<�
 ghost use Rattle.std.specs.Iterator.{YieldsFirstBy, item_count};
 ghost use Rattle.tx_text.specs.Text.{lines_from, checked};
 ghost use Rattle.tx_text.specs.TextLine.{line_of, item_of};
-ghost use Rattle.tx_text.specs.LinesLeft.{items_of};
+ghost use Rattle.tx_text.specs.inner.LinesLeft.{items_of};
 
 use crate::line::TextLine;
 use crate::line_bytes::{bytes_fault, lf_or_len, without_cr};

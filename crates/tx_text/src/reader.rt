@@ -35,7 +35,7 @@ impl<A: Allocator> Model for TextReader<A> {
 
     ghost Value = { Reading };
 
-    ghost use Rattle.tx_text.specs.Reader.{reading_of, IsReader};
+    ghost use Rattle.tx_text.specs.inner.Reader.{reading_of, IsReader};
 
     ghost view = { reading_of };
 

@@ -6,14 +6,14 @@ use Rattle.std.specs.Prelude.{slice_get, if◌then◌else◌}
 use Rattle.std.specs.List.{AllByRecursion}
 use Rattle.std.specs.Option.{option_map_or}
 use Rattle.tx_plan.specs.Plan.{Plan, Code, figures_of, home_of}
-use Rattle.tx_plan.specs.Rules.{AllPairs, IsPlan, IsCode, is_code}
+use Rattle.tx_plan.specs.Rules.{EachPair, IsPlan, IsCode, is_code}
 
 pub all_at : {A : Type 0} (P : A → Type 0) (xs : List A) (i : ℕ) (x : A) → AllByRecursion P xs → slice_get xs i ≡ Some x → P x
 all_at P [] i x h e = let bad : ⊥ = cc in absurd bad
 all_at P (y ∷ xs) zero x h e = let s : y ≡ x = cc in subst P s h.0
 all_at P (y ∷ xs) (suc i) x h e = all_at P xs i x h.1 e
 
-pub pairs_at : {A : Type 0} (R : A → A → Type 0) (xs : List A) (i j : ℕ) (x y : A) → AllPairs R xs → slice_get xs i ≡ Some x → slice_get xs j ≡ Some y → i < j → R x y
+pub pairs_at : {A : Type 0} (R : A → A → Type 0) (xs : List A) (i j : ℕ) (x y : A) → EachPair R xs → slice_get xs i ≡ Some x → slice_get xs j ≡ Some y → i < j → R x y
 pairs_at R [] i j x y h p q l = let bad : ⊥ = cc in absurd bad
 pairs_at R (z ∷ xs) zero zero x y h p q l = absurd (omega (arith, l))
 pairs_at R (z ∷ xs) zero (suc j) x y h p q l = let s : z ≡ x = cc in subst (λ w. R w y) s (all_at (R z) xs j y h.0 q)

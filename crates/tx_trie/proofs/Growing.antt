@@ -3,7 +3,7 @@ use Rattle.std.proofs.Common.{◌≡◌, ◌≢◌, ℕ, suc, ◌<◌, ◌==◌,
 use Rattle.std.proofs.lemmas.Bool.{and_parts}
 use Rattle.std.specs.Prelude.{option_and_then, if◌then◌else◌}
 use Rattle.tx_trie.specs.declared.node.Node.{Node}
-use Rattle.tx_trie.specs.Nodes.{IsTree, child, code_at, walk, look}
+use Rattle.tx_trie.specs.inner.Nodes.{IsTree, child, code_at, walk, look}
 use Rattle.tx_trie.proofs.Ways.{walk_once}
 
 abbrev pub here : ℕ → ℕ → ℕ → ℕ → Bool

@@ -14,7 +14,7 @@ use Rattle.tx_plan.proofs.Among.{among_filter, filter_among, among_places, place
 use Rattle.tx_plan.proofs.Lists.{both, at_least}
 use Rattle.tx_trie.specs.Trie.{plan_of}
 use Rattle.tx_trie.specs.declared.node.Node.{Node}
-use Rattle.tx_trie.specs.Nodes.{IsTrie, child, code_at, walk, look, newer, read_on}
+use Rattle.tx_trie.specs.inner.Nodes.{IsTrie, child, code_at, walk, look, newer, read_on}
 use Rattle.tx_trie.proofs.Prefixes.{prefix_itself, prefix_push, prefix_keeps, prefix_length, prefix_take}
 use Rattle.tx_trie.proofs.Ways.{walk-push, walk_on}
 

@@ -3,7 +3,7 @@ use Rattle.std.proofs.Common.{◌≡◌, ℕ, ◌<◌, List, [], ◌∷◌, ◌+
 use Rattle.std.specs.Prelude.{option_and_then}
 use Rattle.std.proofs.lemmas.List.{reverse-reverse, reverse-append}
 use Rattle.tx_trie.specs.declared.node.Node.{Node}
-use Rattle.tx_trie.specs.Nodes.{IsTree, child, walk}
+use Rattle.tx_trie.specs.inner.Nodes.{IsTree, child, walk}
 
 -- one figure more
 abbrev pub walk_on : List Node → Option ℕ → ℕ → Option ℕ

@@ -1,4 +1,4 @@
 pub mod Trie
-pub mod Nodes
 pub mod Least
 pub mod CodesText
+pub mod inner

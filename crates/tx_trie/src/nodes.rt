@@ -2,7 +2,7 @@
 ghost use Rattle.std.specs.Prelude.{◌≡◌, ℕ, ◌+◌, ◌<◌, ◌≤◌, true, Some, None, List, length, vec_len, vec_capacity, slice_get, slice_set};
 ghost use Rattle.std.specs.List.{list_all};
 ghost use Rattle.tx_text.specs.Words.{is_figure};
-ghost use Rattle.tx_trie.specs.Nodes.{IsTree, Grows, child, code_at, look, walk, read_on, empty_node};
+ghost use Rattle.tx_trie.specs.inner.Nodes.{IsTree, Grows, child, code_at, look, walk, read_on, empty_node};
 
 use crate::node::Node;
 use std::alloc::Allocator;

@@ -25,7 +25,7 @@ pub struct CodeTrie<A: Allocator = Global> {
 impl<A: Allocator> Model for CodeTrie<A> {
     ghost use Rattle.std.specs.Prelude.{List, map};
     ghost use Rattle.tx_plan.specs.Plan.{Code};
-    ghost use Rattle.tx_trie.specs.Nodes.{code_of_row, IsTrie};
+    ghost use Rattle.tx_trie.specs.inner.Nodes.{code_of_row, IsTrie};
 
     ghost Value = { List Code };
 

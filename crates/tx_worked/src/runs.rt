@@ -9,7 +9,7 @@ use tx_machine::Plain;
 use tx_plan::Plan;
 use tx_plantext::read_plan;
 use tx_script::{RunCause, RunFault, Summary, run};
-use tx_text::{FrameFault, Kind, LineFault, MemorySource, NoMemory, Sink, Source, TextFault};
+use tx_text::{FaultKind, FrameFault, LineFault, MemorySource, NoMemory, Sink, Source, TextFault};
 
 /// The network that runs a script.
 #[derive(Clone, Copy)]
@@ -172,7 +172,7 @@ pub(crate) fn told_cause(cause: RunCause) -> JobFault {
         RunCause::Write => JobFault::Write,
         RunCause::NoMemory => JobFault::NoMemory,
         RunCause::Script(fault) => match fault.kind {
-            Kind::Frame(FrameFault::Line(LineFault::Text(TextFault::NoMemory))) => {
+            FaultKind::Frame(FrameFault::Line(LineFault::Text(TextFault::NoMemory))) => {
                 JobFault::NoMemory
             }
             _ => JobFault::Script(fault),

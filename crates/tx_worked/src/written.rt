@@ -6,7 +6,7 @@ use tx_cases::{Judge, Stop, write_broken};
 use tx_cert::{Cert, CertFault, CertWord, read_cert, write_cert};
 use tx_plan::{CodeId, ExchangeId, Plan};
 use tx_plantext::{read_plan, write_plan};
-use tx_text::{FrameFault, Kind, LineFault, MemorySink, Sink, TextFault, write_bytes};
+use tx_text::{FaultKind, FrameFault, LineFault, MemorySink, Sink, TextFault, write_bytes};
 
 /// Whether two certificates of the plan give the same ranks.
 fn same_ranks<A: Allocator>(plan: &Plan<A>, one: &Cert<A>, other: &Cert<A>) -> bool {
@@ -84,12 +84,12 @@ fn write_back_cert<A: Allocator + Copy, W: Sink>(
 
 const NO_MEMORY: CertFault = CertFault {
     line: 1,
-    kind: Kind::Word(CertWord::NoMemory),
+    kind: FaultKind::Word(CertWord::NoMemory),
 };
 
 const NO_BUFFER: CertFault = CertFault {
     line: 1,
-    kind: Kind::Frame(FrameFault::Line(LineFault::Text(TextFault::NoMemory))),
+    kind: FaultKind::Frame(FrameFault::Line(LineFault::Text(TextFault::NoMemory))),
 };
 
 /// Whether memory is wanting for a certificate.

@@ -1,8 +1,8 @@
 use Rattle.std.proofs.Common.{◌≡◌, None, ap, ◌∙◌}
 use Rattle.std.specs.Option.{option_or}
 use Rattle.tx_plan.specs.Ambiguous.{ambiguous_of}
-use Rattle.tx_check.specs.Checks.{ranks_for, foremost, check_faults, k1_faults, k2_faults, k3_faults, k4_faults, k5_faults, k6_faults, k7_faults}
-use Rattle.tx_check.proofs.Judging.{k1_first, k1_past, at_one, at_two, at_three, at_four, at_rest, none_of}
+use Rattle.tx_check.specs.Checks.{ranks_for, foremost, check_faults, ambiguous_faults, home_not_zero_faults, origin_unranked_faults, too_high_faults, too_short_faults, target_unranked_faults, not_lower_faults}
+use Rattle.tx_check.proofs.Judging.{ambiguous_first, ambiguous_past, at_one, at_two, at_three, at_four, at_rest, none_of}
 use Rattle.tx_check.proofs.checker.first_fault.Goals as goal
 
 pub returns-in-Some : goal.returns-in-Some
@@ -10,70 +10,70 @@ unfolding check_faults
 returns-in-Some g c =
     let p = c.args.plan.now in
     let ranks = ranks_for p c.args.cert.now in
-    let one = k1_faults p in
-    let two = k2_faults p ranks in
-    let three = k3_faults p ranks in
-    let four = k4_faults p ranks c.args.limit in
-    let five = k5_faults p ranks c.args.spare in
-    let six = k6_faults p ranks in
-    let seven = k7_faults p ranks in
-    at_one one two three four five six seven _ (k1_first (ambiguous_of p.codes) c.in-Some.pair c.in-Some.ensures)
+    let one = ambiguous_faults p in
+    let two = home_not_zero_faults p ranks in
+    let three = origin_unranked_faults p ranks in
+    let four = too_high_faults p ranks c.args.limit in
+    let five = too_short_faults p ranks c.args.spare in
+    let six = target_unranked_faults p ranks in
+    let seven = not_lower_faults p ranks in
+    at_one one two three four five six seven _ (ambiguous_first (ambiguous_of p.codes) c.in-Some.pair c.in-Some.ensures)
 
 pub returns-in-Some-home_fault : goal.returns-in-Some-home_fault
 unfolding check_faults
 returns-in-Some-home_fault g c =
     let p = c.args.plan.now in
     let ranks = ranks_for p c.args.cert.now in
-    let one = k1_faults p in
-    let two = k2_faults p ranks in
-    let three = k3_faults p ranks in
-    let four = k4_faults p ranks c.args.limit in
-    let five = k5_faults p ranks c.args.spare in
-    let six = k6_faults p ranks in
-    let seven = k7_faults p ranks in
-    at_two one two three four five six seven (k1_past (ambiguous_of p.codes) (none_of c.ambiguous.result c.in_default.not-Some ∙ c.ambiguous.ensures)) c.in-Some-home_fault.fault c.in-Some-home_fault.ensures
+    let one = ambiguous_faults p in
+    let two = home_not_zero_faults p ranks in
+    let three = origin_unranked_faults p ranks in
+    let four = too_high_faults p ranks c.args.limit in
+    let five = too_short_faults p ranks c.args.spare in
+    let six = target_unranked_faults p ranks in
+    let seven = not_lower_faults p ranks in
+    at_two one two three four five six seven (ambiguous_past (ambiguous_of p.codes) (none_of c.ambiguous.result c.in_default.not-Some ∙ c.ambiguous.ensures)) c.in-Some-home_fault.fault c.in-Some-home_fault.ensures
 
 pub returns-in-Some-origin_fault : goal.returns-in-Some-origin_fault
 unfolding check_faults
 returns-in-Some-origin_fault g c =
     let p = c.args.plan.now in
     let ranks = ranks_for p c.args.cert.now in
-    let one = k1_faults p in
-    let two = k2_faults p ranks in
-    let three = k3_faults p ranks in
-    let four = k4_faults p ranks c.args.limit in
-    let five = k5_faults p ranks c.args.spare in
-    let six = k6_faults p ranks in
-    let seven = k7_faults p ranks in
-    at_three one two three four five six seven (k1_past (ambiguous_of p.codes) (none_of c.ambiguous.result c.in_default.not-Some ∙ c.ambiguous.ensures)) (none_of c.home_fault.result c.in_default-home_fault.not-Some ∙ c.home_fault.ensures) c.in-Some-origin_fault.fault c.in-Some-origin_fault.ensures
+    let one = ambiguous_faults p in
+    let two = home_not_zero_faults p ranks in
+    let three = origin_unranked_faults p ranks in
+    let four = too_high_faults p ranks c.args.limit in
+    let five = too_short_faults p ranks c.args.spare in
+    let six = target_unranked_faults p ranks in
+    let seven = not_lower_faults p ranks in
+    at_three one two three four five six seven (ambiguous_past (ambiguous_of p.codes) (none_of c.ambiguous.result c.in_default.not-Some ∙ c.ambiguous.ensures)) (none_of c.home_fault.result c.in_default-home_fault.not-Some ∙ c.home_fault.ensures) c.in-Some-origin_fault.fault c.in-Some-origin_fault.ensures
 
 pub returns-in-Some-height_fault : goal.returns-in-Some-height_fault
 unfolding check_faults
 returns-in-Some-height_fault g c =
     let p = c.args.plan.now in
     let ranks = ranks_for p c.args.cert.now in
-    let one = k1_faults p in
-    let two = k2_faults p ranks in
-    let three = k3_faults p ranks in
-    let four = k4_faults p ranks c.args.limit in
-    let five = k5_faults p ranks c.args.spare in
-    let six = k6_faults p ranks in
-    let seven = k7_faults p ranks in
-    at_four one two three four five six seven (k1_past (ambiguous_of p.codes) (none_of c.ambiguous.result c.in_default.not-Some ∙ c.ambiguous.ensures)) (none_of c.home_fault.result c.in_default-home_fault.not-Some ∙ c.home_fault.ensures) (none_of c.origin_fault.result c.in_default-origin_fault.not-Some ∙ c.origin_fault.ensures) c.in-Some-height_fault.fault c.in-Some-height_fault.ensures
+    let one = ambiguous_faults p in
+    let two = home_not_zero_faults p ranks in
+    let three = origin_unranked_faults p ranks in
+    let four = too_high_faults p ranks c.args.limit in
+    let five = too_short_faults p ranks c.args.spare in
+    let six = target_unranked_faults p ranks in
+    let seven = not_lower_faults p ranks in
+    at_four one two three four five six seven (ambiguous_past (ambiguous_of p.codes) (none_of c.ambiguous.result c.in_default.not-Some ∙ c.ambiguous.ensures)) (none_of c.home_fault.result c.in_default-home_fault.not-Some ∙ c.home_fault.ensures) (none_of c.origin_fault.result c.in_default-origin_fault.not-Some ∙ c.origin_fault.ensures) c.in-Some-height_fault.fault c.in-Some-height_fault.ensures
 
 pub returns : goal.returns
 unfolding check_faults
 returns g c =
     let p = c.args.plan.now in
     let ranks = ranks_for p c.args.cert.now in
-    let one = k1_faults p in
-    let two = k2_faults p ranks in
-    let three = k3_faults p ranks in
-    let four = k4_faults p ranks c.args.limit in
-    let five = k5_faults p ranks c.args.spare in
-    let six = k6_faults p ranks in
-    let seven = k7_faults p ranks in
-    let p1 = k1_past (ambiguous_of p.codes) (none_of c.ambiguous.result c.in_default.not-Some ∙ c.ambiguous.ensures) in
+    let one = ambiguous_faults p in
+    let two = home_not_zero_faults p ranks in
+    let three = origin_unranked_faults p ranks in
+    let four = too_high_faults p ranks c.args.limit in
+    let five = too_short_faults p ranks c.args.spare in
+    let six = target_unranked_faults p ranks in
+    let seven = not_lower_faults p ranks in
+    let p1 = ambiguous_past (ambiguous_of p.codes) (none_of c.ambiguous.result c.in_default.not-Some ∙ c.ambiguous.ensures) in
     let p2 : None ≡ foremost two = none_of c.home_fault.result c.in_default-home_fault.not-Some ∙ c.home_fault.ensures in
     let p3 : None ≡ foremost three = none_of c.origin_fault.result c.in_default-origin_fault.not-Some ∙ c.origin_fault.ensures in
     let p4 : None ≡ foremost four = none_of c.height_fault.result c.in_default-height_fault.not-Some ∙ c.height_fault.ensures in

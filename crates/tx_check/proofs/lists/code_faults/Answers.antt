@@ -1,4 +1,4 @@
-use Rattle.tx_check.specs.Checks.{ranks_for, k5_at, k6_at, k7_at}
+use Rattle.tx_check.specs.Checks.{ranks_for, too_short_at, target_unranked_at, not_lower_at}
 use Rattle.tx_check.proofs.Finding.{firsts_more}
 use Rattle.tx_check.proofs.lists.code_faults.Goals as goal
 
@@ -6,4 +6,4 @@ pub loop-place-preserved : goal.loop-place-preserved
 loop-place-preserved g c =
     let p = c.args.plan.now in
     let ranks = ranks_for p c.args.cert.now in
-    firsts_more (k5_at p ranks c.args.spare c.args.code) (k6_at p ranks c.args.code) (k7_at p ranks c.args.code) c.loop-place.place _ _ _ _ c.loop-place.invariant c.at.ensures c.pair_faults.ensures c.or-firsts.ensures
+    firsts_more (too_short_at p ranks c.args.spare c.args.code) (target_unranked_at p ranks c.args.code) (not_lower_at p ranks c.args.code) c.loop-place.place _ _ _ _ c.loop-place.invariant c.at.ensures c.pair_faults.ensures c.or-firsts.ensures

@@ -1,8 +1,8 @@
 use Rattle.std.proofs.Common.{◌≡◌}
 use Rattle.std.specs.List.{flat_map, range_with_len}
-use Rattle.tx_check.specs.Checks.{ranks_for, k5_at, k6_at, k7_at}
+use Rattle.tx_check.specs.Checks.{ranks_for, too_short_at, target_unranked_at, not_lower_at}
 use Rattle.tx_check.specs.Firsts.{firsts_of}
 use Rattle.tx_check.proofs.lists.code_faults.Given as goal
 
 abbrev pub invariant-loop-place : goal.invariant-loop-place
-invariant-loop-place g l = l.firsts ≡ firsts_of (flat_map (k5_at l.plan (ranks_for l.plan l.cert) l.spare l.code) (range_with_len 0 l.place)) (flat_map (k6_at l.plan (ranks_for l.plan l.cert) l.code) (range_with_len 0 l.place)) (flat_map (k7_at l.plan (ranks_for l.plan l.cert) l.code) (range_with_len 0 l.place))
+invariant-loop-place g l = l.firsts ≡ firsts_of (flat_map (too_short_at l.plan (ranks_for l.plan l.cert) l.spare l.code) (range_with_len 0 l.place)) (flat_map (target_unranked_at l.plan (ranks_for l.plan l.cert) l.code) (range_with_len 0 l.place)) (flat_map (not_lower_at l.plan (ranks_for l.plan l.cert) l.code) (range_with_len 0 l.place))

@@ -1,8 +1,8 @@
 use Rattle.std.proofs.Common.{◌≡◌}
 use Rattle.std.specs.List.{flat_map, range_with_len}
-use Rattle.tx_check.specs.Checks.{ranks_for, at_exchanges, k5_at, k6_at, k7_at}
+use Rattle.tx_check.specs.Checks.{ranks_for, at_exchanges, too_short_at, target_unranked_at, not_lower_at}
 use Rattle.tx_check.specs.Firsts.{firsts_of}
 use Rattle.tx_check.proofs.lists.list_faults.Given as goal
 
 abbrev pub invariant-loop-place : goal.invariant-loop-place
-invariant-loop-place g l = l.firsts ≡ firsts_of (flat_map (λ c. at_exchanges l.plan (k5_at l.plan (ranks_for l.plan l.cert) l.spare c)) (range_with_len 0 l.place)) (flat_map (λ c. at_exchanges l.plan (k6_at l.plan (ranks_for l.plan l.cert) c)) (range_with_len 0 l.place)) (flat_map (λ c. at_exchanges l.plan (k7_at l.plan (ranks_for l.plan l.cert) c)) (range_with_len 0 l.place))
+invariant-loop-place g l = l.firsts ≡ firsts_of (flat_map (λ c. at_exchanges l.plan (too_short_at l.plan (ranks_for l.plan l.cert) l.spare c)) (range_with_len 0 l.place)) (flat_map (λ c. at_exchanges l.plan (target_unranked_at l.plan (ranks_for l.plan l.cert) c)) (range_with_len 0 l.place)) (flat_map (λ c. at_exchanges l.plan (not_lower_at l.plan (ranks_for l.plan l.cert) c)) (range_with_len 0 l.place))

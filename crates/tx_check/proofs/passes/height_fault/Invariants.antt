@@ -1,6 +1,6 @@
 use Rattle.std.proofs.Common.{◌≡◌, ℕ, ◌<◌, []}
-use Rattle.tx_check.specs.Checks.{ranks_for, at_exchanges, k4_at}
+use Rattle.tx_check.specs.Checks.{ranks_for, at_exchanges, too_high_at}
 use Rattle.tx_check.proofs.passes.height_fault.Given as goal
 
 abbrev pub invariant-loop-place : goal.invariant-loop-place
-invariant-loop-place g l = (k : ℕ) → k < l.place → at_exchanges l.plan (k4_at (ranks_for l.plan l.cert) l.limit k) ≡ []
+invariant-loop-place g l = (k : ℕ) → k < l.place → at_exchanges l.plan (too_high_at (ranks_for l.plan l.cert) l.limit k) ≡ []

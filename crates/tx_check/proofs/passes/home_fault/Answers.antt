@@ -1,5 +1,5 @@
 use Rattle.std.proofs.Common.{◌≡◌, true, is_some, length, arith, rules}
-use Rattle.tx_check.specs.Checks.{ranks_for, k2_at}
+use Rattle.tx_check.specs.Checks.{ranks_for, home_not_zero_at}
 use Rattle.tx_check.proofs.Finding.{found_at, found_none}
 use Rattle.tx_check.proofs.passes.home_fault.Goals as goal
 
@@ -8,10 +8,10 @@ returns-then-is_some g c =
     let p = c.args.plan.now in
     let ranks = ranks_for p c.args.cert.now in
     let some : is_some c.home_fault_for-found.result ≡ true = search rules in
-    found_at (k2_at p ranks) c.loop-place.place (length p.codes) _ _ (omega arith) c.at.ensures c.home_fault_for-found.ensures some c.loop-place.invariant
+    found_at (home_not_zero_at p ranks) c.loop-place.place (length p.codes) _ _ (omega arith) c.at.ensures c.home_fault_for-found.ensures some c.loop-place.invariant
 
 pub returns : goal.returns
 returns g c =
     let p = c.args.plan.now in
     let ranks = ranks_for p c.args.cert.now in
-    found_none (k2_at p ranks) (length p.codes) (λ k l. c.loop-place.invariant k (omega arith))
+    found_none (home_not_zero_at p ranks) (length p.codes) (λ k l. c.loop-place.invariant k (omega arith))

@@ -1,5 +1,5 @@
 use Rattle.std.proofs.Common.{◌≡◌, true, is_some, length, arith, rules}
-use Rattle.tx_check.specs.Checks.{ranks_for, at_exchanges, k3_at}
+use Rattle.tx_check.specs.Checks.{ranks_for, at_exchanges, origin_unranked_at}
 use Rattle.tx_check.proofs.Finding.{found_at, found_none}
 use Rattle.tx_check.proofs.passes.origin_fault.Goals as goal
 
@@ -8,10 +8,10 @@ returns-then-is_some g c =
     let p = c.args.plan.now in
     let ranks = ranks_for p c.args.cert.now in
     let some : is_some c.origin_fault_for-found.result ≡ true = search rules in
-    found_at (λ k. at_exchanges p (k3_at p ranks k)) c.loop-place.place (length p.codes) _ _ (omega arith) c.at.ensures c.origin_fault_for-found.ensures some c.loop-place.invariant
+    found_at (λ k. at_exchanges p (origin_unranked_at p ranks k)) c.loop-place.place (length p.codes) _ _ (omega arith) c.at.ensures c.origin_fault_for-found.ensures some c.loop-place.invariant
 
 pub returns : goal.returns
 returns g c =
     let p = c.args.plan.now in
     let ranks = ranks_for p c.args.cert.now in
-    found_none (λ k. at_exchanges p (k3_at p ranks k)) (length p.codes) (λ k l. c.loop-place.invariant k (omega arith))
+    found_none (λ k. at_exchanges p (origin_unranked_at p ranks k)) (length p.codes) (λ k l. c.loop-place.invariant k (omega arith))

@@ -1,5 +1,5 @@
 use Rattle.std.proofs.Common.{◌≡◌, ◌∙◌, Some}
-use Rattle.tx_circuits.specs.declared.way.Way.TheVariants.{Up, Down}
+use Rattle.tx_circuits.specs.declared.free_lists.Way.TheVariants.{Up, Down}
 use Rattle.tx_circuits.proofs.Places.{each_way}
 use Rattle.tx_circuits.proofs.chain.insert.Goals as goal
 

@@ -1,6 +1,6 @@
 use Rattle.std.proofs.Common.{◌≡◌, ◌≤◌, ◌<◌, ◌-◌, ◌+◌, ℕ, Option, Some, None, Bool, true, length}
-use Rattle.tx_circuits.specs.Linked.{IsFirst, IsLast}
-use Rattle.tx_circuits.specs.Slots.{free_at, rank_of}
+use Rattle.tx_circuits.specs.inner.Linked.{IsFirst, IsLast}
+use Rattle.tx_circuits.specs.inner.Slots.{free_at, rank_of}
 use Rattle.tx_circuits.proofs.chain.last_before.Given as goal
 
 -- how far the order goes on from here

@@ -1,8 +1,8 @@
 use Rattle.std.proofs.Common.{◌≡◌, ◌≢◌, ◌∙◌, ℕ, ◌+◌, ◌<◌, true, false, Option, Some, length, sym, subst, arith}
-use Rattle.tx_circuits.specs.declared.way.Way.{Way}
-use Rattle.tx_circuits.specs.declared.way.Way.TheVariants.{Up, Down}
-use Rattle.tx_circuits.specs.Linked.{IsFirst, IsLast, with}
-use Rattle.tx_circuits.specs.Slots.{free_at, chain, rank_of, ahead, back}
+use Rattle.tx_circuits.specs.declared.free_lists.Way.{Way}
+use Rattle.tx_circuits.specs.declared.free_lists.Way.TheVariants.{Up, Down}
+use Rattle.tx_circuits.specs.inner.Linked.{IsFirst, IsLast, with}
+use Rattle.tx_circuits.specs.inner.Slots.{free_at, chain, rank_of, ahead, back}
 use Rattle.tx_circuits.proofs.Linked.{put, with_here, with_there, to_first, are_ranked}
 use Rattle.tx_circuits.proofs.Places.{free_within, free_below, last_within, not_itself, each_way}
 use Rattle.tx_circuits.proofs.chain.put.Goals as goal

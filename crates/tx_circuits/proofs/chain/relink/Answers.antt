@@ -1,6 +1,6 @@
 use Rattle.std.proofs.Common.{◌≡◌, ◌∙◌, ℕ, Bool, true, false, sym, subst}
-use Rattle.tx_circuits.specs.Linked.{with}
-use Rattle.tx_circuits.specs.Slots.{free_at, is_free, IsListed}
+use Rattle.tx_circuits.specs.inner.Linked.{with}
+use Rattle.tx_circuits.specs.inner.Slots.{free_at, is_free, IsListed}
 use Rattle.tx_circuits.proofs.Linked.{with_same}
 use Rattle.tx_circuits.proofs.Places.{free_here, same_bool, other_bool, other_bool_false}
 use Rattle.tx_circuits.proofs.chain.relink.Goals as goal

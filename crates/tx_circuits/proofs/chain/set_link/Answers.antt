@@ -1,6 +1,6 @@
 use Rattle.std.proofs.Common.{◌≡◌, ◌∙◌, ℕ, None, ap, sym, refl}
 use Rattle.tx_circuits.specs.declared.slot.Slot.{Slot}
-use Rattle.tx_circuits.specs.Slots.{ahead, links_of, back, opposite, state_of}
+use Rattle.tx_circuits.specs.inner.Slots.{ahead, links_of, back, opposite, state_of}
 use Rattle.tx_circuits.proofs.Columns.{column_here, column_there, column_same, column-set_same}
 use Rattle.tx_circuits.proofs.chain.set_link.Goals as goal
 

@@ -1,9 +1,9 @@
 use Rattle.std.proofs.Common.{◌≡◌, ◌≢◌, ◌∙◌, ℕ, ◌+◌, ◌<◌, true, false, Option, Some, length, sym, subst, arith}
 use Rattle.std.specs.Prelude.{IfSome}
-use Rattle.tx_circuits.specs.declared.way.Way.{Way}
-use Rattle.tx_circuits.specs.declared.way.Way.TheVariants.{Up, Down}
-use Rattle.tx_circuits.specs.Linked.{IsFirst, with}
-use Rattle.tx_circuits.specs.Slots.{free_at, chain, link_at, rank_of, ahead, back}
+use Rattle.tx_circuits.specs.declared.free_lists.Way.{Way}
+use Rattle.tx_circuits.specs.declared.free_lists.Way.TheVariants.{Up, Down}
+use Rattle.tx_circuits.specs.inner.Linked.{IsFirst, with}
+use Rattle.tx_circuits.specs.inner.Slots.{free_at, chain, link_at, rank_of, ahead, back}
 use Rattle.tx_circuits.proofs.Linked.{take, with_here, with_there, to_last, are_ranked}
 use Rattle.tx_circuits.proofs.Places.{free_within, free_below, first_within, each_way}
 use Rattle.tx_circuits.proofs.chain.take.Goals as goal

@@ -1,8 +1,8 @@
 use Rattle.std.proofs.Common.{◌≡◌, ◌∙◌, ℕ, ◌+◌, ◌<◌, true, false, Option, Some, None, length, sym, subst, arith, refl}
-use Rattle.tx_circuits.specs.declared.way.Way.{Way}
-use Rattle.tx_circuits.specs.declared.way.Way.TheVariants.{Up, Down}
-use Rattle.tx_circuits.specs.Linked.{IsFirst, IsLast}
-use Rattle.tx_circuits.specs.Slots.{free_at, chain, rank_of, ahead, back, until}
+use Rattle.tx_circuits.specs.declared.free_lists.Way.{Way}
+use Rattle.tx_circuits.specs.declared.free_lists.Way.TheVariants.{Up, Down}
+use Rattle.tx_circuits.specs.inner.Linked.{IsFirst, IsLast}
+use Rattle.tx_circuits.specs.inner.Slots.{free_at, chain, rank_of, ahead, back, until}
 use Rattle.tx_circuits.proofs.Linked.{put, are_ranked}
 use Rattle.tx_circuits.proofs.Places.{free_here, free_within, first_within, each_way}
 use Rattle.tx_circuits.proofs.Sound.{listed_along}

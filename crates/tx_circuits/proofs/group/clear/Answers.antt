@@ -4,7 +4,7 @@ use Rattle.std.proofs.lemmas.List.{take_all, drop_all, append-nil, get_or_defaul
 use Rattle.std.proofs.lemmas.List.Edits.{map_over_more}
 use Rattle.tx_circuits.specs.declared.slot.Slot.{Slot}
 use Rattle.tx_circuits.specs.declared.state.State.{State}
-use Rattle.tx_circuits.specs.Slots.{state_of, cleared}
+use Rattle.tx_circuits.specs.inner.Slots.{state_of, cleared}
 use Rattle.tx_circuits.proofs.Sound.{with_cleared, states_cleared, blank}
 use Rattle.tx_circuits.proofs.group.clear.Goals as goal
 

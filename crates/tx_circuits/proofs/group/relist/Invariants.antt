@@ -1,6 +1,6 @@
 use Rattle.std.proofs.Common.{◌≡◌, ◌≤◌, ℕ, map, length}
-use Rattle.tx_circuits.specs.declared.end.End.{End}
-use Rattle.tx_circuits.specs.Slots.{free_at, state_of, until, list_of, IsListed}
+use Rattle.tx_circuits.specs.declared.free_lists.End.{End}
+use Rattle.tx_circuits.specs.inner.Slots.{free_at, state_of, until, list_of, IsListed}
 use Rattle.tx_circuits.proofs.group.relist.Given as goal
 
 -- the lists hold what is free below the place, and no state has changed

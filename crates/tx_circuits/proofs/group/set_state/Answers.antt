@@ -1,10 +1,10 @@
 use Rattle.std.proofs.Common.{◌≡◌, ◌∙◌, ◌<◌, ◌≤◌, ℕ, Bool, length, List, sym, ap, refl, subst, slice_set, map, arith, length-set}
 use Rattle.std.proofs.lemmas.List.{length-map, map-set}
-use Rattle.tx_circuits.specs.declared.end.End.{End}
-use Rattle.tx_circuits.specs.declared.end.End.TheVariants.{First, Other}
+use Rattle.tx_circuits.specs.declared.free_lists.End.{End}
+use Rattle.tx_circuits.specs.declared.free_lists.End.TheVariants.{First, Other}
 use Rattle.tx_circuits.specs.declared.state.State.{State}
-use Rattle.tx_circuits.specs.Linked.{with}
-use Rattle.tx_circuits.specs.Slots.{free_at, is_free, state_of, IsListed}
+use Rattle.tx_circuits.specs.inner.Linked.{with}
+use Rattle.tx_circuits.specs.inner.Slots.{free_at, is_free, state_of, IsListed}
 use Rattle.tx_circuits.proofs.Places.{each_end}
 use Rattle.tx_circuits.proofs.Sound.{are_linked, are_sound, listed_along, free_alike, after_write, blank}
 use Rattle.tx_circuits.proofs.group.set_state.Goals as goal

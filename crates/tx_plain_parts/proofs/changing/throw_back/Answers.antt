@@ -1,5 +1,5 @@
 use Rattle.std.proofs.Common.{ap, get_or}
-use Rattle.tx_plain_parts.specs.Seen.{thrown_at}
+use Rattle.tx_plain_parts.specs.inner.Seen.{thrown_at}
 use Rattle.tx_plain_parts.proofs.Sweeping.{swept_step}
 use Rattle.tx_plain_parts.proofs.changing.throw_back.Goals as goal
 

@@ -1,5 +1,5 @@
 use Rattle.std.proofs.Common.{◌-◌, length}
-use Rattle.tx_plain_parts.specs.Seen.{thrown_at}
+use Rattle.tx_plain_parts.specs.inner.Seen.{thrown_at}
 use Rattle.tx_plain_parts.proofs.Sweeping.{IsSweeping}
 use Rattle.tx_plain_parts.proofs.changing.throw_back.Given as goal
 

@@ -1,5 +1,5 @@
 use Rattle.std.proofs.Common.{◌-◌, ◌≤◌}
-use Rattle.tx_plain_parts.specs.Marks.{IsCleared}
+use Rattle.tx_plain_parts.specs.inner.Marks.{IsCleared}
 use Rattle.tx_plain_parts.proofs.circuit_marks.clear_from.Given as goal
 
 abbrev pub invariant-loop-n : goal.invariant-loop-n

@@ -1,5 +1,5 @@
 use Rattle.std.proofs.Common.{ap, ◌∙◌, sym, [], ◌∷◌, not, cond}
-use Rattle.tx_plain_parts.specs.GivenUp.{with_more}
+use Rattle.tx_plain_parts.specs.inner.GivenUp.{with_more}
 use Rattle.tx_plain_parts.proofs.Giving.{more_none, more_one}
 use Rattle.tx_plain_parts.proofs.ending.give.Goals as goal
 

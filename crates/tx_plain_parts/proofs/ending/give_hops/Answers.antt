@@ -1,7 +1,7 @@
 use Rattle.std.proofs.Common.{ap, ◌∙◌, sym, subst, [], ◌∷◌, map, take, get_or, arith}
 use Rattle.tx_network.specs.Seen.{call_seen}
-use Rattle.tx_plain_parts.specs.GivenUp.{is_given, with_more}
-use Rattle.tx_plain_parts.specs.Marks.{Circuits, HasMark}
+use Rattle.tx_plain_parts.specs.inner.GivenUp.{is_given, with_more}
+use Rattle.tx_plain_parts.specs.inner.Marks.{Circuits, HasMark}
 use Rattle.tx_state.specs.declared.hop.Hop.{Hop}
 use Rattle.std.specs.Prelude.{filter}
 use Rattle.tx_plain_parts.proofs.Sweeps.{mem_get}

@@ -1,7 +1,7 @@
 use Rattle.std.proofs.Common.{◌≡◌, ◌≤◌, ◌-◌, length, map, take}
 use Rattle.std.specs.Prelude.{filter}
 use Rattle.tx_network.specs.Seen.{call_seen}
-use Rattle.tx_plain_parts.specs.GivenUp.{is_given, with_more}
+use Rattle.tx_plain_parts.specs.inner.GivenUp.{is_given, with_more}
 use Rattle.tx_plain_parts.proofs.ending.give_hops.Given as goal
 
 abbrev pub invariant-loop-at : goal.invariant-loop-at

@@ -1,7 +1,7 @@
 use Rattle.std.proofs.Common.{ap, ◌∙◌, sym, subst, [], map, take, arith}
 use Rattle.tx_network.specs.Seen.{call_seen}
-use Rattle.tx_plain_parts.specs.GivenUp.{is_given, with_more, ends_by}
-use Rattle.tx_plain_parts.specs.Marks.{Circuits, HasMark}
+use Rattle.tx_plain_parts.specs.inner.GivenUp.{is_given, with_more, ends_by}
+use Rattle.tx_plain_parts.specs.inner.Marks.{Circuits, HasMark}
 use Rattle.tx_state.specs.InUse.{circuits_used}
 use Rattle.std.specs.Prelude.{filter, if◌then◌else◌}
 use Rattle.std.specs.List.{flat_map}

@@ -4,8 +4,8 @@ use Rattle.tx_rank.specs.declared.finding.Finding.{Finding}
 use Rattle.tx_rank.specs.declared.finding.Finding.TheVariants.{Long}
 use Rattle.tx_rank.specs.declared.mark.Mark.{Mark}
 use Rattle.tx_rank.specs.Walks.{Walk, IsLoop}
-use Rattle.tx_rank.specs.Marks.{rank_in}
-use Rattle.tx_rank.specs.Judged.{IsJudged, IsLongFound, LowOrigins}
+use Rattle.tx_rank.specs.inner.Marks.{rank_in}
+use Rattle.tx_rank.specs.inner.Judged.{IsJudged, IsLongFound, LowOrigins}
 use Rattle.tx_rank.proofs.Judging.{judged_loop, judged_long, judged_none}
 use Rattle.tx_rank.proofs.code_ranking.rank_code.Goals as goal
 

@@ -1,4 +1,4 @@
-use Rattle.tx_rank.specs.Marks.{cost, IsTrail}
+use Rattle.tx_rank.specs.inner.Marks.{cost, IsTrail}
 use Rattle.tx_rank.proofs.Passes.{IsExploring}
 use Rattle.tx_rank.proofs.explore.explore.Given as goal
 

@@ -1,8 +1,8 @@
 use Rattle.std.proofs.Common.{subst, sym, ap, ◌∙◌, ◌≡◌, List, [], ◌∷◌, ◌++◌, ℕ, Some}
 use Rattle.std.specs.Prelude.{slice_get}
 use Rattle.tx_rank.specs.Walks.{IsLoop}
-use Rattle.tx_rank.specs.Marks.{IsStep, IsTrail, rank_in}
-use Rattle.tx_rank.specs.declared.look.Tried.{Tried}
+use Rattle.tx_rank.specs.inner.Marks.{IsStep, IsTrail, rank_in}
+use Rattle.tx_rank.specs.declared.list_scan.Tried.{Tried}
 use Rattle.tx_rank.specs.declared.mark.Mark.{Mark}
 use Rattle.tx_rank.specs.declared.mark.Mark.TheVariants.{Unseen, Open}
 use Rattle.std.proofs.Math.ListN.{set}

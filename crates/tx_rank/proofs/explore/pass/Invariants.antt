@@ -1,4 +1,4 @@
-use Rattle.tx_rank.specs.Marks.{IsPassing}
+use Rattle.tx_rank.specs.inner.Marks.{IsPassing}
 use Rattle.tx_rank.proofs.explore.pass.Given as goal
 
 abbrev pub invariant-loop-place : goal.invariant-loop-place

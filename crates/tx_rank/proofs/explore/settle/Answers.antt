@@ -1,5 +1,5 @@
 use Rattle.std.proofs.Common.{subst, sym, ◌≡◌, ◌+◌, refl, List, ℕ, suc, length, [], ◌∷◌, arith}
-use Rattle.tx_rank.specs.Marks.{IsStep, IsEnd, IsTrail, Grew}
+use Rattle.tx_rank.specs.inner.Marks.{IsStep, IsEnd, IsTrail, Grew}
 use Rattle.tx_rank.specs.declared.mark.Mark.TheVariants.{Ranked}
 use Rattle.std.proofs.Math.ListN.{set}
 use Rattle.tx_rank.proofs.Turns.{end_within, settled_back, settled_done}

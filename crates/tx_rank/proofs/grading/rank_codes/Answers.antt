@@ -1,7 +1,7 @@
 use Rattle.std.proofs.Common.{◌≡◌, ◌∙◌, ℕ, subst, length, arith}
 use Rattle.tx_cert.specs.Certificate.{rank_at}
 use Rattle.tx_rank.specs.Walks.{net_of}
-use Rattle.tx_rank.specs.Judged.{IsJudged}
+use Rattle.tx_rank.specs.inner.Judged.{IsJudged}
 use Rattle.tx_rank.proofs.Listing.{ranked_next, ranked_listed, ranked_heights, ranked_certified}
 use Rattle.tx_rank.proofs.grading.rank_codes.Goals as goal
 

@@ -2,7 +2,7 @@ use Rattle.std.proofs.Common.{◌≡◌, ◌≢◌, ◌∙◌, ℕ, sym, subst, 
 use Rattle.std.proofs.lemmas.Bool.{eqb-false}
 use Rattle.tx_cert.specs.Certificate.{ranks_of, rank_at}
 use Rattle.tx_rank.specs.Walks.{net_of}
-use Rattle.tx_rank.specs.Judged.{IsJudged}
+use Rattle.tx_rank.specs.inner.Judged.{IsJudged}
 use Rattle.tx_rank.proofs.Certifying.{none_true}
 use Rattle.tx_rank.proofs.Listing.{none_of, ranked_next, ranked_listed, ranked_heights, ranked_certified, all_true, some_true}
 use Rattle.tx_rank.proofs.ranking.rank.Goals as goal

@@ -1,5 +1,5 @@
 use Rattle.std.proofs.Common.{◌≡◌, ◌∙◌, ◌+◌, ap, sym, refl, Ok, Err, ℕ}
-use Rattle.tx_text.specs.declared.frame.Kind.TheVariants.{Word}
+use Rattle.tx_text.specs.declared.frame.FaultKind.TheVariants.{Word}
 use Rattle.tx_text.specs.Calls.{source_calls}
 use Rattle.tx_text.specs.Frame.{is_read}
 use Rattle.tx_text.specs.Framing.{to_come, number_of_line, words_of_line}

@@ -1,5 +1,5 @@
 use Rattle.std.proofs.Common.{◌≡◌, None, drop}
-use Rattle.tx_trie.specs.Nodes.{read_on}
+use Rattle.tx_trie.specs.inner.Nodes.{read_on}
 use Rattle.tx_trie.proofs.nodes.last_code.Given as goal
 
 abbrev pub invariant-loop-figure : goal.invariant-loop-figure

@@ -1,5 +1,5 @@
 use Rattle.std.proofs.Common.{◌≡◌, drop}
-use Rattle.tx_trie.specs.Nodes.{walk}
+use Rattle.tx_trie.specs.inner.Nodes.{walk}
 use Rattle.tx_trie.proofs.nodes.look.Given as goal
 
 abbrev pub invariant-loop-figure : goal.invariant-loop-figure

@@ -1,6 +1,6 @@
 use Rattle.std.proofs.Common.{arith, ap, ◌∙◌, get_or, take}
 use Rattle.std.proofs.lemmas.List.{take_more}
-use Rattle.tx_trie.specs.Nodes.{walk}
+use Rattle.tx_trie.specs.inner.Nodes.{walk}
 use Rattle.tx_trie.proofs.Stepping.{grows_on, walk_kept, walked}
 use Rattle.tx_trie.proofs.nodes.reach.Goals as goal
 

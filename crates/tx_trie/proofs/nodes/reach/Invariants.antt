@@ -1,5 +1,5 @@
 use Rattle.std.proofs.Common.{◌≡◌, ◌+◌, ◌<◌, ◌≤◌, Some, take, vec_len, vec_capacity}
-use Rattle.tx_trie.specs.Nodes.{Grows, walk}
+use Rattle.tx_trie.specs.inner.Nodes.{Grows, walk}
 use Rattle.tx_trie.proofs.nodes.reach.Given as goal
 
 abbrev pub invariant-loop-figure : goal.invariant-loop-figure

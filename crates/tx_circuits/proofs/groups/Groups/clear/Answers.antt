@@ -2,8 +2,8 @@ use Rattle.std.proofs.Common.{◌≡◌, ◌∙◌, ℕ, suc, ◌-◌, ◌<◌, 
 use Rattle.std.proofs.lemmas.List.{take_at, with_items_is}
 use Rattle.tx_circuits.specs.declared.slot.Slot.{Slot}
 use Rattle.tx_circuits.specs.declared.row.Row.{Row}
-use Rattle.tx_circuits.specs.Slots.{state_of, cleared, IsSound}
-use Rattle.tx_circuits.specs.Groups.{group_slots, group_state, change_at, with_state, AreApart, AreKept}
+use Rattle.tx_circuits.specs.inner.Slots.{state_of, cleared, IsSound}
+use Rattle.tx_circuits.specs.inner.Groups.{group_slots, group_state, change_at, with_state, AreApart, AreKept}
 use Rattle.tx_circuits.proofs.Kept.{entry_at, get_within, slots_length, kept_updated, view_updated, set_numbered_at}
 use Rattle.tx_circuits.proofs.Members.{known}
 use Rattle.tx_circuits.proofs.Steps.{state_in}
@@ -45,4 +45,4 @@ returns g c =
     ap (λ (l : List Slot). map (group_state l) (slice_set rows c.index-place.result c.clear.result)) (with_items_is c.self.inside.slots new len)
     ∙ view_updated slots rows c.args.self.now c.self.invariant c.self.view_is c.args.group c.index-place.result c.index-place.ensures row at new long c.clear.result c.clear.ensures.row c.clear.ensures.sound rest
     (λ t. record t { states = map cleared t.states })
-    (λ j. record { trunk = row.trunk; states = (c.clear.ensures.states ∙ ap (λ (l : List Slot). map cleared (map state_of (group_slots l row))) c.as_mut_slice.ensures.value) j })
+    (λ j. record { head = row.head; states = (c.clear.ensures.states ∙ ap (λ (l : List Slot). map cleared (map state_of (group_slots l row))) c.as_mut_slice.ensures.value) j })

@@ -2,8 +2,8 @@ use Rattle.std.proofs.Common.{◌≡◌, ◌∙◌, ℕ, suc, ◌-◌, ◌<◌, 
 use Rattle.std.proofs.lemmas.List.{take_at, with_items_is}
 use Rattle.tx_circuits.specs.declared.slot.Slot.{Slot}
 use Rattle.tx_circuits.specs.declared.row.Row.{Row}
-use Rattle.tx_circuits.specs.Slots.{state_of, cleared, IsSound}
-use Rattle.tx_circuits.specs.Groups.{group_slots, group_state, change_at, with_state, AreApart, AreKept}
+use Rattle.tx_circuits.specs.inner.Slots.{state_of, cleared, IsSound}
+use Rattle.tx_circuits.specs.inner.Groups.{group_slots, group_state, change_at, with_state, AreApart, AreKept}
 use Rattle.tx_circuits.proofs.Kept.{entry_at, get_within, slots_length, kept_updated, view_updated, set_numbered_at}
 use Rattle.tx_circuits.proofs.Members.{known}
 use Rattle.tx_circuits.proofs.Steps.{state_in}
@@ -54,7 +54,7 @@ returns g c =
     ∙ view_updated slots rows c.args.self.now c.self.invariant c.self.view_is c.args.circuit.now.group c.index-group.result c.index-group.ensures row at new long c.set_state.result c.set_state.ensures.row c.set_state.ensures.sound rest
     (with_state c.args.circuit.now c.args.to)
     (λ j. record {
-      trunk = row.trunk;
+      head = row.head;
       states = (c.set_state.ensures.states ∙ ap (λ (l : List Slot). slice_set (map state_of (group_slots l row)) (c.args.circuit.now.number - 1) c.args.to) c.as_mut_slice.ensures.value
           ∙ set_numbered_at (map state_of (group_slots slots row)) c.args.circuit.now.number c.args.to some) j;
     })

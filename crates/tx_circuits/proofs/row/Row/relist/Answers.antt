@@ -1,6 +1,6 @@
 use Rattle.std.proofs.Common.{◌≡◌, ◌∙◌, List, length, map, sym, ap, subst}
 use Rattle.tx_circuits.specs.declared.slot.Slot.{Slot}
-use Rattle.tx_circuits.specs.Slots.{state_of, IsSound}
+use Rattle.tx_circuits.specs.inner.Slots.{state_of, IsSound}
 use Rattle.tx_circuits.proofs.Kept.{slots_length, part_here, part_apart}
 use Rattle.tx_circuits.proofs.row.Row.relist.Goals as goal
 

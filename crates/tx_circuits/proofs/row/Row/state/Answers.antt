@@ -1,6 +1,6 @@
 use Rattle.std.proofs.Common.{◌≡◌, ◌∙◌, ℕ, ◌-◌, ◌<◌, ◌≤◌, map, sym, arith}
-use Rattle.tx_circuits.specs.Slots.{state_of}
-use Rattle.tx_circuits.specs.Groups.{group_slots}
+use Rattle.tx_circuits.specs.inner.Slots.{state_of}
+use Rattle.tx_circuits.specs.inner.Groups.{group_slots}
 use Rattle.tx_circuits.proofs.Kept.{numbered_at, slot_at}
 use Rattle.tx_circuits.proofs.row.Row.state.Goals as goal
 

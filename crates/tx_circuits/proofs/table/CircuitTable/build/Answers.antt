@@ -1,8 +1,8 @@
 use Rattle.std.proofs.Common.{◌≡◌, ◌∙◌, ℕ, suc, ◌+◌, ◌<◌, ◌≤◌, List, [], ◌∷◌, ◌++◌, false, length, map, take, sym, ap, arith}
 use Rattle.std.specs.Prelude.{replicate, slice_get}
 use Rattle.std.proofs.lemmas.List.{take_all}
-use Rattle.tx_circuits.specs.Groups.{GroupState, idle}
-use Rattle.tx_circuits.specs.Seen.{table_of}
+use Rattle.tx_circuits.specs.inner.Groups.{GroupState, idle}
+use Rattle.tx_circuits.specs.inner.Seen.{table_of}
 use Rattle.tx_circuits.proofs.Built.{fresh, fresh_push, fresh_is, entry, built_is}
 use Rattle.tx_circuits.proofs.table.CircuitTable.build.Goals as goal
 
@@ -14,8 +14,8 @@ loop-place-preserved g c =
     let many : c.groups-place-end.result ≡ length plan.groups = c.groups-place-end.ensures in
     let r = entry plan.groups k (omega arith) in
     let same : c.at-group.result ≡ k = c.at-group.ensures in
-    let told : record { trunk = record { a = c.ends-ends.result.0; b = c.ends-ends.result.1; direction = c.direction.result; failed = false; blocked = false }; states = replicate c.group_count.result idle } ≡ fresh r.0 =
-    (λ i. record { trunk = record { a = (c.ends-ends.ensures i).0; b = (c.ends-ends.ensures i).1; direction = c.direction.ensures i; failed = false; blocked = false }; states = replicate (c.group_count.ensures.value i) idle })
+    let told : record { head = record { a = c.ends-ends.result.0; b = c.ends-ends.result.1; direction = c.direction.result; failed = false; blocked = false }; states = replicate c.group_count.result idle } ≡ fresh r.0 =
+    (λ i. record { head = record { a = (c.ends-ends.ensures i).0; b = (c.ends-ends.ensures i).1; direction = c.direction.ensures i; failed = false; blocked = false }; states = replicate (c.group_count.ensures.value i) idle })
     ∙ fresh_is plan c.at-group.result r.0 (ap (λ (n : ℕ). slice_get plan.groups n) same ∙ r.1) in
     c.in_ok-add.ensures.ok ∙ (λ i. c.loop-place.invariant i ++ told i ∷ []) ∙ sym (fresh_push plan.groups k r.0 r.1) ∙ ap (λ (n : ℕ). map fresh (take n plan.groups)) (sym (one_more k))
   where

@@ -2,9 +2,9 @@ use Rattle.std.proofs.Common.{◌≡◌, ◌∙◌, ℕ, suc, ◌+◌, true, fal
 use Rattle.std.specs.Option.{option_map}
 use Rattle.tx_plan.specs.Circuits.{is_circuit}
 use Rattle.tx_plan.specs.declared.circuit.Circuit.{Circuit}
-use Rattle.tx_circuits.specs.Groups.{first_place}
+use Rattle.tx_circuits.specs.inner.Groups.{first_place}
 use Rattle.tx_circuits.specs.Table.{Table, plan_of, is_down, is_free_at, first_free}
-use Rattle.tx_circuits.specs.Seen.{table_of}
+use Rattle.tx_circuits.specs.inner.Seen.{table_of}
 use Rattle.tx_circuits.proofs.Reading.{first_is, first_known}
 use Rattle.tx_circuits.proofs.Steps.{group_at, place_is}
 use Rattle.tx_circuits.proofs.table.CircuitTable.first_free.Goals as goal

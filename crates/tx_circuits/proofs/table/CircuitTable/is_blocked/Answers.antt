@@ -1,11 +1,11 @@
 use Rattle.std.proofs.Common.{◌≡◌, ◌∙◌, false, sym, ap}
 use Rattle.std.specs.Prelude.{slice_get}
 use Rattle.std.specs.Option.{option_map_or}
-use Rattle.tx_circuits.proofs.Steps.{blocked_is_marked, trunk_read}
+use Rattle.tx_circuits.proofs.Steps.{blocked_is_marked, head_read}
 use Rattle.tx_circuits.proofs.table.CircuitTable.is_blocked.Goals as goal
 
 pub returns-in-Some : goal.returns-in-Some
-returns-in-Some g c = (let ts = c.self.inside.groups in sym (blocked_is_marked ts c.args.self.now c.self.view_is c.args.group ∙ trunk_read (λ t. t.blocked) (slice_get ts c.args.group) ∙ ap (λ o. option_map_or (λ t. t.blocked) o false) (sym c.in-Some.ensures)))
+returns-in-Some g c = (let ts = c.self.inside.groups in sym (blocked_is_marked ts c.args.self.now c.self.view_is c.args.group ∙ head_read (λ t. t.blocked) (slice_get ts c.args.group) ∙ ap (λ o. option_map_or (λ t. t.blocked) o false) (sym c.in-Some.ensures)))
 
 pub returns-in-None : goal.returns-in-None
-returns-in-None g c = (let ts = c.self.inside.groups in sym (blocked_is_marked ts c.args.self.now c.self.view_is c.args.group ∙ trunk_read (λ t. t.blocked) (slice_get ts c.args.group) ∙ ap (λ o. option_map_or (λ t. t.blocked) o false) (sym c.in-None.ensures)))
+returns-in-None g c = (let ts = c.self.inside.groups in sym (blocked_is_marked ts c.args.self.now c.self.view_is c.args.group ∙ head_read (λ t. t.blocked) (slice_get ts c.args.group) ∙ ap (λ o. option_map_or (λ t. t.blocked) o false) (sym c.in-None.ensures)))

@@ -11,7 +11,7 @@ pub returns-then-not-is_seized : goal.returns-then-not-is_seized
 returns-then-not-is_seized g c =
     let now = c.args.self.now in
     let x = c.args.circuit.now in
-    let t = c.in-Some.trunk in (
+    let t = c.in-Some.head in (
       λ r. unseized now x t.a t.b (λ y h. seized_ends c.self.inside.groups now c.self.view_is x y t c.in-Some.ensures h) (sym c.is_seized.ensures ∙ c.if-not-is_seized.true)
           (sym c.is_seized-then-not-is_seized.ensures ∙ off c.is_seized-then-not-is_seized.result r),
       λ h. ap not (c.is_seized-then-not-is_seized.ensures ∙ h t.b),

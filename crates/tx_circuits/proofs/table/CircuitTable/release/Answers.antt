@@ -1,8 +1,8 @@
 use Rattle.std.proofs.Common.{◌∙◌, sym, ap}
 use Rattle.tx_circuits.specs.declared.state.State.{State}
-use Rattle.tx_circuits.specs.Groups.{change_at, with_state}
+use Rattle.tx_circuits.specs.inner.Groups.{change_at, with_state}
 use Rattle.tx_circuits.specs.Table.{Table, with_released}
-use Rattle.tx_circuits.specs.Seen.{table_of}
+use Rattle.tx_circuits.specs.inner.Seen.{table_of}
 use Rattle.tx_circuits.proofs.Updates.{released_is}
 use Rattle.tx_circuits.proofs.Steps.{circuit_is}
 use Rattle.tx_circuits.proofs.table.CircuitTable.release.Goals as goal

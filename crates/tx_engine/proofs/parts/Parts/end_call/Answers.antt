@@ -1,7 +1,7 @@
 use Rattle.std.proofs.Common.{◌≡◌, ◌++◌, ◌∷◌, [], Some, sym, ap, ◌∙◌, deque_len, deque_capacity}
 use Rattle.tx_state.specs.Ending.{end_call}
 use Rattle.tx_calls.specs.Calls.{Kept, kept_of}
-use Rattle.tx_engine.specs.Sound.{state_of}
+use Rattle.tx_engine.specs.inner.Sound.{state_of}
 use Rattle.tx_engine.proofs.Ended.{may_give_back, has_ticket_room, sound_ended, state_ended}
 use Rattle.tx_engine.proofs.parts.Parts.end_call.Goals as goal
 

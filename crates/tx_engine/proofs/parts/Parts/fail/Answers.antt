@@ -3,10 +3,10 @@ use Rattle.tx_state.specs.declared.reply.Reply.TheVariants.{Lost}
 use Rattle.tx_state.specs.declared.event.Event.TheVariants.{Fail}
 use Rattle.tx_state.specs.Step.{counted, accepted, unless_refused}
 use Rattle.tx_calls.specs.Calls.{calls_in}
-use Rattle.tx_endings.specs.Seen.{AreTogether, state_seen}
+use Rattle.tx_endings.specs.inner.Seen.{AreTogether, state_seen}
 use Rattle.tx_endings.proofs.Accepted.{fail_done}
 use Rattle.tx_endings.proofs.Parts.{failed_together}
-use Rattle.tx_engine.specs.Sound.{state_of}
+use Rattle.tx_engine.specs.inner.Sound.{state_of}
 use Rattle.tx_engine.proofs.Changing.{sound_table}
 use Rattle.tx_engine.proofs.parts.Parts.fail.Goals as goal
 

@@ -6,7 +6,7 @@ use Rattle.tx_state.specs.Ending.{end_call}
 use Rattle.tx_calls.specs.Calls.{calls_in}
 use Rattle.tx_endings.proofs.Losing.{losing_begins}
 use Rattle.tx_endings.proofs.Users.{AreLeft, none_left}
-use Rattle.tx_engine.specs.Sound.{state_of}
+use Rattle.tx_engine.specs.inner.Sound.{state_of}
 use Rattle.tx_engine.proofs.Lost.{drop_first, mem_there, least_there, goes_on}
 use Rattle.tx_engine.proofs.parts.Parts.lose.Goals as goal
 

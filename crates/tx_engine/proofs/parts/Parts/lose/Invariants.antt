@@ -1,8 +1,8 @@
 use Rattle.std.proofs.Common.{◌≡◌, ◌≤◌, drop}
 use Rattle.tx_calls.specs.Calls.{calls_in}
-use Rattle.tx_endings.specs.InTurn.{IsLosing}
+use Rattle.tx_endings.specs.inner.InTurn.{IsLosing}
 use Rattle.tx_endings.proofs.Users.{AreLeft}
-use Rattle.tx_engine.specs.Sound.{IsSound, state_of}
+use Rattle.tx_engine.specs.inner.Sound.{IsSound, state_of}
 use Rattle.tx_engine.proofs.parts.Parts.lose.Given as goal
 
 abbrev pub invariant-loop-number : goal.invariant-loop-number

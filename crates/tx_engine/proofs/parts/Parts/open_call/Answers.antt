@@ -4,7 +4,7 @@ use Rattle.tx_state.specs.Members.{Mem}
 use Rattle.tx_state.specs.declared.hop.Hop.{Hop}
 use Rattle.tx_lines.specs.Book.{Book}
 use Rattle.tx_calls.specs.Calls.{Calls, calls_in, sorted_calls}
-use Rattle.tx_engine.specs.Sound.{state_of}
+use Rattle.tx_engine.specs.inner.Sound.{state_of}
 use Rattle.tx_engine.proofs.Changing.{sound_room, sound_key, keyed_with}
 use Rattle.tx_engine.proofs.Refused.{key_fits, key_known}
 use Rattle.tx_engine.proofs.parts.Parts.open_call.Goals as goal

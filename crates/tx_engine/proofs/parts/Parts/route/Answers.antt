@@ -5,7 +5,7 @@ use Rattle.tx_state.specs.State.{State}
 use Rattle.tx_state.specs.Step.{counted, accepted, unless_refused}
 use Rattle.tx_calls.specs.Calls.{calls_in}
 use Rattle.tx_engine.specs.declared.decision.Decision.TheVariants.{Connect, Seize, Answer}
-use Rattle.tx_engine.specs.Sound.{state_of}
+use Rattle.tx_engine.specs.inner.Sound.{state_of}
 use Rattle.tx_engine.proofs.Deciding.{route_is, if_ok}
 use Rattle.tx_engine.proofs.parts.Parts.route.Goals as goal
 

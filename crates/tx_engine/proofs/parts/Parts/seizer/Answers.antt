@@ -1,9 +1,9 @@
 use Rattle.std.proofs.Common.{◌≡◌, ℕ, ◌==◌, ◌∷◌, [], Some, is_some, sym, ap, ◌∙◌, subst}
 use Rattle.tx_state.specs.InUse.{seizes_from}
-use Rattle.tx_endings.specs.Users.{AreNumbersOf}
+use Rattle.tx_endings.specs.inner.Users.{AreNumbersOf}
 use Rattle.tx_endings.proofs.Users.{seizer_alone}
 use Rattle.tx_calls.specs.Calls.{Kept, kept_at, kept_of, calls_in}
-use Rattle.tx_calls.specs.Keys.{keys_of, pick}
+use Rattle.tx_calls.specs.inner.Keys.{keys_of, pick}
 use Rattle.tx_engine.proofs.Leading.{seizer_found}
 use Rattle.tx_engine.proofs.parts.Parts.seizer.Goals as goal
 

@@ -4,7 +4,7 @@ use Rattle.std.specs.FinSet as set
 use Rattle.indexmap.specs.IndexMap as index
 use Rattle.tx_plan.specs.Orders.{same_line}
 use Rattle.tx_lines.specs.Status.{unmarked, with_mark}
-use Rattle.tx_lines.specs.Statuses.{Sets, marked, with_marked, is_marked}
+use Rattle.tx_lines.specs.inner.Statuses.{Sets, marked, with_marked, is_marked}
 use Rattle.tx_lines.proofs.Sets.{sets_marked, marks_of, no_entry, entry_place}
 use Rattle.tx_lines.proofs.statuses.Statuses.mark.Goals as goal
 

@@ -1,7 +1,7 @@
 use Rattle.std.proofs.Common.{ap, sym, ◌∙◌, Some, None}
 use Rattle.std.specs.FinSet as set
 use Rattle.tx_lines.specs.declared.status.Mark.TheVariants.{Faulty, Away, Engaged}
-use Rattle.tx_lines.specs.Statuses.{Sets}
+use Rattle.tx_lines.specs.inner.Statuses.{Sets}
 use Rattle.tx_lines.proofs.Sets.{marks_of}
 use Rattle.tx_lines.proofs.statuses.Statuses.of.Goals as goal
 

@@ -2,7 +2,7 @@ use Rattle.std.proofs.Common.{ap, ◌∙◌}
 use Rattle.indexmap.specs.IndexMap as index
 use Rattle.tx_lines.specs.Status.{has}
 use Rattle.tx_lines.specs.declared.status.Mark.TheVariants.{Faulty, Away, Engaged}
-use Rattle.tx_lines.specs.Statuses.{Sets}
+use Rattle.tx_lines.specs.inner.Statuses.{Sets}
 use Rattle.tx_lines.proofs.Sets.{status_along}
 use Rattle.tx_lines.proofs.statuses.Statuses.reserve_one.Goals as goal
 

@@ -4,7 +4,7 @@ use Rattle.std.specs.FinSet as set
 use Rattle.indexmap.specs.IndexMap as index
 use Rattle.tx_plan.specs.Orders.{same_line}
 use Rattle.tx_lines.specs.Status.{has, unmarked}
-use Rattle.tx_lines.specs.Statuses.{Sets, marked, with_marked, kept}
+use Rattle.tx_lines.specs.inner.Statuses.{Sets, marked, with_marked, kept}
 use Rattle.tx_lines.proofs.Sets.{sets_unmarked, marks_of, kept_has, none_left, still, stored_is, all_marked, kept_marked}
 use Rattle.tx_lines.proofs.statuses.Statuses.unmark.Goals as goal
 

@@ -3,9 +3,9 @@ use Rattle.std.specs.FinSet as set
 use Rattle.tx_plan.specs.Orders.{circuit_cmp}
 use Rattle.tx_state.specs.Ending.{end_calls}
 use Rattle.tx_state.specs.State.{Net}
-use Rattle.tx_plain_parts.specs.Marks.{Circuits, HasMark}
+use Rattle.tx_plain_parts.specs.inner.Marks.{Circuits, HasMark}
 use Rattle.tx_network.specs.Seen.{call_seen}
-use Rattle.tx_plain_parts.specs.GivenUp.{ends_by}
+use Rattle.tx_plain_parts.specs.inner.GivenUp.{ends_by}
 use Rattle.tx_machine.proofs.Whole.{whole_ended, given_same}
 use Rattle.tx_plain_parts.proofs.Sweeps.{mem_mapped}
 use Rattle.tx_plain_parts.proofs.Views.{filter_map_seen}

@@ -6,10 +6,10 @@ use Rattle.tx_state.specs.Confirming.{confirmed}
 use Rattle.tx_state.specs.InUse.{circuits_carried}
 use Rattle.tx_state.specs.Members.{Mem}
 use Rattle.tx_state.proofs.Lists.{find_mem, mem_right}
-use Rattle.tx_plain_parts.specs.Marks.{HasMark}
+use Rattle.tx_plain_parts.specs.inner.Marks.{HasMark}
 use Rattle.tx_machine.proofs.Routed.{met}
 use Rattle.tx_network.specs.Seen.{call_seen}
-use Rattle.tx_machine.specs.Decided.{meeting_done}
+use Rattle.tx_machine.specs.inner.Decided.{meeting_done}
 use Rattle.tx_machine.proofs.plain.Plain.meeting_of.Goals as goal
 
 pub returns-clause-done : goal.returns-clause-done

@@ -1,7 +1,7 @@
 use Rattle.std.proofs.Common.{not, ◌==◌, ap, sym, ◌∙◌, subst, length}
 use Rattle.std.specs.FinSet as set
 use Rattle.std.proofs.lemmas.List.{with_items_is}
-use Rattle.tx_plain_parts.specs.Marks.{Circuits, IsCleared, circuits_of}
+use Rattle.tx_plain_parts.specs.inner.Marks.{Circuits, IsCleared, circuits_of}
 use Rattle.tx_plain_parts.proofs.Bits.{group_cleared}
 use Rattle.tx_plain_parts.proofs.circuit_marks.CircuitMarks.clear_group.Goals as goal
 

@@ -1,6 +1,6 @@
 use Rattle.std.proofs.Common.{◌≡◌, ◌+◌, ◌*◌, ◌-◌, ◌&&◌, ap, sym, ◌∙◌, get_or, false, arith, inl, inr}
 use Rattle.std.specs.FinSet as set
-use Rattle.tx_plain_parts.specs.Marks.{Circuits, index_of}
+use Rattle.tx_plain_parts.specs.inner.Marks.{Circuits, index_of}
 use Rattle.tx_plain_parts.proofs.Bits.{in_circuits, well, well_within, not_well, not_grouped}
 use Rattle.tx_plain_parts.proofs.circuit_marks.CircuitMarks.has.Goals as goal
 

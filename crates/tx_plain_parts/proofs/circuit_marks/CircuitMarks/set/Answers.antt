@@ -2,7 +2,7 @@ use Rattle.std.proofs.Common.{◌∙◌, ap, sym, subst, length, true}
 use Rattle.std.specs.Prelude.{slice_set}
 use Rattle.std.specs.FinSet as set
 use Rattle.std.proofs.lemmas.List.{with_items_is}
-use Rattle.tx_plain_parts.specs.Marks.{Circuits, HasMark, circuits_of, index_of}
+use Rattle.tx_plain_parts.specs.inner.Marks.{Circuits, HasMark, circuits_of, index_of}
 use Rattle.tx_plain_parts.proofs.Bits.{circuit_put, length_put}
 use Rattle.tx_plain_parts.proofs.circuit_marks.CircuitMarks.set.Goals as goal
 

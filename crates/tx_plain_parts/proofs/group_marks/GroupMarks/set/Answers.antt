@@ -1,7 +1,7 @@
 use Rattle.std.proofs.Common.{◌<◌, ap, sym, ◌∙◌, subst, true}
 use Rattle.std.specs.Prelude.{slice_set}
 use Rattle.std.specs.FinSet as set
-use Rattle.tx_plain_parts.specs.Marks.{Groups, groups_of}
+use Rattle.tx_plain_parts.specs.inner.Marks.{Groups, groups_of}
 use Rattle.tx_plain_parts.proofs.Bits.{group_put}
 use Rattle.tx_plain_parts.proofs.group_marks.GroupMarks.set.Goals as goal
 

@@ -4,7 +4,7 @@ use Rattle.std.specs.List.{list_any}
 use Rattle.std.specs.Map.{keys_of}
 use Rattle.std.specs.Str.{bytes_eq}
 use Rattle.tx_plan.specs.Plan.{Code}
-use Rattle.tx_plan.specs.Tables.{code_of_row}
+use Rattle.tx_plan.specs.inner.Tables.{code_of_row}
 use Rattle.tx_plan.proofs.Tables.{list_any-map, position-map}
 use Rattle.tx_plan.proofs.codes.Codes.find.Goals as goal
 

@@ -1,5 +1,5 @@
 use Rattle.std.proofs.Common.{◌≡◌, length}
-use Rattle.tx_plan.specs.Seen.{differ}
+use Rattle.tx_plan.specs.inner.Seen.{differ}
 use Rattle.tx_plan.proofs.group_list.GroupList.none_twice.Given as goal
 
 abbrev pub invariant-groups : goal.invariant-groups

@@ -4,7 +4,7 @@ use Rattle.std.specs.List.{list_any}
 use Rattle.std.specs.Map.{keys_of}
 use Rattle.std.specs.Str.{bytes_eq}
 use Rattle.tx_plan.specs.Plan.{Group}
-use Rattle.tx_plan.specs.Tables.{group_of_row}
+use Rattle.tx_plan.specs.inner.Tables.{group_of_row}
 use Rattle.tx_plan.proofs.Tables.{list_any-map, position-map}
 use Rattle.tx_plan.proofs.groups.Groups.find.Goals as goal
 

@@ -2,7 +2,7 @@ use Rattle.std.proofs.Common.{◌≡◌, ◌<◌, ◌∙◌, ap, ◌==◌, ◌&&
 use Rattle.std.specs.List.{list_any}
 use Rattle.std.proofs.lemmas.List.{length-map, map_push}
 use Rattle.tx_plan.specs.Plan.{Route}
-use Rattle.tx_plan.specs.Tables.{route_of_row}
+use Rattle.tx_plan.specs.inner.Tables.{route_of_row}
 use Rattle.tx_plan.specs.declared.route_row.RouteRow.{RouteRow}
 use Rattle.tx_plan.proofs.PlaceTable.{index_put}
 use Rattle.tx_plan.proofs.routes.Routes.add.Goals as goal

@@ -2,7 +2,7 @@ use Rattle.std.proofs.Common.{◌∙◌, ap, sym, ◌==◌, ◌&&◌, Bool, List
 use Rattle.std.specs.Prelude.{find}
 use Rattle.std.specs.Option.{option_map_or}
 use Rattle.tx_plan.specs.Plan.{Route}
-use Rattle.tx_plan.specs.Tables.{route_of_row}
+use Rattle.tx_plan.specs.inner.Tables.{route_of_row}
 use Rattle.tx_plan.specs.declared.route_row.RouteRow.{RouteRow}
 use Rattle.tx_plan.proofs.PlaceTable.{found_at, not_found}
 use Rattle.tx_plan.proofs.routes.Routes.list.Goals as goal

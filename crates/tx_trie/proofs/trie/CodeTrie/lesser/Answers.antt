@@ -1,7 +1,7 @@
 use Rattle.std.proofs.Common.{◌<◌, length, ap, ◌∙◌, arith}
 use Rattle.std.proofs.lemmas.List.{length-map}
 use Rattle.std.specs.Ordering.{is_lt}
-use Rattle.tx_trie.specs.Nodes.{code_of_row}
+use Rattle.tx_trie.specs.inner.Nodes.{code_of_row}
 use Rattle.tx_trie.proofs.Looking.{step_none, step_first, step_bound, step_less, step_greater}
 use Rattle.tx_trie.proofs.trie.CodeTrie.lesser.Goals as goal
 

@@ -3,7 +3,7 @@ use Rattle.std.proofs.lemmas.List.{take_min}
 use Rattle.tx_plan.specs.Plan.{Code}
 use Rattle.tx_plan.specs.Codes.{code_of}
 use Rattle.tx_trie.specs.Trie.{plan_of}
-use Rattle.tx_trie.specs.Nodes.{read_on, code_of_row}
+use Rattle.tx_trie.specs.inner.Nodes.{read_on, code_of_row}
 use Rattle.tx_trie.proofs.Longest.{read_code}
 use Rattle.tx_trie.proofs.trie.CodeTrie.read.Goals as goal
 

@@ -1,0 +1,4 @@
+pub mod Groups
+pub mod Linked
+pub mod Seen
+pub mod Slots

@@ -1,0 +1,99 @@
+-- The groups of a plan with the states of their circuits, and how they are kept in one vector.
+use Rattle.std.specs.Prelude.{◌≡◌, ℕ, zero, suc, ◌+◌, ◌<◌, ◌≤◌, Bool, true, false, not, ◌&&◌, ◌==◌, if◌then◌else◌, List, [], ◌∷◌, map, length, find, replicate, Option, Some, None, option_and_then, slice_get, slice_set, ◌⊎◌}
+use Rattle.std.specs.Option.{option_map, option_map_or}
+use Rattle.std.specs.List.{between}
+use Rattle.tx_plan.specs.declared.circuit.Circuit.{Circuit}
+use Rattle.tx_plan.specs.declared.direction.Direction.{Direction}
+use Rattle.tx_plan.specs.Circuits.{is_both}
+use Rattle.tx_circuits.specs.declared.free_lists.End.{End}
+use Rattle.tx_circuits.specs.declared.free_lists.End.TheVariants.{First, Other}
+use Rattle.tx_circuits.specs.declared.free_lists.Way.{Way}
+use Rattle.tx_circuits.specs.declared.free_lists.Way.TheVariants.{Up, Down}
+use Rattle.tx_circuits.specs.declared.state.State.{State}
+use Rattle.tx_circuits.specs.declared.slot.Slot.{Slot}
+use Rattle.tx_circuits.specs.declared.group_head.GroupHead.{GroupHead}
+use Rattle.tx_circuits.specs.declared.row.Row.{Row}
+use Rattle.tx_circuits.specs.inner.Slots.{state_of, free_in, in_order, IsSound}
+
+-- a group, with the states of its circuits in order of number
+pub record GroupState : Type 0 where
+  pub head : GroupHead
+  pub states : List State
+
+-- the end at which an exchange seizes, if it may
+abbrev pub seizing_end : GroupHead → ℕ → Option End
+seizing_end t x = if t.a == x then Some First else if is_both t.direction && (t.b == x) then Some Other else None
+
+-- the entry of a number, counted from 1
+abbrev pub numbered : {A : Type 0} → List A → ℕ → Option A
+numbered xs zero = None
+numbered xs (suc n) = slice_get xs n
+
+-- the state of a circuit, if the groups have it
+abbrev pub state_at : List GroupState → Circuit → Option State
+state_at ts x = option_and_then (λ t. numbered t.states x.number) (slice_get ts x.group)
+
+-- the end at which an exchange seizes circuits of a group, if it may
+abbrev pub end_at : List GroupState → ℕ → ℕ → Option End
+end_at ts g x = option_and_then (λ t. seizing_end t.head x) (slice_get ts g)
+
+-- the list with one entry changed
+abbrev pub change_at : {A : Type 0} → (A → A) → ℕ → List A → List A
+change_at f place [] = []
+change_at f zero (x ∷ xs) = f x ∷ xs
+change_at f (suc place) (x ∷ xs) = x ∷ change_at f place xs
+
+-- the list with another entry of a number, counted from 1
+abbrev pub set_numbered : {A : Type 0} → List A → ℕ → A → List A
+set_numbered xs zero y = xs
+set_numbered xs (suc n) y = slice_set xs n y
+
+abbrev pub with_state : Circuit → State → GroupState → GroupState
+with_state x to t = record t { states = set_numbered t.states x.number to }
+
+abbrev pub with_failed : Bool → GroupState → GroupState
+with_failed to t = record t { head = record t.head { failed = to } }
+
+abbrev pub with_blocked : Bool → GroupState → GroupState
+with_blocked to t = record t { head = record t.head { blocked = to } }
+
+-- the first end looks upward from the least place, the other downward from the greatest
+abbrev pub way_of : End → Way
+way_of First = Up
+way_of Other = Down
+
+-- the first free place of a group, as an end looks
+abbrev pub first_place : GroupState → End → Option ℕ
+first_place t end = find (free_in end t.states) (in_order (way_of end) (length t.states))
+
+-- where no call holds a circuit, and it is in service
+abbrev pub idle : State
+idle = record { seized_first = false; seized_other = false; carried = false; releasing = false; out = false }
+
+-- ALL CIRCUITS IN ONE VECTOR, GROUP BY GROUP
+
+abbrev pub group_slots : List Slot → Row → List Slot
+group_slots slots r = between r.start (r.start + r.count) slots
+
+-- two groups have no slot in common
+abbrev pub AreApart : Row → Row → Type 0
+AreApart r s = (r.start + r.count ≤ s.start) ⊎ (s.start + s.count ≤ r.start)
+
+abbrev pub group_state : List Slot → Row → GroupState
+group_state slots r = record { head = r.head; states = map state_of (group_slots slots r) }
+
+-- The groups lie in the vector one after another, and the free lists of each are sound.
+pub record AreKept (slots : List Slot) (rows : List Row) : Type 0 where
+  pub within : (g : ℕ) (r : Row) → slice_get rows g ≡ Some r → r.start + r.count ≤ length slots
+  pub apart : (g h : ℕ) (r s : Row) → slice_get rows g ≡ Some r → slice_get rows h ≡ Some s → g < h → r.start + r.count ≤ s.start
+  pub sound : (g : ℕ) (r : Row) → slice_get rows g ≡ Some r → IsSound (group_slots slots r) r.lists
+
+-- The slots of one group more, all idle, stand behind those of the others.
+pub record IsAppended (old new : List Slot) (head : GroupHead) (count : ℕ) (row : Row) : Type 0 where
+  pub head_is : row.head ≡ head
+  pub start_is : row.start ≡ length old
+  pub count_is : row.count ≡ count
+  pub grown : length new ≡ length old + count
+  pub sound : IsSound (group_slots new row) row.lists
+  pub states : map state_of (group_slots new row) ≡ replicate count idle
+  pub others : (s : Row) → s.start + s.count ≤ length old → group_slots new s ≡ group_slots old s

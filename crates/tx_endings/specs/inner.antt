@@ -1,0 +1,4 @@
+pub mod GivenBack
+pub mod InTurn
+pub mod Seen
+pub mod Users

@@ -1,0 +1,53 @@
+-- What the fields of the plain network mean, and what they keep.
+use Rattle.std.specs.Prelude.{◌≡◌, ℕ, ◌+◌, ◌≤◌, List, map, length, Vec, vec_len, vec_capacity}
+use Rattle.std.specs.FinSet as set
+use Rattle.tx_plan.specs.Plan.{Plan}
+use Rattle.tx_plan.specs.Rules.{IsPlan}
+use Rattle.tx_plan.specs.declared.line.Line.{Line}
+use Rattle.tx_state.specs.Members.{Mem}
+use Rattle.tx_state.specs.Call.{Call}
+use Rattle.tx_state.specs.Ended.{Ended}
+use Rattle.tx_state.specs.State.{Net}
+use Rattle.tx_state.specs.InUse.{circuits_used}
+use Rattle.tx_plain_parts.specs.inner.Marks.{Circuits, Groups}
+use Rattle.tx_network.specs.Seen.{call_seen}
+use Rattle.tx_plain_parts.specs.inner.Seen.{HasRoom}
+use Rattle.tx_plain_parts.specs.inner.GivenUp.{AreMarked}
+use Rattle.tx_network.specs.declared.open_call.OpenCall.{OpenCall}
+
+-- what holds of the calls: their circuits have marks, each has a number of its own, and its number was given
+pub record AreHeld (groups numbers : ℕ) (calls : List Call) : Type 0 where
+  pub marked : (c : Call) → Mem calls c → AreMarked groups (circuits_used c)
+  pub one : (c d : Call) → Mem calls c → Mem calls d → c.number ≡ d.number → c ≡ d
+  pub given : (c : Call) → Mem calls c → c.number ≤ numbers
+
+-- What the fields keep: the rules of the plan; room for a ticket of each open call; what holds of the calls; room for the hop of a call that has
+-- seized a circuit; marks for all groups of the plan.
+pub record IsWhole {A : Type 0} (p : Plan) (calls : Vec (OpenCall A) A) (tickets : Vec Ended A) (failed blocked : Groups) (releasing out : Circuits) (numbers : ℕ) : Type 0 where
+  pub rules : IsPlan p
+  pub room : vec_len tickets + vec_len calls ≤ vec_capacity tickets
+  pub held : AreHeld (length p.groups) numbers (map call_seen calls.items)
+  pub hops : (c : OpenCall A) → Mem calls.items c → HasRoom c
+  pub failed_all : failed.groups ≡ length p.groups
+  pub blocked_all : blocked.groups ≡ length p.groups
+  pub releasing_all : releasing.groups ≡ length p.groups
+  pub out_all : out.groups ≡ length p.groups
+
+-- the network that the fields stand for
+abbrev pub net_of : {A : Type 0} → Plan → List (OpenCall A) → Groups → Groups → Circuits → Circuits → List Line → List Line → ℕ → ℕ → List Ended → Net
+net_of p calls failed blocked releasing out faulty away numbers events tickets =
+    record {
+      plan = p;
+      state = record {
+        calls = map call_seen calls;
+        failed = failed.marked;
+        blocked = blocked.marked;
+        releasing = releasing.marked;
+        out = out.marked;
+        faulty = set.from_list faulty;
+        away = set.from_list away;
+        numbers = numbers;
+        events = events;
+        tickets = tickets;
+      };
+    }

@@ -1,0 +1,3 @@
+pub mod GivenUp
+pub mod Marks
+pub mod Seen

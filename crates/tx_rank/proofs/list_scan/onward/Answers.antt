@@ -1,0 +1,16 @@
+use Rattle.tx_rank.proofs.Looks.{got_at, among_at, leads_within}
+use Rattle.tx_rank.proofs.list_scan.onward.Goals as goal
+
+pub far-requires : goal.far-requires
+far-requires g c =
+    let n = g.N.Routes.net c.args.net.now in
+    among_at (n.list c.args.exchange) c.args.place c.index-list-place.result (got_at c.args.list.now (n.list c.args.exchange) c.args.place c.index-list-place.result c.requires.list c.requires.place c.index-list-place.is)
+
+pub returns-clause-at : goal.returns-clause-at
+returns-clause-at g c = got_at c.args.list.now ((g.N.Routes.net c.args.net.now).list c.args.exchange) c.args.place c.index-list-place.result c.requires.list c.requires.place c.index-list-place.is
+
+pub returns-clause-within : goal.returns-clause-within
+returns-clause-within g c =
+    let n = g.N.Routes.net c.args.net.now in
+    let m = among_at (n.list c.args.exchange) c.args.place c.index-list-place.result (got_at c.args.list.now (n.list c.args.exchange) c.args.place c.index-list-place.result c.requires.list c.requires.place c.index-list-place.is) in
+    leads_within n c.args.exchange c.index-list-place.result c.far.result c.rules.ensures m c.far.ensures

@@ -1,0 +1,24 @@
+use Rattle.std.proofs.Common.{ap, sym, ◌-◌, subst, List, ℕ, arith, length, length-append, ◌++◌, ◌∷◌, []}
+use Rattle.tx_rank.specs.inner.Marks.{rank_in}
+use Rattle.tx_rank.proofs.Tracing.{IsDown, down_more, goes_down}
+use Rattle.tx_rank.proofs.long_walk.walk_down.Goals as goal
+
+pub unreachable-requires : goal.unreachable-requires
+unreachable-requires g c =
+    let n = g.N.Routes.net c.args.net.now in
+    let i = c.loop-i.invariant.count in
+    let h = c.requires.high in
+    goes_down n (rank_in c.args.marks.now) c.requires.passed.ranks c.args.origin c.args.rank c.loop-i.at (c.args.rank - c.loop-i.i - 1) c.loop-i.steps.items c.loop-i.invariant.down (omega arith) (let t = c.loop-i-test.true in omega arith) c.in-None.ensures
+
+pub loop-i-preserved : goal.loop-i-preserved
+loop-i-preserved g c =
+    let n = g.N.Routes.net c.args.net.now in
+    let i = c.loop-i.invariant.count in
+    let h = c.requires.high in
+    let t = c.loop-i-test.true in
+    let d : IsDown n (rank_in c.args.marks.now) c.args.origin c.args.rank c.in-Some.step.1 (c.loop-i.steps.items ++ (c.in-Some.step.0, c.in-Some.step.1) ∷ []) = down_more n (rank_in c.args.marks.now) c.requires.passed.ranks c.args.origin c.args.rank c.loop-i.at (c.args.rank - c.loop-i.i - 1) c.in-Some.step.0 c.in-Some.step.1 c.loop-i.steps.items c.loop-i.invariant.down (omega arith) (omega arith) c.in-Some.ensures in
+    let e = c.in_ok-push-in-Some.ensures.items in
+    record {
+      down = subst (λ (s : List (ℕ × ℕ)). IsDown n (rank_in c.args.marks.now) c.args.origin c.args.rank c.in-Some.step.1 s) (sym e) d;
+      count = let k = c.in_ok-push-in-Some.ensures.len in let z = ap length e in omega (arith, length-append {A = ℕ × ℕ});
+    }

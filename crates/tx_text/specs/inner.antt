@@ -1,0 +1,3 @@
+pub mod Feeder
+pub mod LinesLeft
+pub mod Reader
