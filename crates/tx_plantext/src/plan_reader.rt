@@ -81,14 +81,22 @@ fn read_lines<R: Source, A: Allocator>(
             Ok(FrameStep::Line) => match declare(&mut plan, version, frame.words()) {
                 Ok(()) => {}
                 Err(fault) => {
+                    let line = frame.number();
+                    drop(frame);
+                    drop(plan);
                     return Err(FaultAt {
-                        line: frame.number(),
+                        line,
                         kind: FaultKind::Word(fault),
                     });
                 }
             },
-            Ok(FrameStep::End) => return Ok(plan.finish()),
+            Ok(FrameStep::End) => {
+                drop(frame);
+                return Ok(plan.finish());
+            }
             Err(stop) => {
+                drop(frame);
+                drop(plan);
                 return Err(FaultAt {
                     line: stop.line,
                     kind: FaultKind::Frame(stop.fault),

@@ -52,7 +52,7 @@ returns-in-Err-declare-clause-answer g c =
     let a = g.R.Source.rest c.args.source.now in
     let b = g.R.Source.rest c.advance.new.source in
     let here = found_here declare _ _ _ found (to_come c.lines.frame) (to_come v) c.lines.version c.lines.plan n ws c.lines.invariant.finds q in
-    rw c.number.ensures (refused declare _ _ _ plan_of (to_come c.lines.frame) (to_come v) (WantingAt a b) c.lines.version c.lines.plan x n ws (is_memory x) c.lines.invariant.says q d here)
+    rw c.number-line.ensures (refused declare _ _ _ plan_of (to_come c.lines.frame) (to_come v) (WantingAt a b) c.lines.version c.lines.plan x n ws (is_memory x) c.lines.invariant.says q d here)
 
 pub returns-in-Ok-End-clause-answer : goal.returns-in-Ok-End-clause-answer
 returns-in-Ok-End-clause-answer g c =
