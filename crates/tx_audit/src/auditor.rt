@@ -45,7 +45,10 @@ pub fn audit<A: Allocator + Copy, R: Source, W: Sink>(
             plan.rules();
             match rank_and_report(alloc, &plan, limit, spare, out) {
                 Ok(ranking) => Ok(Audited::of(plan, ranking)),
-                Err(fault) => Err(fault),
+                Err(fault) => {
+                    drop(plan);
+                    Err(fault)
+                }
             }
         }
         Err(fault) => Err(AuditFault::Plan(fault)),

@@ -55,6 +55,8 @@ fn evidence_of<A: Allocator + Copy>(
             if with_script {
                 script_of(alloc, plan, findings, limit, spare)
             } else {
+                drop(findings);
+                drop(plan);
                 Ok(Evidence::Unsound(None))
             }
         }
@@ -76,7 +78,13 @@ fn script_of<A: Allocator + Copy>(
     drop(findings);
     match events {
         Ok(Some(events)) => Ok(Evidence::Unsound(Some(CounterScript { plan, events }))),
-        Ok(None) => Ok(Evidence::Unsound(None)),
-        Err(NoMemory) => Err(JobFault::NoMemory),
+        Ok(None) => {
+            drop(plan);
+            Ok(Evidence::Unsound(None))
+        }
+        Err(NoMemory) => {
+            drop(plan);
+            Err(JobFault::NoMemory)
+        }
     }
 }

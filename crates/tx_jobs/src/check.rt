@@ -34,7 +34,9 @@ pub fn check_job<A: Allocator + Copy, P: Source, R: Source, W: Sink>(
     match read_plan_from(alloc, plan) {
         Ok(plan) => {
             plan.rules();
-            check_cert(alloc, &plan, cert, limit, spare, out)
+            let checked = check_cert(alloc, &plan, cert, limit, spare, out);
+            drop(plan);
+            checked
         }
         Err(fault) => Err(JobFault::of_plan(fault)),
     }

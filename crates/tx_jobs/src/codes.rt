@@ -25,7 +25,9 @@ pub fn codes_job<A: Allocator + Copy, P: Source, W: Sink>(
     match read_plan_from(alloc, plan) {
         Ok(plan) => {
             plan.rules();
-            tell_codes(alloc, &plan, out)
+            let told = tell_codes(alloc, &plan, out);
+            drop(plan);
+            told
         }
         Err(fault) => Err(JobFault::of_plan(fault)),
     }

@@ -40,7 +40,9 @@ fn run_two_texts<A: Allocator + Copy, R: Source, W: Sink>(
         Ok(plan) => {
             plan.rules();
             input.go_on();
-            simulate(alloc, &plan, input, out)
+            let ran = simulate(alloc, &plan, input, out);
+            drop(plan);
+            ran
         }
         Err(fault) => Err(JobFault::of_plan(fault)),
     }

@@ -31,7 +31,9 @@ pub fn run_job<A: Allocator + Copy, P: Source, R: Source, W: Sink>(
     match read_plan_from(alloc, plan) {
         Ok(plan) => {
             plan.rules();
-            simulate(alloc, &plan, script, out)
+            let ran = simulate(alloc, &plan, script, out);
+            drop(plan);
+            ran
         }
         Err(fault) => Err(JobFault::of_plan(fault)),
     }
