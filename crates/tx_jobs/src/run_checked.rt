@@ -39,7 +39,9 @@ pub fn run_checked_job<A: Allocator + Copy, P: Source, C: Source, R: Source, W: 
     match read_plan_from(alloc, plan) {
         Ok(plan) => {
             plan.rules();
-            read_and_run(alloc, &plan, cert, limit, spare, script, out)
+            let ran = read_and_run(alloc, &plan, cert, limit, spare, script, out);
+            drop(plan);
+            ran
         }
         Err(fault) => Err(JobFault::of_plan(fault)),
     }
