@@ -90,15 +90,25 @@ fn run_lines<A: Allocator, B: Allocator, N: Network, R: Source, W: Sink>(
             Ok(FrameStep::Line) => match event_of(frame.words(), plan) {
                 Ok(event) => match answer(event, plan, net, sink) {
                     Ok(answered) => tally.count(answered),
-                    Err(cause) => return Err(tally.stopped(cause)),
+                    Err(cause) => {
+                        drop(frame);
+                        return Err(tally.stopped(cause));
+                    }
                 },
                 Err(word) => {
                     let cause = script_fault(frame.number(), FaultKind::Word(word));
+                    drop(frame);
                     return Err(tally.stopped(cause));
                 }
             },
-            Ok(FrameStep::End) => return finish(&tally, net, sink),
-            Err(stop) => return Err(tally.stopped(frame_cause(stop))),
+            Ok(FrameStep::End) => {
+                drop(frame);
+                return finish(&tally, net, sink);
+            }
+            Err(stop) => {
+                drop(frame);
+                return Err(tally.stopped(frame_cause(stop)));
+            }
         }
     }
 }
