@@ -11,7 +11,7 @@ pub enum CheckFault {
     HomeNotZero(CodeId),
     /// K3: an origin has no rank.
     OriginUnranked(CodeId, ExchangeId),
-    /// K4: a rank is more than the limit and one.
+    /// K4: the rank of the exchange is above the limit and one.
     TooHigh(CodeId, ExchangeId),
     /// K5: a ranked exchange other than the home has a list of no more groups than are to spare.
     Short(CodeId, ExchangeId),
