@@ -87,7 +87,7 @@ impl<'p, A: Allocator + Copy> Plain<'p, A> {
         })
     }
 
-    /// One event.
+    /// One event that is refused, or carried out.
     fn apply_one(&mut self, event: &Event) -> Result<Reply, NoMemory>
         ensures plan { self.new.plan ≡ self.old.plan }
         ensures step { IfOk result (λ reply. step self.old.plan self.old.state event.now ≡ (reply, self.new.state)) }
