@@ -81,7 +81,7 @@ impl<A: Allocator> LineBook<A> {
         self.statuses.of(line)
     }
 
-    /// Makes room for one more line with a status. Want of memory changes nothing.
+    /// Makes room for one more line with a status. Want of memory changes no status.
     pub fn reserve_one(&mut self) -> Result<(), NoMemory>
         ensures ok { OnOk result (0 < self.new.room) }
         ensures room { self.old.room ≤ self.new.room }

@@ -29,11 +29,11 @@ pub enum Event {
     CircuitOut(Circuit),
     /// A circuit is put back in service.
     CircuitIn(Circuit),
-    /// A line is out of order: it may not call, and is not connected.
+    /// A line is out of order: it may not call, and no further call is connected to it.
     LineFault(Line),
     /// A line out of order works again.
     LineMend(Line),
-    /// A subscriber is absent: the line is not connected, and may still call.
+    /// A subscriber is absent: no further call is connected to the line. It may still call.
     LineAway(Line),
     /// An absent subscriber is back.
     LineBack(Line),
