@@ -22,8 +22,8 @@ use tx_plantext::read_plan_from;
 use tx_rank::{Finding, Ranking, rank};
 use tx_text::{NoMemory, Sink, Source, WriteFault};
 
-/// Reads a plan, and reports on it: YES where a certificate certifies it for `limit` transits and `spare` groups, or what is wrong with it, with walks that
-/// show it.
+/// Reads a plan, and writes the report on it: YES where some certificate certifies it for at most `limit` transits (0 to 62) and `spare` groups to spare (0
+/// to 15), or what is wrong with it, with walks that show it.
 ///
 /// Nothing is written where the plan is refused or memory is wanting. The report says YES only where the checker says Yes to the certificate that is told.
 pub fn audit<A: Allocator + Copy, R: Source, W: Sink>(

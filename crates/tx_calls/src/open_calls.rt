@@ -57,7 +57,7 @@ impl<A: Allocator> OpenCalls<A> {
         self.calls.len()
     }
 
-    /// Makes room for one more call. Without a key of 32 bits for it there is none.
+    /// Makes room for one more call. Where no key of 32 bits is left for it, memory is wanting. Want of memory changes no call.
     pub fn reserve_one(&mut self) -> Result<(), NoMemory>
         ensures ok { OnOk result (HasRoom self.new) }
         ensures rest { self.new ≡ record self.old { call_room = self.new.call_room; number_room = self.new.number_room } }

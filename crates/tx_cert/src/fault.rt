@@ -9,9 +9,9 @@ use tx_text::{FaultAt, FaultKind, FormFault, FrameFault, LineFault, TextFault};
 pub enum CertWord {
     /// C1: the first word is none of a certificate's.
     UnknownWord,
-    /// C2: the number of words.
+    /// C2: too few or too many words.
     WrongCount,
-    /// C3: no code or exchange of the plan, or no well formed one.
+    /// C3: the plan has no such code or exchange.
     UnknownName,
     /// C4: a rank that is no number of at most 65,535.
     BadNumber,

@@ -1,4 +1,4 @@
-//! One job per command, over sources and a sink.
+//! The jobs of the commands that read a plan, over sources and a sink. `explain` reads none, and has none.
 #![tactic(auto)]
 
 mod audit;

@@ -8,13 +8,13 @@ use tx_text::{FaultAt, FaultKind, FormFault, FrameFault, LineFault, TextFault};
 /// What is wrong with the words of a line.
 #[derive(Clone, Copy, Debug, PartialEq, Eq)]
 pub enum PlanWord {
-    /// P3: no line begins with the word, or the fifth word of a group is no direction.
+    /// P3: no line begins with the word, or the fifth word of a group is no direction. Under `PLAN 1` no line begins with BAR.
     UnknownWord,
-    /// The builder refuses the declaration.
+    /// The builder refuses the declaration, or the number of words is wrong: that is `WrongCount`.
     Refused(PlanRefusal),
 }
 
-/// A fault of a plan text, with its line.
+/// What is wrong with a plan text, and the line of it, counted from 1.
 pub type PlanFault = FaultAt<PlanWord>;
 
 /// The code and the name of a fault, as `P11` and `Overlap`.

@@ -14,8 +14,8 @@ use tx_plan::{Circuit, GroupId, Line, Plan};
 use tx_state::{Event, Party};
 use tx_text::{Figures, Sink, WriteFault, write_parts};
 
-/// Writes the line of an event, as `KEY 41 10001 4110002`, with its LF. The plan has the event's ids, and its circuit has a number from 1 to 240. The
-/// line reads back as the event.
+/// Writes the line of an event, as `KEY 41 10001 4110002`, with its LF. The plan has the event's ids, and its circuit has a number from 1 to 240. The line
+/// reads back as the event. Where the sink fails, a front of the line was taken.
 #[tactic(auto, using(crate::proofs::EventLines::events_back))]
 pub fn write_event<A: Allocator, W: Sink>(
     event: &Event,

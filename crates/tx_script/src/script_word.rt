@@ -11,7 +11,7 @@ pub enum ScriptWord {
     UnknownWord,
     /// S2: the wrong number of words.
     WrongCount,
-    /// S3: a word that is no number of its kind.
+    /// S3: a national number, keyed figures, a call or a circuit that is none.
     BadNumber,
     /// S4: a code or a group that the plan has not.
     UnknownName,
@@ -20,7 +20,7 @@ pub enum ScriptWord {
 /// What is wrong with a line of a script, or with its frame.
 pub type ScriptKind = FaultKind<ScriptWord>;
 
-/// A fault of a script, with its line.
+/// A fault of a script, with its line, counted from 1.
 pub type ScriptFault = FaultAt<ScriptWord>;
 
 /// The code and the name of a fault, as `S1` and `UnknownWord`. A source that failed has no code in a script.

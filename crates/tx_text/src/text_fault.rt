@@ -1,6 +1,6 @@
 // What is wrong with the bytes of a line.
 
-/// The faults of lines. Of several the first that is named here is told.
+/// The faults of lines. Of several of one line the first that is named here is told.
 #[derive(Clone, Copy, Debug, PartialEq, Eq)]
 pub enum TextFault {
     /// X1: a line has more than 512 bytes.

@@ -11,7 +11,7 @@ use tx_plan::{Circuit, Line, Plan};
 use tx_state::Reply;
 use tx_text::{LineSink, Sink, WriteFault, write_bytes, write_parts};
 
-/// Writes the line of a reply, as `CONNECTED 41 10002`, with its LF.
+/// Writes the line of a reply, as `CONNECTED 41 10002`, with its LF. Where the sink fails, a front of the line was taken.
 pub fn write_reply<A: Allocator, W: Sink>(
     reply: &Reply,
     plan: &Plan<A>,

@@ -216,7 +216,7 @@ fn no_command(grammar: &mut clap::Command<'_>) -> Result<WordsFault, AllocError>
     Ok(WordsFault::of_clap(e))
 }
 
-/// Reads the words after the program's name.
+/// Reads the words after the program's name. `Err` is refused words, a request for help or for the version, or want of memory.
 #[tactic(auto, using(crate::proofs::Reading::asked_by))]
 pub fn read_command(alloc: Global, words: &[&str]) -> Result<Command, WordsFault>
     ensures in_range { IfOk result IsInRange }

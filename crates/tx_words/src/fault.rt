@@ -9,7 +9,7 @@ use std::alloc::{AllocError, AllocFailed};
 /// Why the words give no command.
 #[derive(Debug, Drop)]
 pub enum WordsFault {
-    /// The words are refused, or ask for help.
+    /// The words are refused, or ask for help or for the version.
     Clap(clap::Error),
     /// `run` has some of its three options, and not all.
     Together,
@@ -20,7 +20,7 @@ pub enum WordsFault {
 }
 
 impl WordsFault {
-    /// The exit status: 0 for a request for help, 4 for want of memory, else 64.
+    /// The exit status: 0 for a request for help or for the version, 4 for want of memory, else 64.
     pub fn status(&self) -> u8
         ensures { result ≡ status_of self.now }
     {
