@@ -26,7 +26,7 @@ pub(crate) fn write_report<A: Allocator, W: Sink>(
 }
 
 /// Writes the parts of a text, one after another.
-fn write_text<W: Sink>(parts: &[&[u8]], sink: &mut W) -> Result<(), WriteFault>
+pub(crate) fn write_text<W: Sink>(parts: &[&[u8]], sink: &mut W) -> Result<(), WriteFault>
     ensures { Wrote (W.taken sink.old) (W.taken sink.new) (W.failed sink.old) (W.failed sink.new) (flat_map (λ p. p.now) parts.now) result }
 {
     write_parts(parts, sink)
@@ -42,7 +42,7 @@ fn write_head<W: Sink>(limit: u8, spare: u8, sink: &mut W) -> Result<(), WriteFa
     write_text(&[b"AUDIT LIMIT ", limit, b" SPARE ", spare, b"\n"], sink)
 }
 
-fn write_verdict<W: Sink>(count: usize, sink: &mut W) -> Result<(), WriteFault>
+pub(crate) fn write_verdict<W: Sink>(count: usize, sink: &mut W) -> Result<(), WriteFault>
     ensures { Wrote (W.taken sink.old) (W.taken sink.new) (W.failed sink.old) (W.failed sink.new) (verdict_line count) result }
 {
     if count == 0 {
@@ -53,7 +53,7 @@ fn write_verdict<W: Sink>(count: usize, sink: &mut W) -> Result<(), WriteFault>
     write_text(&[b"VERDICT NO ", count, b"\n"], sink)
 }
 
-fn write_findings<A: Allocator, W: Sink>(
+pub(crate) fn write_findings<A: Allocator, W: Sink>(
     plan: &Plan<A>,
     findings: &[Finding<A>],
     sink: &mut W,

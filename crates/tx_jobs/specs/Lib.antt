@@ -3,6 +3,7 @@ pub mod Jobs
 pub mod PipeJobs
 pub mod CheckJobs
 pub mod AuditJobs
+pub mod GradeJobs
 pub mod Writables
 pub mod Evidences
 pub mod CheckedJobs

@@ -6,7 +6,7 @@ use Rattle.clap.specs.Words.{Row, first_of, one_of, subcommand_of}
 use Rattle.tx_explain.specs.Entries.{texts, explanation}
 use Rattle.tx_words.specs.Grammar.{program_words}
 use Rattle.tx_words.specs.declared.command.Command.{Command}
-use Rattle.tx_words.specs.declared.command.Command.TheVariants.{Pipe, Run, Check, Codes, Audit, Explain}
+use Rattle.tx_words.specs.declared.command.Command.TheVariants.{Pipe, Run, Check, Codes, Audit, Grade, Explain}
 
 -- a limit is at most 62, and a spare number at most 15
 abbrev pub IsInRange : Command → Type 0
@@ -40,6 +40,7 @@ Asks name found (Codes plan) = (name ≡ codes "codes") × Names found (codes "p
 Asks name found (Audit plan limit spare cert counter) =
     (name ≡ codes "audit") × Names found (codes "plan") plan × Gives found (codes "limit") limit × Gives found (codes "spare") spare × (first_of (codes "cert") found ≡ option_map string_bytes cert)
     × (first_of (codes "counter") found ≡ option_map string_bytes counter)
+Asks name found (Grade plan) = (name ≡ codes "grade") × Names found (codes "plan") plan
 Asks name found (Explain None) = (name ≡ codes "explain") × (first_of (codes "code") found ≡ None)
 Asks name found (Explain (Some entry)) = (name ≡ codes "explain") × (option_and_then explanation (first_of (codes "code") found) ≡ Some (texts entry))
 

@@ -31,6 +31,9 @@ run_words = with_rule (with_rule (with_rule (with_rule (with_rule (new_app (code
 abbrev pub check_words : App
 check_words = with_rule (with_rule (with_rule (with_rule (new_app (codes "check")) (file (codes "plan"))) (file (codes "cert"))) (needed limit)) (needed spare)
 
+abbrev pub grade_words : App
+grade_words = with_rule (new_app (codes "grade")) (file (codes "plan"))
+
 abbrev pub codes_words : App
 codes_words = with_rule (new_app (codes "codes")) (file (codes "plan"))
 
@@ -41,9 +44,9 @@ audit_words = with_rule (with_rule (with_rule (with_rule (with_rule (new_app (co
 abbrev pub explain_words : App
 explain_words = with_rule (new_app (codes "explain")) (record (new_rule (codes "code")) { value_names = 1; action = Some Set })
 
--- the program takes its words from the first on, tells its version, and has five commands
+-- the program takes its words from the first on, tells its version, and has six commands
 abbrev pub top_words : App
 top_words = let app = new_app (codes "telexplan") in record app { top = record app.top { no_binary_name = true; has_version = true } }
 
 abbrev pub program_words : App
-program_words = with_subcommand (with_subcommand (with_subcommand (with_subcommand (with_subcommand top_words audit_words.top) check_words.top) run_words.top) codes_words.top) explain_words.top
+program_words = with_subcommand (with_subcommand (with_subcommand (with_subcommand (with_subcommand (with_subcommand top_words audit_words.top) grade_words.top) check_words.top) run_words.top) codes_words.top) explain_words.top

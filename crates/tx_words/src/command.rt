@@ -41,6 +41,10 @@ pub enum Command {
         cert: Option<String>,
         counter: Option<String>,
     },
+    /// `grade PLAN`: with which limits and spare numbers the plan is safe.
+    Grade {
+        plan: String,
+    },
     /// `explain [CODE]`: what a code means, or all codes.
     Explain {
         entry: Option<Entry>,
@@ -194,6 +198,9 @@ fn command_of(
     if name == "audit" {
         return audit_of(alloc, plan, matches);
     }
+    if name == "grade" {
+        return Ok(Some(Command::Grade { plan }));
+    }
     Ok(None)
 }
 
@@ -217,7 +224,6 @@ fn no_command(grammar: &mut clap::Command<'_>) -> Result<WordsFault, AllocError>
 }
 
 /// Reads the words after the program's name. `Err` is refused words, a request for help or for the version, or want of memory.
-#[tactic(auto, using(crate::proofs::Reading::asked_by))]
 pub fn read_command(alloc: Global, words: &[&str]) -> Result<Command, WordsFault>
     ensures in_range { IfOk result IsInRange }
     ensures pipe { words.now ≡ [] → result ≡ Ok Command.Pipe }

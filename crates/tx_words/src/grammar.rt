@@ -147,6 +147,16 @@ fn audit_grammar<'a>(alloc: Global) -> Result<clap::Command<'a>, AllocError>
         ))
 }
 
+fn grade_grammar<'a>(alloc: Global) -> Result<clap::Command<'a>, AllocError>
+    ensures { IfOk result (λ c. app_of c ≡ grammar.grade_words) }
+{
+    clap::Command::new(alloc, "grade")
+        .about(
+            "Say with which transit limits and spare numbers a plan is safe, and each of its codes, or what is wrong whatever they are",
+        )
+        .arg(plan_file(alloc))
+}
+
 fn explain_grammar<'a>(alloc: Global) -> Result<clap::Command<'a>, AllocError>
     ensures { IfOk result (λ c. app_of c ≡ grammar.explain_words) }
 {
@@ -182,6 +192,7 @@ pub(crate) fn grammar<'a>(alloc: Global) -> Result<clap::Command<'a>, AllocError
 {
     top_grammar(alloc)?
         .subcommand(audit_grammar(alloc)?)?
+        .subcommand(grade_grammar(alloc)?)?
         .subcommand(check_grammar(alloc)?)?
         .subcommand(run_grammar(alloc)?)?
         .subcommand(codes_grammar(alloc)?)?

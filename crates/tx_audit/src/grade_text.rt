@@ -1,0 +1,93 @@
+// The writer of grades.
+ghost use Rattle.std.specs.Prelude.{◌≡◌, ◌++◌, length};
+ghost use Rattle.std.specs.List.{flat_map};
+ghost use Rattle.tx_plantext.specs.Wrote.{Wrote};
+ghost use Rattle.tx_audit.specs.Report.{finding_line, verdict_line};
+ghost use Rattle.tx_audit.specs.GradeText.{bounds_text, code_line, findings_text, grade_text, graded_text};
+
+use crate::report::{write_findings, write_text, write_verdict};
+use itoa::Buffer;
+use std::alloc::Allocator;
+use tx_plan::{CodeId, Plan};
+use tx_rank::{Bounds, Finding, Grade};
+use tx_text::{Sink, WriteFault};
+
+/// Writes the bounds of a plan and of each of its codes, or that there is no grade, and why.
+pub fn write_grade<A: Allocator, W: Sink>(
+    plan: &Plan<A>,
+    grade: &Grade<A>,
+    sink: &mut W,
+) -> Result<(), WriteFault>
+    ensures { Wrote (W.taken sink.old) (W.taken sink.new) (W.failed sink.old) (W.failed sink.new) (grade_text plan.now grade.now) result }
+{
+    match grade {
+        Grade::Graded(bounds, codes) => write_graded(plan, *bounds, codes, sink),
+        Grade::Ungraded(findings) => write_none(plan, findings, sink),
+    }
+}
+
+fn write_graded<A: Allocator, W: Sink>(
+    plan: &Plan<A>,
+    bounds: Bounds,
+    codes: &[(CodeId, Bounds)],
+    sink: &mut W,
+) -> Result<(), WriteFault>
+    ensures { Wrote (W.taken sink.old) (W.taken sink.new) (W.failed sink.old) (W.failed sink.new) (graded_text plan.now bounds codes.now) result }
+{
+    write_bounds(b"GRADE", b"", bounds, sink)?;
+    write_code_bounds(plan, codes, sink)
+}
+
+/// Writes the head of a line, a name, a limit and a spare number.
+fn write_bounds<W: Sink>(
+    head: &[u8],
+    name: &[u8],
+    bounds: Bounds,
+    sink: &mut W,
+) -> Result<(), WriteFault>
+    ensures { Wrote (W.taken sink.old) (W.taken sink.new) (W.failed sink.old) (W.failed sink.new) (head.now ++ (name.now ++ bounds_text bounds)) result }
+{
+    let mut transits = Buffer::new();
+    let mut groups = Buffer::new();
+    let limit = transits.format(bounds.limit).as_bytes();
+    let spare = groups.format(bounds.spare).as_bytes();
+    write_text(
+        &[head, name, b" LIMIT ", limit, b" SPARE ", spare, b"\n"],
+        sink,
+    )
+}
+
+fn write_code_bounds<A: Allocator, W: Sink>(
+    plan: &Plan<A>,
+    codes: &[(CodeId, Bounds)],
+    sink: &mut W,
+) -> Result<(), WriteFault>
+    ensures { Wrote (W.taken sink.old) (W.taken sink.new) (W.failed sink.old) (W.failed sink.new) (flat_map (code_line plan.now) codes.now) result }
+{
+    for i in 0..codes.len() {
+        write_code(plan, codes[i], sink)?;
+    }
+    Ok(())
+}
+
+fn write_code<A: Allocator, W: Sink>(
+    plan: &Plan<A>,
+    code: (CodeId, Bounds),
+    sink: &mut W,
+) -> Result<(), WriteFault>
+    ensures { Wrote (W.taken sink.old) (W.taken sink.new) (W.failed sink.old) (W.failed sink.new) (code_line plan.now code) result }
+{
+    write_bounds(b"CODE ", plan.code_figures(code.0), code.1, sink)
+}
+
+fn write_none<A: Allocator, W: Sink>(
+    plan: &Plan<A>,
+    findings: &[Finding<A>],
+    sink: &mut W,
+) -> Result<(), WriteFault>
+    ensures { Wrote (W.taken sink.old) (W.taken sink.new) (W.failed sink.old) (W.failed sink.new) (findings_text plan.now findings.now) result }
+{
+    write_text(&[b"GRADE NONE\n"], sink)?;
+    write_findings(plan, findings, sink)?;
+    write_verdict(findings.len(), sink)
+}

@@ -1,0 +1,79 @@
+// The job of `grade PLAN`.
+ghost use Rattle.std.specs.Prelude.{◌≡◌};
+ghost use Rattle.tx_text.specs.Calls.{Broken, CallsAtMost, source_calls};
+ghost use Rattle.tx_jobs.specs.JobFaults.{mark_after};
+ghost use Rattle.tx_jobs.specs.GradeJobs.{GradeJobAnswers, GradeStatusAnswers, ToldGrade, status_of_grade};
+
+use crate::job_fault::JobFault;
+use std::alloc::Allocator;
+use tx_audit::write_grade;
+use tx_plan::Plan;
+use tx_plantext::read_plan_from;
+use tx_rank::{Grade, grade};
+use tx_text::{NoMemory, Sink, Source, WriteFault};
+
+/// Reads a plan, and writes with which limits and spare numbers it is safe, and each of its codes, or what is wrong with it whatever they are. Answers the grade.
+///
+/// Nothing is written where the plan is refused or memory is wanting.
+#[tactic(auto, using(crate::proofs::Marks::plan_unmarked))]
+pub fn grade_job<A: Allocator + Copy, P: Source, W: Sink>(
+    alloc: A,
+    plan: &mut P,
+    out: &mut W,
+) -> Result<Grade<A>, JobFault>
+    ensures answers { GradeJobAnswers (P.rest plan.old) (P.rest plan.new) (W.taken out.old) (W.taken out.new) (Broken P.called (P.failed plan.new) source_calls plan.old plan.new) (plan.new ≡ plan.old) (out.new ≡ out.old) result }
+    ensures mark { W.failed out.new ≡ mark_after (W.failed out.old) result }
+    ensures calls { CallsAtMost P.called source_calls plan.old plan.new }
+{
+    match read_plan_from(alloc, plan) {
+        Ok(plan) => {
+            plan.rules();
+            let told = tell_grade(alloc, &plan, out);
+            drop(plan);
+            told
+        }
+        Err(fault) => Err(JobFault::of_plan(fault)),
+    }
+}
+
+/// The same, and answers the exit status: 0 where there is a grade, else 1.
+pub fn grade_status<A: Allocator + Copy, P: Source, W: Sink>(
+    alloc: A,
+    plan: &mut P,
+    out: &mut W,
+) -> Result<u8, JobFault>
+    ensures answers { GradeStatusAnswers A (P.rest plan.old) (P.rest plan.new) (W.taken out.old) (W.taken out.new) (Broken P.called (P.failed plan.new) source_calls plan.old plan.new) (plan.new ≡ plan.old) (out.new ≡ out.old) result }
+    ensures mark { W.failed out.new ≡ mark_after (W.failed out.old) result }
+    ensures calls { CallsAtMost P.called source_calls plan.old plan.new }
+{
+    match grade_job(alloc, plan, out) {
+        Ok(grade) => Ok(status_of(&grade)),
+        Err(fault) => Err(fault),
+    }
+}
+
+fn status_of<A: Allocator>(grade: &Grade<A>) -> u8
+    ensures { result ≡ status_of_grade grade.now }
+{
+    match grade {
+        Grade::Graded(_, _) => 0,
+        Grade::Ungraded(_) => 1,
+    }
+}
+
+fn tell_grade<A: Allocator + Copy, W: Sink>(
+    alloc: A,
+    plan: &Plan<A>,
+    out: &mut W,
+) -> Result<Grade<A>, JobFault>
+    ensures told { ToldGrade plan.now (W.taken out.old) (W.taken out.new) (out.new ≡ out.old) result }
+    ensures mark { W.failed out.new ≡ mark_after (W.failed out.old) result }
+{
+    match grade(alloc, plan) {
+        Err(NoMemory) => Err(JobFault::NoMemory),
+        Ok(grade) => match write_grade(plan, &grade, out) {
+            Ok(()) => Ok(grade),
+            Err(WriteFault) => Err(JobFault::Write),
+        },
+    }
+}
