@@ -1,4 +1,5 @@
 pub mod WordLists
+pub mod WordEnds
 pub mod Writing
 pub mod Places
 pub mod Blocks
