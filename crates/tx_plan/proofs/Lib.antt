@@ -11,4 +11,6 @@ pub mod Growing
 pub mod Made
 pub mod SeenWords
 pub mod Fronts
+pub mod NameWords
+pub mod GroupMarks
 pub mod Longest
