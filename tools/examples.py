@@ -309,7 +309,7 @@ def case_of(example):
     if verb == "run" and example.option("--cert"):
         plan, script, cert = texts
         return f"checked{bounds}", b"---\n".join([plan, cert, script])
-    kinds = {"run": "run", "codes": "codes", "check": f"check{bounds}", "audit": f"audit{bounds}"}
+    kinds = {"run": "run", "codes": "codes", "grade": "grade", "check": f"check{bounds}", "audit": f"audit{bounds}"}
     return (kinds[verb], b"---\n".join(texts)) if verb in kinds else None
 
 
