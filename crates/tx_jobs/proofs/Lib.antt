@@ -3,3 +3,4 @@ mod Piping
 mod Breaking
 mod CheckedRun
 mod Simulating
+mod Drawing
