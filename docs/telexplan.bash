@@ -7,13 +7,13 @@ _telexplan() {
         --cert | --counter) ;;
         *)
             case $COMP_CWORD:${COMP_WORDS[1]}:$word in
-                1:*) words="audit check run codes explain help --help --version" ;;
-                *:help:*) words="audit check run codes explain" ;;
+                1:*) words="audit grade check run codes explain help --help --version" ;;
+                *:help:*) words="audit grade check run codes explain" ;;
                 *:explain:*) words="--help $(telexplan explain 2>/dev/null | cut -d ' ' -f 1)" ;;
                 *:audit:-*) words="--limit --spare --cert --counter --help" ;;
                 *:check:-*) words="--limit --spare --help" ;;
                 *:run:-*) words="--cert --limit --spare --help" ;;
-                *:codes:-*) words="--help" ;;
+                *:grade:-* | *:codes:-*) words="--help" ;;
             esac
             ;;
     esac

@@ -7,8 +7,8 @@
 Runs each example of examples/list with a built program (crates/telexplan/out/telexplan where none is named), in a folder of its own, and compares what it prints,
 its exit status and the files that it makes with what stands in examples/. Then checks README.md and docs/FORMATS.md: each block there says, in a comment before
 it, what it shows, and has to show just that; the table of codes has to be the program's and to have the codes of the definitions, the map of the crates has to be that
-of crates.txt, what the pages name has to be there, each link of theirs has to lead to a file and a heading that are there, and the players of the gate, crates/tx_worked
-and crates/tx_ends, have to have the examples as they stand. Prints a line for each difference; the status is 1 if there is one.
+of crates.txt, what the pages name has to be there, each link of theirs has to lead to a file and a heading that are there, and the players of the gate, crates/tx_worked,
+crates/tx_ends and crates/tx_pictures, have to have the examples and the pictures as they stand. Prints a line for each difference; the status is 1 if there is one.
 
 --pages runs nothing: it checks the pages and the players' cases alone. Each example is such a case, and the gate plays them, so the pages then show what the
 program prints.
@@ -117,6 +117,16 @@ def check_examples(program, tell):
 def pictures():
     """The pictures of plans, and the images that are made of them."""
     return {f"examples/{it}" for it in os.listdir(os.path.join(TOP, "examples")) if it.endswith((".dot", ".svg"))}
+
+
+def check_pictures(tell):
+    """Each picture is one that the player of pictures prints, and has its image beside it."""
+    printed = read("crates/tx_pictures/stdout")
+    for it in sorted(it for it in pictures() if it.endswith(".dot")):
+        if b"\n" + read(it) not in printed:
+            tell(f"{it}: the player of pictures does not print it")
+        if it.replace(".dot", ".svg") not in pictures():
+            tell(f"{it}: it has no image")
 
 
 def write_examples(program):
@@ -342,7 +352,7 @@ def case_of(example):
     if verb == "run" and example.option("--cert"):
         plan, script, cert = texts
         return f"checked{bounds}", b"---\n".join([plan, cert, script])
-    kinds = {"run": "run", "codes": "codes", "check": f"check{bounds}", "audit": f"audit{bounds}"}
+    kinds = {"run": "run", "codes": "codes", "grade": "grade", "check": f"check{bounds}", "audit": f"audit{bounds}"}
     return (kinds[verb], b"---\n".join(texts)) if verb in kinds else None
 
 
@@ -420,6 +430,7 @@ def main(words):
     check_links(told.append)
     check_map(told.append)
     check_cases(told.append)
+    check_pictures(told.append)
     check_ends(told.append)
     print("".join(f"{it}\n" for it in told) + f"{len(examples())} examples, {len(told)} differences")
     return 1 if told else 0

@@ -55,6 +55,9 @@ pub(crate) enum Opened<'a, I: Read + Drop, R: Read + Drop> {
         bounds: Bounds,
         keep: Keep<'a>,
     },
+    Grade {
+        plan: R,
+    },
     Explain {
         entry: Option<Entry>,
     },
@@ -110,6 +113,9 @@ impl<'a, I: Read + Drop, R: Read + Drop> Opened<'a, I, R> {
                 },
             }),
             Command::Codes { plan } => Ok(Opened::Codes {
+                plan: open(folder, plan.as_str())?,
+            }),
+            Command::Grade { plan } => Ok(Opened::Grade {
                 plan: open(folder, plan.as_str())?,
             }),
             Command::Explain { entry } => Ok(Opened::Explain { entry: *entry }),

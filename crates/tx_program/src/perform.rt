@@ -8,7 +8,9 @@ use crate::opened::{Bounds, Opened};
 use std::alloc::Allocator;
 use std::io::{Read, Write};
 use tx_explain::{Entry, write_explanation};
-use tx_jobs::{JobFault, check_status, codes_status, pipe_job, run_checked_status, run_job};
+use tx_jobs::{
+    JobFault, check_status, codes_status, grade_status, pipe_job, run_checked_status, run_job,
+};
 use tx_words::Command;
 
 /// Opens the files of a command, does its job, and lets its output out. Answers the exit status. An output that fails is told before any other fault.
@@ -46,6 +48,9 @@ fn do_job<A: Allocator + Copy, F: Folder, I: Read + Drop, O: Write + Drop>(
         Opened::Check { plan, cert, bounds } => check_files(alloc, plan, cert, bounds, output),
         Opened::Codes { plan } => {
             codes_status(alloc, &mut output.source(alloc, plan)?, &mut output.sink())
+        }
+        Opened::Grade { plan } => {
+            grade_status(alloc, &mut output.source(alloc, plan)?, &mut output.sink())
         }
         Opened::Audit { plan, bounds, keep } => {
             audit_file(alloc, plan, bounds, keep, folder, output)

@@ -78,6 +78,10 @@ fn tell_command<W: Sink>(command: &Command, out: &mut W) -> Result<(), WriteFaul
             tell_file(b"codes", Some(plan), out)?;
             tell_numbers(None, out)
         }
+        Command::Grade { plan } => {
+            tell_file(b"grade", Some(plan), out)?;
+            tell_numbers(None, out)
+        }
         Command::Audit {
             plan,
             limit,
