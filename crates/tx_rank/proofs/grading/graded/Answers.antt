@@ -3,7 +3,7 @@ use Rattle.tx_cert.specs.Certificate.{ranks_of}
 use Rattle.tx_rank.specs.declared.bounds.Bounds.{Bounds}
 use Rattle.tx_rank.specs.Grades.{AreBounds, CanBeCertifiedFor}
 use Rattle.tx_rank.proofs.Certifying.{certifies_code}
-use Rattle.tx_rank.proofs.Bounding.{IsGradedBelow, graded_none, graded_next, graded_plan, graded_codes}
+use Rattle.tx_rank.proofs.Bounding.{IsGradedBelow, graded_next, graded_plan, graded_codes}
 use Rattle.tx_rank.proofs.grading.graded.Goals as goal
 
 pub code_bounds-alone-requires-clause-certified : goal.code_bounds-alone-requires-clause-certified
