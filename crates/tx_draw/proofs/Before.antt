@@ -3,13 +3,10 @@ use Rattle.std.proofs.Common.{◌≡◌, ℕ, zero, suc, ◌+◌, ◌-◌, ◌<�
 use Rattle.std.specs.Prelude.{IsErr}
 use Rattle.std.specs.List.{flat_map, range_with_len}
 use Rattle.tx_text.specs.declared.sink.WriteFault.{WriteFault}
-use Rattle.tx_plantext.specs.Wrote.{Wrote}
-use Rattle.tx_plantext.proofs.PlanWriting.{wrote_then, wrote_first, text_is}
+use Rattle.tx_text.specs.Wrote.{Wrote}
+use Rattle.tx_text.proofs.Wrote.{Outcome, wrote_then, wrote_first, text_is}
 use Rattle.tx_cert.proofs.Ranges.{flat_map-range_more, flat_map-range_at}
 use Rattle.tx_draw.specs.Drawing.{each_before}
-
-abbrev Outcome : Type 0
-Outcome = Result (Unit {0}) WriteFault
 
 module _ (text : ℕ → List ℕ) where
   -- the text of one place more was written

@@ -1,5 +1,6 @@
 pub mod WordLists
 pub mod Writing
+pub mod Wrote
 pub mod Places
 pub mod Blocks
 pub mod LineFaults
