@@ -1,5 +1,4 @@
 pub mod Names
-pub mod WrittenWords
 pub mod RanksSoFar
 pub mod Written
 pub mod Whole

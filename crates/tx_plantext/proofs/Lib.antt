@@ -6,5 +6,4 @@ pub mod PlanLines
 pub mod PlanWriting
 pub mod Reading
 pub mod RouteLines
-pub mod WrittenWords
 pub mod Written

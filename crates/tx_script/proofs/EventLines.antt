@@ -10,6 +10,7 @@ use Rattle.tx_text.specs.Words.{is_letter, is_figure, are_figures}
 use Rattle.tx_text.specs.Frame.{is_end}
 use Rattle.tx_text.specs.Written.{IsWrittenLine, joined}
 use Rattle.tx_text.proofs.ReadBack.{words_joined}
+use Rattle.tx_text.proofs.WrittenWords.{IsShortWord, all_stronger, name_bytes, name_word, figures_word, number_word, number_back, circuit_word, line_of_short, fixed_word, no_fault}
 use Rattle.tx_plan.specs.Plan.{Plan, group_name, figures_of as code_figures}
 use Rattle.tx_plan.specs.Rules.{IsPlan, is_national}
 use Rattle.tx_plan.specs.declared.circuit.Circuit.{Circuit}
@@ -20,7 +21,6 @@ use Rattle.tx_state.specs.declared.party.Party.{Party}
 use Rattle.tx_state.specs.declared.party.Party.TheVariants.{Caller, Called}
 use Rattle.tx_tickets.specs.Texts.{circuit_text}
 use Rattle.tx_script.specs.Events.{is_dot, cut_at_dot, from_one, line_of, circuit_of, call_in, group_in, party_word, event_of, event_in, event_words, IsWritableCircuit, IsWritable, IsEvent, EventsReadBack}
-use Rattle.tx_script.proofs.WrittenWords.{IsShortWord, all_stronger, name_bytes, name_word, figures_word, number_word, number_back, circuit_word, line_of_short, fixed_word, no_fault}
 use Rattle.tx_script.proofs.Places.{code_back, group_back}
 
 -- ---- what each word says

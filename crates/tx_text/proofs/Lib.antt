@@ -21,6 +21,7 @@ pub mod CallCounts
 pub mod Frames
 pub mod PlainLines
 pub mod Numbers
+pub mod WrittenWords
 pub mod ReadBack
 pub mod SliceAnswers
 mod ReadCalls
