@@ -1,4 +1,3 @@
-pub mod Names
 pub mod RanksSoFar
 pub mod Written
 pub mod Whole

@@ -1,6 +1,5 @@
 pub mod Entries
 pub mod ListLines
-pub mod Named
 pub mod Places
 pub mod PlanLines
 pub mod PlanWriting

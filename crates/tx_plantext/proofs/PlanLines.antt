@@ -15,9 +15,10 @@ use Rattle.tx_plan.specs.Rules.{IsPlan, EachPair, IsCode, IsRange, IsGroup, AreS
 use Rattle.tx_plan.specs.Declaring.{exchange_refusals, code_refusals, lines_refusals, group_refusals, has_exchange, has_code, has_group, shares, overlaps, is_ordered}
 use Rattle.tx_plantext.specs.PlanText.{declare, direction_of, count_of, group_by}
 use Rattle.tx_plantext.specs.PlanWritten.{exchange_words, code_words, range_words, group_words, direction_word}
-use Rattle.tx_plantext.proofs.Places.{all_between, apart_front, all_weaker, none_passes, length_front, bytes_apart}
+use Rattle.tx_plan.proofs.ByPlace.{bytes_apart}
+use Rattle.tx_plantext.proofs.Places.{all_between, apart_front, all_weaker, none_passes, length_front}
 use Rattle.tx_plantext.proofs.ListLines.{IsLineOf, none_true, unless-none}
-use Rattle.tx_plantext.proofs.Named.{exchange_back, exchange_is_name, code_back, figures_are_code}
+use Rattle.tx_plan.proofs.NamesBack.{exchange_back, exchange_is_name, code_back, figures_are_code}
 
 module _ (v : ℕ) (p : Plan) (h : IsPlan p) where
   -- ---- what was declared before the next line of each kind

@@ -19,7 +19,7 @@ use Rattle.tx_plan.specs.Circuits.{direction_of, count_of, ends_of}
 use Rattle.tx_plan.specs.Routes.{route_list}
 use Rattle.tx_plan.specs.Rules.{IsPlan, EachPair}
 use Rattle.tx_plantext.specs.PlanWritten.{plan_written, has_bars, head_of, exchange_words, code_words, range_words, direction_word, group_words, route_words, bar_words, lines_of_list, line_at}
-use Rattle.tx_plantext.proofs.Places.{entry_at, all_at}
+use Rattle.tx_plan.proofs.ByPlace.{entry_at, all_at}
 
 -- ---- the lines of a list
 

@@ -1,4 +1,3 @@
-pub mod Places
 pub mod EventLines
 pub mod Writable
 pub mod Balance
