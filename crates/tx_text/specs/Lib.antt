@@ -11,6 +11,7 @@ pub mod Feed
 pub mod Pieces
 pub mod TextLine
 pub mod Told
+pub mod Rows
 pub mod Frame
 pub mod Said
 pub mod Written
