@@ -1,5 +1,5 @@
 -- Calls that are changed in place.
-use Rattle.std.proofs.Common.{◌≡◌, ℕ, zero, suc, [], ◌∷◌, ◌+◌, ◌<◌, ◌≤◌, List, ◌++◌, inl, inr, map, take, drop, length, get_or, refl, ap, sym, ◌∙◌, arith, subst, add-one}
+use Rattle.std.proofs.Common.{◌≡◌, ℕ, zero, suc, [], ◌∷◌, ◌+◌, ◌<◌, ◌≤◌, List, ◌++◌, inl, inr, map, take, drop, length, get_or, ap, sym, ◌∙◌, arith, subst, add-one}
 use Rattle.std.specs.Prelude.{slice_set}
 use Rattle.std.proofs.lemmas.List.{length-set, take_all}
 use Rattle.tx_state.specs.Call.{Call}
