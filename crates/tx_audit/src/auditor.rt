@@ -2,8 +2,8 @@
 ghost use Rattle.std.specs.Prelude.{◌≡◌, ◌≤◌, [], IfOk};
 ghost use Rattle.std.specs.List.{AllByRecursion};
 ghost use Rattle.tx_text.specs.Calls.{Broken, CallsAtMost, source_calls};
+ghost use Rattle.tx_text.specs.Wrote.{Wrote};
 ghost use Rattle.tx_plan.specs.Certified.{IsCertified};
-ghost use Rattle.tx_plantext.specs.Wrote.{Wrote};
 ghost use Rattle.tx_cert.specs.Certificate.{IsCertificateOf, ranks_of};
 ghost use Rattle.tx_rank.specs.Findings.{IsTrueOf};
 ghost use Rattle.tx_rank.specs.Rankings.{OnFound};

@@ -2,7 +2,7 @@
 ghost use Rattle.std.specs.Prelude.{◌≡◌};
 ghost use Rattle.tx_cert.specs.CertFaults.{word_row, frame_row, fault_row};
 
-use tx_text::{FaultAt, FaultKind, FormFault, FrameFault, LineFault, TextFault};
+use tx_text::{FaultAt, FaultKind, FormFault, FrameFault, LineFault};
 
 /// What is wrong with the words of a line. Of several the first in this order is told.
 #[derive(Clone, Copy, Debug, PartialEq, Eq)]
@@ -42,9 +42,7 @@ fn frame_row(fault: FrameFault) -> (&'static [u8], &'static [u8])
         FrameFault::Form(FormFault::NoEnd) => (b"C7", b"NoEnd"),
         FrameFault::Form(FormFault::AfterEnd) => (b"C8", b"AfterEnd"),
         FrameFault::Line(LineFault::Read) => (b"C10", b"ReadFault"),
-        FrameFault::Line(LineFault::Text(TextFault::LineTooLong)) => (b"X1", b"LineTooLong"),
-        FrameFault::Line(LineFault::Text(TextFault::BadByte)) => (b"X2", b"BadByte"),
-        FrameFault::Line(LineFault::Text(TextFault::NoMemory)) => (b"X3", b"NoMemory"),
+        FrameFault::Line(LineFault::Text(fault)) => fault.code_and_name(),
     }
 }
 

@@ -7,6 +7,8 @@ pub mod PlaceTable
 pub mod Absent
 pub mod LineFound
 pub mod Lists
+pub mod ByPlace
+pub mod NamesBack
 pub mod Growing
 pub mod Made
 pub mod SeenWords

@@ -2,7 +2,7 @@
 ghost use Rattle.std.specs.Prelude.{◌≡◌};
 ghost use Rattle.tx_script.specs.ScriptFaults.{frame_row, word_row, fault_row};
 
-use tx_text::{FaultAt, FaultKind, FormFault, FrameFault, LineFault, TextFault};
+use tx_text::{FaultAt, FaultKind, FormFault, FrameFault, LineFault};
 
 /// What is wrong with the words of a script's line. Of several faults the first in this order is given.
 #[derive(Clone, Copy, Debug, PartialEq, Eq)]
@@ -41,9 +41,7 @@ fn frame_row(fault: FrameFault) -> (&'static [u8], &'static [u8])
         FrameFault::Form(FormFault::NoEnd) => (b"S6", b"NoEnd"),
         FrameFault::Form(FormFault::AfterEnd) => (b"S7", b"AfterEnd"),
         FrameFault::Line(LineFault::Read) => (b"", b"ReadFault"),
-        FrameFault::Line(LineFault::Text(TextFault::LineTooLong)) => (b"X1", b"LineTooLong"),
-        FrameFault::Line(LineFault::Text(TextFault::BadByte)) => (b"X2", b"BadByte"),
-        FrameFault::Line(LineFault::Text(TextFault::NoMemory)) => (b"X3", b"NoMemory"),
+        FrameFault::Line(LineFault::Text(fault)) => fault.code_and_name(),
     }
 }
 

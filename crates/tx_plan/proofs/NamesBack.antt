@@ -4,7 +4,7 @@ use Rattle.tx_text.specs.Words.{is_name}
 use Rattle.tx_plan.specs.Plan.{Plan, Code, Group, exchange_named, code_named, group_named, exchange_name, figures_of, group_name}
 use Rattle.tx_plan.specs.Rules.{IsPlan, IsCode, IsGroup, is_code}
 use Rattle.tx_plan.specs.Declaring.{has_exchange, has_code, has_group}
-use Rattle.tx_plantext.proofs.Places.{entry_at, all_at, place_back, place_passes}
+use Rattle.tx_plan.proofs.ByPlace.{entry_at, all_at, place_back, place_passes}
 
 -- a word that names the entry at a place
 pub record IsNameOf (named : Option ℕ) (has : Bool) (place : ℕ) : Type 0 where

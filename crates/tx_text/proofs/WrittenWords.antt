@@ -24,9 +24,6 @@ is_plain b = nat_le 33 b && (nat_le b 126 && not (b == 35))
 plain_from : (b : ℕ) → is_plain b ≡ true → IsPlain b
 plain_from b h = record { low = grind (arith, nat_tests); high = grind (arith, nat_tests); no_hash = grind (arith, nat_tests) }
 
-letter_plain : (b : ℕ) → is_letter b ≡ true → is_plain b ≡ true
-letter_plain b h = grind (arith, nat_tests)
-
 figure_plain : (b : ℕ) → is_figure b ≡ true → is_plain b ≡ true
 figure_plain b h = grind (arith, nat_tests)
 

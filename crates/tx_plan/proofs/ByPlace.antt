@@ -1,22 +1,20 @@
--- The names of a plan's exchanges and codes lead back to their places.
+-- What is known of the member of a list at a place, and that its key leads back to the place.
 use Rattle.std.proofs.Common.{◌≡◌, ◌≢◌, ℕ, zero, suc, ◌<◌, true, false, List, [], ◌∷◌, length, Some, refl, sym, ap, subst, arith}
-use Rattle.std.specs.List.{AllByRecursion, slice_get, position, position_or_len}
+use Rattle.std.specs.List.{AllByRecursion, list_any, slice_get, position, position_or_len}
 use Rattle.std.specs.Str.{bytes_eq}
 use Rattle.std.proofs.lemmas.Bool.{false_from_ne_true, lt-ltb}
 use Rattle.std.proofs.lemmas.Option.{slice_get_within}
 use Rattle.std.proofs.lemmas.Slice.Eq.{bytes_eq-Decides}
-use Rattle.tx_text.specs.Words.{is_name}
-use Rattle.tx_plan.specs.Plan.{Plan, Code, exchange_named, code_named, exchange_name, figures_of}
-use Rattle.tx_plan.specs.Rules.{IsPlan, IsCode, EachPair, is_code}
+use Rattle.std.proofs.lemmas.Map.Keys.{any_passes_from_place}
+use Rattle.tx_plan.specs.Rules.{EachPair}
 
-bytes_apart : (x y : List ℕ) → (x ≡ y → ⊥) → bytes_eq x y ≡ false
+pub bytes_apart : (x y : List ℕ) → (x ≡ y → ⊥) → bytes_eq x y ≡ false
 bytes_apart x y h = false_from_ne_true (bytes_eq x y) (λ e. h ((bytes_eq-Decides x y).0 e))
 
 bytes_same : (x y : List ℕ) → x ≡ y → bytes_eq x y ≡ true
 bytes_same x y e = (bytes_eq-Decides x y).1 e
 
 module _ {A : Type 0} where
-  -- the member at a place
   pub entry_at : (xs : List A) (i : ℕ) → i < length xs → (x : A) × (slice_get xs i ≡ Some x)
   entry_at [] i h = absurd (omega (arith, h))
   entry_at (x ∷ xs) zero h = (x, refl)
@@ -36,35 +34,11 @@ module _ {A : Type 0} where
         let r = first_at xs i x h.1 e in
         rw (t, r) (omega arith)
 
-    -- the key of the entry at a place leads back to that place
     pub place_back : (xs : List A) (i : ℕ) (x : A) → EachPair (λ a b. key a ≢ key b) xs → slice_get xs i ≡ Some x → position (λ a. bytes_eq (key x) (key a)) xs ≡ Some i
     place_back xs i x h e =
         let p = first_at xs i x h e in
         let l = lt-ltb i (length xs) (slice_get_within xs i x e) in
         rw (p, l) refl
 
-module _ (p : Plan) (h : IsPlan p) where
-  pub exchange_back : (x : ℕ) → x < length p.exchanges → exchange_named p (exchange_name p x) ≡ Some x
-  exchange_back x l =
-      let e = entry_at p.exchanges x l in
-      let q = e.1 in
-      rw q (place_back (λ name. name) p.exchanges x e.0 h.exchanges_differ q)
-
-  pub exchange_is_name : (x : ℕ) → x < length p.exchanges → is_name (exchange_name p x) ≡ true
-  exchange_is_name x l =
-      let e = entry_at p.exchanges x l in
-      let q = e.1 in
-      rw q (all_at (λ name. is_name name ≡ true) p.exchanges x e.0 h.exchanges q)
-
-  pub code_back : (c : ℕ) → c < length p.codes → code_named p (figures_of p c) ≡ Some c
-  code_back c l =
-      let e = entry_at p.codes c l in
-      let q = e.1 in
-      rw q (place_back (λ (r : Code). r.figures) p.codes c e.0 h.codes_differ q)
-
-  pub figures_are_code : (c : ℕ) → c < length p.codes → is_code (figures_of p c) ≡ true
-  figures_are_code c l =
-      let e = entry_at p.codes c l in
-      let q = e.1 in
-      let r = all_at (IsCode p) p.codes c e.0 h.codes q in
-      rw q r.figures
+    pub place_passes : (xs : List A) (i : ℕ) (x : A) → slice_get xs i ≡ Some x → list_any (λ a. bytes_eq (key x) (key a)) xs ≡ true
+    place_passes xs i x e = any_passes_from_place (λ a. bytes_eq (key x) (key a)) xs i x e (bytes_same (key x) (key x) refl)
