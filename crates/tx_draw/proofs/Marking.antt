@@ -90,17 +90,6 @@ module _ (p : Plan) (c : ℕ) where
   pub origins_none : AreOriginsBefore p c 0 []
   origins_none = record { long = refl; each = λ x h. absurd (omega (arith, h)) }
 
-  pub origins_more : (i : ℕ) (marks : List Bool) (b : Bool) → AreOriginsBefore p c i marks → b ≡ is_origin_for p i c → AreOriginsBefore p c (i + 1) (marks ++ b ∷ [])
-  origins_more i marks b o e =
-      let l = o.long in
-      record {
-        long = let q = length_push marks b in omega arith;
-        each = λ x h. elim (cases_lt x i) [
-          | inl lt ↦ at_front marks b x (omega (arith, lt, l)) ∙ o.each x lt
-          | inr ge ↦ let same : x ≡ length marks = omega (arith, ge, h, l) in ap (is_marked (marks ++ b ∷ [])) same ∙ at_end marks b ∙ e ∙ ap (λ k. is_origin_for p k c) (sym (same ∙ l))
-        ];
-      }
-
   pub origins_seen : (i : ℕ) (marks : List Bool) → IsPlan p → c < length p.codes → i ≡ length p.exchanges → AreOriginsBefore p c i marks → AreSeen (net_of p c) marks
   origins_seen i marks ok known all o =
       let l = o.long in

@@ -2,7 +2,7 @@
 ghost use Rattle.std.specs.Prelude.{◌≡◌, ◌+◌, true, OnOk, OnErr, length, get_or};
 ghost use Rattle.std.specs.Io.KnownBytes.{append_known};
 ghost use Rattle.tx_text.specs.Ends.{StopsIn};
-ghost use Rattle.tx_plantext.specs.Wrote.{Wrote};
+ghost use Rattle.tx_text.specs.Wrote.{Wrote};
 ghost use Rattle.tx_draw.specs.Shown.{first_shown};
 ghost use Rattle.tx_draw.specs.Drawing.{each_before};
 ghost use Rattle.tx_draw.specs.CodeDrawing.{title, home_text, exchange_line, order_label, choice_line, list_lines, code_drawing};

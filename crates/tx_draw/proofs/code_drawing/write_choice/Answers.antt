@@ -1,4 +1,4 @@
-use Rattle.tx_plantext.proofs.PlanWriting.{wrote_then, wrote_first, text_is}
+use Rattle.tx_text.proofs.Wrote.{wrote_then, wrote_first, text_is}
 use Rattle.tx_draw.specs.Drawing.{line_between}
 use Rattle.tx_draw.proofs.Choices.{choice_is}
 use Rattle.tx_draw.proofs.code_drawing.write_choice.Goals as goal

@@ -1,5 +1,5 @@
 use Rattle.std.proofs.Common.{subst}
-use Rattle.tx_plantext.specs.Wrote.{Wrote}
+use Rattle.tx_text.specs.Wrote.{Wrote}
 use Rattle.tx_draw.specs.Shown.{Shown}
 use Rattle.tx_draw.specs.CodeDrawing.{code_drawing}
 use Rattle.tx_draw.proofs.code_drawing.write_first.Goals as goal

@@ -1,5 +1,5 @@
 use Rattle.std.proofs.Common.{length, arith, ◌+◌, get_or, refl}
-use Rattle.tx_plantext.proofs.PlanWriting.{wrote_none}
+use Rattle.tx_text.proofs.Wrote.{wrote_none}
 use Rattle.tx_draw.specs.CodeDrawing.{choice_line}
 use Rattle.tx_draw.proofs.Before.{before_more, before_done, before_stopped, got}
 use Rattle.tx_draw.proofs.code_drawing.write_list.Goals as goal

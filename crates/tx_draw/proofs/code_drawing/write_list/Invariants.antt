@@ -1,5 +1,5 @@
 use Rattle.std.proofs.Common.{◌+◌, get_or, Ok}
-use Rattle.tx_plantext.specs.Wrote.{Wrote}
+use Rattle.tx_text.specs.Wrote.{Wrote}
 use Rattle.tx_draw.specs.Drawing.{each_before}
 use Rattle.tx_draw.specs.CodeDrawing.{choice_line}
 use Rattle.tx_draw.proofs.code_drawing.write_list.Given as goal

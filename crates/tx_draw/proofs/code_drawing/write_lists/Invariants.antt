@@ -1,5 +1,5 @@
 use Rattle.std.proofs.Common.{Ok}
-use Rattle.tx_plantext.specs.Wrote.{Wrote}
+use Rattle.tx_text.specs.Wrote.{Wrote}
 use Rattle.tx_draw.specs.Drawing.{each_before}
 use Rattle.tx_draw.specs.CodeDrawing.{list_lines}
 use Rattle.tx_draw.proofs.code_drawing.write_lists.Given as goal
