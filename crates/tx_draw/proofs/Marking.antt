@@ -44,11 +44,6 @@ back (b ∷ bs) zero (suc x) h = inr h
 back (b ∷ bs) (suc y) zero h = inr h
 back (b ∷ bs) (suc y) (suc x) h = elim (back bs y x h) [ inl e ↦ inl (ap suc e) | inr k ↦ inr k ]
 
-none_marked : (k x : ℕ) → is_marked (replicate k false) x ≡ true → ⊥
-none_marked zero x h = false≢true h
-none_marked (suc k) zero h = false≢true h
-none_marked (suc k) (suc x) h = none_marked k x h
-
 -- marks that were lent are back
 pub put_back : (k : ℕ) (new rest : List Bool) → length new ≡ k → take k (new ++ rest) ≡ new
 put_back k new rest e = rw (← e) (take-append_seam new rest)
@@ -68,11 +63,6 @@ left_less (false ∷ bs) (suc i) h e = let l = left_less bs i (omega (arith, h))
 
 -- ---- where calls may start
 
-at_front : (bs : List Bool) (b : Bool) (x : ℕ) → x < length bs → is_marked (bs ++ b ∷ []) x ≡ is_marked bs x
-at_front [] b x h = absurd (omega (arith, h))
-at_front (c ∷ bs) b zero h = refl
-at_front (c ∷ bs) b (suc x) h = at_front bs b x (omega (arith, h))
-
 at_end : (bs : List Bool) (b : Bool) → is_marked (bs ++ b ∷ []) (length bs) ≡ b
 at_end [] b = refl
 at_end (c ∷ bs) b = at_end bs b
@@ -87,9 +77,6 @@ pub record AreOriginsBefore (p : Plan) (c i : ℕ) (marks : List Bool) : Type 0 
   pub each : (x : ℕ) → x < i → is_marked marks x ≡ is_origin_for p x c
 
 module _ (p : Plan) (c : ℕ) where
-  pub origins_none : AreOriginsBefore p c 0 []
-  origins_none = record { long = refl; each = λ x h. absurd (omega (arith, h)) }
-
   pub origins_seen : (i : ℕ) (marks : List Bool) → IsPlan p → c < length p.codes → i ≡ length p.exchanges → AreOriginsBefore p c i marks → AreSeen (net_of p c) marks
   origins_seen i marks ok known all o =
       let l = o.long in
@@ -125,9 +112,6 @@ module _ (n : Net) (x : ℕ) where
         };
         ends = end_push r.start r.steps (g, y);
       }
-
-  pub opening_none : (old : List Bool) → AreSeen n old → IsOpening n x [] old old
-  opening_none old s = record { seen = s; stays = λ y h. h; leads = λ g y m. absurd m }
 
   opening_more : (groups : List ℕ) (old seen : List Bool) (g y : ℕ) → IsOpening n x groups old seen → IsReached n x → x ≢ n.home → Among g (n.list x) → n.far g x ≡ Some y → y < n.exchanges → IsOpening n x (groups ++ g ∷ []) old (set seen y true)
   opening_more groups old seen g y o r away listed leads within =
@@ -185,9 +169,6 @@ pub record IsMarking (n : Net) (marks done : List Bool) : Type 0 where
   pub opened : (x : ℕ) → is_marked done x ≡ true → LeadsToSeen n marks x
 
 module _ (n : Net) where
-  pub marking_none : (seen opened : List Bool) (k : ℕ) → AreSeen n seen → opened ≡ replicate k false → k ≡ n.exchanges → IsMarking n seen opened
-  marking_none seen opened k s e l = record { seen = s; long = ap length e ∙ length-replicate k false ∙ l; opened = λ x h. absurd (none_marked k x (ap (λ bs. is_marked bs x) (sym e) ∙ h)) }
-
   pub marking_more : (old seen opened : List Bool) (x : ℕ) → IsMarking n old opened → AreSeen n seen → StaysSeen old seen → LeadsToSeen n seen x → IsMarking n seen (set opened x true)
   marking_more old seen opened x m s stay leads =
       record {
