@@ -10,17 +10,23 @@ use tx_circuits::CircuitTable;
 use tx_plan::Plan;
 use tx_text::{NoMemory, Sink, WriteFault, words, write_bytes};
 
+/// The end of a word.
+fn end_of(word: Option<&[u8]>) -> u16 {
+    if word == Some(b"BETA".as_slice()) {
+        BETA
+    } else {
+        ALFA
+    }
+}
+
 /// Makes the call that a line says, where it may be made, and tells whether.
 fn apply_line<A: Allocator>(table: &mut CircuitTable<A>, line: &[u8]) -> bool {
     let mut rest = words(line);
     let name = rest.next().unwrap_or(b"".as_slice());
     let number = next_number(&mut rest, 240);
-    let end = if rest.next() == Some(b"BETA".as_slice()) {
-        BETA
-    } else {
-        ALFA
-    };
-    match named(name, number, end) {
+    let end = end_of(rest.next());
+    let far = end_of(rest.next());
+    match named(name, number, end, far) {
         Some(call) => apply(table, &call),
         None => false,
     }
@@ -48,13 +54,13 @@ pub(crate) fn tell_circuits<A: Allocator, W: Sink>(
     Ok(())
 }
 
-/// Makes three of the 31 calls, as far as each may be made, on a table and on the model. Tells whether the two agree.
+/// Makes three of the 43 calls, as far as each may be made, on a table and on the model. Tells whether the two agree.
 fn agree_along<A: Allocator>(table: &mut CircuitTable<A>, sequence: u32) -> bool {
     let mut model = Model::new();
     let mut rest = sequence;
     for _ in 0..3u8 {
-        let call = call_of(rest % 31);
-        rest /= 31;
+        let call = call_of(rest % 43);
+        rest /= 43;
         let made = apply(table, &call);
         if made != model.apply(&call) || made && !model.agrees(table) {
             return false;
@@ -81,7 +87,7 @@ pub(crate) fn try_sequences<A: Allocator + Copy, W: Sink>(
     out: &mut W,
 ) -> Result<(), Stop> {
     let mut tried = 0u64;
-    for sequence in 0..29_791u32 {
+    for sequence in 0..79_507u32 {
         if !agrees(alloc, plan, sequence)? {
             write_broken(b"not as the model, sequence", u64::from(sequence), out)?;
             break;

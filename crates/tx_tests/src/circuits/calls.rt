@@ -8,11 +8,12 @@ pub const ALFA: u16 = 0;
 
 pub const BETA: u16 = 1;
 
-/// A call of a circuit by its number, at an end where it asks for one, or of the group.
+/// A call of a circuit by its number, at an end where it asks for one and with a far end where it asks for that too, or of the group.
 #[derive(Clone, Copy)]
 pub enum Call {
     Seize(u32, u16),
     Withdraw(u32, u16),
+    GiveUp(u32, u16, u16),
     Hold(u32),
     Release(u32),
     Released(u32),
@@ -28,7 +29,7 @@ impl Call {
     /// The circuit's number; 0 for a call of the group.
     pub fn number(&self) -> u32 {
         match *self {
-            Call::Seize(n, _) | Call::Withdraw(n, _) => n,
+            Call::Seize(n, _) | Call::Withdraw(n, _) | Call::GiveUp(n, _, _) => n,
             Call::Hold(n) | Call::Release(n) | Call::Released(n) => n,
             Call::PutOut(n) | Call::PutIn(n) => n,
             _ => 0,
@@ -56,7 +57,7 @@ pub fn next<A: Allocator>(table: &CircuitTable<A>, exchange: u16) -> u32 {
     }
 }
 
-/// One of the 31 calls on three circuits.
+/// One of the 43 calls on three circuits.
 pub fn call_of(k: u32) -> Call {
     let number = k % 3 + 1;
     match k / 3 {
@@ -69,21 +70,27 @@ pub fn call_of(k: u32) -> Call {
         6 => Call::Released(number),
         7 => Call::PutOut(number),
         8 => Call::PutIn(number),
+        9 => Call::GiveUp(number, ALFA, ALFA),
+        10 => Call::GiveUp(number, ALFA, BETA),
+        11 => Call::GiveUp(number, BETA, ALFA),
+        12 => Call::GiveUp(number, BETA, BETA),
         _ => match k {
-            27 => Call::Fail,
-            28 => Call::Restore,
-            29 => Call::Block,
+            39 => Call::Fail,
+            40 => Call::Restore,
+            41 => Call::Block,
             _ => Call::Unblock,
         },
     }
 }
 
-/// The call of a name.
-pub fn named(name: &[u8], number: u32, end: u16) -> Option<Call> {
+/// The call of a name, on a circuit, at an end and with a far one.
+pub fn named(name: &[u8], number: u32, end: u16, far: u16) -> Option<Call> {
     if name == b"seize".as_slice() {
         Some(Call::Seize(number, end))
     } else if name == b"withdraw".as_slice() {
         Some(Call::Withdraw(number, end))
+    } else if name == b"give-up".as_slice() {
+        Some(Call::GiveUp(number, end, far))
     } else if name == b"hold".as_slice() {
         Some(Call::Hold(number))
     } else if name == b"release".as_slice() {
@@ -115,6 +122,9 @@ pub fn apply<A: Allocator>(table: &mut CircuitTable<A>, call: &Call) -> bool {
     match *call {
         Call::Seize(n, x) => seize(table, &circuit(n), ExchangeId::at(x)),
         Call::Withdraw(n, x) => withdraw(table, &circuit(n), ExchangeId::at(x)),
+        Call::GiveUp(n, x, far) => {
+            give_up(table, &circuit(n), ExchangeId::at(x), ExchangeId::at(far))
+        }
         Call::Hold(n) => hold(table, &circuit(n)),
         Call::Release(n) => release(table, &circuit(n)),
         Call::Released(n) => released(table, &circuit(n)),
@@ -140,6 +150,19 @@ fn withdraw<A: Allocator>(table: &mut CircuitTable<A>, x: &Circuit, at: Exchange
         return false;
     }
     table.withdraw(x, at);
+    true
+}
+
+fn give_up<A: Allocator>(
+    table: &mut CircuitTable<A>,
+    x: &Circuit,
+    at: ExchangeId,
+    far: ExchangeId,
+) -> bool {
+    if !table.is_seized(x, at) {
+        return false;
+    }
+    table.give_up(x, at, far);
     true
 }
 

@@ -68,11 +68,23 @@ impl Held {
         }
     }
 
+    // Releasing, unless an exchange has seized it.
+    fn released_unless(self, exchange: u16) -> Held {
+        if self.by(exchange) {
+            return self;
+        }
+        Held {
+            carried: false,
+            releasing: true,
+            ..self
+        }
+    }
+
     // Whether a call may be made.
     fn allows(self, call: &Call) -> bool {
         match *call {
             Call::Seize(_, x) => self.is_free(x),
-            Call::Withdraw(_, x) => self.by(x),
+            Call::Withdraw(_, x) | Call::GiveUp(_, x, _) => self.by(x),
             Call::Hold(_) => self.by_alfa != self.by_beta,
             Call::Release(_) => !self.by_alfa && !self.by_beta && !self.releasing,
             Call::Released(_) => self.releasing,
@@ -87,6 +99,7 @@ impl Held {
         match *call {
             Call::Seize(_, x) => self.with_seized(x, true),
             Call::Withdraw(_, x) => self.with_seized(x, false),
+            Call::GiveUp(_, x, far) => self.with_seized(x, false).released_unless(far),
             Call::Hold(_) => Held {
                 carried: true,
                 out: self.out,
