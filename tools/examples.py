@@ -7,8 +7,8 @@
 Runs each example of examples/list with a built program (crates/telexplan/out/telexplan where none is named), in a folder of its own, and compares what it prints,
 its exit status and the files that it makes with what stands in examples/. Then checks README.md and docs/FORMATS.md: each block there says, in a comment before
 it, what it shows, and has to show just that; the table of codes has to be the program's and to have the codes of the definitions, the map of the crates has to be that
-of crates.txt, what the pages name has to be there, and the players of the gate, crates/tx_worked and crates/tx_ends, have to have the examples as they stand. Prints a
-line for each difference; the status is 1 if there is one.
+of crates.txt, what the pages name has to be there, each link of theirs has to lead to a file and a heading that are there, and the players of the gate, crates/tx_worked,
+crates/tx_ends and crates/tx_pictures, have to have the examples and the pictures as they stand. Prints a line for each difference; the status is 1 if there is one.
 
 --pages runs nothing: it checks the pages and the players' cases alone. Each example is such a case, and the gate plays them, so the pages then show what the
 program prints.
@@ -20,6 +20,7 @@ to its data/cases and stdout; from then on a run of this tool sees that they are
 The comments before a block:
   <!-- file: PATH -->     the whole file
   <!-- run: NAME -->      the command of an example, behind `$ `, and all that it prints
+  <!-- session -->        several commands, each behind `$ `: that of an example, or `cat FILE`, and all that it prints
   <!-- lines: PATH -->    lines of the file that follow one another
   <!-- not run -->        commands that no example shows
 and before a table:
@@ -34,8 +35,8 @@ import tempfile
 
 TOP = os.path.dirname(os.path.dirname(os.path.abspath(__file__)))
 PAGES = ["README.md", "docs/FORMATS.md"]
-NAMING = ["CONTRIBUTING.md", "docs/ARCHITECTURE.md", "docs/GLOSSARY.md", "docs/PROOFS.md"]
-MADE = ["crates/telexplan/out/telexplan", "examples/NAME.out"]
+NAMING = ["CONTRIBUTING.md", "docs/ARCHITECTURE.md", "docs/DECISIONS.md", "docs/GLOSSARY.md", "docs/HEADLINE.md", "docs/MEASURED.md", "docs/PROOFS.md"]
+MADE = ["crates/telexplan/out/telexplan"]
 
 
 class Example:
@@ -118,6 +119,16 @@ def pictures():
     return {f"examples/{it}" for it in os.listdir(os.path.join(TOP, "examples")) if it.endswith((".dot", ".svg"))}
 
 
+def check_pictures(tell):
+    """Each picture is one that the player of pictures prints, and has its image beside it."""
+    printed = read("crates/tx_pictures/stdout")
+    for it in sorted(it for it in pictures() if it.endswith(".dot")):
+        if b"\n" + read(it) not in printed:
+            tell(f"{it}: the player of pictures does not print it")
+        if it.replace(".dot", ".svg") not in pictures():
+            tell(f"{it}: it has no image")
+
+
 def write_examples(program):
     for example in examples():
         status, printed, made = run(program, example)
@@ -153,6 +164,18 @@ def comment_before(lines, n):
     return said.group(1) if said else ""
 
 
+def check_session(text, known):
+    """What is wrong with commands and what they print, if anything is."""
+    printed = {it.command: out_of(it) for it in known.values()}
+    wanted = ""
+    for command in re.findall(r"(?m)^\$ (.*)\n", text):
+        path = command[4:] if command.startswith("cat examples/") else printed.get(command)
+        if path is None:
+            return f"no example has the command {command!r}"
+        wanted += f"$ {command}\n" + read(path).decode()
+    return None if text == wanted else difference(wanted, text)
+
+
 def check_block(mark, text, known):
     """What is wrong with a block, if anything is."""
     kind, _, name = mark.partition(": ")
@@ -161,6 +184,8 @@ def check_block(mark, text, known):
     if kind == "run" and name in known:
         wanted = f"$ {known[name].command}\n" + read(out_of(known[name])).decode()
         return None if text == wanted else difference(wanted, text)
+    if mark == "session":
+        return check_session(text, known)
     if kind == "file":
         return None if text == read(name).decode() else difference(read(name).decode(), text)
     if kind == "lines":
@@ -255,14 +280,32 @@ def check_names(tell):
     """Each path in a page is there, and each edit that it names."""
     for page in PAGES + NAMING:
         text = read(page).decode()
-        paths = re.findall(r"`((?:crates|docs|tools|examples)/[\w./]+)`", text)
-        paths += [os.path.normpath(os.path.join(os.path.dirname(page), it)) for it in re.findall(r"\]\(([\w./]+)\)", text)]
-        for it in paths:
-            if it not in MADE and not os.path.exists(os.path.join(TOP, it)):
+        for it in re.findall(r"`((?:\.ci|bench|crates|docs|tools|examples)/[\w./-]+)`", text):
+            if it not in MADE and not re.search(r"\b(CRATE|NAME)\b", it) and not os.path.exists(os.path.join(TOP, it)):
                 tell(f"{page}: {it} is not there")
         for crate, edit in re.findall(r"`(tx_\w+)/(\w+)`", text):
             if not os.path.exists(os.path.join(TOP, "crates", crate, "must-fail", edit + ".edit")):
                 tell(f"{page}: there is no edit {crate}/{edit}")
+
+
+def headings(page):
+    """The headings of a page, as a link names them: small letters, figures, `_` and `-`, and each space a `-`."""
+    text = re.sub(r"(?ms)^```.*?^```", "", read(page).decode())
+    return {re.sub(r"[^\w -]", "", it.lower()).strip().replace(" ", "-") for it in re.findall(r"(?m)^#+ (.*)", text)}
+
+
+def check_links(tell):
+    """Each link of a page within the repository leads to a file that is there, and to a heading of it, if it names one."""
+    for page in PAGES + NAMING:
+        for link in re.findall(r"\]\(([^()\s]+)\)", read(page).decode()):
+            path, _, heading = link.partition("#")
+            if re.match(r"\w+:", path):
+                continue
+            path = os.path.normpath(os.path.join(os.path.dirname(page), path)) if path else page
+            if not os.path.exists(os.path.join(TOP, path)):
+                tell(f"{page}: the link {link} leads to no file")
+            elif heading and heading not in headings(path):
+                tell(f"{page}: the link {link} leads to no heading")
 
 
 def crates_used():
@@ -384,8 +427,10 @@ def main(words):
         check_examples(program, told.append)
     check_pages(told.append)
     check_names(told.append)
+    check_links(told.append)
     check_map(told.append)
     check_cases(told.append)
+    check_pictures(told.append)
     check_ends(told.append)
     print("".join(f"{it}\n" for it in told) + f"{len(examples())} examples, {len(told)} differences")
     return 1 if told else 0

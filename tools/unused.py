@@ -5,7 +5,9 @@ Lists the definitions and lemmas in specs/ and proofs/ that nothing in the repos
 
 A use is the name as a word outside of imports, comments and its own clauses, or in a Lib.antt, from which the prover takes lemmas by itself. Two things of one
 name count as one, so a name that is told is not used at all. A lemma that only an unused one uses is told once that one is gone. Answers to goals and proofs of
-bodies are used by their place, and are left out."""
+bodies are used by their place, and are left out.
+
+An import of a name that its file does not have is told too: nothing else looks at those of a lemma that is gone before the check stops at them."""
 import glob
 import os
 import re
@@ -14,6 +16,7 @@ from collections import Counter, defaultdict
 
 WORD = r"[A-Za-z_][\w'-]*"
 BEGINS = re.compile(rf"^(\s*)((?:pub |abbrev |module )*)({WORD}|◌\S+◌) :(?!:)")
+IMPORT = re.compile(r"use Rattle\.(\w+)\.(specs|proofs)\.([\w.]+)\.\{([^}]*)\}")
 BY_PLACE = {"Answers.antt", "Invariants.antt", "Measures.antt", "Proof.antt"}
 
 
@@ -63,18 +66,32 @@ def uses(lines, is_code):
         yield from (word for word in re.findall(WORD, stripped) if word != own)
 
 
+def gone(path, lines, known):
+    """The imports of names that their files do not have. What the prover writes has no file, and is left out."""
+    for at, line in enumerate(lines):
+        for crate, folder, module, names in IMPORT.findall(line):
+            file = f"crates/{crate}/{folder}/{module.replace('.', '/')}.antt"
+            words = set(re.findall(rf"{WORD}|◌\S+◌", "\n".join(known.get(file, []))))
+            for name in names.split(",") if words else []:
+                name = name.split(" as ")[0].strip()
+                if name and name not in words:
+                    yield f"{path}:{at + 1}", f"{name} is not in {file}"
+
+
 def main(crates):
     where, used = defaultdict(list), Counter()
-    for path, lines in texts():
+    known = dict(texts())
+    for path, lines in known.items():
         is_lib = path.endswith("/proofs/Lib.antt")
         used.update(re.findall(WORD, "\n".join(lines)) if is_lib else uses(lines, path.endswith(".rt")))
         if path.endswith(".antt") and os.path.basename(path) not in BY_PLACE:
             for name, line in defined(lines):
                 where[name].append(f"{path}:{line}")
-    told = [(place, name) for name, places in where.items() if not used[name] for place in places]
+    told = [(place, f"{name} is not used") for name, places in where.items() if not used[name] for place in places]
+    told += [it for path, lines in known.items() for it in gone(path, lines, known)]
     told = [it for it in sorted(told) if not crates or it[0].split("/")[1] in crates]
-    for place, name in told:
-        print(f"{place}: {name} is not used")
+    for place, what in told:
+        print(f"{place}: {what}")
     return 1 if told else 0
 
 

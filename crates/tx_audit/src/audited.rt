@@ -33,9 +33,9 @@ impl<A: Allocator> Audited<A> {
 /// Why an audit stopped.
 #[derive(Clone, Copy, Debug, PartialEq, Eq)]
 pub enum AuditFault {
-    /// The plan's text is refused, or its reader failed. Nothing was written.
+    /// The plan's text is refused, its source failed, or its reader wanted memory. Nothing was written.
     Plan(PlanFault),
-    /// The report could not be written.
+    /// The sink failed: a front of the report was written.
     Write,
     /// No memory was left to rank the plan. Nothing was written.
     NoMemory,

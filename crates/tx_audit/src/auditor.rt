@@ -2,8 +2,8 @@
 ghost use Rattle.std.specs.Prelude.{◌≡◌, ◌≤◌, [], IfOk};
 ghost use Rattle.std.specs.List.{AllByRecursion};
 ghost use Rattle.tx_text.specs.Calls.{Broken, CallsAtMost, source_calls};
+ghost use Rattle.tx_text.specs.Wrote.{Wrote};
 ghost use Rattle.tx_plan.specs.Certified.{IsCertified};
-ghost use Rattle.tx_plantext.specs.Wrote.{Wrote};
 ghost use Rattle.tx_cert.specs.Certificate.{IsCertificateOf, ranks_of};
 ghost use Rattle.tx_rank.specs.Findings.{IsTrueOf};
 ghost use Rattle.tx_rank.specs.Rankings.{OnFound};
@@ -22,8 +22,8 @@ use tx_plantext::read_plan_from;
 use tx_rank::{Finding, Ranking, rank};
 use tx_text::{NoMemory, Sink, Source, WriteFault};
 
-/// Reads a plan, and reports on it: YES where a certificate certifies it for `limit` transits and `spare` groups, or what is wrong with it, with walks that
-/// show it.
+/// Reads a plan, and writes the report on it: YES where some certificate certifies it for at most `limit` transits (0 to 62) and `spare` groups to spare (0
+/// to 15), or what is wrong with it, with walks that show it.
 ///
 /// Nothing is written where the plan is refused or memory is wanting. The report says YES only where the checker says Yes to the certificate that is told.
 pub fn audit<A: Allocator + Copy, R: Source, W: Sink>(
@@ -45,7 +45,10 @@ pub fn audit<A: Allocator + Copy, R: Source, W: Sink>(
             plan.rules();
             match rank_and_report(alloc, &plan, limit, spare, out) {
                 Ok(ranking) => Ok(Audited::of(plan, ranking)),
-                Err(fault) => Err(fault),
+                Err(fault) => {
+                    drop(plan);
+                    Err(fault)
+                }
             }
         }
         Err(fault) => Err(AuditFault::Plan(fault)),

@@ -15,8 +15,8 @@ use tx_plan::Plan;
 use tx_script::RunFault;
 use tx_text::{Sink, Source};
 
-/// Runs a script over a network of the plan, if the checker says Yes to the certificate: every state of the run is then safe and every NC excused.
-/// After a No nothing is read or written. Without memory for the network the fault names the first event.
+/// Runs a script over the engine of the plan, if the checker says Yes to the certificate for `limit` (0 to 62) and `spare` (0 to 15): every state of the run
+/// is then safe and every NC excused. After a No nothing is read or written. Without memory for the network the fault names the first event.
 pub fn run_checked<A: Allocator + Copy, R: Source, W: Sink>(
     alloc: A,
     plan: &Plan<A>,

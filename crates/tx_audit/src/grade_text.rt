@@ -1,7 +1,7 @@
 // The writer of grades.
 ghost use Rattle.std.specs.Prelude.{◌≡◌, ◌++◌, length};
 ghost use Rattle.std.specs.List.{flat_map};
-ghost use Rattle.tx_plantext.specs.Wrote.{Wrote};
+ghost use Rattle.tx_text.specs.Wrote.{Wrote};
 ghost use Rattle.tx_audit.specs.Report.{finding_line, verdict_line};
 ghost use Rattle.tx_audit.specs.GradeText.{bounds_text, code_line, findings_text, grade_text, graded_text};
 

@@ -1,7 +1,7 @@
 // The writer of reports.
 ghost use Rattle.std.specs.Prelude.{◌≡◌, length, ◌++◌, codes};
 ghost use Rattle.std.specs.List.{flat_map};
-ghost use Rattle.tx_plantext.specs.Wrote.{Wrote};
+ghost use Rattle.tx_text.specs.Wrote.{Wrote};
 ghost use Rattle.tx_audit.specs.Report.{head_line, step_text, walk_text, finding_line, verdict_line, report};
 
 use itoa::Buffer;

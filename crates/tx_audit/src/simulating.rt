@@ -28,6 +28,10 @@ pub fn simulate<A: Allocator + Copy, R: Source, W: Sink>(
             event: 1,
             cause: RunCause::NoMemory,
         }),
-        Ok(mut network) => run(alloc, plan, &mut network, script, out),
+        Ok(mut network) => {
+            let ran = run(alloc, plan, &mut network, script, out);
+            drop(network);
+            ran
+        }
     }
 }

@@ -1,5 +1,5 @@
 // The open calls, under keys and by number.
-ghost use Rattle.std.specs.Prelude.{◌≡◌, ◌<◌, ◌≤◌, ◌+◌, ◌^◌, ◌++◌, ◌∷◌, [], ℕ, not, filter, length, OnOk, IfSome, IfNone, Some, None, is_some, true};
+ghost use Rattle.std.specs.Prelude.{◌≡◌, ◌<◌, ◌≤◌, ◌+◌, ◌^◌, ◌++◌, ◌∷◌, [], ℕ, not, filter, length, OnOk, IfSome, IfNone, Some, None, is_some, true, vec_len, vec_capacity};
 ghost use Rattle.tx_state.specs.Call.{Call, call_of, is_numbered};
 ghost use Rattle.tx_state.specs.Members.{Mem};
 ghost use Rattle.tx_state.specs.Routing.{in_phase, set_call};
@@ -57,7 +57,7 @@ impl<A: Allocator> OpenCalls<A> {
         self.calls.len()
     }
 
-    /// Makes room for one more call. Without a key of 32 bits for it there is none.
+    /// Makes room for one more call. Where no key of 32 bits is left for it, memory is wanting. Want of memory changes no call.
     pub fn reserve_one(&mut self) -> Result<(), NoMemory>
         ensures ok { OnOk result (HasRoom self.new) }
         ensures rest { self.new ≡ record self.old { call_room = self.new.call_room; number_room = self.new.number_room } }
@@ -185,12 +185,28 @@ fn write_collision<A: Allocator>(calls: &mut Slab<OpenCall<A>, A>, key: u32)
     }
 }
 
+/// Makes room for one more hop: for two at first, since few calls have a third, and then for as many again.
+fn more_room<A: Allocator>(hops: &mut Vec<Hop, A>) -> Result<(), NoMemory>
+    ensures items { hops.new.items ≡ hops.old.items }
+    ensures len { vec_len hops.new ≡ vec_len hops.old }
+    ensures capacity { vec_capacity hops.old ≤ vec_capacity hops.new }
+    ensures ok { OnOk result (vec_len hops.new < vec_capacity hops.new) }
+{
+    let len = hops.len();
+    if len < hops.capacity() {
+        return Ok(());
+    }
+    let more = if len < 2 { 2 } else { len };
+    hops.reserve_exact(more)?;
+    Ok(())
+}
+
 /// There is room for one more hop of the call.
 fn more_hops<A: Allocator>(calls: &mut Slab<OpenCall<A>, A>, key: u32) -> Result<(), NoMemory>
     ensures { (c : OpenCall A) → get calls.old key ≡ Some c → (d : OpenCall A) × Updates calls.old calls.new key (Some d) × (call_seen d ≡ call_seen c) × ((kept_of c).room ≤ (kept_of d).room) × OnOk result (0 < (kept_of d).room) }
 {
     if let Some(call) = calls.get_mut(key as usize) {
-        call.hops.reserve(1)?;
+        more_room(&mut call.hops)?;
     }
     Ok(())
 }

@@ -1,5 +1,3 @@
-pub mod Names
-pub mod WrittenWords
 pub mod RanksSoFar
 pub mod Written
 pub mod Whole

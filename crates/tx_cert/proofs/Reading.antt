@@ -1,5 +1,5 @@
 -- Reading a certificate text.
-use Rattle.std.proofs.Common.{◌≡◌, ◌⊎◌, ℕ, List, [], ◌∷◌, Option, None, Result, Err, Bool, true, false, codes, refl, inl, inr}
+use Rattle.std.proofs.Common.{◌≡◌, ℕ, List, [], ◌∷◌, Option, None, Result, Err, Bool, true, false, codes, refl}
 use Rattle.tx_text.specs.declared.frame.FramePart.TheVariants.{Start}
 use Rattle.tx_text.specs.declared.frame_reader.FrameReader.{FrameReader}
 use Rattle.tx_text.specs.Told.{reading_of_calls, told_at}
@@ -18,11 +18,6 @@ pub at_start : {A : Type 0} (a : Option (List ℕ)) (p : Plan) (v : FrameReader 
     → ReadsOn a a (cert_of p) (λ e more. said (declare p) 1 t (to_come v e more)) × (v.reader.feed.fault ≡ None)
 unfolding told_at
 at_start a p v t left k m r ph n e = (record { read = []; moves = moves-nil a; gives = λ d more. rw (k, m, r, ph, n, e) refl }, rw r refl)
-
--- a step that is not the end
-pub went_past : {E W : Type 0} → E ⊎ W → (E → ⊥) → W
-went_past (inl e) none = absurd (none e)
-went_past (inr w) none = w
 
 -- there is one version of these texts
 pub any_version : (p : Plan) (v w : ℕ) (t : Certificate) (ws : List (List ℕ)) → declare p v t ws ≡ declare p w t ws

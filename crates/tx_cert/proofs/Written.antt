@@ -7,12 +7,12 @@ use Rattle.std.proofs.Math.Nat.{mul-le-mul_right}
 use Rattle.tx_text.specs.Frame.{header_of}
 use Rattle.tx_text.specs.Written.{IsWrittenLine, LeadsTo}
 use Rattle.tx_text.proofs.ReadBack.{reads_back}
+use Rattle.tx_text.proofs.WrittenWords.{name_word, figures_word, number_word, number_back, line_of_short, fixed_word}
 use Rattle.tx_plan.specs.Plan.{Plan, exchange_name, figures_of}
 use Rattle.tx_plan.specs.Rules.{IsPlan}
 use Rattle.tx_cert.specs.Certificate.{Certificate, no_ranks_for, rank_at, place_of, IsCertificateOf}
 use Rattle.tx_cert.specs.CertText.{declare, rank_lines, code_lines, cert_lines, ReadsBack}
-use Rattle.tx_cert.proofs.Names.{exchange_back, exchange_is_name, code_back, figures_are_code}
-use Rattle.tx_cert.proofs.WrittenWords.{name_word, figures_word, rank_word, rank_back, line_of_short, fixed_word}
+use Rattle.tx_plan.proofs.NamesBack.{exchange_back, exchange_is_name, code_back, figures_are_code}
 use Rattle.tx_cert.proofs.RanksSoFar.{so_far, IsPair, rank_is, none_yet, so_far_none, next_none, next_some, so_far_all}
 
 -- lines that lead on, one after another
@@ -36,15 +36,15 @@ module _ (p : Plan) (t : Certificate) (h : IsPlan p) (k : IsCertificateOf p t) w
       → declare p 1 (so_far t (place_of t c x)) (codes "RANK" ∷ figures_of p c ∷ exchange_name p x ∷ decimal r ∷ []) ≡ Ok (so_far t (place_of t c x + 1))
   unfolding declare
   declared_rank c x r l m e small =
-      let code = code_back p h c l in
-      let exchange = exchange_back p h x m in
-      let number = rank_back r small in
+      let code = (code_back p h c l).back in
+      let exchange = (exchange_back p h x m).back in
+      let number = number_back 65535 r small (omega arith) in
       let none = none_yet t c x (pair_at c x l m) in
       rw (code, exchange, number, none) (ap Ok (next_some t c x r (pair_at c x l m) e))
 
   rank_written : (c x r : ℕ) → c < length p.codes → x < length p.exchanges → r ≤ 65535 → IsWrittenLine (codes "RANK" ∷ figures_of p c ∷ exchange_name p x ∷ decimal r ∷ [])
   rank_written c x r l m small =
-      line_of_short _ (fixed_word (codes "RANK") refl, (figures_word 2 3 (figures_of p c) (omega arith) (omega arith) (figures_are_code p h c l), (name_word (exchange_name p x) (exchange_is_name p h x m), (rank_word r small, tt)))) (omega arith)
+      line_of_short _ (fixed_word (codes "RANK") refl, (figures_word 2 3 (figures_of p c) (omega arith) (omega arith) (figures_are_code p h c l), (name_word (exchange_name p x) (exchange_is_name p h x m), (number_word r (omega (arith, small)), tt)))) (omega arith)
 
   small_at : (c x r : ℕ) → c < length p.codes → x < length p.exchanges → rank_at t c x ≡ Some r → r ≤ 65535
   small_at c x r l m e =

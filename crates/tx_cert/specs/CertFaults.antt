@@ -1,6 +1,6 @@
 -- The codes and names of the faults of certificate texts, as they are printed.
-use Rattle.std.specs.Prelude.{ℕ, List, codes}
-use Rattle.tx_text.specs.declared.text_fault.TextFault.TheVariants.{LineTooLong, BadByte, NoMemory as TextNoMemory}
+use Rattle.std.specs.Prelude.{codes}
+use Rattle.tx_text.specs.Rows.{Row, text_row}
 use Rattle.tx_text.specs.declared.line_fault.LineFault.TheVariants.{Text, Read}
 use Rattle.tx_text.specs.declared.frame.FormFault.TheVariants.{NoHeader, NoEnd, AfterEnd}
 use Rattle.tx_text.specs.declared.frame.FrameFault.{FrameFault}
@@ -9,10 +9,6 @@ use Rattle.tx_text.specs.declared.frame.FaultKind.{FaultKind}
 use Rattle.tx_text.specs.declared.frame.FaultKind.TheVariants.{Frame, Word}
 use Rattle.tx_cert.specs.declared.fault.CertWord.{CertWord}
 use Rattle.tx_cert.specs.declared.fault.CertWord.TheVariants.{UnknownWord, WrongCount, UnknownName, BadNumber, Duplicate, NoMemory}
-
--- a code, and a name
-abbrev pub Row : Type 0
-Row = List ℕ × List ℕ
 
 abbrev pub word_row : CertWord → Row
 word_row UnknownWord = (codes "C1", codes "UnknownWord")
@@ -27,9 +23,7 @@ frame_row (Form NoHeader) = (codes "C6", codes "NoHeader")
 frame_row (Form NoEnd) = (codes "C7", codes "NoEnd")
 frame_row (Form AfterEnd) = (codes "C8", codes "AfterEnd")
 frame_row (Line Read) = (codes "C10", codes "ReadFault")
-frame_row (Line (Text LineTooLong)) = (codes "X1", codes "LineTooLong")
-frame_row (Line (Text BadByte)) = (codes "X2", codes "BadByte")
-frame_row (Line (Text TextNoMemory)) = (codes "X3", codes "NoMemory")
+frame_row (Line (Text fault)) = text_row fault
 
 -- THE TABLE
 abbrev pub fault_row : FaultKind CertWord → Row

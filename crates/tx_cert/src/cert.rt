@@ -7,7 +7,7 @@ use std::marker::Model;
 use tx_plan::{CodeId, ExchangeId, Plan};
 use tx_text::NoMemory;
 
-/// Ranks of exchanges for codes, with a place for each pair.
+/// A certificate: for each code and exchange of a plan a rank from 0 to 65,535, or none.
 #[derive(Drop)]
 pub struct Cert<A: Allocator = Global> {
     codes: usize,
@@ -26,7 +26,7 @@ impl<A: Allocator> Model for Cert<A> {
 }
 
 impl<A: Allocator> Cert<A> {
-    /// A certificate without ranks for the plan, with room for all.
+    /// A certificate without ranks for the plan, with room for all. No other call takes memory.
     pub fn new(alloc: A, plan: &Plan<A>) -> Result<Cert<A>, NoMemory>
         ensures { IfOk result (λ t. t ≡ no_ranks_for plan.now) }
     {
@@ -55,7 +55,7 @@ impl<A: Allocator> Cert<A> {
         let _ = &self.ranks;
     }
 
-    /// Gives the exchange a rank for the code.
+    /// Gives the exchange a rank for the code, in place of one that it had. Both are of the certificate's plan.
     pub fn set(&mut self, code: CodeId, exchange: ExchangeId, rank: u16)
         requires code { code < self.old.codes }
         requires exchange { exchange < self.old.exchanges }

@@ -20,7 +20,7 @@ use tx_text::{
     TextFault, slices_are_read_whole,
 };
 
-/// Reads a certificate of the plan from a text.
+/// Reads a certificate of the plan from a text in memory. `Err` is the first fault, with its line.
 pub fn read_cert<A: Allocator + Copy>(
     alloc: A,
     text: &[u8],
@@ -42,7 +42,8 @@ pub fn read_cert<A: Allocator + Copy>(
     read_lines(frame, cert, plan, &mut source)
 }
 
-/// Reads a certificate of the plan from a source, in pieces of any size and by at most 4,294,967,295 calls.
+/// Reads a certificate of the plan from a source, to its end, in pieces of any size and by at most 4,294,967,295 calls. `Err` is the first fault, with its
+/// line.
 pub fn read_cert_from<A: Allocator + Copy, R: Source>(
     alloc: A,
     source: &mut R,

@@ -13,7 +13,8 @@ use std::alloc::Allocator;
 use tx_plan::{CodeId, ExchangeId, Plan};
 use tx_text::{Sink, WriteFault, write_bytes, write_parts};
 
-/// Writes the certificate: its header, its ranks by codes and then by exchanges, each in the plan's order, and END.
+/// Writes the certificate: its header, its ranks by codes and then by exchanges, each in the plan's order, and END. Where the sink fails, a front of the text
+/// was taken.
 pub fn write_cert<A: Allocator, W: Sink>(
     cert: &Cert<A>,
     plan: &Plan<A>,

@@ -2,16 +2,16 @@
 ghost use Rattle.std.specs.Prelude.{◌≡◌};
 ghost use Rattle.tx_cert.specs.CertFaults.{word_row, frame_row, fault_row};
 
-use tx_text::{FaultAt, FaultKind, FormFault, FrameFault, LineFault, TextFault};
+use tx_text::{FaultAt, FaultKind, FormFault, FrameFault, LineFault};
 
 /// What is wrong with the words of a line. Of several the first in this order is told.
 #[derive(Clone, Copy, Debug, PartialEq, Eq)]
 pub enum CertWord {
     /// C1: the first word is none of a certificate's.
     UnknownWord,
-    /// C2: the number of words.
+    /// C2: too few or too many words.
     WrongCount,
-    /// C3: no code or exchange of the plan, or no well formed one.
+    /// C3: the plan has no such code or exchange.
     UnknownName,
     /// C4: a rank that is no number of at most 65,535.
     BadNumber,
@@ -42,9 +42,7 @@ fn frame_row(fault: FrameFault) -> (&'static [u8], &'static [u8])
         FrameFault::Form(FormFault::NoEnd) => (b"C7", b"NoEnd"),
         FrameFault::Form(FormFault::AfterEnd) => (b"C8", b"AfterEnd"),
         FrameFault::Line(LineFault::Read) => (b"C10", b"ReadFault"),
-        FrameFault::Line(LineFault::Text(TextFault::LineTooLong)) => (b"X1", b"LineTooLong"),
-        FrameFault::Line(LineFault::Text(TextFault::BadByte)) => (b"X2", b"BadByte"),
-        FrameFault::Line(LineFault::Text(TextFault::NoMemory)) => (b"X3", b"NoMemory"),
+        FrameFault::Line(LineFault::Text(fault)) => fault.code_and_name(),
     }
 }
 

@@ -15,7 +15,8 @@ use Rattle.tx_plan.specs.Ambiguous.{ambiguous_of, IsAmbiguousAt}
 use Rattle.tx_plan.specs.Rules.{IsPlan}
 use Rattle.tx_plan.proofs.Absent.{short_code}
 use Rattle.tx_plan.proofs.Ambiguity.{ambiguous-none, ambiguous-some}
-use Rattle.tx_cert.proofs.Names.{entry_at, code_back, figures_are_code}
+use Rattle.tx_plan.proofs.ByPlace.{entry_at}
+use Rattle.tx_plan.proofs.NamesBack.{code_back, figures_are_code}
 use Rattle.tx_check.specs.LeastPair.{begins, places_cmp, comes_first, lesser_of, with_pair, IsLeastOf, SeenBelow, IsLeastBelow}
 
 module _ (p : Plan) where
@@ -175,8 +176,8 @@ module _ (p : Plan) where
 
     distinct : (i j : ℕ) (c d : Code) → slice_get p.codes i ≡ Some c → slice_get p.codes j ≡ Some d → c.figures ≡ d.figures → i ≡ j
     distinct i j c d e f s =
-        let a = code_back p h i (slice_get_within p.codes i c e) in
-        let b = code_back p h j (slice_get_within p.codes j d f) in
+        let a = (code_back p h i (slice_get_within p.codes i c e)).back in
+        let b = (code_back p h j (slice_get_within p.codes j d f)).back in
         let t : figures_of p i ≡ figures_of p j = figures_at i c e ∙ s ∙ sym (figures_at j d f) in
         let q : Some i ≡ Some j = sym a ∙ ap (λ w. code_named p w) t ∙ b in
         cc

@@ -14,10 +14,11 @@ use tx_cert::Cert;
 use tx_plan::Plan;
 use tx_state::certified_is_sound;
 
-/// Whether the ranks of the certificate show that no call of the plan passes more than `limit` transits, and that NC is answered only after a second
-/// head-on collision, or where more than `spare` listed groups are all down or have no free circuit.
-/// A Yes means that the plan is certified, and so sound: in every run, whatever the events, every state is safe and every NC is excused, and at most
-/// twice `limit` and three Routes of one call are accepted. Takes no memory, and looks at each route list once where nothing is wrong with it.
+/// Whether the plan is certified by the ranks of the certificate, for at most `limit` transits (0 to 62, ITU-T F.68) and `spare` groups to spare (0 to 15).
+///
+/// After a Yes the plan is sound: in every run, whatever the events, every state is safe, and NC is answered only after a second head-on collision, or where
+/// more than `spare` groups are listed and each of them is down or has no free circuit. And at most twice `limit` and three Routes of one call are accepted.
+/// A No tells the first fault. Takes no memory.
 pub fn check<A: Allocator>(plan: &Plan<A>, cert: &Cert<A>, limit: u8, spare: u8) -> Verdict
     requires limit { limit ≤ 62 }
     requires spare { spare ≤ 15 }

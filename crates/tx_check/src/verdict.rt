@@ -1,11 +1,11 @@
 // What a check answers.
 use crate::fault::CheckFault;
 
-/// Whether a certificate shows that a plan is certified.
+/// Whether a plan is certified by the ranks of a certificate.
 #[derive(Clone, Copy, Debug, PartialEq, Eq)]
 pub enum Verdict {
-    /// It does.
+    /// It is.
     Yes,
-    /// It doesn't, for this reason.
+    /// It is not, for this reason.
     No(CheckFault),
 }

@@ -12,7 +12,7 @@ use std::alloc::Allocator;
 use tx_plan::{CodeId, ExchangeId, GroupId, Plan};
 use tx_text::{Sink, WriteFault, write_bytes, write_parts};
 
-/// Writes the verdict as one line.
+/// Writes the verdict as one line, as `YES` or `NO K7 24 CENTRAL CENO1`, with its LF. Where the sink fails, a front of the line was taken.
 pub fn write_verdict<A: Allocator, W: Sink>(
     verdict: &Verdict,
     plan: &Plan<A>,

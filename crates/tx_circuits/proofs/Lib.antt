@@ -1,5 +1,6 @@
 pub mod Appending
 pub mod Built
+pub mod Bytes
 pub mod Changes
 pub mod Columns
 pub mod GivenUp

@@ -8,9 +8,8 @@ use Rattle.tx_circuits.specs.declared.free_lists.End.{End}
 use Rattle.tx_circuits.specs.declared.free_lists.Way.{Way}
 use Rattle.tx_circuits.specs.declared.free_lists.Way.TheVariants.{Up, Down}
 use Rattle.tx_circuits.specs.declared.slot.Slot.{Slot}
-use Rattle.tx_circuits.specs.declared.state.State.{State}
 use Rattle.tx_circuits.specs.inner.Linked.{IsFirst, IsLast, IsLinked, with}
-use Rattle.tx_circuits.specs.inner.Slots.{free_at, free_in, is_free, state_of, rank_of, back}
+use Rattle.tx_circuits.specs.inner.Slots.{free_at, is_free, state_of, rank_of, back}
 use Rattle.tx_circuits.proofs.Columns.{column_at}
 use Rattle.tx_circuits.proofs.Linked.{beyond, are_ranked, with_here, with_there, after_last, to_last}
 
@@ -31,6 +30,9 @@ free_here end slots i blank h =
     let a : i < length (map state_of slots) = rw length-map h in
     column_at (is_free end) (map state_of slots) i blank.state false a ∙ ap (is_free end) (column_at state_of slots i blank blank.state h)
 
+pub free_read : (end : End) (slots : List Slot) (i : ℕ) (s : Slot) → s ≡ slice_index_or slots i s → i < length slots → free_at end slots i ≡ is_free end s.state
+free_read end slots i s e h = free_here end slots i s h ∙ sym (ap (λ (t : Slot). is_free end t.state) e)
+
 -- what comes first lies in the group too
 pub first_within : (free : ℕ → Bool) (rank : ℕ → ℕ) (low n : ℕ) → ((k : ℕ) → free k ≡ true → k < n) → (r : Option ℕ) → IsFirst free rank low r → IfSome r (λ k. k < n)
 first_within free rank low n inside None l = tt
@@ -39,6 +41,11 @@ first_within free rank low n inside (Some j) l = inside j l.0
 pub last_within : (free : ℕ → Bool) (rank : ℕ → ℕ) (high n : ℕ) → ((k : ℕ) → free k ≡ true → k < n) → (r : Option ℕ) → IsLast free rank high r → IfSome r (λ k. k < n)
 last_within free rank high n inside None l = tt
 last_within free rank high n inside (Some j) l = inside j l.0
+
+-- a place of a group fits its byte
+pub fits : (n : ℕ) (r : Option ℕ) → n ≤ 240 → IfSome r (λ k. k < n) → IfSome r (λ k. k < 255)
+fits n None few l = tt
+fits n (Some k) few l = omega arith
 
 -- what follows the begin of a list, or a free place
 pub at : (free : ℕ → Bool) (rank : ℕ → ℕ) (next : Option ℕ → Option ℕ) → IsLinked free rank next → (q : Option ℕ) → IfSome q (λ k. free k ≡ true) → IsFirst free rank (beyond rank q) (next q)

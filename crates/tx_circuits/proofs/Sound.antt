@@ -1,14 +1,15 @@
 -- The lists of a group: as they are said, and as they are linked.
-use Rattle.std.proofs.Common.{◌≡◌, ◌∙◌, ℕ, ◌<◌, ◌≤◌, ◌==◌, cond, Bool, true, false, List, [], ◌∷◌, length, map, Option, Some, None, slice_index_or, slice_set, refl, sym, ap, subst, arith}
+use Rattle.std.proofs.Common.{◌≡◌, ◌∙◌, ℕ, ◌<◌, ◌≤◌, ◌==◌, cond, Bool, true, false, List, [], ◌∷◌, length, map, Option, Some, None, slice_index_or, slice_set, refl, sym, ap, subst}
 use Rattle.std.specs.Prelude.{filter, nat_lt, ◌&&◌}
 use Rattle.tx_circuits.specs.declared.free_lists.End.{End}
+use Rattle.tx_circuits.specs.declared.free_lists.End.TheVariants.{First, Other}
 use Rattle.tx_circuits.specs.declared.free_lists.Way.{Way}
 use Rattle.tx_circuits.specs.declared.slot.Slot.{Slot}
 use Rattle.tx_circuits.specs.declared.state.State.{State}
 use Rattle.tx_circuits.specs.declared.free_lists.FreeList.{FreeList}
 use Rattle.tx_circuits.specs.declared.free_lists.FreeLists.{FreeLists}
 use Rattle.std.proofs.lemmas.List.{length-map, map-set}
-use Rattle.tx_circuits.specs.inner.Linked.{IsFirst, IsLinked, with}
+use Rattle.tx_circuits.specs.inner.Linked.{IsFirst, with}
 use Rattle.tx_circuits.specs.inner.Slots.{free_at, free_in, is_free, links_of, ahead, link_at, chain, rank_of, list_of, begins, until, in_order, state_of, cleared, IsListed, AreLinked, IsSound}
 use Rattle.tx_circuits.proofs.Columns.{column-set, column_same}
 use Rattle.tx_circuits.proofs.Linked.{linked_along}
@@ -52,13 +53,10 @@ module _ (two : List Slot) (i : ℕ) (y z : Slot) (to : State) (state : y.state 
       listed_along (with (free_at end two) i (is_free end to)) (free_at end (slice_set two i y)) end two (slice_set two i y) list (λ k. sym (written end k))
       (λ way k. column_same (λ (s : Slot). ahead way (links_of end s)) two i k y z None (ap (ahead way) (links end)) i_in) h
 
--- what a read past the end gives
-abbrev pub blank : Slot
-blank = record {
-  state = record { seized_first = false; seized_other = false; carried = false; releasing = false; out = false };
-  first = record { above = None; below = None };
-  other = record { above = None; below = None };
-}
+-- a slot with another state has the links of the one that was read
+pub links_kept : (y s : Slot) (to : State) (x : Slot) → y ≡ record s { state = to } → s ≡ x → (end : End) → links_of end y ≡ links_of end x
+links_kept y s to x e f First = ap (λ (t : Slot). t.first) e ∙ ap (λ (t : Slot). t.first) f
+links_kept y s to x e f Other = ap (λ (t : Slot). t.other) e ∙ ap (λ (t : Slot). t.other) f
 
 -- a slot with its state cleared
 abbrev pub with_cleared : Slot → Slot

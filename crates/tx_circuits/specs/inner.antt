@@ -1,3 +1,4 @@
+pub mod Bytes
 pub mod Groups
 pub mod Linked
 pub mod Seen

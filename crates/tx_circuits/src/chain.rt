@@ -31,7 +31,8 @@ fn follow(slots: &[Slot], list: FreeList, end: End, way: Way, from: Option<u8>) 
 }
 
 fn set_link(slots: &mut [Slot], end: End, way: Way, place: usize, to: Option<u8>)
-    requires { place < length slots.old }
+    requires place { place < length slots.old }
+    requires fits { IfSome to (λ k. k < 255) }
     ensures here { link_at end way slots.new place ≡ to }
     ensures apart { (k : ℕ) → k ≢ place → link_at end way slots.new k ≡ link_at end way slots.old k }
     ensures turned { (k : ℕ) → link_at end (back way) slots.new k ≡ link_at end (back way) slots.old k }
@@ -50,7 +51,8 @@ fn lead(
     from: Option<u8>,
     to: Option<u8>,
 ) -> FreeList
-    requires { IfSome from (λ k. k < length slots.old) }
+    requires from { IfSome from (λ k. k < length slots.old) }
+    requires fits { IfSome to (λ k. k < 255) }
     ensures here { chain end way slots.new result from ≡ to }
     ensures apart { (q : Option ℕ) → q ≢ from → chain end way slots.new result q ≡ chain end way slots.old list q }
     ensures turned { (q : Option ℕ) → chain end (back way) slots.new result q ≡ chain end (back way) slots.old list q }
@@ -114,7 +116,9 @@ fn neighbours(slots: &[Slot], list: FreeList, end: End, place: usize) -> Links
 }
 
 fn set_links(slots: &mut [Slot], end: End, place: usize, links: Links)
-    requires { place < length slots.old }
+    requires place { place < length slots.old }
+    requires above { IfSome links.above (λ k. k < 255) }
+    requires below { IfSome links.below (λ k. k < 255) }
     ensures here { (way : WayValue) → link_at end way slots.new place ≡ ahead way links }
     ensures apart { (way : WayValue) (k : ℕ) → k ≢ place → link_at end way slots.new k ≡ link_at end way slots.old k }
     ensures other { (way : WayValue) (k : ℕ) → link_at (opposite end) way slots.new k ≡ link_at (opposite end) way slots.old k }
@@ -179,7 +183,7 @@ pub fn relink(slots: &mut [Slot], list: FreeList, end: End, place: usize, to: St
     ensures other { (way : WayValue) (k : ℕ) → link_at (opposite end) way slots.new k ≡ link_at (opposite end) way slots.old k }
     ensures states { map state_of slots.new ≡ map state_of slots.old }
 {
-    let was = slots[place].state.is_free(end);
+    let was = slots[place].is_free(end);
     let will = to.is_free(end);
     if was == will {
         return list;

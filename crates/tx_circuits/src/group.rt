@@ -17,10 +17,7 @@ pub fn set_state(slots: &mut [Slot], lists: FreeLists, place: usize, to: State) 
 {
     let first = relink(slots, lists.first, End::First, place, to);
     let other = relink(slots, lists.other, End::Other, place, to);
-    slots[place] = Slot {
-        state: to,
-        ..slots[place]
-    };
+    slots[place] = slots[place].with_state(to);
     FreeLists { first, other }
 }
 
@@ -33,7 +30,7 @@ fn append(slots: &mut [Slot], list: FreeList, end: End, place: usize) -> FreeLis
     ensures other { (way : WayValue) (k : ℕ) → link_at (opposite end) way slots.new k ≡ link_at (opposite end) way slots.old k }
     ensures states { map state_of slots.new ≡ map state_of slots.old }
 {
-    if !slots[place].state.is_free(end) {
+    if !slots[place].is_free(end) {
         return list;
     }
     let links = Links {
@@ -64,7 +61,7 @@ pub fn clear(slots: &mut [Slot]) -> FreeLists
     ensures states { map state_of slots.new ≡ map cleared (map state_of slots.old) }
 {
     for slot in slots.iter_mut() {
-        slot.state = slot.state.cleared();
+        *slot = slot.cleared();
     }
     relist(slots)
 }

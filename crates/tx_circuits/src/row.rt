@@ -29,7 +29,7 @@ impl Row {
         if number == 0 || number > self.count {
             return None;
         }
-        Some(slots[self.start + (number - 1)].state)
+        Some(slots[self.start + (number - 1)].state())
     }
 
     /// Gives a circuit another state, and gives the row with its lists.

@@ -15,8 +15,8 @@ use tx_text::NoMemory;
 /// The states of all circuits of a plan. `build` alone takes memory.
 ///
 /// A group keeps a list of its free circuits for each end, linked by index: rising from the least number, which the first end takes, and falling from
-/// the greatest, which the other end takes. `first_free` reads the head alone. A call that makes a circuit free at an end walks that list, `fail`
-/// passes once over the group's circuits, and every other call takes a fixed number of steps.
+/// the greatest, which the other end takes. `first_free` reads the head alone, a call that makes a circuit free at an end walks that list, and `fail` passes
+/// once over the group's circuits. No clause counts these steps.
 #[derive(Drop)]
 pub struct CircuitTable<A: Allocator = Global> {
     groups: Groups<A>,
@@ -139,7 +139,7 @@ impl<A: Allocator> CircuitTable<A> {
         }
     }
 
-    /// Whether the circuit is free at the exchange; a foreign one is held by nobody.
+    /// Whether the circuit is free at the exchange: not carried, not releasing, not out, and not seized from there. A foreign one is free.
     pub fn is_free(&self, circuit: &Circuit, exchange: ExchangeId) -> bool
         ensures { result ≡ is_free_at self.now exchange circuit.now }
     {
@@ -159,7 +159,7 @@ impl<A: Allocator> CircuitTable<A> {
         }
     }
 
-    /// The exchange that alone has seized the circuit.
+    /// The exchange that has seized the circuit, if it alone has.
     pub fn seizer(&self, circuit: &Circuit) -> Option<ExchangeId>
         ensures alone { IfSome result (IsSeizedBy self.now circuit.now) }
         ensures none { result ≡ None → (exchange : ℕ) → IsSeizedBy self.now circuit.now exchange → ⊥ }
@@ -273,7 +273,7 @@ impl<A: Allocator> CircuitTable<A> {
         self.groups.set_state(circuit, to);
     }
 
-    /// A circuit that one end alone has seized is carried.
+    /// A circuit that one end alone has seized is carried from now on.
     pub fn hold(&mut self, circuit: &Circuit)
         requires { (exchange : ℕ) × IsSeizedBy self.old circuit.now exchange }
         ensures { self.new ≡ with_held self.old circuit.now }
@@ -288,7 +288,7 @@ impl<A: Allocator> CircuitTable<A> {
         self.groups.set_state(circuit, to);
     }
 
-    /// A circuit that nobody seizes is releasing.
+    /// A circuit that nobody has seized is releasing from now on, and carried no longer.
     pub fn release(&mut self, circuit: &Circuit)
         requires known { is_circuit (plan_of self.old) circuit.now ≡ true }
         requires unseized { (exchange : ℕ) → set.contains self.old.seized (circuit.now, exchange) ≡ false }
@@ -312,7 +312,7 @@ impl<A: Allocator> CircuitTable<A> {
         self.groups.set_state(circuit, to);
     }
 
-    /// A circuit is put out of service. Calls that hold it go on.
+    /// A circuit is put out of service. Seizures of it stay, and so does a call that carries it.
     pub fn put_out(&mut self, circuit: &Circuit)
         requires known { is_circuit (plan_of self.old) circuit.now ≡ true }
         requires in_service { set.contains self.old.out circuit.now ≡ false }
@@ -336,7 +336,7 @@ impl<A: Allocator> CircuitTable<A> {
         self.groups.set_state(circuit, to);
     }
 
-    /// A group fails: all calls are off its circuits, and none is releasing.
+    /// A group fails: none of its circuits is seized, carried or releasing any longer.
     pub fn fail(&mut self, group: GroupId)
         requires known { group < length self.old.groups }
         requires sound { set.contains self.old.failed group ≡ false }
@@ -354,7 +354,7 @@ impl<A: Allocator> CircuitTable<A> {
         self.groups.set_failed(group, false);
     }
 
-    /// A group is blocked: no circuit of it is seized any more.
+    /// A group is blocked: `first_free` gives none of its circuits. Those that are seized or carried stay so.
     pub fn block(&mut self, group: GroupId)
         requires known { group < length self.old.groups }
         requires open { set.contains self.old.blocked group ≡ false }

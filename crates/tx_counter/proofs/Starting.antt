@@ -17,7 +17,7 @@ use Rattle.tx_plan.specs.Routes.{is_origin}
 use Rattle.tx_plan.specs.declared.line.Line.{Line}
 use Rattle.tx_plan.specs.declared.range.LineRange.{LineRange}
 use Rattle.tx_plan.proofs.Among.{among_places, among_filter}
-use Rattle.tx_plantext.proofs.Places.{entry_at}
+use Rattle.tx_plan.proofs.ByPlace.{entry_at}
 use Rattle.tx_state.specs.Members.{Mem}
 use Rattle.tx_state.proofs.Lists.{mem_filter, any_mem, mem_any, find_mem, places_differ}
 use Rattle.tx_state.proofs.Steps.{all_mem, prefix-is, longest-mem, enumerated}

@@ -11,7 +11,7 @@ use Rattle.tx_plan.specs.Rules.{IsPlan, IsCode}
 use Rattle.tx_plan.specs.Routes.{route_list}
 use Rattle.tx_plan.specs.declared.line.Line.{Line}
 use Rattle.tx_plan.specs.declared.range.LineRange.{LineRange}
-use Rattle.tx_plantext.proofs.Places.{entry_at}
+use Rattle.tx_plan.proofs.ByPlace.{entry_at}
 use Rattle.tx_rank.specs.declared.finding.Finding.{Finding}
 use Rattle.tx_rank.specs.declared.finding.Finding.TheVariants.{Ambiguous, Loop, Short, Long}
 use Rattle.tx_rank.specs.Walks.{Walk, end_of}

@@ -2,7 +2,7 @@
 ghost use Rattle.std.specs.Prelude.{◌≡◌};
 ghost use Rattle.std.specs.List.{flat_map, AllByRecursion};
 ghost use Rattle.tx_text.specs.Told.{AtEnd};
-ghost use Rattle.tx_plantext.specs.Wrote.{Wrote};
+ghost use Rattle.tx_text.specs.Wrote.{Wrote};
 ghost use Rattle.tx_script.specs.Events.{IsWritable, event_text};
 ghost use Rattle.tx_script.specs.Script.{script_of, whole};
 ghost use Rattle.tx_counter.specs.Scripts.{script_written};

@@ -1,15 +1,12 @@
 -- Writing the texts of places, one after another.
-use Rattle.std.proofs.Common.{◌≡◌, ℕ, zero, suc, ◌+◌, ◌-◌, ◌<◌, Bool, List, [], ◌∷◌, ◌++◌, length, get_or, Option, Result, Ok, Err, subst, arith, append_assoc, append-nil}
+use Rattle.std.proofs.Common.{◌≡◌, ℕ, zero, suc, ◌+◌, ◌-◌, ◌<◌, Bool, List, [], ◌∷◌, ◌++◌, length, get_or, Option, Ok, Err, subst, arith, append_assoc, append-nil}
 use Rattle.std.specs.Prelude.{IsErr}
 use Rattle.std.specs.List.{flat_map, range_with_len}
 use Rattle.tx_text.specs.declared.sink.WriteFault.{WriteFault}
-use Rattle.tx_plantext.specs.Wrote.{Wrote}
-use Rattle.tx_plantext.proofs.PlanWriting.{wrote_then, wrote_first, text_is}
+use Rattle.tx_text.specs.Wrote.{Wrote}
+use Rattle.tx_text.proofs.Wrote.{Outcome, wrote_then, wrote_first, text_is}
 use Rattle.tx_cert.proofs.Ranges.{flat_map-range_more, flat_map-range_at}
 use Rattle.tx_draw.specs.Drawing.{each_before}
-
-abbrev Outcome : Type 0
-Outcome = Result (Unit {0}) WriteFault
 
 module _ (text : ℕ → List ℕ) where
   -- the text of one place more was written

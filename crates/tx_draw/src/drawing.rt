@@ -2,7 +2,7 @@
 ghost use Rattle.std.specs.Prelude.{◌≡◌, true, OnOk, OnErr, length};
 ghost use Rattle.std.specs.Io.KnownBytes.{append_known};
 ghost use Rattle.tx_text.specs.Ends.{StopsIn};
-ghost use Rattle.tx_plantext.specs.Wrote.{Wrote};
+ghost use Rattle.tx_text.specs.Wrote.{Wrote};
 ghost use Rattle.tx_draw.specs.Drawing.{each_before, exchange_line, arrow_text, group_label, group_line, drawing};
 
 use crate::parts::{write_box, write_head, write_line_between, write_text};

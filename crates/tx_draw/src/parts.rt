@@ -1,7 +1,7 @@
 // What both pictures have.
 ghost use Rattle.std.specs.Prelude.{length};
 ghost use Rattle.std.specs.List.{flat_map};
-ghost use Rattle.tx_plantext.specs.Wrote.{Wrote};
+ghost use Rattle.tx_text.specs.Wrote.{Wrote};
 ghost use Rattle.tx_draw.specs.Drawing.{head, home_row, box, line_between, each_before};
 
 use std::alloc::Allocator;

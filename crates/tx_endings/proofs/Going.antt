@@ -6,6 +6,7 @@ use Rattle.std.specs.List.{list_any}
 use Rattle.std.specs.FinSet as set
 use Rattle.tx_plan.specs.Orders.{circuit_cmp, same_circuit, same_line}
 use Rattle.tx_plan.proofs.Named.{circuits_total, circuit_tie, lines_total, line_tie, same_circuit-is, same_circuit-itself}
+use Rattle.tx_plan.proofs.Tables.{list_any-map}
 use Rattle.tx_plan.specs.Plan.{Plan}
 use Rattle.tx_plan.specs.Lines.{is_line}
 use Rattle.tx_plan.specs.Circuits.{is_circuit, other_end}
@@ -31,7 +32,7 @@ use Rattle.tx_circuits.specs.Table.{Table, Seat, IsSeizedBy, with_held, is_free_
 use Rattle.tx_circuits.proofs.Seats.{seats_total, exact_seats, seat_tie}
 use Rattle.tx_endings.specs.inner.Seen.{state_seen, AreTogether}
 use Rattle.tx_endings.proofs.Filters.{any_alike}
-use Rattle.tx_endings.proofs.Given.{any_append, any_map, or_none}
+use Rattle.tx_endings.proofs.Given.{any_append, or_none}
 use Rattle.tx_endings.proofs.After.{any_before, any_rest, rest, rest_mem, seizing_from, seizes_at}
 
 or_turn : (a b : Bool) → (a || b) ≡ (b || a)
@@ -44,7 +45,7 @@ module _ (p : Plan) (cs : List Call) (rel : set.FinSet circuit_cmp) (numbers : �
   -- a test of all calls, where one changes
   pub any_set : (f : Call → Call) (t : Call → Bool) → list_any t (set_call c.number f cs) ≡ (t (f c) || list_any t (rest p cs rel numbers inv c m))
   any_set f t =
-      any_map t (λ k. if k.number == c.number then f k else k) cs
+      list_any-map t (λ k. if k.number == c.number then f k else k) cs
       ∙ any_before p cs rel numbers inv c m (λ k. t (if k.number == c.number then f k else k))
       ∙ (λ i. t (if eq-eqb c.number c.number refl i then f c else c) || any_alike (λ k. t (if k.number == c.number then f k else k)) t (rest p cs rel numbers inv c m) (λ k q. ap (λ b. t (if b then f k else k)) (ne_eqb k.number c.number (rest_mem p cs rel numbers inv c m k q).1)) i)
 

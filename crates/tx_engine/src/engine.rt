@@ -13,8 +13,8 @@ use tx_plan::Plan;
 use tx_state::{Event, Network, Reply, Ticket};
 use tx_text::NoMemory;
 
-/// The indexed network. It answers each event in a number of steps that does not grow with the open calls, but where it takes more room: then it may move
-/// what it keeps.
+/// The indexed network. It finds calls, lines and circuits by index, so that the work of an event does not grow with the open calls, but where it takes more
+/// room: then it may move what it keeps. No clause counts these steps.
 #[derive(Drop)]
 pub struct Engine<'p, A: Allocator = Global> {
     pub(crate) parts: Parts<'p, A>,
@@ -40,14 +40,14 @@ impl<'p, A: Allocator> Model for Engine<'p, A> {
 }
 
 impl<'p, A: Allocator + Copy> Engine<'p, A> {
-    /// The network before its first event.
+    /// The network in the opening state in which no number was given and no event accepted.
     pub fn new(alloc: A, plan: &'p Plan<A>) -> Result<Self, NoMemory>
         ensures { IfOk result (λ n. n ≡ record { plan = plan.now; state = opening 0 0 }) }
     {
         Engine::starting_at(alloc, plan, 0, 0)
     }
 
-    /// The opening state with so many numbers given and so many events accepted.
+    /// The network in the opening state with so many call numbers given and so many events accepted.
     pub fn starting_at(
         alloc: A,
         plan: &'p Plan<A>,

@@ -12,7 +12,7 @@ pub fn entries() -> &'static [Entry]
     &TABLE
 }
 
-/// The entry of a code, or None for a word that is none.
+/// The entry of a code, as `P11`; none for a word that is no code of the table.
 pub fn entry_of(code: &str) -> Option<Entry>
     ensures { option_map texts result ≡ explanation code.now }
 {

@@ -352,13 +352,13 @@ pub static TABLE: [Entry; 63] = [
     (
         "F1",
         "AMBIGUOUS",
-        "One code begins another, so keyed figures do not say where the code ends.",
+        "One code begins another, so a call for the shorter code may be taken for one for the longer.",
         "Give one of them another code.",
     ),
     (
         "F2",
         "LOOP",
-        "A call can come back to an exchange that it has passed.",
+        "The lists lead a call back to an exchange that it has passed.",
         "Take one group of the walk out of the list that leads back.",
     ),
     (

@@ -10,7 +10,8 @@ use crate::entry::entries;
 use crate::table::Entry;
 use tx_text::{Sink, WriteFault, write_parts};
 
-/// Writes what a code means and what to do about it; without a code, a line for each code with its meaning.
+/// Writes a code with its name, what it means and what to do about it; without an entry, a line for each code with its meaning. Where the sink fails, a front
+/// of the text was taken.
 #[tactic(auto, using(crate::proofs::Found::all_lines))]
 pub fn write_explanation<W: Sink>(entry: Option<Entry>, sink: &mut W) -> Result<(), WriteFault>
     ensures ok { OnOk result (W.taken sink.new ≡ append_known (W.taken sink.old) (explanation_text entry.entry)) }

@@ -4,3 +4,4 @@ mod Breaking
 mod CheckedRun
 mod Simulating
 mod Grading
+mod Drawing

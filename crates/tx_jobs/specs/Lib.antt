@@ -2,6 +2,7 @@ pub mod JobFaults
 pub mod Jobs
 pub mod PipeJobs
 pub mod CheckJobs
+pub mod DrawJobs
 pub mod AuditJobs
 pub mod GradeJobs
 pub mod Writables

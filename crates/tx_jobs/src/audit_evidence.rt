@@ -16,8 +16,9 @@ use tx_plan::Plan;
 use tx_rank::Finding;
 use tx_text::{NoMemory, Sink, Source};
 
-/// Reads a plan, and writes the report of its audit. Answers what shows the verdict: after a Yes the certificate, and after a No, if it is asked for, the
-/// script of the first finding that has one. Where there is no memory for that script, the report was written.
+/// Reads a plan, and writes the report of its audit for at most `limit` transits (0 to 62) and `spare` groups to spare (0 to 15). Answers what shows the
+/// verdict: after a Yes the certificate, and after a No, if it is asked for, the script of the first finding that has one. `Err` is the fault of the first
+/// call that failed. Where there is no memory for that script, the report was written.
 pub fn evidence_job<A: Allocator + Copy, P: Source, W: Sink>(
     alloc: A,
     plan: &mut P,
@@ -55,6 +56,8 @@ fn evidence_of<A: Allocator + Copy>(
             if with_script {
                 script_of(alloc, plan, findings, limit, spare)
             } else {
+                drop(findings);
+                drop(plan);
                 Ok(Evidence::Unsound(None))
             }
         }
@@ -76,7 +79,13 @@ fn script_of<A: Allocator + Copy>(
     drop(findings);
     match events {
         Ok(Some(events)) => Ok(Evidence::Unsound(Some(CounterScript { plan, events }))),
-        Ok(None) => Ok(Evidence::Unsound(None)),
-        Err(NoMemory) => Err(JobFault::NoMemory),
+        Ok(None) => {
+            drop(plan);
+            Ok(Evidence::Unsound(None))
+        }
+        Err(NoMemory) => {
+            drop(plan);
+            Err(JobFault::NoMemory)
+        }
     }
 }

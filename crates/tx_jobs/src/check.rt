@@ -12,7 +12,8 @@ use tx_plan::Plan;
 use tx_plantext::read_plan_from;
 use tx_text::{Sink, Source, WriteFault};
 
-/// Reads a plan and then a certificate, and writes whether the certificate shows that the plan is certified. Answers the verdict.
+/// Reads a plan and then a certificate, and writes whether the plan is certified by its ranks for at most `limit` transits (0 to 62) and `spare` groups to
+/// spare (0 to 15). Answers the verdict. `Err` is the fault of the first call that failed.
 #[tactic(auto, using(crate::proofs::Marks::plan_unmarked))]
 pub fn check_job<A: Allocator + Copy, P: Source, R: Source, W: Sink>(
     alloc: A,
@@ -34,7 +35,9 @@ pub fn check_job<A: Allocator + Copy, P: Source, R: Source, W: Sink>(
     match read_plan_from(alloc, plan) {
         Ok(plan) => {
             plan.rules();
-            check_cert(alloc, &plan, cert, limit, spare, out)
+            let checked = check_cert(alloc, &plan, cert, limit, spare, out);
+            drop(plan);
+            checked
         }
         Err(fault) => Err(JobFault::of_plan(fault)),
     }

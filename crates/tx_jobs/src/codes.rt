@@ -11,7 +11,8 @@ use tx_plantext::read_plan_from;
 use tx_text::{NoMemory, Sink, Source, WriteFault};
 use tx_trie::{CodeTrie, write_codes};
 
-/// Reads a plan, and writes its codes and then the least pair of a code and a longer one that begins with it. Answers that pair.
+/// Reads a plan, and writes its codes and then the least pair of a code and a longer one that begins with it, or `DISTINCT`. Answers that pair, if there is
+/// one. `Err` is the fault of the first call that failed.
 #[tactic(auto, using(crate::proofs::Marks::plan_unmarked))]
 pub fn codes_job<A: Allocator + Copy, P: Source, W: Sink>(
     alloc: A,
@@ -25,7 +26,9 @@ pub fn codes_job<A: Allocator + Copy, P: Source, W: Sink>(
     match read_plan_from(alloc, plan) {
         Ok(plan) => {
             plan.rules();
-            tell_codes(alloc, &plan, out)
+            let told = tell_codes(alloc, &plan, out);
+            drop(plan);
+            told
         }
         Err(fault) => Err(JobFault::of_plan(fault)),
     }

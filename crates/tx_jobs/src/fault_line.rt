@@ -8,7 +8,7 @@ use crate::job_fault::JobFault;
 use itoa::Buffer;
 use tx_text::{Sink, WriteFault, write_bytes, write_parts};
 
-/// Writes the line that tells a fault, as `telexplan: plan line 5: P11 Overlap`.
+/// Writes the line that tells a fault, as `telexplan: plan line 5: P11 Overlap`, with its LF.
 pub fn write_fault<W: Sink>(fault: &JobFault, sink: &mut W) -> Result<(), WriteFault>
     ensures ok { OnOk result (W.taken sink.new ≡ append_known (W.taken sink.old) (fault_line fault.now)) }
     ensures err { OnErr result (StopsIn (W.taken sink.old) (W.taken sink.new) (fault_line fault.now)) }
@@ -31,6 +31,7 @@ pub fn write_fault<W: Sink>(fault: &JobFault, sink: &mut W) -> Result<(), WriteF
         JobFault::Read => write_bytes(b"telexplan: read fault\n", sink),
         JobFault::Write => write_bytes(b"telexplan: write fault\n", sink),
         JobFault::NoMemory => write_bytes(b"telexplan: no memory\n", sink),
+        JobFault::UnknownCode => write_bytes(b"telexplan: no such code in the plan\n", sink),
     }
 }
 

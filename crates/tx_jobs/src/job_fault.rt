@@ -30,10 +30,13 @@ pub enum JobFault {
     /// No memory was left.
     #[error("no memory")]
     NoMemory,
+    /// The plan has no code of the figures that were asked for.
+    #[error("no such code in the plan")]
+    UnknownCode,
 }
 
 impl JobFault {
-    /// The exit status: 2 for a refused text, 3 for a read or a write fault, 4 for want of memory.
+    /// The exit status: 2 for a refused text, 3 for a read or a write fault, 4 for want of memory, 64 for a code that the plan has not.
     pub fn status(&self) -> u8
         ensures { result ≡ status_of self.now }
     {
@@ -41,6 +44,7 @@ impl JobFault {
             JobFault::Plan(_) | JobFault::Cert(_) | JobFault::Script(_) => 2,
             JobFault::Read | JobFault::Write => 3,
             JobFault::NoMemory => 4,
+            JobFault::UnknownCode => 64,
         }
     }
 

@@ -1,10 +1,11 @@
-//! One job per command, over sources and a sink.
+//! The jobs of the commands that read a plan, over sources and a sink. `explain` reads none, and has none.
 #![tactic(auto)]
 
 mod audit;
 mod audit_evidence;
 mod check;
 mod codes;
+mod draw;
 mod evidence;
 mod fault_line;
 mod grade;
@@ -18,6 +19,7 @@ pub use audit::audit_job;
 pub use audit_evidence::evidence_job;
 pub use check::{check_job, check_status};
 pub use codes::{codes_job, codes_status};
+pub use draw::draw_job;
 pub use evidence::{CounterScript, Evidence};
 pub use fault_line::write_fault;
 pub use grade::{grade_job, grade_status};

@@ -12,7 +12,8 @@ use tx_plantext::read_plan_from;
 use tx_script::Summary;
 use tx_text::{Sink, Source};
 
-/// Reads a plan from an input, up to and with the first line whose one word is END, and then runs the script that follows, whose lines count from 1.
+/// Reads a plan from an input, up to and with the first line whose one word is END, and then runs the script that follows, whose lines count from 1. `Err` is
+/// the fault of the first call that failed.
 pub fn pipe_job<A: Allocator + Copy, R: Source + Drop, W: Sink>(
     alloc: A,
     input: R,
@@ -40,7 +41,9 @@ fn run_two_texts<A: Allocator + Copy, R: Source, W: Sink>(
         Ok(plan) => {
             plan.rules();
             input.go_on();
-            simulate(alloc, &plan, input, out)
+            let ran = simulate(alloc, &plan, input, out);
+            drop(plan);
+            ran
         }
         Err(fault) => Err(JobFault::of_plan(fault)),
     }

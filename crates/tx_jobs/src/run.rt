@@ -13,7 +13,7 @@ use tx_text::{Sink, Source};
 
 /// Reads a plan, and then runs a script over it: writes the replies and the tickets of its events, and at its end the line END EVENTS.
 ///
-/// Nothing of the script is read where the plan is refused.
+/// `Err` is the fault of the first call that failed. Nothing of the script is read where the plan is refused.
 #[tactic(auto, using(crate::proofs::Marks::plan_unmarked))]
 pub fn run_job<A: Allocator + Copy, P: Source, R: Source, W: Sink>(
     alloc: A,
@@ -31,7 +31,9 @@ pub fn run_job<A: Allocator + Copy, P: Source, R: Source, W: Sink>(
     match read_plan_from(alloc, plan) {
         Ok(plan) => {
             plan.rules();
-            simulate(alloc, &plan, script, out)
+            let ran = simulate(alloc, &plan, script, out);
+            drop(plan);
+            ran
         }
         Err(fault) => Err(JobFault::of_plan(fault)),
     }

@@ -13,8 +13,8 @@ use tx_plan::Plan;
 use tx_plantext::read_plan_from;
 use tx_text::{Sink, Source, WriteFault};
 
-/// Reads a plan and a certificate, and runs a script over the plan after a Yes of the checker. After a No it writes the verdict alone, and reads nothing of
-/// the script.
+/// Reads a plan and a certificate, and runs a script over the plan after a Yes of the checker for at most `limit` transits (0 to 62) and `spare` groups to
+/// spare (0 to 15). After a No it writes the verdict alone, and reads nothing of the script. `Err` is the fault of the first call that failed.
 #[tactic(auto, using(crate::proofs::Marks::plan_unmarked))]
 pub fn run_checked_job<A: Allocator + Copy, P: Source, C: Source, R: Source, W: Sink>(
     alloc: A,
@@ -39,7 +39,9 @@ pub fn run_checked_job<A: Allocator + Copy, P: Source, C: Source, R: Source, W: 
     match read_plan_from(alloc, plan) {
         Ok(plan) => {
             plan.rules();
-            read_and_run(alloc, &plan, cert, limit, spare, script, out)
+            let ran = read_and_run(alloc, &plan, cert, limit, spare, script, out);
+            drop(plan);
+            ran
         }
         Err(fault) => Err(JobFault::of_plan(fault)),
     }

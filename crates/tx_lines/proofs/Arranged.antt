@@ -5,11 +5,12 @@ use Rattle.std.proofs.lemmas.Bool.{false≢true}
 use Rattle.std.proofs.lemmas.List.Sorted.{IsPermutation-keeps}
 use Rattle.std.proofs.lemmas.Option.{slice_get-get_or}
 use Rattle.std.specs.Prelude.{slice_get, IsPermutation}
-use Rattle.std.specs.List.{AllByRecursion, swap}
+use Rattle.std.specs.List.{swap}
 use Rattle.tx_plan.specs.Plan.{Plan}
 use Rattle.tx_plan.specs.Lines.{at_most}
 use Rattle.tx_plan.specs.Rules.{IsPlan, IsRange, EachPair, AreSeparate}
 use Rattle.tx_plan.specs.declared.range.LineRange.{LineRange}
+use Rattle.tx_plan.proofs.ByPlace.{all_at}
 use Rattle.std.specs.List.Sorted.{IsSortedBy}
 use Rattle.std.specs.Ordering.{is_lt}
 use Rattle.std.specs.declared.cmp.Ordering.{Ordering}
@@ -36,11 +37,6 @@ separate r q a h = elim (a h.code h.width) [ inl x ↦ false≢true (sym x ∙ h
 -- no two of a list share
 abbrev Apart : List LineRange → Type 0
 Apart xs = (i j : ℕ) (r q : LineRange) → slice_get xs i ≡ Some r → slice_get xs j ≡ Some q → Shares r q → i ≡ j
-
-all_at : {A : Type 0} (P : A → Type 0) (xs : List A) (i : ℕ) (x : A) → AllByRecursion P xs → slice_get xs i ≡ Some x → P x
-all_at P [] i x h e = let bad : ⊥ = cc in absurd bad
-all_at P (y ∷ xs) zero x h e = let s : y ≡ x = cc in subst P s h.0
-all_at P (y ∷ xs) (suc i) x h e = all_at P xs i x h.1 e
 
 apart_pairs : (xs : List LineRange) → EachPair AreSeparate xs → Apart xs
 apart_pairs [] h i j r q a b s = let bad : ⊥ = cc in absurd bad

@@ -15,6 +15,7 @@ use Rattle.std.specs.declared.cmp.Ordering.TheVariants.{Less, Equal, Greater}
 use Rattle.std.specs.Cmp.Lexicographic.{slice_cmp}
 use Rattle.tx_plan.specs.Lines.{at_most, in_range}
 use Rattle.tx_plan.specs.declared.range.LineRange.{LineRange}
+use Rattle.tx_plan.proofs.Lists.{same_tests}
 use Rattle.tx_lines.specs.inner.Ordered.{Place, place_cmp, start_of, IsInOrder}
 
 pub places_total : IsTotalOrder place_cmp
@@ -80,11 +81,6 @@ at_any t (y ∷ xs) zero x h p = let e : y ≡ x = cc in ap (λ b. b || list_any
 at_any t (y ∷ xs) (suc i) x h p =
     let rest = at_any t xs i x h p in
     elim (t y) as (λ b. (b || list_any t xs) ≡ true) [ true ↦ refl | false ↦ rest ]
-
-same_truth : (a b : Bool) → (a ≡ true → b ≡ true) → (b ≡ true → a ≡ true) → a ≡ b
-same_truth true b f g = sym (f refl)
-same_truth false true f g = g refl
-same_truth false false f g = refl
 
 none_true : (b : Bool) → (b ≡ true → ⊥) → false ≡ b
 none_true true f = absurd (f refl)
@@ -156,7 +152,7 @@ module _ (ranges : List LineRange) (ordered : IsInOrder ranges) (code : ℕ) (nu
     none_starts z = none_true (list_any matches ranges) (λ t. let a = any_at matches ranges t in let l = before a.0 a.1 a.2 (has a.1 a.3) in omega arith)
 
     pub last_start : (m : ℕ) → n ≡ m + 1 → (r : LineRange) → slice_get ranges m ≡ Some r → ((r.code == code) && ((length number == length r.low) && at_most number r.high)) ≡ list_any matches ranges
-    last_start m e r at = low_told r down ∙ same_truth (matches r) (list_any matches ranges) (at_any matches ranges m r at) back
+    last_start m e r at = low_told r down ∙ same_tests (matches r) (list_any matches ranges) (at_any matches ranges m r at) back
       where
         down : starts_by r ≡ true
         down = ap starts_by (sym (get_or_from_slice_get ranges m r r at)) ∙ point.0 m r (omega arith) (let last = slice_get_within ranges m r at in omega arith)

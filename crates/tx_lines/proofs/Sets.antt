@@ -13,17 +13,13 @@ use Rattle.indexmap.specs.IndexMap as index
 use Rattle.indexmap.specs.IndexMap.{IndexMap}
 use Rattle.tx_plan.specs.Orders.{same_line, line_cmp, same_line-is, same_line-itself}
 use Rattle.tx_plan.proofs.Named.{lines_total, exact_lines, line_tie}
+use Rattle.tx_plan.proofs.Lists.{same_tests}
 use Rattle.tx_plan.specs.declared.line.Line.{Line}
 use Rattle.tx_lines.specs.declared.status.Status.{Status}
 use Rattle.tx_lines.specs.declared.status.Mark.{Mark}
 use Rattle.tx_lines.specs.declared.status.Mark.TheVariants.{Faulty, Away, Engaged}
 use Rattle.tx_lines.specs.Status.{has, with_mark, is_unmarked, unmarked}
 use Rattle.tx_lines.specs.inner.Statuses.{passes, with_status, sets_of, marked, with_marked, is_marked, kept, AllMarked}
-
-same_bool : (a b : Bool) → (a ≡ true → b ≡ true) → (b ≡ true → a ≡ true) → a ≡ b
-same_bool true b f g = sym (f refl)
-same_bool false true f g = g refl
-same_bool false false f g = refl
 
 tie-is : (l m : Line) → eq_by_cmp line_cmp l m ≡ true → l ≡ m
 tie-is l m e = sym (same_line-is m l (sym (line_tie l m) ∙ e))
@@ -64,7 +60,7 @@ module _ {S : Type 0} where
   pub contains_status : (test : Status → Bool) (m : IndexMap Line Status S) (l : Line) → set.contains (with_status test m) l ≡ passes test m l
   contains_status test m l =
       set.contains-from_list lines_total (filter (passes test m) (index.keys m)) l
-      ∙ same_bool (list_any (eq_by_cmp line_cmp l) (filter (passes test m) (index.keys m))) (passes test m l) (kept_passes (passes test m) (index.keys m) l)
+      ∙ same_tests (list_any (eq_by_cmp line_cmp l) (filter (passes test m) (index.keys m))) (passes test m l) (kept_passes (passes test m) (index.keys m) l)
       (λ h. passes_kept (passes test m) (index.keys m) l h (by (index.get same_line m l) refl h))
     where
       by : (o : Option Status) → index.get same_line m l ≡ o → option_map_or test o false ≡ true → list_any (eq_by_cmp line_cmp l) (index.keys m) ≡ true
@@ -94,7 +90,7 @@ module _ {S : Type 0} where
       where
         by : (l : Line) (b : Bool) → same_line line l ≡ b → cond b (option_map_or test w false) (set.contains (with_status test m) l) ≡ (eq_by_cmp line_cmp l line || set.contains (with_status test m) l)
         by l true e = has ∙ sym (ap (λ z. z || set.contains (with_status test m) l) (is-tie l line (sym (same_line-is line l e))))
-        by l false e = ap (λ z. z || set.contains (with_status test m) l) (same_bool false (eq_by_cmp line_cmp l line) (λ f. absurd (false≢true f)) (λ t.
+        by l false e = ap (λ z. z || set.contains (with_status test m) l) (same_tests false (eq_by_cmp line_cmp l line) (λ f. absurd (false≢true f)) (λ t.
             sym e ∙ ap (same_line line) (tie-is l line t) ∙ same_line-itself line))
 
     pub set_removed : (test : Status → Bool) → option_map_or test w false ≡ false → with_status test n ≡ set.remove (with_status test m) line
@@ -102,7 +98,7 @@ module _ {S : Type 0} where
       where
         by : (l : Line) (b : Bool) → same_line line l ≡ b → cond b (option_map_or test w false) (set.contains (with_status test m) l) ≡ (not (eq_by_cmp line_cmp l line) && set.contains (with_status test m) l)
         by l true e = none ∙ sym (ap (λ z. not z && set.contains (with_status test m) l) (is-tie l line (sym (same_line-is line l e))))
-        by l false e = ap (λ z. not z && set.contains (with_status test m) l) (same_bool false (eq_by_cmp line_cmp l line) (λ f. absurd (false≢true f)) (λ t.
+        by l false e = ap (λ z. not z && set.contains (with_status test m) l) (same_tests false (eq_by_cmp line_cmp l line) (λ f. absurd (false≢true f)) (λ t.
             sym e ∙ ap (same_line line) (tie-is l line t) ∙ same_line-itself line))
 
     -- one mark of the line is set or taken away, and its others stay

@@ -14,9 +14,9 @@ use std::marker::Model;
 use tx_plan::{CodeId, Line, National, Plan};
 use tx_text::NoMemory;
 
-/// The lines of a plan, and which of them are faulty, away or engaged.
+/// The lines of a plan, and which of them are faulty (out of order), away (their subscriber is absent) or engaged.
 ///
-/// A line's first status takes a place of the book's room, which `reserve_one` makes; a further one takes none. No other call takes memory.
+/// A line's first status takes a place of the book's room, which `reserve_one` makes; a further one takes none. `build` and `reserve_one` alone take memory.
 #[derive(Drop)]
 pub struct LineBook<A: Allocator = Global> {
     ranges: Ranges<A>,
@@ -81,7 +81,7 @@ impl<A: Allocator> LineBook<A> {
         self.statuses.of(line)
     }
 
-    /// Makes room for one more line with a status.
+    /// Makes room for one more line with a status. Want of memory changes no status.
     pub fn reserve_one(&mut self) -> Result<(), NoMemory>
         ensures ok { OnOk result (0 < self.new.room) }
         ensures room { self.old.room ≤ self.new.room }

@@ -9,8 +9,7 @@ use Rattle.tx_state.specs.InUse.{circuits_used}
 use Rattle.tx_state.specs.Routing.{set_call}
 use Rattle.tx_state.specs.Step.{keyed_call}
 use Rattle.tx_state.specs.Members.{Mem}
-use Rattle.tx_state.proofs.Lists.{mem_append, mem_filter, mem_map}
-use Rattle.tx_plain_parts.proofs.Sweeps.{mem_mapped}
+use Rattle.tx_state.proofs.Lists.{mem_append, mem_filter, map_mem, mem_map}
 use Rattle.tx_network.specs.Seen.{call_seen}
 use Rattle.tx_plain_parts.specs.inner.Seen.{HasRoom, IsReady}
 use Rattle.tx_plain_parts.specs.inner.GivenUp.{AreMarked}
@@ -71,5 +70,5 @@ held_map groups numbers cs h F same marked = record {
 -- the calls with the number of a call that seizes a circuit have room
 pub calling_ready : {A : Type 0} (groups numbers n : ℕ) (calls : List (OpenCall A)) → AreHeld groups numbers (map call_seen calls) → ((c : OpenCall A) → Mem calls c → HasRoom c) → (k : Call) (x : Circuit) → Mem (map call_seen calls) k → k.number ≡ n → k.phase ≡ Calling x → (c : OpenCall A) → Mem calls c → IsReady n c
 calling_ready groups numbers n calls h room k x m e p c mc en =
-    let same = h.one (call_seen c) k (mem_mapped call_seen calls c mc) m (en ∙ sym e) in
+    let same = h.one (call_seen c) k (map_mem call_seen calls c mc) m (en ∙ sym e) in
     room c mc (ap is_calling (ap (λ (z : Call). z.phase) same ∙ p))

@@ -136,7 +136,7 @@ impl<'p, A: Allocator + Copy> Plain<'p, A> {
         change_numbered(self.calls.as_mut_slice(), number, &Change::Carry(hop));
     }
 
-    /// Two calls collide on a circuit, which is to be released.
+    /// Two calls collide on a circuit, which is releasing then.
     pub(crate) fn collide(&mut self, a: u32, b: u32, circuit: &Circuit)
         requires { HasMark (length self.old.plan.groups) circuit.now }
         ensures { self.new ≡ record self.old { state = collide a b circuit.now self.old.state } }

@@ -51,7 +51,7 @@ impl<'p, A: Allocator + Copy> Plain<'p, A> {
         count_ending(self.calls.as_slice(), &Ends::OnGroup(group)) as u64
     }
 
-    /// A group is failed, and none of its circuits is to be released.
+    /// A group fails, and none of its circuits is releasing any longer.
     pub(crate) fn drop_group(&mut self, group: GroupId)
         requires group { group < length self.old.plan.groups }
         ensures { self.new ≡ record self.old { state = record self.old.state { failed = set.insert self.old.state.failed group; releasing = set.retain self.old.state.releasing (λ x. not (x.group == group)) } } }

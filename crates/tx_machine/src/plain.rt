@@ -12,7 +12,7 @@ use tx_plan::{Line, Plan};
 use tx_state::{Event, Network, Refusal, Reply, Ticket};
 use tx_text::NoMemory;
 
-/// The plain network: it keeps the lists of the definitions, and filters them. Marks of groups and circuits have their room from the start.
+/// The plain network: it keeps lists and marks, as the definitions do, and goes through them. The marks have their room from the start.
 #[derive(Drop)]
 pub struct Plain<'p, A: Allocator = Global> {
     pub(crate) plan: &'p Plan<A>,
@@ -49,14 +49,14 @@ impl<'p, A: Allocator> Model for Plain<'p, A> {
 }
 
 impl<'p, A: Allocator + Copy> Plain<'p, A> {
-    /// The network before its first event.
+    /// The network in the opening state in which no number was given and no event accepted.
     pub fn new(alloc: A, plan: &'p Plan<A>) -> Result<Self, NoMemory>
         ensures { IfOk result (λ n. n ≡ record { plan = plan.now; state = opening 0 0 }) }
     {
         Plain::starting_at(alloc, plan, 0, 0)
     }
 
-    /// The opening state with so many numbers given and so many events accepted.
+    /// The network in the opening state with so many call numbers given and so many events accepted.
     pub fn starting_at(
         alloc: A,
         plan: &'p Plan<A>,
@@ -87,7 +87,7 @@ impl<'p, A: Allocator + Copy> Plain<'p, A> {
         })
     }
 
-    /// One event.
+    /// One event that is refused, or carried out.
     fn apply_one(&mut self, event: &Event) -> Result<Reply, NoMemory>
         ensures plan { self.new.plan ≡ self.old.plan }
         ensures step { IfOk result (λ reply. step self.old.plan self.old.state event.now ≡ (reply, self.new.state)) }

@@ -35,7 +35,7 @@ pub trait Facts {
     fn is_faulty(&self, line: &Line) -> bool
         ensures { result ≡ set.contains (state self.now).faulty line.now };
 
-    /// Whether the line is away.
+    /// Whether the line's subscriber is absent.
     fn is_away(&self, line: &Line) -> bool
         ensures { result ≡ set.contains (state self.now).away line.now };
 
@@ -55,7 +55,7 @@ pub trait Facts {
     fn has_group(&self, group: GroupId) -> bool
         ensures { result ≡ is_group (plan self.now) group };
 
-    /// Whether the group is failed.
+    /// Whether the group has failed.
     fn is_failed(&self, group: GroupId) -> bool
         ensures { result ≡ set.contains (state self.now).failed group };
 

@@ -17,7 +17,7 @@ pub struct OpenCall<A: Allocator = Global> {
     pub collided: bool,
     /// What it waits for.
     pub phase: Phase,
-    /// The event by which the figures were keyed.
+    /// The event by which the figures were keyed, by its place among the accepted events, from 1.
     pub keyed_at: u64,
     /// The hops so far.
     pub hops: Vec<Hop, A>,

@@ -12,7 +12,7 @@ use tx_plan::{Circuit, GroupId, Line};
 use tx_state::{Event, Party, Refusal};
 use tx_text::Figures;
 
-/// The refusal of an event, if one applies.
+/// The refusal of an event, if one applies: of several the one of the least number.
 pub fn refusal<N: Facts>(network: &N, event: &Event) -> Option<Refusal>
     ensures { result ≡ refusal (N.plan network.now) (N.state network.now) event.now }
 {

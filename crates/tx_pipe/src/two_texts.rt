@@ -16,8 +16,8 @@ pub(crate) enum Part {
     Script,
 }
 
-/// An input that holds a plan, up to and with the first line whose one word is END, and then a script. As a source it gives the plan alone, and from
-/// `go_on` on the script.
+/// An input that holds a plan, up to and with the first line whose one word is END, and then a script. As a source it gives the plan alone, and the script
+/// from `go_on` on.
 #[derive(Drop)]
 pub struct TwoTexts<R> {
     source: R,
@@ -28,6 +28,7 @@ pub struct TwoTexts<R> {
 }
 
 impl<R: Source> TwoTexts<R> {
+    /// The two texts of an input that has not been called yet. The plan is to come.
     #[inline(always)]
     pub fn new(source: R) -> TwoTexts<R>
         ensures source { result.source ≡ source }

@@ -11,6 +11,7 @@ use Rattle.std.proofs.lemmas.Map.Lookups.{exact_unsigned}
 use Rattle.std.proofs.lemmas.Cmp.{tied_itself}
 use Rattle.tx_plan.specs.Orders.{circuit_cmp}
 use Rattle.tx_plan.proofs.Named.{circuits_total, exact_circuits, by_cmp-is}
+use Rattle.tx_plan.proofs.Tables.{list_any-map}
 use Rattle.tx_plan.specs.declared.circuit.Circuit.{Circuit}
 use Rattle.std.proofs.lemmas.List.{get_or-set_other}
 use Rattle.std.proofs.lemmas.Grind.{get_or-set_at}
@@ -33,10 +34,6 @@ placed (false ∷ bits) k (suc i) j e = placed bits (k + 1) i j (omega arith)
 any_same : {A : Type 0} (t u : A → Bool) → ((x : A) → t x ≡ u x) → (xs : List A) → list_any t xs ≡ list_any u xs
 any_same t u same [] = refl
 any_same t u same (x ∷ xs) = λ i. same x i || any_same t u same xs i
-
-any_map : {A B : Type 0} (t : B → Bool) (f : A → B) (xs : List A) → list_any t (map f xs) ≡ list_any (λ x. t (f x)) xs
-any_map t f [] = refl
-any_map t f (x ∷ xs) = ap (λ b. t (f x) || b) (any_map t f xs)
 
 any_no : {A : Type 0} (t : A → Bool) → ((x : A) → t x ≡ false) → (xs : List A) → list_any t xs ≡ false
 any_no t no' [] = refl
@@ -130,7 +127,7 @@ well_at k = and_from (nat_le 1 (k % 240 + 1)) (nat_le (k % 240 + 1) 240) (grind 
 
 pub in_circuits : (bits : List Bool) (y : Circuit) → set.contains (circuits_of bits) y ≡ (well y && get_or bits (index_of y) false)
 in_circuits bits y =
-    set.contains-from_list circuits_total (map circuit_at (places 0 bits)) y ∙ any_map (eq_by_cmp circuit_cmp y) circuit_at (places 0 bits)
+    set.contains-from_list circuits_total (map circuit_at (places 0 bits)) y ∙ list_any-map (eq_by_cmp circuit_cmp y) circuit_at (places 0 bits)
     ∙ elim (well y) as (λ w. well y ≡ w → list_any (λ k. eq_by_cmp circuit_cmp y (circuit_at k)) (places 0 bits) ≡ (w && get_or bits (index_of y) false)) [
       | true ↦ λ w. any_same _ _ (at_place y w) (places 0 bits) ∙ placed bits 0 (index_of y) (index_of y) (omega arith)
       | false ↦ λ w. any_no _ (λ k. false_from_ne_true _ (λ e. let b : ⊥ = (let f = ap well (by_cmp-is y (circuit_at k) e) in let g = well_at k in cc) in b)) (places 0 bits)

@@ -1,7 +1,7 @@
 -- Calls that are changed in place.
-use Rattle.std.proofs.Common.{◌≡◌, ℕ, zero, suc, [], ◌∷◌, ◌+◌, ◌<◌, ◌≤◌, List, ◌++◌, inl, inr, map, take, drop, length, get_or, refl, ap, sym, ◌∙◌, arith, subst, add-one}
+use Rattle.std.proofs.Common.{◌≡◌, ℕ, zero, suc, [], ◌∷◌, ◌+◌, ◌<◌, ◌≤◌, List, ◌++◌, inl, inr, map, take, drop, length, get_or, ap, sym, ◌∙◌, arith, subst, add-one}
 use Rattle.std.specs.Prelude.{slice_set}
-use Rattle.std.proofs.lemmas.List.{length-set}
+use Rattle.std.proofs.lemmas.List.{length-set, take_all}
 use Rattle.tx_state.specs.Call.{Call}
 use Rattle.tx_state.specs.Members.{Mem}
 use Rattle.tx_network.specs.Seen.{call_seen}
@@ -75,13 +75,7 @@ module _ {A : Type 0} (n : ℕ) (old : List (OpenCall A)) (at : ℕ) (now : List
         mem_later (x ∷ xs) (suc i) y c m = mem_later xs i y c m
 
 pub all_ready : {A : Type 0} (n at : ℕ) (now : List (OpenCall A)) → ((c : OpenCall A) → Mem (take at now) c → IsReady n c) → length now ≤ at → (c : OpenCall A) → Mem now c → IsReady n c
-all_ready n at now r h c m = r c (subst (λ l. Mem l c) (sym (take_all now at h)) m)
-  where
-    take_all : {X : Type 0} (xs : List X) (i : ℕ) → length xs ≤ i → take i xs ≡ xs
-    take_all [] zero h = refl
-    take_all [] (suc i) h = refl
-    take_all (x ∷ xs) zero h = absurd (omega arith)
-    take_all (x ∷ xs) (suc i) h = ap (λ l. x ∷ l) (take_all xs i (omega arith))
+all_ready n at now r h c m = r c (subst (λ l. Mem l c) (sym (take_all at now h)) m)
 
 -- the calls up to a place are changed by a function
 pub record IsSweeping {A : Type 0} (F : Call → Call) (old : List (OpenCall A)) (at : ℕ) (now : List (OpenCall A)) : Type 0 where

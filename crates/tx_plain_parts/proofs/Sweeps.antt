@@ -26,8 +26,3 @@ pub mem_get : {X : Type 0} (xs : List X) (i : ℕ) (x : X) → i < length xs →
 mem_get [] i x h e = absurd (omega arith)
 mem_get (y ∷ ys) zero x h e = inl (sym e)
 mem_get (y ∷ ys) (suc i) x h e = inr (mem_get ys i x (omega arith) e)
-
-pub mem_mapped : {A B : Type 0} (f : A → B) (xs : List A) (x : A) → Mem xs x → Mem (map f xs) (f x)
-mem_mapped f [] x m = m
-mem_mapped f (y ∷ ys) x (inl e) = inl (ap f e)
-mem_mapped f (y ∷ ys) x (inr m) = inr (mem_mapped f ys x m)

@@ -29,7 +29,7 @@ fn reserve_one<A: Allocator>(call: &mut OpenCall<A>, number: u32) -> Result<(), 
     Ok(())
 }
 
-/// Makes room for a hop of the calls with the number.
+/// Makes room for one more hop of the calls with the number.
 pub fn reserve_hop<A: Allocator>(calls: &mut [OpenCall<A>], number: u32) -> Result<(), NoMemory>
     ensures seen { map call_seen calls.new ≡ map call_seen calls.old }
     ensures len { length calls.new ≡ length calls.old }

@@ -9,7 +9,7 @@ use std::marker::Model;
 use tx_plan::{Circuit, GroupId};
 use tx_text::NoMemory;
 
-/// Circuits that are marked, of so many groups of at most 240.
+/// Circuits that are marked, among those of so many groups of at most 240 circuits each.
 #[derive(Drop)]
 pub struct CircuitMarks<A: Allocator = Global> {
     bits: Vec<bool, A>,

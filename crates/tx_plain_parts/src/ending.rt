@@ -73,7 +73,7 @@ fn kept_by<A: Allocator>(call: &OpenCall<A>, ends: &Ends, circuit: &Circuit) -> 
     !is_ended(call, ends) && seizes(call, circuit)
 }
 
-/// Whether one of the calls that go on seizes the circuit.
+/// Whether one of the calls that go on seizes the circuit, seen as a list of calls.
 fn kept<A: Allocator>(calls: &[OpenCall<A>], ends: &Ends, circuit: &Circuit) -> bool
     ensures { result ≡ list_any (λ c. not (ends_by ends.now c) && seizes c circuit.now) (map call_seen calls.now) }
 {

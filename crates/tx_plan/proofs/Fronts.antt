@@ -13,7 +13,7 @@ after_front : (front rest : List ℕ) → after front (front ++ rest) ≡ Some r
 after_front [] rest = refl
 after_front (x ∷ xs) rest = ap (λ b. if b then after xs (xs ++ rest) else None) (eq-eqb x x refl) ∙ after_front xs rest
 
-after-is : (front text rest : List ℕ) → after front text ≡ Some rest → front ++ rest ≡ text
+pub after-is : (front text rest : List ℕ) → after front text ≡ Some rest → front ++ rest ≡ text
 after-is [] text rest h = let e : text ≡ rest = cc in sym e
 after-is (x ∷ xs) [] rest h = let bad : ⊥ = cc in absurd bad
 after-is (x ∷ xs) (y ∷ ys) rest h =

@@ -7,8 +7,12 @@ pub mod PlaceTable
 pub mod Absent
 pub mod LineFound
 pub mod Lists
+pub mod ByPlace
+pub mod NamesBack
 pub mod Growing
 pub mod Made
 pub mod SeenWords
 pub mod Fronts
+pub mod NameWords
+pub mod GroupMarks
 pub mod Longest

@@ -12,7 +12,7 @@ use Rattle.tx_plan.specs.Declaring.{has_group, group_at, none_twice}
 use Rattle.tx_plan.specs.inner.Seen.{differ}
 use Rattle.tx_plan.specs.declared.direction.Direction.TheVariants.{OneWay}
 use Rattle.tx_plan.proofs.Absent.{unnamed}
-use Rattle.tx_plan.proofs.Lists.{opposed, neither, not_not, one_word, below}
+use Rattle.tx_plan.proofs.Lists.{opposed, neither, not_not, one_word, below, same_tests}
 
 -- a declared group's name is a name
 pub named_is_name : (p : Plan) (w : List ℕ) → IsPlan p → is_some (group_named p w) ≡ true → is_name w ≡ true
@@ -22,15 +22,10 @@ named_is_name p w rules h = by_test (is_name w) refl
     by_test true e = e
     by_test false e = absurd (opposed (is_some (group_named p w)) h (ap is_some (unnamed is_name (λ g. g.name) (IsGroup p) w p.groups (λ x k. k.name) e rules.groups)))
 
-both_ways : (a b : Bool) → (a ≡ true → b ≡ true) → (b ≡ true → a ≡ true) → a ≡ b
-both_ways true b f g = sym (f refl)
-both_ways false true f g = g refl
-both_ways false false f g = refl
-
 -- two declared names are one exactly where they name one group
 place_is_word : (p : Plan) (v w : List ℕ) → has_group p v ≡ true → has_group p w ≡ true → (group_at p w == group_at p v) ≡ bytes_eq v w
 place_is_word p v w h k =
-    both_ways (group_at p w == group_at p v) (bytes_eq v w)
+    same_tests (group_at p w == group_at p v) (bytes_eq v w)
     (λ e. (bytes_eq-Decides v w).1 (one_word (λ (g : Group). g.name) (record { name = []; a = 0; b = 0; direction = OneWay; count = 0 }) v w p.groups h k (sym (eqb-true (group_at p w) (group_at p v) e))))
     (λ e. eq-eqb (group_at p w) (group_at p v) (ap (group_at p) (sym ((bytes_eq-Decides v w).0 e))))
 

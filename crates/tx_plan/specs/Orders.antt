@@ -1,5 +1,5 @@
 -- When two circuits, two lines or two pairs are one, and orders for sets.
-use Rattle.std.specs.Prelude.{◌≡◌, ℕ, Bool, true, false, ◌&&◌, ◌==◌, List, [], ◌∷◌, ◌++◌, refl}
+use Rattle.std.specs.Prelude.{◌≡◌, ℕ, Bool, true, ◌&&◌, ◌==◌, List, [], ◌∷◌, ◌++◌, refl}
 use Rattle.std.specs.Ordering.{ordering_then, nat_cmp}
 use Rattle.std.specs.declared.cmp.Ordering.{Ordering}
 use Rattle.std.specs.Cmp.{IsEquivalence}
@@ -7,8 +7,9 @@ use Rattle.std.specs.Hash as fed
 use Rattle.std.specs.Cmp.Lexicographic.{slice_cmp}
 use Rattle.std.specs.Coded.{Coded, code_by, coded×, coded_ℕ, coded_list}
 use Rattle.std.specs.Str.{bytes_eq}
-use Rattle.std.proofs.Common.{ap, sym, ◌∙◌, eqb-true, eq-eqb}
+use Rattle.std.proofs.Common.{ap, ◌∙◌, eqb-true, eq-eqb}
 use Rattle.std.proofs.lemmas.Bool.{and_parts, and_from}
+use Rattle.std.proofs.lemmas.Bool.Decides.{same_from_decides}
 use Rattle.std.proofs.lemmas.Cmp.{nat_eq_equiv, on_equiv, and_equiv}
 use Rattle.std.proofs.lemmas.Slice.Eq.{bytes_eq-Decides}
 use Rattle.tx_text.specs.Padded.{padded_to}
@@ -50,14 +51,9 @@ same_line-itself l = and_from (l.code == l.code) (bytes_eq l.national l.national
 pub same_line_equiv : IsEquivalence same_line
 same_line_equiv = record {
   refl = same_line-itself;
-  symm = λ l m. both_ways_same (same_line l m) (same_line m l) (λ h. ap (λ z. same_line m z) (same_line-is l m h) ∙ same_line-itself m) (λ h. ap (λ z. same_line l z) (same_line-is m l h) ∙ same_line-itself l);
+  symm = λ l m. same_from_decides {P = same_line m l ≡ true} (same_line l m) (same_line m l) (λ h. ap (λ z. same_line m z) (same_line-is l m h) ∙ same_line-itself m, λ h. ap (λ z. same_line l z) (same_line-is m l h) ∙ same_line-itself l) (λ h. h, λ h. h);
   congr = λ l m n h. ap (λ z. same_line z n) (same_line-is l m h);
 }
-  where
-    both_ways_same : (a b : Bool) → (a ≡ true → b ≡ true) → (b ≡ true → a ≡ true) → a ≡ b
-    both_ways_same true b f g = sym (f refl)
-    both_ways_same false true f g = g refl
-    both_ways_same false false f g = refl
 
 -- the laws of `==` on pairs, and the bytes that are hashed
 pub same_pair_equiv : IsEquivalence same_pair

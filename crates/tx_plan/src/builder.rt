@@ -54,7 +54,7 @@ impl<A: Allocator + Copy> PlanBuilder<A> {
 }
 
 impl<A: Allocator> PlanBuilder<A> {
-    /// Declares an exchange.
+    /// Declares an exchange by its name. Refused: `BadName`, `Duplicate`, `TooMany` after 256 exchanges, `NoMemory`.
     pub fn exchange(&mut self, name: &[u8]) -> Result<(), PlanRefusal>
         ensures { Declares (first_true (exchange_refusals self.old name.now)) self.old (with_exchange self.old name.now) self.new result }
     {
@@ -70,7 +70,8 @@ impl<A: Allocator> PlanBuilder<A> {
         Ok(())
     }
 
-    /// Declares a code of two or three figures with its home.
+    /// Declares a destination code (ITU-T F.69) of two or three figures, with the exchange where it is at home. Refused: `BadName`, `BadCode`, `Duplicate`,
+    /// `Unknown`, `NoMemory`.
     pub fn code(&mut self, code: &[u8], home: &[u8]) -> Result<(), PlanRefusal>
         ensures { Declares (first_true (code_refusals self.old code.now home.now)) self.old (with_code self.old code.now home.now) self.new result }
     {
@@ -86,7 +87,8 @@ impl<A: Allocator> PlanBuilder<A> {
         Ok(())
     }
 
-    /// Declares the national numbers of a code from low to high, both in it.
+    /// Declares subscribers' lines: the national numbers of a code from low to high, both in it. Refused: `BadCode`, `BadNumber`, `Unknown`, `RangeOrder`,
+    /// `Overlap`, `TooMany` after 4,096 ranges, `NoMemory`.
     pub fn lines(&mut self, code: &[u8], low: &[u8], high: &[u8]) -> Result<(), PlanRefusal>
         ensures { Declares (first_true (lines_refusals self.old code.now low.now high.now)) self.old (with_lines self.old code.now low.now high.now) self.new result }
     {
@@ -102,7 +104,8 @@ impl<A: Allocator> PlanBuilder<A> {
         Ok(())
     }
 
-    /// Declares a group of 1 to 240 circuits from exchange a to exchange b.
+    /// Declares a group of 1 to 240 circuits, with `a` as its first end and `b` as the other. Refused: `BadName`, `BadNumber`, `Duplicate`, `Unknown`,
+    /// `SameEnds`, `TooMany` after 4,096 groups, `NoMemory`.
     pub fn group(
         &mut self,
         name: &[u8],
@@ -125,7 +128,8 @@ impl<A: Allocator> PlanBuilder<A> {
         Ok(())
     }
 
-    /// Declares the groups that an exchange tries for a code, in order.
+    /// Declares the list of an exchange for a code: 1 to 16 groups, in the order in which it tries them. Refused: `WrongCount`, `BadName`, `BadCode`,
+    /// `Duplicate`, `Unknown`, `NotOutgoing`, `RepeatedGroup`, `RouteAtHome`, `TooMany`, `NoMemory`.
     pub fn route(
         &mut self,
         exchange: &[u8],
@@ -146,7 +150,7 @@ impl<A: Allocator> PlanBuilder<A> {
         Ok(())
     }
 
-    /// Bars calls that start at an exchange for a code.
+    /// Bars calls that start at an exchange for a code. Refused: `BadName`, `BadCode`, `Duplicate`, `Unknown`, `BarAtHome`, `NoMemory`.
     pub fn bar(&mut self, exchange: &[u8], code: &[u8]) -> Result<(), PlanRefusal>
         ensures { Declares (first_true (bar_refusals self.old exchange.now code.now)) self.old (with_bar self.old exchange.now code.now) self.new result }
     {

@@ -12,6 +12,7 @@ use crate::group_list::GroupList;
 use crate::group_row::GroupRow;
 use crate::group_words::none_twice;
 use crate::ids::{CodeId, ExchangeId, GroupId};
+use crate::name_key::NameKey;
 use crate::national::National;
 use crate::pair::Pair;
 use crate::plan::Plan;
@@ -58,7 +59,7 @@ pub(crate) fn group_of<A: Allocator>(plan: &Plan<A>, name: &[u8]) -> Option<Grou
 pub(crate) fn exchange_entry<A: Allocator>(
     plan: &Plan<A>,
     name: &[u8],
-) -> Result<Short<8>, PlanRefusal>
+) -> Result<NameKey, PlanRefusal>
     ensures err { IfErr result (λ e. first_true (exchange_refusals plan.now name.now) ≡ Some e) }
     ensures ok { OnOk result (first_true (exchange_refusals plan.now name.now) ≡ None) }
     ensures entry { IfOk result (λ e. e ≡ name.now) }
@@ -73,7 +74,7 @@ pub(crate) fn exchange_entry<A: Allocator>(
     if plan.exchanges() >= 256 {
         return Err(PlanRefusal::TooMany);
     }
-    Ok(Short::new(name))
+    Ok(NameKey::new(name))
 }
 
 /// The figures and the home of a new code, or why it is refused.
@@ -192,7 +193,7 @@ pub(crate) fn group_entry<A: Allocator>(
     b: &[u8],
     direction: Direction,
     count: u32,
-) -> Result<(Short<8>, GroupRow), PlanRefusal>
+) -> Result<(NameKey, GroupRow), PlanRefusal>
     ensures err { IfErr result (λ e. first_true (group_refusals plan.now name.now a.now b.now count) ≡ Some e) }
     ensures ok { OnOk result (first_true (group_refusals plan.now name.now a.now b.now count) ≡ None) }
     ensures entry { IfOk result (λ e. e ≡ (name.now, record { a = exchange_at plan.now a.now; b = exchange_at plan.now b.now; direction = direction; count = count })) }
@@ -223,7 +224,7 @@ pub(crate) fn group_entry<A: Allocator>(
         direction,
         count: count as u8,
     };
-    Ok((Short::new(name), row))
+    Ok((NameKey::new(name), row))
 }
 
 /// The exchange and the code of two words.

@@ -5,14 +5,15 @@ ghost use Rattle.std.specs.Option.{option_map_or};
 ghost use Rattle.std.specs.Str.{bytes_eq};
 
 use crate::keys::Keys;
+use crate::name_key::NameKey;
 use std::alloc::{Allocator, Global};
 use std::marker::Model;
-use tx_text::{NoMemory, Short};
+use tx_text::NoMemory;
 
 /// The names of exchanges.
 #[derive(Drop)]
 pub(crate) struct Exchanges<A: Allocator = Global> {
-    names: Keys<Short<8>, A>,
+    names: Keys<NameKey, A>,
 }
 
 impl<A: Allocator> Model for Exchanges<A> {
@@ -49,7 +50,7 @@ impl<A: Allocator> Exchanges<A> {
         ensures found { is_some result ≡ list_any (bytes_eq name.now) self.now }
         ensures within { IfSome result (λ i. i < length self.now) }
     {
-        self.names.find(&Short::new(name))
+        self.names.find(&NameKey::new(name))
     }
 
     /// The name at a place.
@@ -65,7 +66,7 @@ impl<A: Allocator> Exchanges<A> {
 
     /// Appends a name.
     #[inline(always)]
-    pub fn add(&mut self, name: Short<8>) -> Result<(), NoMemory>
+    pub fn add(&mut self, name: NameKey) -> Result<(), NoMemory>
         requires { list_any (bytes_eq name) self.old ≡ false }
         ensures ok { OnOk result (self.new ≡ self.old ++ name ∷ []) }
         ensures err { OnErr result (self.new ≡ self.old) }

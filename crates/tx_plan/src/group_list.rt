@@ -48,23 +48,26 @@ impl GroupList {
         true
     }
 
-    /// Whether no group stands there twice.
+    /// Whether no group stands there twice. From the last group on, each leaves a mark by its place in a table of 256. Where a group finds no mark, none behind it
+    /// is the same; where it finds one, they are compared.
     #[inline(always)]
     pub fn none_twice(&self) -> bool
         ensures { result ≡ differ self.now }
     {
-        let mut rest = self.groups();
-        'groups: loop {
-            match rest.split_first() {
-                None => return true,
-                Some((group, others)) => {
-                    if is_among(*group, others) {
-                        return false;
-                    }
-                    rest = others;
-                }
+        let groups = self.groups();
+        let mut marks = [false; 256];
+        let mut rest = groups.len();
+        while rest > 0 {
+            let others = &groups[rest..];
+            rest -= 1;
+            let group = groups[rest];
+            let mark = group.index() % 256;
+            if marks[mark] && is_among(group, others) {
+                return false;
             }
+            marks[mark] = true;
         }
+        true
     }
 
     #[inline(always)]

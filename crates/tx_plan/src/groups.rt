@@ -6,15 +6,16 @@ ghost use Rattle.std.specs.Str.{bytes_eq};
 ghost use Rattle.tx_plan.specs.inner.Tables.{row_of};
 
 use crate::group_row::GroupRow;
+use crate::name_key::NameKey;
 use crate::rows::Rows;
 use std::alloc::{Allocator, Global};
 use std::marker::Model;
-use tx_text::{NoMemory, Short};
+use tx_text::NoMemory;
 
 /// The names of groups, and what is declared of each.
 #[derive(Drop)]
 pub(crate) struct Groups<A: Allocator = Global> {
-    rows: Rows<Short<8>, GroupRow, A>,
+    rows: Rows<NameKey, GroupRow, A>,
 }
 
 impl<A: Allocator> Model for Groups<A> {
@@ -53,7 +54,7 @@ impl<A: Allocator> Groups<A> {
         ensures found { is_some result ≡ list_any (λ g. bytes_eq name.now g.name) self.now }
         ensures within { IfSome result (λ i. i < length self.now) }
     {
-        self.rows.find(&Short::new(name))
+        self.rows.find(&NameKey::new(name))
     }
 
     /// The name of the group at a place.
@@ -77,7 +78,7 @@ impl<A: Allocator> Groups<A> {
 
     /// Appends a group.
     #[inline(always)]
-    pub fn add(&mut self, name: Short<8>, row: GroupRow) -> Result<(), NoMemory>
+    pub fn add(&mut self, name: NameKey, row: GroupRow) -> Result<(), NoMemory>
         requires { list_any (λ g. bytes_eq name g.name) self.old ≡ false }
         ensures ok { OnOk result (self.new ≡ self.old ++ record { name = name; a = row.a; b = row.b; direction = row.direction; count = row.count } ∷ []) }
         ensures err { OnErr result (self.new ≡ self.old) }

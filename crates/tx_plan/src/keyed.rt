@@ -14,7 +14,7 @@ fn after<'t>(front: &[u8], text: &'t [u8]) -> Option<&'t [u8]>
     text.strip_prefix(front)
 }
 
-/// What is left of the text after the front, or nothing.
+/// What is left of the text after the front; nothing where the text does not begin with it.
 pub fn rest_after<'t>(front: &[u8], text: &'t [u8]) -> &'t [u8]
     ensures { result.now ≡ unwrap_or (after front.now text.now) [] }
 {
@@ -44,7 +44,7 @@ fn begins(text: &[u8], keyed: &[u8]) -> bool
     }
 }
 
-/// The longest code that begins the figures, found by a look at each code: `tx_trie` finds it by the figures.
+/// The longest destination code that begins the figures (ITU-T F.69). It looks at each code; `tx_trie` answers the same by the figures.
 pub fn code_of<A: Allocator>(plan: &Plan<A>, keyed: &[u8]) -> Option<CodeId>
     ensures { result ≡ code_of plan.now keyed.now }
 {

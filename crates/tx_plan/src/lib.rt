@@ -35,6 +35,7 @@ mod ids;
 mod keyed;
 mod keys;
 mod line;
+mod name_key;
 mod national;
 mod pair;
 mod places;

@@ -6,7 +6,7 @@ ghost use Rattle.tx_plan.specs.Rules.{is_national};
 use std::marker::Model;
 use tx_text::{Short, are_figures};
 
-/// A national number: 1 to 9 figures, leading zeros count.
+/// A national number: 1 to 9 figures. Leading zeros count.
 #[derive(Clone, Copy, Debug, PartialEq, Eq)]
 pub struct National {
     figures: Short<9>,

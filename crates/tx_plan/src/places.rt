@@ -12,7 +12,8 @@ const NO_PLACE: u32 = u32::MAX;
 
 /// A cell for each exchange and code: the place of the pair's route.
 ///
-/// Each code has 256 cells side by side, one for each exchange that a plan may have, as far as the last code that has a route. So the table grows at its end alone and no cell moves; a plan of few codes has a small table; and who goes through the exchanges code by code finds their cells together.
+/// Each code has 256 cells side by side, one for each exchange that a plan may have, as far as the last code that has a route. So the table grows at its end
+/// alone and no cell moves; a plan of few codes has a small table; and the cells of one code stand together.
 #[derive(Drop)]
 pub(crate) struct Places<A: Allocator = Global> {
     cells: Vec<u32, A>,

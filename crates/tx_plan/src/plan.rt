@@ -174,7 +174,7 @@ impl<A: Allocator> Plan<A> {
 
 /// Names, and what they name.
 impl<A: Allocator> Plan<A> {
-    /// The exchange of a name.
+    /// The exchange of a name, if one is declared.
     #[inline(always)]
     pub fn exchange_named(&self, name: &[u8]) -> Option<ExchangeId>
         ensures { result ≡ exchange_named self.now name.now }
@@ -189,7 +189,7 @@ impl<A: Allocator> Plan<A> {
         }
     }
 
-    /// The code of these figures.
+    /// The code of these figures, if it is declared.
     #[inline(always)]
     pub fn code_named(&self, figures: &[u8]) -> Option<CodeId>
         ensures { result ≡ code_named self.now figures.now }
@@ -204,7 +204,7 @@ impl<A: Allocator> Plan<A> {
         }
     }
 
-    /// The group of a name.
+    /// The group of a name, if one is declared.
     #[inline(always)]
     pub fn group_named(&self, name: &[u8]) -> Option<GroupId>
         ensures { result ≡ group_named self.now name.now }
@@ -219,7 +219,7 @@ impl<A: Allocator> Plan<A> {
         }
     }
 
-    /// The name of an exchange, or nothing.
+    /// The name of an exchange; no bytes for a foreign one.
     #[inline(always)]
     pub fn exchange_name(&self, exchange: ExchangeId) -> &[u8]
         ensures { result.now ≡ exchange_name self.now exchange }
@@ -227,7 +227,7 @@ impl<A: Allocator> Plan<A> {
         self.exchanges.name(exchange.index())
     }
 
-    /// The figures of a code, or nothing.
+    /// The figures of a code; none for a foreign one.
     #[inline(always)]
     pub fn code_figures(&self, code: CodeId) -> &[u8]
         ensures { result.now ≡ figures_of self.now code }
@@ -235,7 +235,7 @@ impl<A: Allocator> Plan<A> {
         self.codes.figures(code.index())
     }
 
-    /// The name of a group, or nothing.
+    /// The name of a group; no bytes for a foreign one.
     #[inline(always)]
     pub fn group_name(&self, group: GroupId) -> &[u8]
         ensures { result.now ≡ group_name self.now group }
@@ -246,7 +246,7 @@ impl<A: Allocator> Plan<A> {
 
 /// Lines, origins and routes.
 impl<A: Allocator> Plan<A> {
-    /// The home of a code, or the first exchange.
+    /// The exchange where a code is at home; for a foreign code the id at place 0.
     #[inline(always)]
     pub fn home(&self, code: CodeId) -> ExchangeId
         ensures { result ≡ home_of self.now code }
@@ -310,7 +310,7 @@ impl<A: Allocator> Plan<A> {
             .any(|range| self.codes.home(range.code.index()) == exchange)
     }
 
-    /// Whether calls for the code may start at the exchange.
+    /// Whether calls for the code may start at the exchange: it is an origin that is not barred for the code.
     #[inline(always)]
     pub fn is_origin_for(&self, exchange: ExchangeId, code: CodeId) -> bool
         ensures { result ≡ is_origin_for self.now exchange code }
@@ -321,7 +321,7 @@ impl<A: Allocator> Plan<A> {
 
 /// Groups of circuits.
 impl<A: Allocator> Plan<A> {
-    /// From which ends the group may be seized, or `OneWay`.
+    /// From which ends the group may be seized; `OneWay` for a foreign one.
     #[inline(always)]
     pub fn direction(&self, group: GroupId) -> Direction
         ensures { result ≡ direction_of self.now group }
@@ -332,7 +332,7 @@ impl<A: Allocator> Plan<A> {
         }
     }
 
-    /// How many circuits the group has, 1 to 240, or 0.
+    /// How many circuits the group has, 1 to 240; 0 for a foreign one.
     #[inline(always)]
     pub fn group_count(&self, group: GroupId) -> u32
         ensures value { result ≡ count_of self.now group }
@@ -344,7 +344,7 @@ impl<A: Allocator> Plan<A> {
         }
     }
 
-    /// The ends of the group, the first one first, or the first exchange twice.
+    /// The ends of the group, the first one first; for a foreign group the id at place 0 twice.
     #[inline(always)]
     pub fn ends(&self, group: GroupId) -> (ExchangeId, ExchangeId)
         ensures { result ≡ ends_of self.now group }

@@ -1,9 +1,9 @@
 // Why a declaration is refused.
 
-/// Why a declaration of a plan is refused. Of several reasons the first in this order is given, save that want of memory comes last.
+/// Why a declaration of a plan is refused. Of several reasons the first in this order is given. The codes are those that a plan's text is refused with.
 #[derive(Clone, Copy, Debug, PartialEq, Eq)]
 pub enum PlanRefusal {
-    /// P4: a route without groups.
+    /// P4: a route without groups. The reader of a text also tells a wrong number of words by it.
     WrongCount,
     /// P5: a word in the place of an exchange or a group is no name.
     BadName,
@@ -11,7 +11,7 @@ pub enum PlanRefusal {
     BadCode,
     /// P7: an end of a range is not 1 to 9 figures, or a count is not 1 to 240.
     BadNumber,
-    /// P8: declared before.
+    /// P8: declared before; of a route or a bar, the exchange has one for the code.
     Duplicate,
     /// P9: an exchange, a code or a group that was not declared.
     Unknown,
@@ -27,7 +27,7 @@ pub enum PlanRefusal {
     RepeatedGroup,
     /// P15: a route at the code's home.
     RouteAtHome,
-    /// P16: the 257th exchange, the 4,097th range or group, or the 17th group of a list.
+    /// P16: the 257th exchange, the 4,097th range or group, or a list of more than 16 groups.
     TooMany,
     /// P22: a bar at the code's home.
     BarAtHome,

@@ -1,10 +1,8 @@
 pub mod Entries
 pub mod ListLines
-pub mod Named
 pub mod Places
 pub mod PlanLines
 pub mod PlanWriting
 pub mod Reading
 pub mod RouteLines
-pub mod WrittenWords
 pub mod Written

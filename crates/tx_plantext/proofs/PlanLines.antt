@@ -5,6 +5,7 @@ use Rattle.std.specs.Fmt.{decimal}
 use Rattle.std.specs.Str.{bytes_eq}
 use Rattle.std.proofs.lemmas.Bool.{and_from, and_left, and_right, or_from, not_from_true, le-leb, lt-leb, ne_eqb, eq-eqb, cases_eq}
 use Rattle.tx_text.specs.Words.{is_name}
+use Rattle.tx_text.proofs.WrittenWords.{IsShortWord, name_word, figures_word, number_word, number_back, line_of_short, fixed_word}
 use Rattle.tx_plan.specs.declared.direction.Direction.{Direction}
 use Rattle.tx_plan.specs.declared.direction.Direction.TheVariants.{OneWay, BothWay}
 use Rattle.tx_plan.specs.declared.range.LineRange.{LineRange}
@@ -14,10 +15,10 @@ use Rattle.tx_plan.specs.Rules.{IsPlan, EachPair, IsCode, IsRange, IsGroup, AreS
 use Rattle.tx_plan.specs.Declaring.{exchange_refusals, code_refusals, lines_refusals, group_refusals, has_exchange, has_code, has_group, shares, overlaps, is_ordered}
 use Rattle.tx_plantext.specs.PlanText.{declare, direction_of, count_of, group_by}
 use Rattle.tx_plantext.specs.PlanWritten.{exchange_words, code_words, range_words, group_words, direction_word}
-use Rattle.tx_plantext.proofs.Places.{all_between, apart_front, all_weaker, none_passes, length_front, bytes_apart}
-use Rattle.tx_plantext.proofs.WrittenWords.{IsShortWord, name_word, figures_word, count_word, count_back, line_of_short, fixed_word}
+use Rattle.tx_plan.proofs.ByPlace.{bytes_apart}
+use Rattle.tx_plantext.proofs.Places.{all_between, apart_front, all_weaker, none_passes, length_front}
 use Rattle.tx_plantext.proofs.ListLines.{IsLineOf, none_true, unless-none}
-use Rattle.tx_plantext.proofs.Named.{exchange_back, exchange_is_name, code_back, figures_are_code}
+use Rattle.tx_plan.proofs.NamesBack.{exchange_back, exchange_is_name, code_back, figures_are_code}
 
 module _ (v : ℕ) (p : Plan) (h : IsPlan p) where
   -- ---- what was declared before the next line of each kind
@@ -172,7 +173,7 @@ module _ (v : ℕ) (p : Plan) (h : IsPlan p) where
       let s = length_front f x b in
       let l = ap length e in
       let k = h.few_groups in
-      let count : count_of (decimal x.count) ≡ x.count = ap (λ o. unwrap_or o 0) (count_back x.count some few) in
+      let count : count_of (decimal x.count) ≡ x.count = ap (λ o. unwrap_or o 0) (number_back 240 x.count few (omega arith)) in
       let a = exchange_name p x.a in
       let b = exchange_name p x.b in
       record {
@@ -193,5 +194,5 @@ module _ (v : ℕ) (p : Plan) (h : IsPlan p) where
         no_end = refl;
         some = omega arith;
         written = line_of_short (group_words p x)
-            (fixed_word (codes "GROUP") refl, (name_word x.name n.name, (name_word a name_a, (name_word b name_b, (direction_short x.direction, (count_word x.count few, tt)))))) (omega arith);
+            (fixed_word (codes "GROUP") refl, (name_word x.name n.name, (name_word a name_a, (name_word b name_b, (direction_short x.direction, (number_word x.count (omega (arith, few)), tt)))))) (omega arith);
       }

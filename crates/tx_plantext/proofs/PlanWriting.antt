@@ -1,63 +1,25 @@
 -- Writing a plan text, part by part.
-use Rattle.std.proofs.Common.{◌≡◌, ◌≢◌, ℕ, zero, suc, ◌+◌, ◌<◌, ◌≤◌, ◌==◌, ◌&&◌, Bool, false, nat_lt, List, [], ◌∷◌, ◌++◌, map, length, take, drop, get_or, codes, Option, None, Some, Result, Ok, Err, refl, sym, ap, ◌∙◌, subst, arith, append_assoc, append-nil, add-one, inl, inr}
+use Rattle.std.proofs.Common.{◌≡◌, ◌≢◌, ℕ, zero, suc, ◌+◌, ◌<◌, ◌≤◌, ◌==◌, ◌&&◌, Bool, false, nat_lt, List, [], ◌∷◌, ◌++◌, map, length, take, drop, get_or, codes, Option, None, Some, Ok, Err, refl, sym, ap, ◌∙◌, subst, arith, append_assoc, append-nil, add-one, inl, inr}
 use Rattle.std.specs.Prelude.{if◌then◌else◌, IsErr, find}
 use Rattle.std.specs.List.{flat_map, slice_get}
 use Rattle.std.specs.Option.{option_map_or, option_map}
 use Rattle.std.specs.Fmt.{decimal}
-use Rattle.std.specs.Io.KnownBytes.{append_known}
 use Rattle.std.proofs.lemmas.Bool.{false≢true, cases_lt, lt-ltb, le-ltb, and_from, and_left, and_right, eq-eqb, ne_eqb, cases_eq}
 use Rattle.std.proofs.lemmas.Option.{slice_get_past}
-use Rattle.tx_text.proofs.Writing.{append_known-nil, append_known_twice, stops_first, stops_later, stops_at}
+use Rattle.std.proofs.lemmas.List.{take_all}
+use Rattle.tx_text.proofs.Writing.{stops_first, stops_at}
+use Rattle.tx_text.proofs.Wrote.{Outcome, wrote_then, wrote_first}
 use Rattle.tx_text.specs.declared.sink.WriteFault.{WriteFault}
 use Rattle.tx_text.specs.Ends.{StopsIn}
+use Rattle.tx_text.specs.Wrote.{Wrote}
 use Rattle.tx_text.specs.Written.{joined, line_written}
 use Rattle.tx_plan.specs.declared.direction.Direction.{Direction}
 use Rattle.tx_plan.specs.Plan.{Plan, Route, exchange_name, figures_of, group_name, home_of}
 use Rattle.tx_plan.specs.Circuits.{direction_of, count_of, ends_of}
 use Rattle.tx_plan.specs.Routes.{route_list}
 use Rattle.tx_plan.specs.Rules.{IsPlan, EachPair}
-use Rattle.tx_plantext.specs.PlanWritten.{plan_written, has_bars, head_of, exchange_words, code_words, range_words, direction_word, group_words, route_words, bar_words}
-use Rattle.tx_plantext.specs.Wrote.{Wrote, lines_of_list, line_at}
-use Rattle.tx_plantext.proofs.Places.{entry_at, all_at}
-
-abbrev Outcome : Type 0
-Outcome = Result (Unit {0}) WriteFault
-
--- ---- one text and another
-
-pub wrote_none : (a : Option (List ℕ)) (f : Bool) → Wrote a a f f [] (Ok tt)
-wrote_none a f = (append_known-nil a, refl)
-
-pub wrote_then : (a b c : Option (List ℕ)) (f g h : Bool) (s t : List ℕ) (r : Outcome) → Wrote a b f g s (Ok tt) → Wrote b c g h t r → Wrote a c f h (s ++ t) r
-wrote_then a b c f g h s t (Ok x) v w = (w.0 ∙ ap (λ l. append_known l t) v.0 ∙ append_known_twice a s t, w.1 ∙ v.1)
-wrote_then a b c f g h s t (Err x) v w = (stops_later s v.0 w.0, w.1)
-
--- the sink failed in the first of two texts
-pub wrote_first : (a b : Option (List ℕ)) (f g : Bool) (s t : List ℕ) (r : Outcome) (x : WriteFault) → Wrote a b f g s (Err x) → IsErr r → Wrote a b f g (s ++ t) r
-wrote_first a b f g s t (Ok y) x w bad = absurd (false≢true bad)
-wrote_first a b f g s t (Err y) x w bad = (stops_first t w.0, w.1)
-
-pub text_is : (a b : Option (List ℕ)) (f g : Bool) (s t : List ℕ) (r : Outcome) → s ≡ t → Wrote a b f g t r → Wrote a b f g s r
-text_is a b f g s t r e w = subst (λ (l : List ℕ). Wrote a b f g l r) (sym e) w
-
--- ---- the texts of a list
-
-take_all : {A : Type 0} (xs : List A) (n : ℕ) → length xs ≤ n → take n xs ≡ xs
-take_all [] zero h = refl
-take_all [] (suc n) h = refl
-take_all (x ∷ xs) zero h = absurd (omega (arith, h))
-take_all (x ∷ xs) (suc n) h = ap (λ l. x ∷ l) (take_all xs n (omega (arith, h)))
-
-module _ {A : Type 0} (text : A → List ℕ) where
-  -- one of them was not written
-  pub texts_stopped : (xs : List A) (i : ℕ) (x : A) (a b c : Option (List ℕ)) (f g h : Bool) (r : Outcome) (fault : WriteFault) → i < length xs → x ≡ get_or xs i x
-      → Wrote a b f g (flat_map text (take i xs)) (Ok tt) → Wrote b c g h (text x) (Err fault) → IsErr r → Wrote a c f h (flat_map text xs) r
-  texts_stopped xs i x a b c f g h (Ok y) fault lt is v w bad = absurd (false≢true bad)
-  texts_stopped xs i x a b c f g h (Err y) fault lt is v w bad = (stops_at text xs i x lt is v.0 w.0, w.1)
-
-  -- all of them were written
-  pub texts_done : (xs : List A) (i : ℕ) (a b : Option (List ℕ)) (f g : Bool) → length xs ≤ i → Wrote a b f g (flat_map text (take i xs)) (Ok tt) → Wrote a b f g (flat_map text xs) (Ok tt)
-  texts_done xs i a b f g all v = subst (λ (l : List A). Wrote a b f g (flat_map text l) (Ok tt)) (take_all xs i all) v
+use Rattle.tx_plantext.specs.PlanWritten.{plan_written, has_bars, head_of, exchange_words, code_words, range_words, direction_word, group_words, route_words, bar_words, lines_of_list, line_at}
+use Rattle.tx_plan.proofs.ByPlace.{entry_at, all_at}
 
 -- ---- the lines of a list
 
@@ -78,7 +40,7 @@ module _ {A : Type 0} (words : A → List (List ℕ)) where
   list_more xs i a b c f g h v w = rw (add-one, lines_more xs i) (wrote_then a b c f g h (lines_of_list words (take i xs)) (line_at words xs i) (Ok tt) v w)
 
   pub list_done : (xs : List A) (i : ℕ) (a b : Option (List ℕ)) (f g : Bool) → length xs ≤ i → Wrote a b f g (lines_of_list words (take i xs)) (Ok tt) → Wrote a b f g (lines_of_list words xs) (Ok tt)
-  list_done xs i a b f g h v = subst (λ (ys : List A). Wrote a b f g (lines_of_list words ys) (Ok tt)) (take_all xs i h) v
+  list_done xs i a b f g h v = subst (λ (ys : List A). Wrote a b f g (lines_of_list words ys) (Ok tt)) (take_all i xs h) v
 
   pub list_stopped : (xs : List A) (i : ℕ) (a b c : Option (List ℕ)) (f g h : Bool) (r : Outcome) (x : WriteFault) → Wrote a b f g (lines_of_list words (take i xs)) (Ok tt) → Wrote b c g h (line_at words xs i) (Err x) → IsErr r
       → Wrote a c f h (lines_of_list words xs) r
@@ -220,4 +182,4 @@ names_stopped p gs i x a b c f g h (Err y) fault lt is v w bad =
 pub names_done : (p : Plan) (gs : List ℕ) (i : ℕ) (a b c : Option (List ℕ)) (f g h : Bool) (r : Outcome) → length gs ≤ i
     → Wrote a b f g (flat_map (λ v. codes " " ++ group_name p v) (take i gs)) (Ok tt) → Wrote b c g h (codes "\n") r → Wrote a c f h (flat_map (λ v. codes " " ++ group_name p v) gs ++ codes "\n") r
 names_done p gs i a b c f g h r all v w =
-    wrote_then a b c f g h (flat_map (λ v. codes " " ++ group_name p v) gs) (codes "\n") r (subst (λ (l : List ℕ). Wrote a b f g (flat_map (λ v. codes " " ++ group_name p v) l) (Ok tt)) (take_all gs i all) v) w
+    wrote_then a b c f g h (flat_map (λ v. codes " " ++ group_name p v) gs) (codes "\n") r (subst (λ (l : List ℕ). Wrote a b f g (flat_map (λ v. codes " " ++ group_name p v) l) (Ok tt)) (take_all i gs all) v) w

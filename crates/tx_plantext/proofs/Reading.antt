@@ -1,5 +1,5 @@
 -- Reading a plan text.
-use Rattle.std.proofs.Common.{◌≡◌, ◌⊎◌, ℕ, Bool, List, [], Option, None, codes, refl, inl, inr}
+use Rattle.std.proofs.Common.{◌≡◌, ℕ, Bool, List, [], Option, None, codes, refl}
 use Rattle.tx_text.specs.declared.frame.FramePart.TheVariants.{Start}
 use Rattle.tx_text.specs.declared.frame_reader.FrameReader.{FrameReader}
 use Rattle.tx_text.specs.Told.{Ending, reading_of_calls, told_at}
@@ -20,8 +20,3 @@ pub at_start : {A : Type 0} (a : Option (List ℕ)) (v : FrameReader A) (p : Pla
     → ReadsOn a a plan_of (λ e more. said declare 1 p (to_come v e more)) × Finds a a found (finds_from declare 1 p (to_come v)) × (v.reader.feed.fault ≡ None)
 unfolding told_at
 at_start a v p left k m r ph n e = (record { read = []; moves = moves-nil a; gives = λ d more. rw (k, m, r, ph, n, e) refl }, finds_none a _ _ (λ d more. rw (k, m, r, ph, n, e) refl), rw r refl)
-
--- a step that is not the end
-pub went_past : {E W : Type 0} → E ⊎ W → (E → ⊥) → W
-went_past (inl e) none = absurd (none e)
-went_past (inr w) none = w

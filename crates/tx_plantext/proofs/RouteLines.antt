@@ -5,6 +5,7 @@ use Rattle.std.specs.Option.{option_map_or}
 use Rattle.std.specs.Str.{bytes_eq}
 use Rattle.std.proofs.lemmas.Bool.{and_from, and_left, and_right, or_from, not_from_true, not_from_false, le-ltb, ne_eqb, cases_eq}
 use Rattle.tx_text.specs.Words.{is_name}
+use Rattle.tx_text.proofs.WrittenWords.{IsShortWord, name_word, figures_word, line_of_short, fixed_word}
 use Rattle.tx_plan.specs.declared.pair.Pair.{Pair}
 use Rattle.tx_plan.specs.Plan.{Plan, Group, Route, group_named, exchange_name, figures_of, group_name, home_of}
 use Rattle.tx_plan.specs.Circuits.{may_seize, may_seize_row}
@@ -13,10 +14,10 @@ use Rattle.tx_plan.specs.Rules.{IsPlan, EachPair, IsRoute, IsBar}
 use Rattle.tx_plan.specs.Declaring.{first_true, route_refusals, bar_refusals, has_group, has_route, pair_named, is_not_outgoing, none_twice, group_at, with_route, with_bar}
 use Rattle.tx_plantext.specs.PlanText.{declare}
 use Rattle.tx_plantext.specs.PlanWritten.{route_words, bar_words}
-use Rattle.tx_plantext.proofs.Places.{all_between, apart_front, all_weaker, none_passes, bytes_apart}
-use Rattle.tx_plantext.proofs.WrittenWords.{IsShortWord, name_word, figures_word, line_of_short, fixed_word}
+use Rattle.tx_plan.proofs.ByPlace.{bytes_apart}
+use Rattle.tx_plantext.proofs.Places.{all_between, apart_front, all_weaker, none_passes}
 use Rattle.tx_plantext.proofs.ListLines.{IsLineOf, none_true, unless-none}
-use Rattle.tx_plantext.proofs.Named.{exchange_back, exchange_is_name, code_back, figures_are_code, group_back, group_is_name}
+use Rattle.tx_plan.proofs.NamesBack.{exchange_back, exchange_is_name, code_back, figures_are_code, group_back, group_is_name}
 
 length_map : {A B : Type 0} (f : A → B) (xs : List A) → length (map f xs) ≡ length xs
 length_map f [] = refl

@@ -4,12 +4,12 @@ use Rattle.std.proofs.lemmas.Bool.{lt-ltb}
 use Rattle.tx_text.specs.Frame.{header_of}
 use Rattle.tx_text.specs.Written.{IsWrittenLine, LeadsTo}
 use Rattle.tx_text.proofs.ReadBack.{reads_back}
+use Rattle.tx_text.proofs.WrittenWords.{line_of_short, fixed_word}
 use Rattle.tx_plan.specs.declared.pair.Pair.{Pair}
 use Rattle.tx_plan.specs.Plan.{Plan, no_plan}
 use Rattle.tx_plan.specs.Rules.{IsPlan}
 use Rattle.tx_plantext.specs.PlanText.{declare}
 use Rattle.tx_plantext.specs.PlanWritten.{plan_lines, head_of, version_of, has_bars, exchange_words, code_words, range_words, group_words, route_words, bar_words, ReadsBack}
-use Rattle.tx_plantext.proofs.WrittenWords.{line_of_short, fixed_word}
 use Rattle.tx_plantext.proofs.ListLines.{list_leads}
 use Rattle.tx_plantext.proofs.PlanLines.{exchanges_so_far, codes_so_far, ranges_so_far, groups_so_far, exchange_declared, code_declared, range_declared, group_declared}
 use Rattle.tx_plantext.proofs.RouteLines.{routes_so_far, bars_so_far, route_declared, bar_declared}

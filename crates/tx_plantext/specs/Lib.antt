@@ -1,4 +1,3 @@
 pub mod PlanText
 pub mod PlanWritten
-pub mod Wrote
 pub mod PlanFaults

@@ -1,6 +1,6 @@
 -- The codes and names of the faults of plan texts, as they are printed.
-use Rattle.std.specs.Prelude.{ℕ, List, codes}
-use Rattle.tx_text.specs.declared.text_fault.TextFault.TheVariants.{LineTooLong, BadByte, NoMemory as TextNoMemory}
+use Rattle.std.specs.Prelude.{codes}
+use Rattle.tx_text.specs.Rows.{Row, text_row}
 use Rattle.tx_text.specs.declared.line_fault.LineFault.TheVariants.{Text, Read}
 use Rattle.tx_text.specs.declared.frame.FormFault.TheVariants.{NoHeader, NoEnd, AfterEnd}
 use Rattle.tx_text.specs.declared.frame.FrameFault.{FrameFault}
@@ -11,10 +11,6 @@ use Rattle.tx_plan.specs.declared.refusal.PlanRefusal.{PlanRefusal}
 use Rattle.tx_plan.specs.declared.refusal.PlanRefusal.TheVariants.{WrongCount, BadName, BadCode, BadNumber, Duplicate, Unknown, RangeOrder, Overlap, SameEnds, NotOutgoing, RepeatedGroup, RouteAtHome, TooMany, BarAtHome, NoMemory}
 use Rattle.tx_plantext.specs.declared.fault.PlanWord.{PlanWord}
 use Rattle.tx_plantext.specs.declared.fault.PlanWord.TheVariants.{UnknownWord, Refused}
-
--- a code, and a name
-abbrev pub Row : Type 0
-Row = List ℕ × List ℕ
 
 abbrev pub refusal_row : PlanRefusal → Row
 refusal_row WrongCount = (codes "P4", codes "WrongCount")
@@ -38,9 +34,7 @@ frame_row (Form NoHeader) = (codes "P17", codes "NoHeader")
 frame_row (Form NoEnd) = (codes "P18", codes "NoEnd")
 frame_row (Form AfterEnd) = (codes "P19", codes "AfterEnd")
 frame_row (Line Read) = (codes "P20", codes "ReadFault")
-frame_row (Line (Text LineTooLong)) = (codes "X1", codes "LineTooLong")
-frame_row (Line (Text BadByte)) = (codes "X2", codes "BadByte")
-frame_row (Line (Text TextNoMemory)) = (codes "X3", codes "NoMemory")
+frame_row (Line (Text fault)) = text_row fault
 
 abbrev pub fault_row : FaultKind PlanWord → Row
 fault_row (Frame k) = frame_row k

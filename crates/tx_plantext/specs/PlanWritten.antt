@@ -1,7 +1,8 @@
 -- The text of a plan as it is written.
 use Rattle.std.specs.Prelude.{◌≡◌, ℕ, Bool, true, false, nat_lt, List, [], ◌∷◌, ◌++◌, length, map, Ok, codes}
 use Rattle.std.specs.Fmt.{decimal}
-use Rattle.std.specs.List.{flat_map}
+use Rattle.std.specs.List.{flat_map, slice_get}
+use Rattle.std.specs.Option.{option_map_or}
 use Rattle.tx_text.specs.Told.{AtEnd}
 use Rattle.tx_text.specs.Written.{line_written}
 use Rattle.tx_plan.specs.declared.direction.Direction.{Direction}
@@ -41,6 +42,16 @@ abbrev pub plan_lines : Plan → List (List (List ℕ))
 plan_lines p =
     map exchange_words p.exchanges ++ (map (code_words p) p.codes ++ (map (range_words p) p.ranges
     ++ (map (group_words p) p.groups ++ (map (route_words p) p.routes ++ map (bar_words p) p.bars))))
+
+-- THE LINES OF A LIST
+
+-- the lines of its entries
+abbrev pub lines_of_list : {A : Type 0} → (A → List (List ℕ)) → List A → List ℕ
+lines_of_list words entries = flat_map (λ x. line_written (words x)) entries
+
+-- the line of the entry at a place, if there is one
+abbrev pub line_at : {A : Type 0} → (A → List (List ℕ)) → List A → ℕ → List ℕ
+line_at words entries place = option_map_or (λ x. line_written (words x)) (slice_get entries place) []
 
 -- THE TEXT
 

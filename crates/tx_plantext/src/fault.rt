@@ -3,18 +3,18 @@ ghost use Rattle.std.specs.Prelude.{◌≡◌};
 ghost use Rattle.tx_plantext.specs.PlanFaults.{refusal_row, frame_row, fault_row};
 
 use tx_plan::PlanRefusal;
-use tx_text::{FaultAt, FaultKind, FormFault, FrameFault, LineFault, TextFault};
+use tx_text::{FaultAt, FaultKind, FormFault, FrameFault, LineFault};
 
 /// What is wrong with the words of a line.
 #[derive(Clone, Copy, Debug, PartialEq, Eq)]
 pub enum PlanWord {
-    /// P3: no line begins with the word, or the fifth word of a group is no direction.
+    /// P3: no line begins with the word, or the fifth word of a group is no direction. Under `PLAN 1` no line begins with BAR.
     UnknownWord,
-    /// The builder refuses the declaration.
+    /// The builder refuses the declaration, or the number of words is wrong: that is `WrongCount`.
     Refused(PlanRefusal),
 }
 
-/// A fault of a plan text, with its line.
+/// What is wrong with a plan text, and the line of it, counted from 1.
 pub type PlanFault = FaultAt<PlanWord>;
 
 /// The code and the name of a fault, as `P11` and `Overlap`.
@@ -36,9 +36,7 @@ fn frame_row(fault: FrameFault) -> (&'static [u8], &'static [u8])
         FrameFault::Form(FormFault::NoEnd) => (b"P18", b"NoEnd"),
         FrameFault::Form(FormFault::AfterEnd) => (b"P19", b"AfterEnd"),
         FrameFault::Line(LineFault::Read) => (b"P20", b"ReadFault"),
-        FrameFault::Line(LineFault::Text(TextFault::LineTooLong)) => (b"X1", b"LineTooLong"),
-        FrameFault::Line(LineFault::Text(TextFault::BadByte)) => (b"X2", b"BadByte"),
-        FrameFault::Line(LineFault::Text(TextFault::NoMemory)) => (b"X3", b"NoMemory"),
+        FrameFault::Line(LineFault::Text(fault)) => fault.code_and_name(),
     }
 }
 

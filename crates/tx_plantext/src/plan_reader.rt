@@ -20,7 +20,8 @@ const KEY: &[u8] = b"PLAN";
 
 const VERSIONS: u8 = 2;
 
-/// Reads a plan text from a source, to its end. A fault before the end stands whatever bytes follow.
+/// Reads a plan text from a source, to its end, in pieces of any size and by at most 4,294,967,295 calls. `Err` is the first fault, with its line. A fault
+/// before the end stands whatever bytes follow.
 pub fn read_plan_from<R: Source, A: Allocator + Copy>(
     alloc: A,
     source: &mut R,
@@ -34,7 +35,7 @@ pub fn read_plan_from<R: Source, A: Allocator + Copy>(
     }
 }
 
-/// Reads a plan text that stands in memory.
+/// Reads a plan text that stands in memory. `Err` is the first fault, with its line.
 pub fn read_plan<A: Allocator + Copy>(alloc: A, text: &[u8]) -> Result<Plan<A>, PlanFault>
     ensures { AnswersAs is_memory (plan_of AtEnd text.now) (λ n. declares_line n AtEnd text.now ≡ true) (told_fault result) }
 {
@@ -81,14 +82,22 @@ fn read_lines<R: Source, A: Allocator>(
             Ok(FrameStep::Line) => match declare(&mut plan, version, frame.words()) {
                 Ok(()) => {}
                 Err(fault) => {
+                    let line = frame.number();
+                    drop(frame);
+                    drop(plan);
                     return Err(FaultAt {
-                        line: frame.number(),
+                        line,
                         kind: FaultKind::Word(fault),
                     });
                 }
             },
-            Ok(FrameStep::End) => return Ok(plan.finish()),
+            Ok(FrameStep::End) => {
+                drop(frame);
+                return Ok(plan.finish());
+            }
             Err(stop) => {
+                drop(frame);
+                drop(plan);
                 return Err(FaultAt {
                     line: stop.line,
                     kind: FaultKind::Frame(stop.fault),

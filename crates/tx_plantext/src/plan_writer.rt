@@ -4,9 +4,9 @@ ghost use Rattle.std.specs.List.{flat_map};
 ghost use Rattle.std.specs.Io.KnownBytes.{append_known};
 ghost use Rattle.tx_text.specs.Ends.{StopsIn};
 ghost use Rattle.tx_text.specs.Written.{line_written};
+ghost use Rattle.tx_text.specs.Wrote.{Wrote};
 ghost use Rattle.tx_plan.specs.Plan.{group_name};
-ghost use Rattle.tx_plantext.specs.PlanWritten.{plan_written, head_of, exchange_words, code_words, range_words, group_words, route_words, bar_words, direction_word};
-ghost use Rattle.tx_plantext.specs.Wrote.{line_at, lines_of_list, Wrote};
+ghost use Rattle.tx_plantext.specs.PlanWritten.{plan_written, head_of, exchange_words, code_words, range_words, group_words, route_words, bar_words, direction_word, line_at, lines_of_list};
 
 use itoa::Buffer;
 use std::alloc::Allocator;

@@ -9,6 +9,7 @@ pub trait Folder {
 
     type Output: Write + Drop;
 
+    /// Opens a file to be read.
     fn open(&self, name: &str) -> io::Result<Self::Input>;
 
     /// Makes a file, and empties it if it is there.

@@ -1,5 +1,5 @@
 -- The network of a plan for one code obeys the rules of a plan.
-use Rattle.std.proofs.Common.{◌≡◌, ℕ, zero, suc, ◌<◌, true, false, Bool, ◌&&◌, ◌||◌, ◌==◌, cond, List, [], ◌∷◌, length, inl, inr, Option, Some, None, refl, sym, ap, ◌∙◌, arith, eqb-true}
+use Rattle.std.proofs.Common.{◌≡◌, ℕ, ◌<◌, true, false, Bool, ◌&&◌, ◌||◌, ◌==◌, cond, List, [], ◌∷◌, length, inl, inr, Option, Some, None, refl, sym, ap, ◌∙◌, arith, eqb-true}
 use Rattle.std.specs.Prelude.{slice_get, find, option_and_then, not}
 use Rattle.std.specs.List.{list_any}
 use Rattle.std.specs.Option.{option_map_or}
@@ -10,6 +10,7 @@ use Rattle.tx_plan.specs.Circuits.{other_end, far_end, may_seize, is_both}
 use Rattle.tx_plan.specs.Rules.{IsPlan, IsCode, IsRange, IsGroup, IsRoute}
 use Rattle.tx_plan.specs.declared.range.LineRange.{LineRange}
 use Rattle.tx_plan.specs.Among.{Among}
+use Rattle.tx_plan.proofs.ByPlace.{entry_at}
 use Rattle.tx_rank.specs.Walks.{net_of}
 use Rattle.tx_rank.specs.Nets.{IsNet}
 use Rattle.tx_rank.proofs.Ways.{all_among}
@@ -28,15 +29,10 @@ module _ {A : Type 0} where
   any_among t [] h = absurd (false≢true h)
   any_among t (x ∷ xs) h = elim (or_cases (t x) (list_any t xs) h) [ inl a ↦ (x, inl refl, a) | inr b ↦ let r = any_among t xs b in (r.0, inr r.1, r.2) ]
 
-  pub got : (xs : List A) (i : ℕ) → i < length xs → (x : A) × (slice_get xs i ≡ Some x)
-  got [] i h = absurd (omega arith)
-  got (x ∷ xs) zero h = (x, refl)
-  got (x ∷ xs) (suc i) h = got xs i (omega arith)
-
 module _ (p : Plan) (ok : IsPlan p) where
   home_within : (c : ℕ) → c < length p.codes → home_of p c < length p.exchanges
   home_within c h =
-      let k = got p.codes c h in
+      let k = entry_at p.codes c h in
       let e : home_of p c ≡ k.0.home = ap (λ o. option_map_or (λ (d : Code). d.home) o 0) k.1 in
       let w = (all_among (IsCode p) p.codes k.0 ok.codes (among_at p.codes c k.0 k.1)).home in
       omega arith

@@ -72,7 +72,8 @@ fn graded<A: Allocator + Copy>(
     Ok(Grade::Graded(bounds, codes))
 }
 
-/// Tells with which limits and spare numbers some ranks certify the plan, and each of its codes, or what none of them mends.
+/// Tells with which limits, and which spare numbers up to 15, some ranks certify the plan, and each of its codes alone; or what no limit and no spare number
+/// mends. `Err` is want of memory.
 pub fn grade<A: Allocator + Copy>(alloc: A, plan: &Plan<A>) -> Result<Grade<A>, NoMemory>
     // A grade is told wherever any ranks certify the plan, and it says with which limits and spare numbers they do.
     ensures wherever { IfOk result (λ g. (ranks : Ranks) (limit spare : ℕ) → IsCertified plan.now ranks limit spare → IsGraded g) }

@@ -41,7 +41,8 @@ pub fn pair_found<A: Allocator + Copy>(
     Ok(findings)
 }
 
-/// Ranks the exchanges for each code by their heights above its home, or tells what is wrong.
+/// Ranks the exchanges for each code by their heights above its home, for at most `limit` transits (0 to 62, ITU-T F.68) and `spare` groups to spare (0 to
+/// 15), or tells what is wrong. `Err` is want of memory.
 pub fn rank<A: Allocator + Copy>(
     alloc: A,
     plan: &Plan<A>,

@@ -10,6 +10,7 @@ use Rattle.tx_text.specs.Words.{is_letter, is_figure, are_figures}
 use Rattle.tx_text.specs.Frame.{is_end}
 use Rattle.tx_text.specs.Written.{IsWrittenLine, joined}
 use Rattle.tx_text.proofs.ReadBack.{words_joined}
+use Rattle.tx_text.proofs.WrittenWords.{IsShortWord, all_stronger, name_bytes, name_word, figures_word, number_word, number_back, circuit_word, line_of_short, fixed_word, no_fault}
 use Rattle.tx_plan.specs.Plan.{Plan, group_name, figures_of as code_figures}
 use Rattle.tx_plan.specs.Rules.{IsPlan, is_national}
 use Rattle.tx_plan.specs.declared.circuit.Circuit.{Circuit}
@@ -20,8 +21,7 @@ use Rattle.tx_state.specs.declared.party.Party.{Party}
 use Rattle.tx_state.specs.declared.party.Party.TheVariants.{Caller, Called}
 use Rattle.tx_tickets.specs.Texts.{circuit_text}
 use Rattle.tx_script.specs.Events.{is_dot, cut_at_dot, from_one, line_of, circuit_of, call_in, group_in, party_word, event_of, event_in, event_words, IsWritableCircuit, IsWritable, IsEvent, EventsReadBack}
-use Rattle.tx_script.proofs.WrittenWords.{IsShortWord, all_stronger, name_bytes, name_word, figures_word, number_word, number_back, circuit_word, line_of_short, fixed_word, no_fault}
-use Rattle.tx_script.proofs.Places.{code_back, group_back}
+use Rattle.tx_plan.proofs.NamesBack.{code_back, figures_are_code, group_back, group_is_name}
 
 -- ---- what each word says
 
@@ -53,30 +53,29 @@ call_back n h = let e = number_back (2 ^ 32 - 1) n (omega arith) (omega arith) i
 
 module _ (p : Plan) (h : IsPlan p) where
   line_back : (l : Line) → l.code < length p.codes → is_national l.national ≡ true → line_of p (code_figures p l.code) l.national ≡ Ok l
-  line_back l c n = let e = (code_back p h l.code c).0 in rw (n, e) refl
+  line_back l c n = let e = (code_back p h l.code c).back in rw (n, e) refl
 
   group_in_back : (g : ℕ) → g < length p.groups → group_in p (group_name p g ∷ []) ≡ Ok g
-  group_in_back g c = let e = (group_back p h g c).0 in rw e refl
+  group_in_back g c = let e = (group_back p h g c).back in rw e refl
 
   circuit_back : (x : Circuit) → IsWritableCircuit p x → circuit_of p (circuit_text p x) ≡ Ok x
   circuit_back x w =
-      let g = group_back p h x.group w.group in
-      let c = cut_back (group_name p x.group) (decimal x.number) (all_stronger (λ b. is_letter b || is_figure b) (λ b. not (is_dot b)) no_dot (group_name p x.group) (name_bytes (group_name p x.group) g.1).0) in
+      let c = cut_back (group_name p x.group) (decimal x.number) (all_stronger (λ b. is_letter b || is_figure b) (λ b. not (is_dot b)) no_dot (group_name p x.group) (name_bytes (group_name p x.group) (group_is_name p h x.group w.group)).0) in
       let n = number_back 240 x.number w.few (omega arith) in
       let o = from_one_back x.number w.some in
-      let e = g.0 in
+      let e = (group_back p h x.group w.group).back in
       rw (c, n, o, e) refl
 
   -- ---- the words of the line
 
   word_from_name : (g : ℕ) → g < length p.groups → IsShortWord (group_name p g)
-  word_from_name g c = name_word (group_name p g) (group_back p h g c).1
+  word_from_name g c = name_word (group_name p g) (group_is_name p h g c)
 
   word_from_code : (c : ℕ) → c < length p.codes → IsShortWord (code_figures p c)
-  word_from_code c l = figures_word 2 3 (code_figures p c) (omega arith) (omega arith) (code_back p h c l).1
+  word_from_code c l = figures_word 2 3 (code_figures p c) (omega arith) (omega arith) (figures_are_code p h c l)
 
   word_from_circuit : (x : Circuit) → IsWritableCircuit p x → IsShortWord (circuit_text p x)
-  word_from_circuit x w = circuit_word (group_name p x.group) x.number (group_back p h x.group w.group).1 w.few
+  word_from_circuit x w = circuit_word (group_name p x.group) x.number (group_is_name p h x.group w.group) w.few
 
   word_from_party : (party : Party) → IsShortWord (party_word party)
   word_from_party Caller = fixed_word (codes "CALLER") refl

@@ -1,5 +1,3 @@
-pub mod WrittenWords
-pub mod Places
 pub mod EventLines
 pub mod Writable
 pub mod Balance

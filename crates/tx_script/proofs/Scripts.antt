@@ -1,5 +1,5 @@
 -- What was read so far, as the first events of a script.
-use Rattle.std.proofs.Common.{◌≡◌, ◌⊎◌, ℕ, List, [], ◌∷◌, ◌++◌, Option, Ok, Err, codes, refl, sym, ap, ◌∙◌, append_assoc, append-nil, subst, inl, inr}
+use Rattle.std.proofs.Common.{◌≡◌, ℕ, List, [], ◌∷◌, ◌++◌, Option, Ok, Err, codes, refl, sym, ap, ◌∙◌, append_assoc, append-nil, subst}
 use Rattle.tx_text.specs.declared.frame.FrameFault.{FrameFault}
 use Rattle.tx_text.specs.declared.frame.FaultKind.{FaultKind}
 use Rattle.tx_text.specs.declared.frame.FaultKind.TheVariants.{Frame, Word}
@@ -78,8 +78,3 @@ module _ (p : Plan) where
     pub stop_said : (n : ℕ) (k : FrameFault) (broken : Type 0) → Stopped b c T broken (is_read k) (Stop n k) → Stopped a c (script_of p) broken (is_read k) (faulty es n (Frame k))
     unfolding script_said
     stop_said n k broken q = subst (Stopped a c (script_of p) broken (is_read k)) (after_fault es n (Frame k)) (stopped_map a b c (script_of p) T (Stop n k) (λ t. after_events es (script_said p t)) broken (is_read k) said q)
-
--- a step that is not the end
-pub went_past : {E W : Type 0} → E ⊎ W → (E → ⊥) → W
-went_past (inl e) none = absurd (none e)
-went_past (inr w) none = w

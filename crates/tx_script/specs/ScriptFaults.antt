@@ -1,6 +1,6 @@
 -- The codes and names of the faults of scripts, as they are printed.
-use Rattle.std.specs.Prelude.{ℕ, List, codes}
-use Rattle.tx_text.specs.declared.text_fault.TextFault.TheVariants.{LineTooLong, BadByte, NoMemory}
+use Rattle.std.specs.Prelude.{codes}
+use Rattle.tx_text.specs.Rows.{Row, text_row}
 use Rattle.tx_text.specs.declared.line_fault.LineFault.TheVariants.{Text, Read}
 use Rattle.tx_text.specs.declared.frame.FormFault.TheVariants.{NoHeader, NoEnd, AfterEnd}
 use Rattle.tx_text.specs.declared.frame.FrameFault.{FrameFault}
@@ -9,10 +9,6 @@ use Rattle.tx_text.specs.declared.frame.FaultKind.{FaultKind}
 use Rattle.tx_text.specs.declared.frame.FaultKind.TheVariants.{Frame, Word}
 use Rattle.tx_script.specs.declared.script_word.ScriptWord.{ScriptWord}
 use Rattle.tx_script.specs.declared.script_word.ScriptWord.TheVariants.{UnknownWord, WrongCount, BadNumber, UnknownName}
-
--- a code, and a name
-abbrev pub Row : Type 0
-Row = List ℕ × List ℕ
 
 abbrev pub word_row : ScriptWord → Row
 word_row UnknownWord = (codes "S1", codes "UnknownWord")
@@ -25,9 +21,7 @@ abbrev pub frame_row : FrameFault → Row
 frame_row (Form NoHeader) = (codes "S5", codes "NoHeader")
 frame_row (Form NoEnd) = (codes "S6", codes "NoEnd")
 frame_row (Form AfterEnd) = (codes "S7", codes "AfterEnd")
-frame_row (Line (Text LineTooLong)) = (codes "X1", codes "LineTooLong")
-frame_row (Line (Text BadByte)) = (codes "X2", codes "BadByte")
-frame_row (Line (Text NoMemory)) = (codes "X3", codes "NoMemory")
+frame_row (Line (Text fault)) = text_row fault
 frame_row (Line Read) = (codes "", codes "ReadFault")
 
 abbrev pub fault_row : FaultKind ScriptWord → Row

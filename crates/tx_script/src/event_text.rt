@@ -5,17 +5,18 @@ ghost use Rattle.tx_text.specs.Ends.{StopsIn};
 ghost use Rattle.tx_text.specs.Words.{are_figures};
 ghost use Rattle.tx_plan.specs.Plan.{group_name};
 ghost use Rattle.tx_plan.specs.Rules.{is_national};
-ghost use Rattle.tx_tickets.specs.Texts.{circuit_text, line_text};
+ghost use Rattle.tx_tickets.specs.Texts.{line_text};
 ghost use Rattle.tx_script.specs.Events.{IsWritable, event_in, event_line, event_text, party_word};
 
 use itoa::Buffer;
 use std::alloc::Allocator;
-use tx_plan::{Circuit, GroupId, Line, Plan};
+use tx_plan::{GroupId, Line, Plan};
 use tx_state::{Event, Party};
 use tx_text::{Figures, Sink, WriteFault, write_parts};
+use tx_tickets::write_circuit;
 
-/// Writes the line of an event, as `KEY 41 10001 4110002`, with its LF. The plan has the event's ids, and its circuit has a number from 1 to 240. The
-/// line reads back as the event.
+/// Writes the line of an event, as `KEY 41 10001 4110002`, with its LF. The plan has the event's ids, and its circuit has a number from 1 to 240. The line
+/// reads back as the event. Where the sink fails, a front of the line was taken.
 #[tactic(auto, using(crate::proofs::EventLines::events_back))]
 pub fn write_event<A: Allocator, W: Sink>(
     event: &Event,
@@ -99,27 +100,6 @@ fn party_end<'a>(party: Party) -> &'a [u8]
         Party::Caller => b" CALLER\n",
         Party::Called => b" CALLED\n",
     }
-}
-
-/// Writes a first word, given with its space, and a circuit.
-fn write_circuit<A: Allocator, W: Sink>(
-    first: &[u8],
-    circuit: &Circuit,
-    plan: &Plan<A>,
-    sink: &mut W,
-) -> Result<(), WriteFault>
-    ensures ok { OnOk result (W.taken sink.new ≡ append_known (W.taken sink.old) (first.now ++ (circuit_text plan.now circuit.now ++ codes "\n"))) }
-    ensures err { OnErr result (StopsIn (W.taken sink.old) (W.taken sink.new) (first.now ++ (circuit_text plan.now circuit.now ++ codes "\n"))) }
-    ensures mark { OnErr result (W.failed sink.new ≡ true) }
-    ensures unmarked { OnOk result (W.failed sink.new ≡ W.failed sink.old) }
-{
-    let mut digits = Buffer::new();
-    let number = digits.format(circuit.number).as_bytes();
-    let group = plan.group_name(circuit.group);
-    write_parts(
-        &[first, group, b".".as_slice(), number, b"\n".as_slice()],
-        sink,
-    )
 }
 
 /// Writes a first word, given with its space, and a group.

@@ -1,7 +1,7 @@
 //! A script: events as lines of text, and the run that plays them over a network.
 //!
-//! `run` takes any `Network` that was made for the plan, and writes each reply, and the tickets of the calls that ended, before it asks for the next line.
-//! `read_event` and `write_event` are one line, both ways.
+//! `run` takes any `Network` that was made for the plan, and writes the reply to each event and then the tickets of the calls that it ended. `read_event` and
+//! `write_event` are one line, both ways.
 //!
 //! ```
 //! fn run_one_call<N: Network>(

@@ -27,9 +27,11 @@ use tx_text::{
 
 const KEY: &[u8] = b"SCRIPT";
 
-/// Runs the script that comes from a source over a network that was made for the plan, and writes the reply and the tickets of each event, and at
-/// the script's end the line END EVENTS. Each event is answered before the source is asked for a line that is not yet there: no clause says so, and the
-/// worked examples, which count the reads, show it.
+/// Runs the script that comes from a source over a network of the plan that has no open call and no ticket. Writes the reply and the tickets of each event,
+/// and at the script's end the line END EVENTS. `Err` tells at which event the run stopped, and why.
+///
+/// Each event is answered before the source is asked for a line that is not yet there: no clause says so, and the worked examples, which count the reads,
+/// show it.
 pub fn run<A: Allocator, B: Allocator, N: Network, R: Source, W: Sink>(
     alloc: A,
     plan: &Plan<B>,
@@ -90,15 +92,25 @@ fn run_lines<A: Allocator, B: Allocator, N: Network, R: Source, W: Sink>(
             Ok(FrameStep::Line) => match event_of(frame.words(), plan) {
                 Ok(event) => match answer(event, plan, net, sink) {
                     Ok(answered) => tally.count(answered),
-                    Err(cause) => return Err(tally.stopped(cause)),
+                    Err(cause) => {
+                        drop(frame);
+                        return Err(tally.stopped(cause));
+                    }
                 },
                 Err(word) => {
                     let cause = script_fault(frame.number(), FaultKind::Word(word));
+                    drop(frame);
                     return Err(tally.stopped(cause));
                 }
             },
-            Ok(FrameStep::End) => return finish(&tally, net, sink),
-            Err(stop) => return Err(tally.stopped(frame_cause(stop))),
+            Ok(FrameStep::End) => {
+                drop(frame);
+                return finish(&tally, net, sink);
+            }
+            Err(stop) => {
+                drop(frame);
+                return Err(tally.stopped(frame_cause(stop)));
+            }
         }
     }
 }

@@ -2,7 +2,7 @@
 ghost use Rattle.std.specs.Prelude.{◌≡◌};
 ghost use Rattle.tx_script.specs.ScriptFaults.{frame_row, word_row, fault_row};
 
-use tx_text::{FaultAt, FaultKind, FormFault, FrameFault, LineFault, TextFault};
+use tx_text::{FaultAt, FaultKind, FormFault, FrameFault, LineFault};
 
 /// What is wrong with the words of a script's line. Of several faults the first in this order is given.
 #[derive(Clone, Copy, Debug, PartialEq, Eq)]
@@ -11,7 +11,7 @@ pub enum ScriptWord {
     UnknownWord,
     /// S2: the wrong number of words.
     WrongCount,
-    /// S3: a word that is no number of its kind.
+    /// S3: a national number, keyed figures, a call or a circuit that is none.
     BadNumber,
     /// S4: a code or a group that the plan has not.
     UnknownName,
@@ -20,7 +20,7 @@ pub enum ScriptWord {
 /// What is wrong with a line of a script, or with its frame.
 pub type ScriptKind = FaultKind<ScriptWord>;
 
-/// A fault of a script, with its line.
+/// A fault of a script, with its line, counted from 1.
 pub type ScriptFault = FaultAt<ScriptWord>;
 
 /// The code and the name of a fault, as `S1` and `UnknownWord`. A source that failed has no code in a script.
@@ -41,9 +41,7 @@ fn frame_row(fault: FrameFault) -> (&'static [u8], &'static [u8])
         FrameFault::Form(FormFault::NoEnd) => (b"S6", b"NoEnd"),
         FrameFault::Form(FormFault::AfterEnd) => (b"S7", b"AfterEnd"),
         FrameFault::Line(LineFault::Read) => (b"", b"ReadFault"),
-        FrameFault::Line(LineFault::Text(TextFault::LineTooLong)) => (b"X1", b"LineTooLong"),
-        FrameFault::Line(LineFault::Text(TextFault::BadByte)) => (b"X2", b"BadByte"),
-        FrameFault::Line(LineFault::Text(TextFault::NoMemory)) => (b"X3", b"NoMemory"),
+        FrameFault::Line(LineFault::Text(fault)) => fault.code_and_name(),
     }
 }
 

@@ -119,7 +119,7 @@ module _ (p : Plan) (s : State) (h : Holds p s) where
           planned = λ x e. let bad : ⊥ = cc in absurd bad;
           calling = λ x e. let bad : ⊥ = cc in absurd bad;
           connected = λ m e. let same : l ≡ m = cc in subst (IsKeyedLine p (in_phase (Connected l) c)) same (record { known = right.known; at_home = right.at_home; keyed = right.keyed });
-          lines = (or_no (or_parts _ _ (free c in')).0, (refl, tt));
+          lines = (ap (λ b. b || false) (or_parts _ _ (free c in')).0, (refl, tt));
         })
         (λ d m ne. let a = apart d m ne in record {
           carried = a.carried;
@@ -135,9 +135,6 @@ module _ (p : Plan) (s : State) (h : Holds p s) where
       where
         free : (d : Call) → Mem s.calls d → takes_part d l ≡ false
         free d m = none_any (λ d. takes_part d l) s.calls d idle m
-
-        or_no : {b : Bool} → b ≡ false → (b || false) ≡ false
-        or_no e = ap (λ b. b || false) e
 
     -- A CALL THAT SEIZES A CIRCUIT
     pub seize_keeps : (x : Circuit) (y : ℕ) → c.phase ≡ Standing → is_circuit p x ≡ true → other_end p x.group (place_of p c) ≡ Some y → IsFree p s (place_of p c) x → Inv p (set_call c.number (in_phase (Calling x)) s.calls) s.releasing s.numbers

@@ -31,7 +31,7 @@ use Rattle.tx_state.specs.Confirming.{confirmed_by, rival, confirmed, far_of}
 use Rattle.tx_state.specs.Step.{with_call, accepted, counted, unless_refused, step}
 use Rattle.tx_state.specs.Excused.{HadCollided, IsExcusedTo, IsExcused}
 use Rattle.tx_state.specs.Members.{Mem}
-use Rattle.tx_state.proofs.Lists.{mem_left, mem_right, find_mem, find_none, all_from_mem}
+use Rattle.tx_state.proofs.Lists.{mem_left, mem_right, map_mem, find_mem, find_none, all_from_mem}
 use Rattle.tx_state.proofs.Uses.{first_in-none}
 use Rattle.tx_state.specs.Invariant.{Holds}
 use Rattle.tx_state.proofs.Ranks.{AllRanked, ranked_place, code_within}
@@ -44,11 +44,6 @@ in_downward (suc n) k l h = elim (cases_eq (suc n) k) [ inl e ↦ inl e | inr e 
 pub in_upward : (n k : ℕ) → 0 < k → k ≤ n → Mem (upward n) k
 in_upward zero k l h = absurd (omega arith)
 in_upward (suc n) k l h = elim (cases_eq (suc n) k) [ inl e ↦ mem_right (upward n) (suc n ∷ []) k (inl e) | inr e ↦ mem_left (upward n) (suc n ∷ []) k (in_upward n k l (omega arith)) ]
-
-pub map_mem : {A B : Type 0} (f : A → B) (xs : List A) (x : A) → Mem xs x → Mem (map f xs) (f x)
-map_mem f [] x m = elim m [ ]
-map_mem f (y ∷ xs) x (inl e) = inl (ap f e)
-map_mem f (y ∷ xs) x (inr m) = inr (map_mem f xs x m)
 
 pub circuit_listed : (p : Plan) (x : Circuit) (g place : ℕ) → is_circuit p x ≡ true → x.group ≡ g → Mem (circuits_at p g place) x
 circuit_listed p x g place h e = subst (λ k. Mem (circuits_at p k place) x) e (at (slice_get p.groups x.group) h)

@@ -69,6 +69,11 @@ module _ {A : Type 0} where
   all_from_mem P [] h = tt
   all_from_mem P (x ∷ xs) h = (h x (inl refl), all_from_mem P xs (λ z m. h z (inr m)))
 
+pub map_mem : {A B : Type 0} (f : A → B) (xs : List A) (x : A) → Mem xs x → Mem (map f xs) (f x)
+map_mem f [] x m = elim m [ ]
+map_mem f (y ∷ xs) x (inl e) = inl (ap f e)
+map_mem f (y ∷ xs) x (inr m) = inr (map_mem f xs x m)
+
 pub mem_map : {A B : Type 0} (f : A → B) (xs : List A) (y : B) → Mem (map f xs) y → (x : A) × Mem xs x × (f x ≡ y)
 mem_map f [] y m = elim m [ ]
 mem_map f (x ∷ xs) y (inl e) = (x, inl refl, e)

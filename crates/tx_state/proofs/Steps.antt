@@ -8,6 +8,7 @@ use Rattle.std.specs.FinSet as set
 use Rattle.tx_plan.specs.Plan.{Plan, Code, Group, Route as RouteRow, home_of, figures_of}
 use Rattle.tx_plan.specs.Rules.{IsPlan, IsRoute}
 use Rattle.tx_plan.specs.Lines.{is_line}
+use Rattle.tx_plan.proofs.Fronts.{after-is}
 use Rattle.tx_plan.specs.Codes.{after, is_prefix, codes_before, longer, longest, code_of}
 use Rattle.tx_plan.specs.Routes.{route_list, is_barred}
 use Rattle.tx_plan.specs.Circuits.{far_end, other_end, may_seize, is_both}
@@ -51,15 +52,6 @@ all_mem P (y ∷ ys) x a (inl e) = subst P e a.0
 all_mem P (y ∷ ys) x a (inr m) = all_mem P ys x a.1 m
 
 -- THE KEYED CODE
-after-is : (front text rest : List ℕ) → after front text ≡ Some rest → front ++ rest ≡ text
-after-is [] text rest h = let e : text ≡ rest = cc in sym e
-after-is (x ∷ xs) [] rest h = let bad : ⊥ = cc in absurd bad
-after-is (x ∷ xs) (y ∷ ys) rest h =
-    elim (x == y) as (λ b. (x == y) ≡ b → (if b then after xs ys else None) ≡ Some rest → x ∷ xs ++ rest ≡ y ∷ ys) [
-      | true ↦ λ t e. λ i. eqb-true x y t i ∷ after-is xs ys rest e i
-      | false ↦ λ t e. let bad : ⊥ = cc in absurd bad
-    ] refl h
-
 pub prefix-is : (front text : List ℕ) → is_prefix front text ≡ true → front ++ unwrap_or (after front text) [] ≡ text
 prefix-is front text h = at (after front text) refl h
   where

@@ -169,10 +169,7 @@ map_push f [] x = refl
 map_push f (y ∷ xs) x = ap (λ l. f y ∷ l) (map_push f xs x)
 
 pub any_push : {A : Type 0} (t : A → Bool) (xs : List A) (x : A) → list_any t xs ≡ false → t x ≡ false → list_any t (xs ++ x ∷ []) ≡ false
-any_push t [] x n h = or_no h
-  where
-    or_no : {b : Bool} → b ≡ false → (b || false) ≡ false
-    or_no {b} e = ap (λ c. c || false) e
+any_push t [] x n h = ap (λ c. c || false) h
 any_push t (y ∷ xs) x n h = let r = or_parts (t y) (list_any t xs) n in ap (λ b. b || list_any t (xs ++ x ∷ [])) r.0 ∙ any_push t xs x r.1 h
 
 pub none_twice_push : {A : Type 0} (same : A → A → Bool) (xs : List A) (x : A) → NoneTwice same xs → ((y : A) → Mem xs y → same y x ≡ false) → NoneTwice same (xs ++ x ∷ [])

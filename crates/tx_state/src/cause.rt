@@ -10,6 +10,6 @@ pub enum Cause {
     ClearedByCaller,
     /// The called party cleared it.
     ClearedByCalled,
-    /// A group that it was on failed.
+    /// A group failed that it had a circuit of, carried or seized.
     Lost,
 }

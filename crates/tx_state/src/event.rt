@@ -15,25 +15,25 @@ pub enum Event {
     Confirm(u32),
     /// A party clears the call of this number (ITU-T U.1, clearing).
     Clear { call: u32, party: Party },
-    /// A circuit is free again (ITU-T U.1, clear confirmation).
+    /// The release of a circuit is confirmed (ITU-T U.1, clear confirmation).
     Released(Circuit),
-    /// A group fails, with all calls on it.
+    /// A group fails, and the calls on it are lost.
     Fail(GroupId),
     /// A failed group works again.
     Restore(GroupId),
-    /// A group is blocked: no new call may seize a circuit of it.
+    /// A group is blocked: no call may seize a circuit of it any more. Calls on it go on.
     Block(GroupId),
     /// A blocked group may be seized again.
     Unblock(GroupId),
-    /// A circuit is taken out of service.
+    /// A circuit is taken out of service: neither end may seize it. A call that has it goes on.
     CircuitOut(Circuit),
     /// A circuit is put back in service.
     CircuitIn(Circuit),
-    /// A line is out of order.
+    /// A line is out of order: it may not call, and no further call is connected to it.
     LineFault(Line),
     /// A line out of order works again.
     LineMend(Line),
-    /// A subscriber is absent.
+    /// A subscriber is absent: no further call is connected to the line. It may still call.
     LineAway(Line),
     /// An absent subscriber is back.
     LineBack(Line),

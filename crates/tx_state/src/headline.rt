@@ -35,8 +35,8 @@ pub fn routes_are_bounded()
     ensures { (p : Plan) (ranks : Ranks) (limit spare : ℕ) → IsPlan p → IsCertified p ranks limit spare → HasFewRoutes p limit }
 {}
 
-/// A certified plan is sound: from every opening state and for every list of events every state is safe and every NC is excused. And few Routes of
-/// one call are accepted.
+/// A certified plan is sound: from every opening state and for every list of events every state is safe and every NC is excused. And at most
+/// twice `limit` and three Routes of one call are accepted.
 pub fn certified_is_sound()
     ensures sound { (p : Plan) (ranks : Ranks) (limit spare : ℕ) → IsPlan p → IsCertified p ranks limit spare → IsSound p limit spare }
     ensures few_routes { (p : Plan) (ranks : Ranks) (limit spare : ℕ) → IsPlan p → IsCertified p ranks limit spare → HasFewRoutes p limit }

@@ -38,7 +38,7 @@ pub trait Network {
     fn open_calls(&self) -> u64
         ensures { result ≡ length (state self.now).calls };
 
-    /// How many events were accepted.
+    /// How many events were accepted, those before an opening state included.
     fn events(&self) -> u64
         ensures { result ≡ (state self.now).events };
 }

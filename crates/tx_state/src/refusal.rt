@@ -19,15 +19,15 @@ pub enum Refusal {
     LineEngaged,
     /// M7: the calling line is out of order.
     LineOutOfOrder,
-    /// M8: it is so already.
+    /// M8: the group, circuit or line is already what the event makes it.
     AlreadySo,
-    /// M9: it is not so.
+    /// M9: the group, circuit or line is not what the event ends.
     NotSo,
-    /// M10: the circuit is not to be released.
+    /// M10: the circuit is not releasing.
     NotReleasing,
     /// M11: the plan has no such circuit or group.
     UnknownCircuit,
-    /// M12: all call numbers were given, or all events were counted.
+    /// M12: all 4,294,967,295 call numbers were given (of `Key` alone), or 18,446,744,073,709,551,615 events were accepted.
     Exhausted,
 }
 

@@ -21,7 +21,7 @@ pub struct Ticket<A: Allocator = Global> {
     pub cause: Cause,
     /// The event by which the line called, by its place among the accepted events, from 1.
     pub keyed_at: u64,
-    /// The event by which the call ended.
+    /// The event by which the call ended, by its place likewise.
     pub ended_at: u64,
     /// The circuits that the call carried, and where they led.
     pub path: Path<A>,

@@ -1,5 +1,5 @@
 -- How often a source was called, over several readings.
-use Rattle.std.proofs.Common.{◌≡◌, ℕ, zero, suc, ◌+◌, ◌*◌, ◌<◌, min, Bool, true, false, List, Option, Result, Ok, length, drop, refl, sym, ap, ◌∙◌, arith, inl, inr, subst}
+use Rattle.std.proofs.Common.{◌≡◌, ℕ, zero, suc, ◌+◌, ◌*◌, ◌<◌, min, ◌⊎◌, Bool, true, false, List, Option, Result, Ok, length, drop, refl, sym, ap, ◌∙◌, arith, inl, inr, subst}
 use Rattle.std.proofs.lemmas.List.{length-drop, drop-drop}
 use Rattle.tx_text.specs.declared.source.ReadFault.{ReadFault}
 use Rattle.tx_text.specs.declared.frame.FrameFault.{FrameFault}
@@ -81,3 +81,8 @@ more_than n a c (b, g, (m, lt, (e, d))) =
 pub slices_whole : SlicesAreReadWhole
 slices_whole text rest short (inl f) = cc
 slices_whole text rest short (inr g) = let l = more_than 2251799813685248 text rest g in omega (arith, l, short)
+
+-- a step that is not the end
+pub went_past : {E W : Type 0} → E ⊎ W → (E → ⊥) → W
+went_past (inl e) none = absurd (none e)
+went_past (inr w) none = w

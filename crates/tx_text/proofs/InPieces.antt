@@ -7,7 +7,7 @@ use Rattle.tx_text.specs.declared.text_fault.TextFault.{TextFault}
 use Rattle.tx_text.specs.declared.line_fault.LineFault.TheVariants.{Text, Read}
 use Rattle.tx_text.specs.Text.{Line, is_lf, lines_from, lines_of, bytes_fault, checked, checked_line}
 use Rattle.tx_text.specs.Feed.{Feed, front_of, has_lf, piece_fault, feed_gives, feed_leaves, gives_by, leaves_by, begun_more, ended, ends_giving, ends_leaving}
-use Rattle.tx_text.specs.Told.{Ending, AtEnd, Told, Closed, Faulty, Then, told, told_line, told_at, IsFeed, place_of, or_fault}
+use Rattle.tx_text.specs.Told.{AtEnd, Told, Closed, Faulty, Then, told, told_line, told_at, IsFeed, place_of, or_fault}
 use Rattle.tx_text.specs.Pieces.{FeedingGives, taken, completed, faulty, over, unfinished, unfinished_faulty, unfed_yet, PiecesGiveTheLines}
 use Rattle.tx_text.proofs.TextLines.{last_line}
 use Rattle.tx_text.proofs.Feeding.{no_cut, end-nothing, end-line}

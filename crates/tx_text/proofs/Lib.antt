@@ -1,5 +1,7 @@
 pub mod WordLists
+pub mod WordEnds
 pub mod Writing
+pub mod Wrote
 pub mod Places
 pub mod Blocks
 pub mod LineFaults
@@ -20,6 +22,7 @@ pub mod CallCounts
 pub mod Frames
 pub mod PlainLines
 pub mod Numbers
+pub mod WrittenWords
 pub mod ReadBack
 pub mod SliceAnswers
 mod ReadCalls

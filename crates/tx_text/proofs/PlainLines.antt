@@ -1,5 +1,5 @@
 -- Lines that begin with a word other than END.
-use Rattle.std.proofs.Common.{◌≡◌, ℕ, ◌<◌, ◌+◌, ◌==◌, Bool, true, false, List, [], ◌∷◌, Option, take, drop, length, get_or, refl, ap, ◌∙◌, arith}
+use Rattle.std.proofs.Common.{◌≡◌, ℕ, ◌<◌, ◌==◌, false, List, [], ◌∷◌, Option, take, drop, length, get_or, refl, ap, ◌∙◌, arith}
 use Rattle.std.specs.List.{prefix_len}
 use Rattle.std.proofs.Math.Numerals.{one-add}
 use Rattle.tx_text.specs.declared.frame.FramePart.TheVariants.{Body}

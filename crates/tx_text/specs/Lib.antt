@@ -2,6 +2,7 @@ pub mod Text
 pub mod Words
 pub mod Padded
 pub mod Ends
+pub mod Wrote
 pub mod Calls
 pub mod ReadCalls
 pub mod Slices
@@ -10,6 +11,7 @@ pub mod Feed
 pub mod Pieces
 pub mod TextLine
 pub mod Told
+pub mod Rows
 pub mod Frame
 pub mod Said
 pub mod Written

@@ -9,7 +9,7 @@ use crate::text_fault::TextFault;
 use std::alloc::{Allocator, Global};
 use std::marker::Model;
 
-/// What a call of `feed` took, and whether it completed a line.
+/// What a call of `feed` did: how many bytes of the piece it took, and whether it completed a line.
 #[derive(Clone, Copy, Debug, PartialEq, Eq)]
 pub struct Fed {
     pub taken: usize,
@@ -41,7 +41,7 @@ impl<A: Allocator> Model for LineFeeder<A> {
 }
 
 impl<A: Allocator> LineFeeder<A> {
-    /// Reserves the buffer of a line. No other call takes memory.
+    /// Reserves the buffer of a line. No other call takes memory. `Err` is want of memory alone.
     pub fn new(alloc: A) -> Result<LineFeeder<A>, TextFault>
         ensures ok { IfOk result (λ f. f ≡ record { number = 0; start = 0; begun = []; line = None; fault = None }) }
         ensures err { IfErr result (λ e. e ≡ TextFault.NoMemory) }
@@ -80,7 +80,7 @@ impl<A: Allocator> LineFeeder<A> {
         self.fault = Some(fault);
     }
 
-    /// Takes the bytes of a piece up to and with the first LF.
+    /// Takes the bytes of a piece up to and with the first LF, or all of them. `Err` tells that the line is too long or has a bad byte.
     #[inline(always)]
     pub fn feed(&mut self, piece: &[u8]) -> Result<Fed, TextFault>
         requires { self.old.start + length self.old.begun + length piece.now < 2 ^ 64 - 1 }
@@ -130,7 +130,7 @@ impl<A: Allocator> LineFeeder<A> {
         }
     }
 
-    /// The text came to its end: tells whether an unfinished line stands, and completes it.
+    /// The text came to its end: tells whether an unfinished line stands, and completes it. `Err` tells that this line is too long or has a bad byte.
     #[inline(always)]
     pub fn finish(&mut self) -> Result<bool, TextFault>
         ensures gives { result ≡ finish_gives self.old }

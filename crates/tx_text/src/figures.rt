@@ -28,6 +28,7 @@ impl Model for Figures {
 }
 
 impl Figures {
+    /// The figures, where the text is 1 to 12 of them and nothing else.
     #[inline(always)]
     pub fn read(text: &[u8]) -> Option<Figures>
         ensures { result ≡ figures_of text.now }
@@ -40,6 +41,7 @@ impl Figures {
         }
     }
 
+    /// The figures, each a byte from `0` to `9`.
     #[inline(always)]
     pub fn bytes(&self) -> &[u8]
         ensures value { result.now ≡ self.now }
@@ -63,7 +65,7 @@ fn all_figures(text: &[u8]) -> bool
     text.iter().all(|byte| is_figure(*byte))
 }
 
-/// Whether the text has so many figures, and nothing else.
+/// Whether the text is at least `least` and at most `most` figures, and nothing else.
 #[inline(always)]
 pub fn are_figures(text: &[u8], least: usize, most: usize) -> bool
     ensures gives { result ≡ are_figures least most text.now }

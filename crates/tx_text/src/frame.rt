@@ -13,15 +13,20 @@ use crate::split::words;
 /// What is wrong with the form of a text.
 #[derive(Clone, Copy, Debug, PartialEq, Eq)]
 pub enum FormFault {
+    /// The first line with words is not the header, or no line has words.
     NoHeader,
+    /// The text ends without END, or in the middle of a line with words that is not the one word END.
     NoEnd,
+    /// A line behind END has words.
     AfterEnd,
 }
 
 /// What is wrong with a text beside the words of its lines.
 #[derive(Clone, Copy, Debug, PartialEq, Eq)]
 pub enum FrameFault {
+    /// A line could not be read.
     Line(LineFault),
+    /// Header or END.
     Form(FormFault),
 }
 
@@ -32,7 +37,7 @@ pub enum FaultKind<W> {
     Word(W),
 }
 
-/// A fault of a text, with its line.
+/// A fault of a text, with the number of its line, from 1.
 #[derive(Clone, Copy, Debug, PartialEq, Eq)]
 pub struct FaultAt<W> {
     pub line: u64,
@@ -42,12 +47,15 @@ pub struct FaultAt<W> {
 /// Which part of a text is read.
 #[derive(Clone, Copy, Debug, PartialEq, Eq)]
 pub enum FramePart {
+    /// Before the header.
     Start,
+    /// Between the header and END.
     Body,
+    /// Behind END.
     Ended,
 }
 
-/// A fault of the frame, with its line.
+/// A fault of the frame, with the number of its line, from 1.
 #[derive(Clone, Copy, Debug, PartialEq, Eq)]
 pub struct FrameStop {
     pub line: u64,
@@ -59,9 +67,9 @@ pub struct FrameStop {
 pub enum FrameStep {
     /// The header of this version.
     Header(u8),
-    /// A line for the reader.
+    /// A line with words between the header and END.
     Line,
-    /// The end of a whole text.
+    /// The end of the text, which has its header and END.
     End,
 }
 

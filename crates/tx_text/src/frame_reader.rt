@@ -25,7 +25,7 @@ pub struct FrameReader<'k, A: Allocator = Global> {
 }
 
 impl<'k, A: Allocator> FrameReader<'k, A> {
-    /// A reader of texts from a source, whose header has this key, of versions up to the given one.
+    /// A reader of a text from a source. The header is the key and a version from 1 to `most`, as `PLAN 2`. `Err` is want of memory alone.
     pub fn new(alloc: A, key: &'k [u8], most: u8) -> Result<FrameReader<'k, A>, TextFault>
         ensures fields { IfOk result (λ r. (r.key.now ≡ key.now) × (r.most ≡ most) × (r.reader ≡ reading_start) × (r.phase ≡ FramePart.Start) × (r.number ≡ 1)) }
         ensures err { IfErr result (λ e. e ≡ TextFault.NoMemory) }
@@ -34,7 +34,7 @@ impl<'k, A: Allocator> FrameReader<'k, A> {
         Ok(FrameReader::of_reader(reader, key, most))
     }
 
-    /// The same for texts that stand in memory, whose end it always meets.
+    /// The same for a text that stands in memory: no such text meets the bound on calls.
     pub fn for_slice(alloc: A, key: &'k [u8], most: u8) -> Result<FrameReader<'k, A>, TextFault>
         ensures fields { IfOk result (λ r. (r.key.now ≡ key.now) × (r.most ≡ most) × (r.reader ≡ slice_start) × (r.phase ≡ FramePart.Start) × (r.number ≡ 1)) }
         ensures err { IfErr result (λ e. e ≡ TextFault.NoMemory) }
@@ -59,7 +59,8 @@ impl<'k, A: Allocator> FrameReader<'k, A> {
         }
     }
 
-    /// Goes on to the header, to the next line or to the end.
+    /// Goes on to the header, to the next line with words or to the end. `Err` is the first fault, with its line. A fault before the end of the source stands
+    /// whatever bytes follow; a read fault means that the source failed, or was not at its end after so many calls.
     #[inline(always)]
     pub fn advance<R: Source>(&mut self, source: &mut R) -> Result<FrameStep, FrameStop>
         requires { self.old.reader.feed.fault ≡ None }
@@ -108,7 +109,7 @@ impl<'k, A: Allocator> FrameReader<'k, A> {
         }
     }
 
-    /// The number of the line that stands.
+    /// The number of the line that stands, from 1.
     #[inline(always)]
     pub fn number(&self) -> u64
         requires { IsSome self.now.reader.feed.line }

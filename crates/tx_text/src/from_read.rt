@@ -4,7 +4,7 @@ ghost use Rattle.std.specs.Prelude.{◌≡◌, false};
 use crate::source::{ReadFault, Source};
 use std::io::Read;
 
-/// A reader. An error is a failure, and stays one. The calls are counted.
+/// A source over a reader of the standard library. Any error of the reader is a failure, and stays one. The calls are counted. It does not tell its bytes.
 #[derive(Drop)]
 pub struct FromRead<R> {
     reader: R,
@@ -15,6 +15,7 @@ pub struct FromRead<R> {
 impl<R: Read> FromRead<R> {
     ghost use Rattle.tx_text.specs.ReadCalls.{TellsWhy};
 
+    /// A source that has not been called.
     #[tactic(auto, using(crate::proofs::ReadCalls::tells_why))]
     #[inline(always)]
     pub fn new(reader: R) -> FromRead<R>

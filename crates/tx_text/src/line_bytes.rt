@@ -6,7 +6,7 @@ ghost use Rattle.tx_text.specs.Text.{without_cr, bytes_fault, is_text_byte, is_l
 use crate::text_fault::TextFault;
 use memchr::memchr;
 
-/// The line without a CR at its end.
+/// The line without the one CR at its end, if there is one.
 #[tactic(auto, unfolding(crate::specs::Text::without_cr))]
 #[inline(always)]
 pub fn without_cr(line: &[u8]) -> &[u8]

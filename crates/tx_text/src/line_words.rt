@@ -1,10 +1,12 @@
 // The words of a line, and what a word spells.
-ghost use Rattle.std.specs.Prelude.{◌≡◌, ◌≤◌, ◌∷◌, [], length, MatchOption};
+ghost use Rattle.std.specs.Prelude.{◌≡◌, ◌≤◌, ◌∷◌, [], not, map, length, MatchOption};
 ghost use Rattle.std.specs.List.{prefix_len};
 ghost use Rattle.std.specs.Iterator.{YieldsFirstBy, item_count};
+ghost use Rattle.std.specs.Simd.Lanes.{mask_l};
 ghost use Rattle.tx_text.specs.Words.{words_of, is_blank, is_word_byte};
 
 use std::marker::Model;
+use std::simd::prelude::*;
 
 #[inline(always)]
 pub(crate) fn is_blank(byte: u8) -> bool
@@ -74,9 +76,9 @@ impl<'a> Iterator for Words<'a> {
     }
 }
 
-/// How long the word at the front is.
+/// How long the word at the front is, looked at byte by byte.
 #[inline(always)]
-fn word_len(text: &[u8]) -> usize
+fn count_word_bytes(text: &[u8]) -> usize
     ensures within { result ≤ length text.now }
     ensures count { result ≡ prefix_len is_word_byte text.now }
 {
@@ -86,6 +88,31 @@ fn word_len(text: &[u8]) -> usize
         }
     }
     text.len()
+}
+
+/// A bit for each byte of a block, set where it is no byte of a word.
+#[inline(always)]
+fn word_ends(block: u8x16) -> u64
+    ensures { result ≡ mask_l (map (λ b. not (is_word_byte b)) block) }
+{
+    (block.simd_eq(u8x16::splat(b' '))
+        | block.simd_eq(u8x16::splat(b'\t'))
+        | block.simd_eq(u8x16::splat(b'#'))).to_bitmask()
+}
+
+/// How long the word at the front is. Where 16 bytes follow, its end is looked for in all of them at once.
+#[inline(always)]
+fn word_len(text: &[u8]) -> usize
+    ensures within { result ≤ length text.now }
+    ensures count { result ≡ prefix_len is_word_byte text.now }
+{
+    if text.len() >= 16 {
+        let ends = word_ends(u8x16::from_slice(text));
+        if ends != 0 {
+            return ends.trailing_zeros() as usize;
+        }
+    }
+    count_word_bytes(text)
 }
 
 /// The first word, and what stands behind it.

@@ -33,6 +33,7 @@ impl<'a> Model for Lines<'a> {
 }
 
 impl<'a> Lines<'a> {
+    /// The lines of a text that stands in memory, from its first.
     pub fn new(text: &'a [u8]) -> Lines<'a>
         ensures { result ≡ checked (lines_from 1 0 text.now) }
     {

@@ -7,7 +7,7 @@ use crate::sink::{Sink, WriteFault};
 use std::alloc::{Allocator, Global};
 use std::marker::Model;
 
-/// Takes `room` bytes, and then fails.
+/// A sink that takes `room` bytes, and then fails.
 #[derive(Drop)]
 pub struct MemorySink<A: Allocator = Global> {
     bytes: Vec<u8, A>,
@@ -27,7 +27,7 @@ impl<A: Allocator> Model for MemorySink<A> {
 }
 
 impl<A: Allocator> MemorySink<A> {
-    /// Reserves the room.
+    /// Reserves the room. No other call takes memory.
     pub fn new(alloc: A, room: usize) -> Result<MemorySink<A>, NoMemory>
         ensures ok { IfOk result (λ s. s ≡ record { bytes = []; room = room; failed = false }) }
     {

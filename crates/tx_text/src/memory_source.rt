@@ -5,7 +5,7 @@ ghost use Rattle.tx_text.specs.Memory.{is_due, sooner};
 use crate::source::{ReadFault, Source};
 use std::marker::Model;
 
-/// The bytes of a slice, at most `piece` a call. The call `fails_at`, counted from 1, fails, and so does each after it.
+/// A source for tests: the bytes of a slice, at most `piece` a call. The call `fails_at`, counted from 1, fails, and so does each after it.
 #[derive(Drop)]
 pub struct MemorySource<'a> {
     rest: &'a [u8],
@@ -26,6 +26,7 @@ impl<'a> Model for MemorySource<'a> {
 }
 
 impl<'a> MemorySource<'a> {
+    /// A source of these bytes that has not been called. A piece is at least one byte.
     pub fn new(text: &'a [u8], piece: usize, fails_at: Option<u64>) -> MemorySource<'a>
         requires { 0 < piece }
         ensures { result ≡ record { rest = text.now; piece = piece; fails_in = fails_at; failed = false } }

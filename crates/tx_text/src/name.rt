@@ -7,7 +7,7 @@ use crate::figures::is_figure;
 use crate::short::Short;
 use std::marker::Model;
 
-/// The name of an exchange or a group: 1 to 8 letters and figures, a letter first.
+/// The name of an exchange or a group: 1 to 8 of `A` to `Z` and `0` to `9`, a letter first.
 #[derive(Clone, Copy, Debug, PartialEq, Eq, Hash)]
 pub struct Name {
     text: Short<8>,
@@ -29,6 +29,7 @@ impl Model for Name {
 }
 
 impl Name {
+    /// The name, where the text is one.
     #[inline(always)]
     pub fn read(text: &[u8]) -> Option<Name>
         ensures { result ≡ name_of text.now }
@@ -41,6 +42,7 @@ impl Name {
         }
     }
 
+    /// The signs of the name.
     #[inline(always)]
     pub fn bytes(&self) -> &[u8]
         ensures { result.now ≡ self.now }

@@ -5,7 +5,7 @@ ghost use Rattle.tx_text.specs.Words.{are_figures, is_numeral, number_of};
 
 use crate::figures::are_figures;
 
-/// The number that the text is the decimal form of, if it is at most `max`.
+/// The number that the text is the decimal form of, without a sign or leading zeros, if it is at most `max`.
 #[inline(always)]
 pub fn number(text: &[u8], max: u32) -> Option<u32>
     ensures { result ≡ number_of max text.now }

@@ -43,7 +43,7 @@ impl<A: Allocator> Model for TextReader<A> {
 }
 
 impl<A: Allocator> TextReader<A> {
-    /// A reader of a text that comes from a source, in at most 4,294,967,295 calls.
+    /// A reader of a text from a source, by at most 4,294,967,295 calls of it, each for at most 4,096 bytes. `Err` is want of memory alone.
     pub fn new(alloc: A) -> Result<TextReader<A>, TextFault>
         ensures ok { IfOk result (λ r. r ≡ reading_start) }
         ensures err { IfErr result (λ e. e ≡ TextFault.NoMemory) }
@@ -51,7 +51,7 @@ impl<A: Allocator> TextReader<A> {
         TextReader::of_calls(alloc, SOURCE_CALLS)
     }
 
-    /// A reader of a text that stands in memory: it may call as often as any slice is long.
+    /// A reader of a text that stands in memory: no such text meets the bound on calls. `Err` is want of memory alone.
     pub fn for_slice(alloc: A) -> Result<TextReader<A>, TextFault>
         ensures ok { IfOk result (λ r. r ≡ slice_start) }
         ensures err { IfErr result (λ e. e ≡ TextFault.NoMemory) }
@@ -92,7 +92,8 @@ impl<A: Allocator> TextReader<A> {
         }
     }
 
-    /// Goes on to the next line of the source's text, and tells whether there is one.
+    /// Goes on to the next line of the source's text, and tells whether there is one. `Err` is a line that is too long or has a bad byte, or that the source
+    /// failed or was not at its end after so many calls.
     #[inline(always)]
     pub fn advance<R: Source>(&mut self, source: &mut R) -> Result<bool, LineFault>
         requires { self.old.feed.fault ≡ None }

@@ -66,7 +66,7 @@ impl<const N: usize> Hash for Short<N> {
 impl<const N: usize> Short<N> {
     ghost use Rattle.tx_text.specs.Padded.{padded_to};
 
-    /// The text, which has room.
+    /// The text, of at most N bytes.
     #[inline(always)]
     pub fn new(text: &[u8]) -> Short<N>
         requires text { length text.now ≤ N }

@@ -31,7 +31,7 @@ pub trait Sink {
         ensures stays { failed self.old ≡ true → IsErr result };
 }
 
-/// Writes all the bytes, or stops where the sink fails.
+/// Writes all the bytes, or stops where the sink fails: then a front of them was taken, and not all.
 #[inline(always)]
 pub fn write_bytes<W: Sink>(bytes: &[u8], sink: &mut W) -> Result<(), WriteFault>
     ensures ok { OnOk result (W.taken sink.new ≡ append_known (W.taken sink.old) bytes.now) }
@@ -48,7 +48,7 @@ pub fn write_bytes<W: Sink>(bytes: &[u8], sink: &mut W) -> Result<(), WriteFault
     Ok(())
 }
 
-/// Writes the parts of a text, one after another.
+/// Writes the parts of a text, one after another, or stops where the sink fails: then a front of the text was taken, and not all.
 #[inline(always)]
 pub fn write_parts<W: Sink>(parts: &[&[u8]], sink: &mut W) -> Result<(), WriteFault>
     ensures ok { OnOk result (W.taken sink.new ≡ append_known (W.taken sink.old) (flat_map (λ p. p.now) parts.now)) }

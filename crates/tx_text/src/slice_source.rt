@@ -5,7 +5,7 @@ ghost use Rattle.tx_text.specs.Slices.{SlicesAreReadWhole};
 use crate::source::{ReadFault, Source};
 use std::marker::Model;
 
-/// The bytes of a slice that are still to come.
+/// A source over a slice: its bytes that are still to come.
 #[derive(Drop)]
 pub struct SliceSource<'a> {
     rest: &'a [u8],
@@ -20,6 +20,7 @@ impl<'a> Model for SliceSource<'a> {
 }
 
 impl<'a> SliceSource<'a> {
+    /// A source of all these bytes.
     pub fn new(text: &'a [u8]) -> SliceSource<'a>
         ensures rest { result ≡ text.now }
         ensures short { length text.now < 2 ^ 63 }

@@ -4,7 +4,8 @@ ghost use Rattle.std.specs.Prelude.{◌≡◌, false};
 use crate::sink::{Sink, WriteFault};
 use std::io::Write;
 
-/// A writer. An error is a failure, and so is a call that takes nothing; a failure stays one.
+/// A sink over a writer of the standard library. Any error of the writer is a failure, and so is a call that takes nothing; a failure stays one. It does not
+/// tell its bytes.
 #[derive(Drop)]
 pub struct ToWrite<W> {
     writer: W,
@@ -12,6 +13,7 @@ pub struct ToWrite<W> {
 }
 
 impl<W: Write> ToWrite<W> {
+    /// A sink that has not been called.
     #[inline(always)]
     pub fn new(writer: W) -> ToWrite<W>
         ensures writer { result.writer ≡ writer }

@@ -5,5 +5,5 @@ mod reply;
 mod ticket;
 mod words;
 
-pub use reply::write_reply;
+pub use reply::{write_circuit, write_reply};
 pub use ticket::write_ticket;

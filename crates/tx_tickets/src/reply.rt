@@ -11,7 +11,7 @@ use tx_plan::{Circuit, Line, Plan};
 use tx_state::Reply;
 use tx_text::{LineSink, Sink, WriteFault, write_bytes, write_parts};
 
-/// Writes the line of a reply, as `CONNECTED 41 10002`, with its LF.
+/// Writes the line of a reply, as `CONNECTED 41 10002`, with its LF. Where the sink fails, a front of the line was taken.
 pub fn write_reply<A: Allocator, W: Sink>(
     reply: &Reply,
     plan: &Plan<A>,
@@ -43,7 +43,7 @@ fn put_reply<A: Allocator, W: Sink>(
 {
     match reply {
         Reply::Keyed(n) => write_count(b"KEYED ", *n as u64, sink),
-        Reply::Seized(circuit) => write_seized(circuit, plan, sink),
+        Reply::Seized(circuit) => write_circuit(b"SEIZED ", circuit, plan, sink),
         Reply::At(exchange) => write_word(b"AT ", plan.exchange_name(*exchange), sink),
         Reply::Connected(line) => write_connected(line, plan, sink),
         Reply::Answered(service) => write_word(b"ANSWERED ", service_word(*service), sink),
@@ -81,13 +81,15 @@ fn write_count<W: Sink>(first: &[u8], count: u64, sink: &mut W) -> Result<(), Wr
     write_word(first, digits.format(count).as_bytes(), sink)
 }
 
-fn write_seized<A: Allocator, W: Sink>(
+/// Writes a first word, given with its space, and a circuit, as `SEIZED G1.12`, with its LF.
+pub fn write_circuit<A: Allocator, W: Sink>(
+    first: &[u8],
     circuit: &Circuit,
     plan: &Plan<A>,
     sink: &mut W,
 ) -> Result<(), WriteFault>
-    ensures ok { OnOk result (W.taken sink.new ≡ append_known (W.taken sink.old) (codes "SEIZED " ++ (circuit_text plan.now circuit.now ++ codes "\n"))) }
-    ensures err { OnErr result (StopsIn (W.taken sink.old) (W.taken sink.new) (codes "SEIZED " ++ (circuit_text plan.now circuit.now ++ codes "\n"))) }
+    ensures ok { OnOk result (W.taken sink.new ≡ append_known (W.taken sink.old) (first.now ++ (circuit_text plan.now circuit.now ++ codes "\n"))) }
+    ensures err { OnErr result (StopsIn (W.taken sink.old) (W.taken sink.new) (first.now ++ (circuit_text plan.now circuit.now ++ codes "\n"))) }
     ensures mark { OnErr result (W.failed sink.new ≡ true) }
     ensures unmarked { OnOk result (W.failed sink.new ≡ W.failed sink.old) }
 {
@@ -95,13 +97,7 @@ fn write_seized<A: Allocator, W: Sink>(
     let number = digits.format(circuit.number).as_bytes();
     let group = plan.group_name(circuit.group);
     write_parts(
-        &[
-            b"SEIZED ".as_slice(),
-            group,
-            b".".as_slice(),
-            number,
-            b"\n".as_slice(),
-        ],
+        &[first, group, b".".as_slice(), number, b"\n".as_slice()],
         sink,
     )
 }

@@ -12,7 +12,8 @@ use tx_plan::Plan;
 use tx_state::{Hop, Ticket};
 use tx_text::{LineSink, Sink, WriteFault, write_bytes, write_parts};
 
-/// Writes the line of a ticket: the call's number, its line, what was keyed, the events of its start and its end, why it ended, and its way.
+/// Writes the line of a ticket, with its LF: the call's number, its line, what was keyed, the events by which it was keyed and ended, why it ended, and its
+/// way. Where the sink fails, a front of the line was taken.
 pub fn write_ticket<A: Allocator, B: Allocator, W: Sink>(
     ticket: &Ticket<A>,
     plan: &Plan<B>,

@@ -4,7 +4,7 @@ ghost use Rattle.tx_tickets.specs.Texts.{service_text, cause_text, refusal_text,
 
 use tx_state::{Cause, Refusal, Service};
 
-/// The service code (ITU-T F.60 practice).
+/// A service code, as it is printed.
 #[inline(always)]
 pub(crate) fn service_word<'a>(service: Service) -> &'a [u8]
     ensures { result.now ≡ service_text service }

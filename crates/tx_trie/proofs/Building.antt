@@ -3,15 +3,10 @@ use Rattle.std.proofs.Common.{◌≡◌, ◌≢◌, ℕ, zero, suc, ◌+◌, ◌
 use Rattle.std.proofs.lemmas.List.{take_more}
 use Rattle.std.proofs.lemmas.Option.{get_or_from_slice_get}
 use Rattle.std.specs.Prelude.{slice_get, if◌then◌else◌}
-use Rattle.std.specs.List.{AllByRecursion}
 use Rattle.std.specs.Option.{option_map_or}
 use Rattle.tx_plan.specs.Plan.{Plan, Code, figures_of, home_of}
 use Rattle.tx_plan.specs.Rules.{EachPair, IsPlan, IsCode, is_code}
-
-pub all_at : {A : Type 0} (P : A → Type 0) (xs : List A) (i : ℕ) (x : A) → AllByRecursion P xs → slice_get xs i ≡ Some x → P x
-all_at P [] i x h e = let bad : ⊥ = cc in absurd bad
-all_at P (y ∷ xs) zero x h e = let s : y ≡ x = cc in subst P s h.0
-all_at P (y ∷ xs) (suc i) x h e = all_at P xs i x h.1 e
+use Rattle.tx_plan.proofs.ByPlace.{all_at}
 
 pub pairs_at : {A : Type 0} (R : A → A → Type 0) (xs : List A) (i j : ℕ) (x y : A) → EachPair R xs → slice_get xs i ≡ Some x → slice_get xs j ≡ Some y → i < j → R x y
 pairs_at R [] i j x y h p q l = let bad : ⊥ = cc in absurd bad

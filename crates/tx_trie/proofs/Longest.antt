@@ -1,5 +1,5 @@
 -- The longest code that begins a text, as the text grows by a figure.
-use Rattle.std.proofs.Common.{◌≡◌, ℕ, suc, ◌+◌, ◌<◌, ◌≤◌, Bool, true, false, ◌&&◌, ◌⊎◌, List, [], ◌∷◌, ◌++◌, take, length, length-append, append-nil, nat_lt, cond, Option, Some, None, refl, ap, sym, ◌∙◌, subst, inl, inr, arith}
+use Rattle.std.proofs.Common.{◌≡◌, ℕ, suc, ◌+◌, ◌<◌, ◌≤◌, true, false, ◌&&◌, ◌⊎◌, List, [], ◌∷◌, ◌++◌, take, length, length-append, append-nil, nat_lt, cond, Option, Some, None, refl, ap, sym, ◌∙◌, subst, inl, inr, arith}
 use Rattle.std.proofs.Math.Seq.{append_snoc}
 use Rattle.std.proofs.lemmas.Bool.Decides.{nat_tests}
 use Rattle.std.specs.Prelude.{filter, option_and_then, slice_get, if◌then◌else◌, nat_le}
@@ -11,7 +11,7 @@ use Rattle.tx_plan.specs.Codes.{is_prefix, codes_before, longer, longest, code_o
 use Rattle.tx_plan.specs.Rules.{is_code}
 use Rattle.tx_plan.specs.Among.{Among}
 use Rattle.tx_plan.proofs.Among.{among_filter, filter_among, among_places, places_among}
-use Rattle.tx_plan.proofs.Lists.{both, at_least}
+use Rattle.tx_plan.proofs.Lists.{both, at_least, same_tests}
 use Rattle.tx_trie.specs.Trie.{plan_of}
 use Rattle.tx_trie.specs.declared.node.Node.{Node}
 use Rattle.tx_trie.specs.inner.Nodes.{IsTrie, child, code_at, walk, look, newer, read_on}
@@ -99,11 +99,6 @@ none_before n (c ∷ cs) s h =
     let rest = none_before (n + 1) cs s (λ i d k. h (suc i) d k) in
     ap (λ b. cond b ((n, c) ∷ filter (λ e. is_prefix e.1.figures s) (enumerate_from (n + 1) cs)) (filter (λ e. is_prefix e.1.figures s) (enumerate_from (n + 1) cs))) (h 0 c refl) ∙ rest
 
-same_truth : (a b : Bool) → (a ≡ true → b ≡ true) → (b ≡ true → a ≡ true) → a ≡ b
-same_truth true b f g = sym (f refl)
-same_truth false true f g = g refl
-same_truth false false f g = refl
-
 -- the widths of a code
 pub widths : (text : List ℕ) → is_code text ≡ true → (2 ≤ length text) × (length text ≤ 3)
 widths text h =
@@ -138,7 +133,7 @@ module _ (codes : List Code) (nodes : List Node) (trie : IsTrie codes nodes) whe
           ])
       by None h =
           code_same codes (text ++ x ∷ []) text (λ i c at.
-          same_truth (is_prefix c.figures (text ++ x ∷ [])) (is_prefix c.figures text)
+          same_tests (is_prefix c.figures (text ++ x ∷ [])) (is_prefix c.figures text)
           (λ front. elim (prefix_push c.figures text x front) [
             | inl l ↦ l
             | inr r ↦ (let s : None ≡ Some i = sym h ∙ ap (look nodes) (sym r) ∙ trie.finds i c at in let bad : ⊥ = cc in absurd bad)

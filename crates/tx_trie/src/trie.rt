@@ -35,7 +35,7 @@ impl<A: Allocator> Model for CodeTrie<A> {
 }
 
 impl<A: Allocator + Copy> CodeTrie<A> {
-    /// The trie of a plan's codes.
+    /// The trie of a plan's codes. No other call takes memory.
     pub fn build(alloc: A, plan: &Plan<A>) -> Result<Self, NoMemory>
         ensures { IfOk result (λ t. t ≡ plan.now.codes) }
     {

@@ -6,13 +6,14 @@ use Rattle.clap.specs.Words.{Row, first_of, one_of, subcommand_of}
 use Rattle.tx_explain.specs.Entries.{texts, explanation}
 use Rattle.tx_words.specs.Grammar.{program_words}
 use Rattle.tx_words.specs.declared.command.Command.{Command}
-use Rattle.tx_words.specs.declared.command.Command.TheVariants.{Pipe, Run, Check, Codes, Audit, Grade, Explain}
+use Rattle.tx_words.specs.declared.command.Command.TheVariants.{Pipe, Run, Check, Codes, Audit, Grade, Draw, Explain}
 
 -- a limit is at most 62, and a spare number at most 15
 abbrev pub IsInRange : Command → Type 0
 IsInRange (Run plan script (Some (cert, limit, spare))) = (limit ≤ 62) × (spare ≤ 15)
 IsInRange (Audit plan limit spare cert counter) = (limit ≤ 62) × (spare ≤ 15)
 IsInRange (Check plan cert limit spare) = (limit ≤ 62) × (spare ≤ 15)
+IsInRange (Draw plan (Some (code, Some (limit, spare)))) = (limit ≤ 62) × (spare ≤ 15)
 IsInRange other = Unit {0}
 
 -- the words of a command name this file
@@ -41,6 +42,12 @@ Asks name found (Audit plan limit spare cert counter) =
     (name ≡ codes "audit") × Names found (codes "plan") plan × Gives found (codes "limit") limit × Gives found (codes "spare") spare × (first_of (codes "cert") found ≡ option_map string_bytes cert)
     × (first_of (codes "counter") found ≡ option_map string_bytes counter)
 Asks name found (Grade plan) = (name ≡ codes "grade") × Names found (codes "plan") plan
+Asks name found (Draw plan None) =
+    (name ≡ codes "draw") × Names found (codes "plan") plan × (first_of (codes "code") found ≡ None) × (first_of (codes "limit") found ≡ None) × (first_of (codes "spare") found ≡ None)
+Asks name found (Draw plan (Some (code, None))) =
+    (name ≡ codes "draw") × Names found (codes "plan") plan × Names found (codes "code") code × (first_of (codes "limit") found ≡ None) × (first_of (codes "spare") found ≡ None)
+Asks name found (Draw plan (Some (code, Some (limit, spare)))) =
+    (name ≡ codes "draw") × Names found (codes "plan") plan × Names found (codes "code") code × Gives found (codes "limit") limit × Gives found (codes "spare") spare
 Asks name found (Explain None) = (name ≡ codes "explain") × (first_of (codes "code") found ≡ None)
 Asks name found (Explain (Some entry)) = (name ≡ codes "explain") × (option_and_then explanation (first_of (codes "code") found) ≡ Some (texts entry))
 

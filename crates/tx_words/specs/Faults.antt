@@ -5,7 +5,7 @@ use Rattle.clap.specs.declared.error.Error.{Error}
 use Rattle.clap.specs.declared.error.kind.ErrorKind.{ErrorKind}
 use Rattle.clap.specs.declared.error.kind.ErrorKind.TheVariants.{DisplayHelp, DisplayVersion, OutOfMemory}
 use Rattle.tx_words.specs.declared.fault.WordsFault.{WordsFault}
-use Rattle.tx_words.specs.declared.fault.WordsFault.TheVariants.{Clap, Together, NoSuchCode, NoMemory}
+use Rattle.tx_words.specs.declared.fault.WordsFault.TheVariants.{Clap, Together, DrawTogether, NoSuchCode, NoMemory}
 
 -- 0 for a request for help, 4 for want of memory, else 64
 abbrev pub status_of_kind : ErrorKind → ℕ
@@ -17,6 +17,7 @@ status_of_kind other = 64
 abbrev pub status_of : WordsFault → ℕ
 status_of (Clap e) = status_of_kind (kind_of e)
 status_of Together = 64
+status_of DrawTogether = 64
 status_of (NoSuchCode word) = 64
 status_of NoMemory = 4
 

@@ -40,13 +40,18 @@ codes_words = with_rule (new_app (codes "codes")) (file (codes "plan"))
 abbrev pub audit_words : App
 audit_words = with_rule (with_rule (with_rule (with_rule (with_rule (new_app (codes "audit")) (file (codes "plan"))) (needed limit)) (needed spare)) (option (codes "cert"))) (option (codes "counter"))
 
+abbrev pub draw_words : App
+draw_words = with_rule (with_rule (with_rule (with_rule (new_app (codes "draw")) (file (codes "plan"))) (option (codes "code"))) limit) spare
+
 -- a code, which need not be given
 abbrev pub explain_words : App
 explain_words = with_rule (new_app (codes "explain")) (record (new_rule (codes "code")) { value_names = 1; action = Some Set })
 
--- the program takes its words from the first on, tells its version, and has six commands
+-- the program takes its words from the first on, tells its version, and has seven commands
 abbrev pub top_words : App
 top_words = let app = new_app (codes "telexplan") in record app { top = record app.top { no_binary_name = true; has_version = true } }
 
 abbrev pub program_words : App
-program_words = with_subcommand (with_subcommand (with_subcommand (with_subcommand (with_subcommand (with_subcommand top_words audit_words.top) grade_words.top) check_words.top) run_words.top) codes_words.top) explain_words.top
+program_words =
+    with_subcommand (with_subcommand (with_subcommand (with_subcommand (with_subcommand (with_subcommand (with_subcommand top_words audit_words.top) grade_words.top) check_words.top) run_words.top) codes_words.top) draw_words.top)
+    explain_words.top

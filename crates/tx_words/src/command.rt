@@ -45,6 +45,11 @@ pub enum Command {
     Grade {
         plan: String,
     },
+    /// `draw PLAN [--code C [--limit L --spare K]]`: a picture of the plan, or of the routes for a code, with what an audit finds first if numbers are given.
+    Draw {
+        plan: String,
+        routes: Option<(String, Option<(u8, u8)>)>,
+    },
     /// `explain [CODE]`: what a code means, or all codes.
     Explain {
         entry: Option<Entry>,
@@ -157,6 +162,29 @@ fn run_of(
     }))
 }
 
+/// The words of `draw` behind the plan.
+fn draw_of(
+    alloc: Global,
+    plan: String,
+    matches: &ArgMatches<'_>,
+) -> Result<Option<Command>, WordsFault>
+    requires { Names (rows_of (found_of matches.now)) (codes "plan") plan }
+    ensures range { IfOk result (λ c. IfSome c IsInRange) }
+    ensures asked { IfOk result (λ c. IfSome c (Asks (codes "draw") (rows_of (found_of matches.now)))) }
+{
+    let limit = number(matches, "limit", 62);
+    let spare = number(matches, "spare", 15);
+    let no_bounds = is_absent(matches, "limit") && is_absent(matches, "spare");
+    let code = text(alloc, matches, "code")?;
+    let routes = match (code, limit, spare) {
+        (Some(code), Some(limit), Some(spare)) => Some((code, Some((limit, spare)))),
+        (Some(code), _, _) if no_bounds => Some((code, None)),
+        (None, _, _) if no_bounds => None,
+        _ => return Err(WordsFault::DrawTogether),
+    };
+    Ok(Some(Command::Draw { plan, routes }))
+}
+
 /// The words of `explain`. A word that is no code is refused.
 fn explain_of(alloc: Global, matches: &ArgMatches<'_>) -> Result<Option<Command>, WordsFault>
     ensures range { IfOk result (λ c. IfSome c IsInRange) }
@@ -201,6 +229,9 @@ fn command_of(
     if name == "grade" {
         return Ok(Some(Command::Grade { plan }));
     }
+    if name == "draw" {
+        return draw_of(alloc, plan, matches);
+    }
     Ok(None)
 }
 
@@ -223,7 +254,7 @@ fn no_command(grammar: &mut clap::Command<'_>) -> Result<WordsFault, AllocError>
     Ok(WordsFault::of_clap(e))
 }
 
-/// Reads the words after the program's name.
+/// Reads the words after the program's name. `Err` is refused words, a request for help or for the version, or want of memory.
 pub fn read_command(alloc: Global, words: &[&str]) -> Result<Command, WordsFault>
     ensures in_range { IfOk result IsInRange }
     ensures pipe { words.now ≡ [] → result ≡ Ok Command.Pipe }

@@ -9,10 +9,12 @@ use std::alloc::{AllocError, AllocFailed};
 /// Why the words give no command.
 #[derive(Debug, Drop)]
 pub enum WordsFault {
-    /// The words are refused, or ask for help.
+    /// The words are refused, or ask for help or for the version.
     Clap(clap::Error),
     /// `run` has some of its three options, and not all.
     Together,
+    /// `draw` has one of `--limit` and `--spare` without the other, or both without `--code`.
+    DrawTogether,
     /// `explain` has a word that is no code.
     NoSuchCode(String),
     /// No memory was left.
@@ -20,7 +22,7 @@ pub enum WordsFault {
 }
 
 impl WordsFault {
-    /// The exit status: 0 for a request for help, 4 for want of memory, else 64.
+    /// The exit status: 0 for a request for help or for the version, 4 for want of memory, else 64.
     pub fn status(&self) -> u8
         ensures { result ≡ status_of self.now }
     {
@@ -30,7 +32,7 @@ impl WordsFault {
                 ErrorKind::OutOfMemory => 4,
                 _ => 64,
             },
-            WordsFault::Together | WordsFault::NoSuchCode(_) => 64,
+            WordsFault::Together | WordsFault::DrawTogether | WordsFault::NoSuchCode(_) => 64,
             WordsFault::NoMemory => 4,
         }
     }

@@ -157,6 +157,22 @@ fn grade_grammar<'a>(alloc: Global) -> Result<clap::Command<'a>, AllocError>
         .arg(plan_file(alloc))
 }
 
+fn draw_grammar<'a>(alloc: Global) -> Result<clap::Command<'a>, AllocError>
+    ensures { IfOk result (λ c. app_of c ≡ grammar.draw_words) }
+{
+    clap::Command::new(alloc, "draw")
+        .about("Draw the exchanges and groups of a plan, as a text of Graphviz")
+        .arg(plan_file(alloc))?
+        .arg(option(
+            alloc,
+            "code",
+            "CODE",
+            "Draw the routes for this destination code alone; with --limit and --spare, the walk of its first finding is red",
+        ))?
+        .arg(limit(alloc))?
+        .arg(spare(alloc))
+}
+
 fn explain_grammar<'a>(alloc: Global) -> Result<clap::Command<'a>, AllocError>
     ensures { IfOk result (λ c. app_of c ≡ grammar.explain_words) }
 {
@@ -196,5 +212,6 @@ pub(crate) fn grammar<'a>(alloc: Global) -> Result<clap::Command<'a>, AllocError
         .subcommand(check_grammar(alloc)?)?
         .subcommand(run_grammar(alloc)?)?
         .subcommand(codes_grammar(alloc)?)?
+        .subcommand(draw_grammar(alloc)?)?
         .subcommand(explain_grammar(alloc)?)
 }

@@ -1,6 +1,6 @@
 // What the head of a case says.
 use crate::job::Job;
-use tx_text::{number, words};
+use tx_text::{Figures, number, words};
 
 /// What is done with a job.
 #[derive(Clone, Copy)]
@@ -17,6 +17,7 @@ pub(crate) struct Head<'a> {
     pub kind: &'a [u8],
     pub first: &'a [u8],
     pub second: &'a [u8],
+    pub third: &'a [u8],
 }
 
 pub(crate) fn head_of(head: &[u8]) -> Head<'_> {
@@ -33,6 +34,7 @@ pub(crate) fn head_of(head: &[u8]) -> Head<'_> {
         kind,
         first: rest.next().unwrap_or(b"".as_slice()),
         second: rest.next().unwrap_or(b"".as_slice()),
+        third: rest.next().unwrap_or(b"".as_slice()),
     }
 }
 
@@ -68,6 +70,20 @@ pub(crate) fn limit_and_spare(head: Head<'_>) -> (u8, u8) {
     (limit, spare)
 }
 
+/// A picture: of a plan, or of the code of some figures, with a limit and a spare number behind these or without.
+fn drawing_of(head: Head<'_>) -> Job {
+    let limit = number_of(head.second, 62).min(62) as u8;
+    let spare = number_of(head.third, 15).min(15) as u8;
+    Job::Draw {
+        code: Figures::read(head.first),
+        bounds: if head.second.is_empty() {
+            None
+        } else {
+            Some((limit, spare))
+        },
+    }
+}
+
 /// The job of a case.
 pub(crate) fn job_of(head: Head<'_>) -> Option<Job> {
     let (limit, spare) = limit_and_spare(head);
@@ -85,6 +101,8 @@ pub(crate) fn job_of(head: Head<'_>) -> Option<Job> {
         Some(Job::Audit { limit, spare })
     } else if head.kind == b"checked".as_slice() {
         Some(Job::Checked { limit, spare })
+    } else if head.kind == b"draw".as_slice() {
+        Some(drawing_of(head))
     } else {
         None
     }

@@ -7,10 +7,10 @@ use tx_audit::write_counter;
 use tx_cases::Judge;
 use tx_cert::write_cert;
 use tx_jobs::{
-    Evidence, JobFault, check_status, codes_job, evidence_job, grade_status, pipe_job,
+    Evidence, JobFault, check_status, codes_job, draw_job, evidence_job, grade_status, pipe_job,
     run_checked_status, run_job,
 };
-use tx_text::{MemorySource, Sink, Source};
+use tx_text::{Figures, MemorySource, Sink, Source};
 
 /// Room enough for what any job of the cases writes.
 pub(crate) const ROOM: usize = 20_000;
@@ -22,11 +22,25 @@ pub(crate) enum Job {
     Run,
     Codes,
     Grade,
-    Check { limit: u8, spare: u8 },
+    Check {
+        limit: u8,
+        spare: u8,
+    },
     /// An audit, with its certificate or its counter script behind the report.
-    Audit { limit: u8, spare: u8 },
+    Audit {
+        limit: u8,
+        spare: u8,
+    },
     /// A run after a Yes of the checker.
-    Checked { limit: u8, spare: u8 },
+    Checked {
+        limit: u8,
+        spare: u8,
+    },
+    /// The picture of a plan, or of a code, with the walk of its first finding where a limit and a spare number are given.
+    Draw {
+        code: Option<Figures>,
+        bounds: Option<(u8, u8)>,
+    },
 }
 
 /// A job and its texts, in the order in which they are read.
@@ -190,6 +204,28 @@ fn do_audit<A: Allocator + Copy, P: Source, W: Sink>(
     }
 }
 
+/// Draws a plan, or a code.
+fn do_draw<A: Allocator + Copy, P: Source, W: Sink>(
+    alloc: A,
+    plan: &mut P,
+    code: Option<Figures>,
+    bounds: Option<(u8, u8)>,
+    out: &mut W,
+) -> Result<u8, JobFault> {
+    let bounds = match bounds {
+        Some((limit, spare)) => Some((limit.min(62), spare.min(15))),
+        None => None,
+    };
+    let drawn = match &code {
+        Some(figures) => draw_job(alloc, plan, Some(figures.bytes()), bounds, out),
+        None => draw_job(alloc, plan, None, bounds, out),
+    };
+    match drawn {
+        Ok(()) => Ok(0),
+        Err(fault) => Err(fault),
+    }
+}
+
 /// Does a job over its sources, and answers its exit status: that of a pipe has but one.
 fn do_job<A: Allocator + Copy, P: Source, R: Source, S: Source, W: Sink>(
     alloc: A,
@@ -211,6 +247,7 @@ fn do_job<A: Allocator + Copy, P: Source, R: Source, S: Source, W: Sink>(
             let (limit, spare) = (limit.min(62), spare.min(15));
             run_checked_status(alloc, first, second, limit, spare, third, out)
         }
+        Job::Draw { code, bounds } => do_draw(alloc, first, code, bounds, out),
     }
 }
 

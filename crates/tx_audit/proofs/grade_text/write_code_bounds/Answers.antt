@@ -1,4 +1,4 @@
-use Rattle.tx_plantext.proofs.PlanWriting.{texts_stopped}
+use Rattle.tx_text.proofs.Wrote.{texts_stopped}
 use Rattle.tx_audit.specs.GradeText.{code_line}
 use Rattle.tx_audit.proofs.grade_text.write_code_bounds.Goals as goal
 

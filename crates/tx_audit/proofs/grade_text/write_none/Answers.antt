@@ -1,6 +1,6 @@
 use Rattle.std.proofs.Common.{◌++◌, length, codes}
 use Rattle.std.specs.List.{flat_map}
-use Rattle.tx_plantext.proofs.PlanWriting.{wrote_then, wrote_first}
+use Rattle.tx_text.proofs.Wrote.{wrote_then, wrote_first}
 use Rattle.tx_audit.specs.Report.{finding_line, verdict_line}
 use Rattle.tx_audit.proofs.grade_text.write_none.Goals as goal
 

@@ -1,4 +1,4 @@
-use Rattle.tx_plantext.proofs.PlanWriting.{texts_stopped}
+use Rattle.tx_text.proofs.Wrote.{texts_stopped}
 use Rattle.tx_audit.specs.Report.{finding_line}
 use Rattle.tx_audit.proofs.report.write_findings.Goals as goal
 

@@ -1,6 +1,6 @@
 use Rattle.std.proofs.Common.{codes, Err, refl}
 use Rattle.std.specs.List.{flat_map}
-use Rattle.tx_plantext.proofs.PlanWriting.{wrote_then, wrote_first, texts_stopped, texts_done}
+use Rattle.tx_text.proofs.Wrote.{wrote_then, wrote_first, texts_stopped, texts_done}
 use Rattle.tx_audit.specs.Report.{step_text}
 use Rattle.tx_audit.proofs.report.write_steps.Goals as goal
 

@@ -1,6 +1,6 @@
 use Rattle.std.proofs.Common.{take, Ok}
 use Rattle.std.specs.List.{flat_map}
-use Rattle.tx_plantext.specs.Wrote.{Wrote}
+use Rattle.tx_text.specs.Wrote.{Wrote}
 use Rattle.tx_audit.specs.Report.{step_text}
 use Rattle.tx_audit.proofs.report.write_steps.Given as goal
 

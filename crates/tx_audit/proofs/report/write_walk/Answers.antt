@@ -1,7 +1,7 @@
 use Rattle.std.proofs.Common.{◌++◌, [], codes}
 use Rattle.std.specs.List.{flat_map}
+use Rattle.tx_text.proofs.Wrote.{wrote_then, wrote_first, text_is}
 use Rattle.tx_plan.specs.Plan.{figures_of, exchange_name}
-use Rattle.tx_plantext.proofs.PlanWriting.{wrote_then, wrote_first, text_is}
 use Rattle.tx_audit.specs.Report.{step_text}
 use Rattle.tx_audit.proofs.Reporting.{walk_cut}
 use Rattle.tx_audit.proofs.report.write_walk.Goals as goal

@@ -8,4 +8,4 @@ pub returns-in-Err-clause-calls : goal.returns-in-Err-clause-calls
 returns-in-Err-clause-calls g c = calls_so_far g.R.Source.called source_calls source_calls _ _ (went_none g.R.Source.called source_calls _)
 
 pub returns-in-Ok-clause-answers : goal.returns-in-Ok-clause-answers
-returns-in-Ok-clause-answers g c = simulated_by c.run.result (ran_from_opening c.run.result c.run.result c.run.ensures.answers (ap (λ n. n.state) c.in-Ok.ensures) (λ u. ((u.0, u.1), ap (λ n. n.state) u.2)) refl)
+returns-in-Ok-clause-answers g c = simulated_by c.run-ran.result (ran_from_opening c.run-ran.result c.run-ran.result c.run-ran.ensures.answers (ap (λ n. n.state) c.in-Ok.ensures) (λ u. ((u.0, u.1), ap (λ n. n.state) u.2)) refl)

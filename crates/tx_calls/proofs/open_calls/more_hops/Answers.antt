@@ -4,28 +4,28 @@ use Rattle.tx_calls.specs.Calls.{kept_of}
 use Rattle.tx_network.specs.Seen.{call_seen}
 use Rattle.tx_calls.proofs.open_calls.more_hops.Goals as goal
 
-pub returns-in_ok-reserve : goal.returns-in_ok-reserve
-returns-in_ok-reserve g c = λ old was.
+pub returns-in_ok-more_room : goal.returns-in_ok-more_room
+returns-in_ok-more_room g c = λ old was.
     let both : Some c.in-Some.call.now ≡ Some old = c.in-Some.ensures.value ∙ was in
     let same : c.in-Some.call.now ≡ old = cc in
     let now = c.in-Some.call.now in (
-      record now { hops = c.reserve.new.self },
-      Updates-with_value c.args.calls.now c.args.key (record now { hops = c.reserve.new.self }) (ap is_some was),
-      (λ i. record { number = now.number; line = now.line; keyed = now.keyed; keyed_at = now.keyed_at; hops = c.reserve.ensures.items i; phase = now.phase; collided = now.collided })
+      record now { hops = c.more_room.new.hops },
+      Updates-with_value c.args.calls.now c.args.key (record now { hops = c.more_room.new.hops }) (ap is_some was),
+      (λ i. record { number = now.number; line = now.line; keyed = now.keyed; keyed_at = now.keyed_at; hops = c.more_room.ensures.items i; phase = now.phase; collided = now.collided })
           ∙ ap call_seen same,
-      subst (λ z. (kept_of z).room ≤ (kept_of (record now { hops = c.reserve.new.self })).room) same (omega (arith, c.reserve.ensures.capacity, c.reserve.ensures.len)),
-      omega (arith, c.in_ok-reserve.ensures.ok, c.reserve.ensures.len),
+      subst (λ z. (kept_of z).room ≤ (kept_of (record now { hops = c.more_room.new.hops })).room) same (omega (arith, c.more_room.ensures.capacity, c.more_room.ensures.len)),
+      omega (arith, c.in_ok-more_room.ensures.ok, c.more_room.ensures.len),
     )
 
-pub returns-in_err-reserve : goal.returns-in_err-reserve
-returns-in_err-reserve g c = λ old was.
+pub returns-in_err-more_room : goal.returns-in_err-more_room
+returns-in_err-more_room g c = λ old was.
     let both : Some c.in-Some.call.now ≡ Some old = c.in-Some.ensures.value ∙ was in
     let same : c.in-Some.call.now ≡ old = cc in
     let now = c.in-Some.call.now in (
-      record now { hops = c.reserve.new.self },
-      Updates-with_value c.args.calls.now c.args.key (record now { hops = c.reserve.new.self }) (ap is_some was),
-      (λ i. record { number = now.number; line = now.line; keyed = now.keyed; keyed_at = now.keyed_at; hops = c.reserve.ensures.items i; phase = now.phase; collided = now.collided })
+      record now { hops = c.more_room.new.hops },
+      Updates-with_value c.args.calls.now c.args.key (record now { hops = c.more_room.new.hops }) (ap is_some was),
+      (λ i. record { number = now.number; line = now.line; keyed = now.keyed; keyed_at = now.keyed_at; hops = c.more_room.ensures.items i; phase = now.phase; collided = now.collided })
           ∙ ap call_seen same,
-      subst (λ z. (kept_of z).room ≤ (kept_of (record now { hops = c.reserve.new.self })).room) same (omega (arith, c.reserve.ensures.capacity, c.reserve.ensures.len)),
+      subst (λ z. (kept_of z).room ≤ (kept_of (record now { hops = c.more_room.new.hops })).room) same (omega (arith, c.more_room.ensures.capacity, c.more_room.ensures.len)),
       search rules,
     )

@@ -1,11 +1,11 @@
 use Rattle.std.proofs.Common.{◌≡◌, ℕ, List, Ok, Err, ap, ◌∙◌, subst}
 use Rattle.tx_text.specs.Framing.{to_come, number_of_line, words_of_line}
 use Rattle.tx_text.specs.Said.{is_no_room}
-use Rattle.tx_text.proofs.CallCounts.{went_none, went_on, calls_on, broken_on, stopped_by_with}
+use Rattle.tx_text.proofs.CallCounts.{went_none, went_on, went_past, calls_on, broken_on, stopped_by_with}
 use Rattle.tx_text.proofs.Saying.{headed_on, declared_on, refused, done_on, stopped_by}
 use Rattle.tx_text.proofs.NoRoom.{come_said}
 use Rattle.tx_cert.specs.CertText.{declare, cert_of, is_memory}
-use Rattle.tx_cert.proofs.Reading.{at_start, went_past, any_version, refused_by, no_memory}
+use Rattle.tx_cert.proofs.Reading.{at_start, any_version, refused_by, no_memory}
 use Rattle.tx_cert.proofs.cert_reader.read_lines.Goals as goal
 
 pub lines-init : goal.lines-init

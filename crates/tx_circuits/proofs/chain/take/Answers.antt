@@ -1,29 +1,38 @@
-use Rattle.std.proofs.Common.{◌≡◌, ◌≢◌, ◌∙◌, ℕ, ◌+◌, ◌<◌, true, false, Option, Some, length, sym, subst, arith}
+use Rattle.std.proofs.Common.{◌≡◌, ◌≢◌, ◌∙◌, ℕ, ◌+◌, ◌<◌, true, false, List, Option, length, sym, subst, arith}
 use Rattle.std.specs.Prelude.{IfSome}
+use Rattle.tx_circuits.specs.declared.free_lists.End.{End}
+use Rattle.tx_circuits.specs.declared.free_lists.FreeList.{FreeList}
 use Rattle.tx_circuits.specs.declared.free_lists.Way.{Way}
 use Rattle.tx_circuits.specs.declared.free_lists.Way.TheVariants.{Up, Down}
+use Rattle.tx_circuits.specs.declared.slot.Slot.{Slot}
 use Rattle.tx_circuits.specs.inner.Linked.{IsFirst, with}
-use Rattle.tx_circuits.specs.inner.Slots.{free_at, chain, link_at, rank_of, ahead, back}
+use Rattle.tx_circuits.specs.inner.Slots.{free_at, chain, link_at, rank_of, ahead, back, IsListed}
 use Rattle.tx_circuits.proofs.Linked.{take, with_here, with_there, to_last, are_ranked}
-use Rattle.tx_circuits.proofs.Places.{free_within, free_below, first_within, each_way}
+use Rattle.tx_circuits.proofs.Places.{free_within, free_below, first_within, fits, each_way}
 use Rattle.tx_circuits.proofs.chain.take.Goals as goal
 
-pub lead-list-requires : goal.lead-list-requires
-lead-list-requires c =
-    let end = c.args.end in
-    let slots = c.args.slots.now in
-    subst (λ (r : Option ℕ). IfSome r (λ k. k < length slots)) (sym (c.links-links.ensures Down))
-    (first_within (free_at end slots) (rank_of Down) (rank_of Down c.args.place + 1) (length slots) (free_within end slots) (link_at end Down slots c.args.place)
-    ((c.requires.listed Down).goes_on c.args.place c.requires.free))
+-- what follows a free circuit in a way lies in the group
+module _ (end : End) (slots : List Slot) (list : FreeList) (listed : IsListed (free_at end slots) end slots list) (i : ℕ) (free : free_at end slots i ≡ true) where
+  next_within : (way : Way) (r : Option ℕ) → r ≡ link_at end way slots i → IfSome r (λ k. k < length slots)
+  next_within way r e =
+      subst (λ (r : Option ℕ). IfSome r (λ k. k < length slots)) (sym e)
+      (first_within (free_at end slots) (rank_of way) (rank_of way i + 1) (length slots) (free_within end slots) (link_at end way slots i) ((listed way).goes_on i free))
 
-pub lead-requires : goal.lead-requires
-lead-requires c =
-    let end = c.args.end in
-    let slots = c.args.slots.now in
+pub lead-list-requires-clause-from : goal.lead-list-requires-clause-from
+lead-list-requires-clause-from c = next_within c.args.end c.args.slots.now c.args.list c.requires.listed c.args.place c.requires.free Down _ (c.links-links.ensures Down)
+
+pub lead-list-requires-clause-fits : goal.lead-list-requires-clause-fits
+lead-list-requires-clause-fits c =
+    fits _ _ c.requires.short (next_within c.args.end c.args.slots.now c.args.list c.requires.listed c.args.place c.requires.free Up _ (c.links-links.ensures Up))
+
+pub lead-requires-clause-from : goal.lead-requires-clause-from
+lead-requires-clause-from c =
     subst (λ (n : ℕ). IfSome c.links-links.result.above (λ k. k < n)) (sym c.lead-list.auto.slots)
-    (subst (λ (r : Option ℕ). IfSome r (λ k. k < length slots)) (sym (c.links-links.ensures Up))
-    (first_within (free_at end slots) (rank_of Up) (rank_of Up c.args.place + 1) (length slots) (free_within end slots) (link_at end Up slots c.args.place)
-    ((c.requires.listed Up).goes_on c.args.place c.requires.free)))
+    (next_within c.args.end c.args.slots.now c.args.list c.requires.listed c.args.place c.requires.free Up _ (c.links-links.ensures Up))
+
+pub lead-requires-clause-fits : goal.lead-requires-clause-fits
+lead-requires-clause-fits c =
+    fits _ _ c.requires.short (next_within c.args.end c.args.slots.now c.args.list c.requires.listed c.args.place c.requires.free Down _ (c.links-links.ensures Down))
 
 pub returns-clause-listed : goal.returns-clause-listed
 returns-clause-listed c =

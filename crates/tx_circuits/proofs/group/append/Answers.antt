@@ -1,10 +1,10 @@
-use Rattle.std.proofs.Common.{◌≡◌, ◌∙◌, ℕ, ◌+◌, ◌<◌, true, false, Option, Some, None, length, sym, subst, arith, refl}
+use Rattle.std.proofs.Common.{◌≡◌, ◌∙◌, ℕ, ◌+◌, ◌<◌, true, Option, Some, None, length, sym, subst, arith, refl}
 use Rattle.tx_circuits.specs.declared.free_lists.Way.{Way}
 use Rattle.tx_circuits.specs.declared.free_lists.Way.TheVariants.{Up, Down}
 use Rattle.tx_circuits.specs.inner.Linked.{IsFirst, IsLast}
-use Rattle.tx_circuits.specs.inner.Slots.{free_at, chain, rank_of, ahead, back, until}
+use Rattle.tx_circuits.specs.inner.Slots.{free_at, chain, rank_of, until}
 use Rattle.tx_circuits.proofs.Linked.{put, are_ranked}
-use Rattle.tx_circuits.proofs.Places.{free_here, free_within, first_within, each_way}
+use Rattle.tx_circuits.proofs.Places.{free_read, free_within, first_within, each_way}
 use Rattle.tx_circuits.proofs.Sound.{listed_along}
 use Rattle.tx_circuits.proofs.Appending.{until_is, until_other, until_now, until_before, until_skips, greatest_last, none_above, none_after, greatest_next, not_greatest}
 use Rattle.tx_circuits.proofs.group.append.Goals as goal
@@ -14,7 +14,7 @@ returns-then-not-is_free-clause-listed c =
     let end = c.args.end in
     let slots = c.args.slots.now in
     let i = c.args.place in
-    let taken = free_here end slots i _ c.requires.place ∙ sym c.is_free.ensures ∙ c.if-not-is_free.true in
+    let taken = free_read end slots i _ c.index-slots-place.is c.requires.place ∙ sym c.is_free.ensures ∙ c.if-not-is_free.true in
     listed_along (until i (free_at end slots)) (until (i + 1) (free_at end slots)) end slots slots c.args.list (until_skips (free_at end slots) i taken) (λ way k. refl) c.requires.listed
 
 pub insert-requires-clause-below : goal.insert-requires-clause-below
@@ -40,7 +40,7 @@ returns-clause-listed c =
     let i_in : i < 240 = (let a : i < length slots = c.requires.place in omega arith) in
     let free = free_at end slots in
     let inside = λ (k : ℕ) (f : until i free k ≡ true). let a : k < i = (until_is free i k f).0 in let b : k < 240 = omega arith in b in
-    let now = free_here end slots i _ c.requires.place ∙ sym c.is_free.ensures ∙ c.if-not-is_free.false in
+    let now = free_read end slots i _ c.index-slots-place.is c.requires.place ∙ sym c.is_free.ensures ∙ c.if-not-is_free.false in
     let greatest = c.args.list.greatest in
     let one = λ (w : Way) (q r : Option ℕ) (placed : chain end w c.insert.new.slots c.insert.result (Some i) ≡ r) (last : IsLast (until i free) (rank_of w) (rank_of w i) q)
     (found : IsFirst (until i free) (rank_of w) (rank_of w i + 1) r) (joined : chain end w c.insert.new.slots c.insert.result q ≡ Some i).

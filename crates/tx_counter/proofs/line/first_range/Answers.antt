@@ -1,6 +1,6 @@
 use Rattle.std.proofs.Common.{◌<◌, ◌==◌, ◌∙◌, sym, length, arith}
 use Rattle.tx_plan.specs.declared.range.LineRange.{LineRange}
-use Rattle.tx_plantext.proofs.Places.{entry_at}
+use Rattle.tx_plan.proofs.ByPlace.{entry_at}
 use Rattle.tx_counter.proofs.Loops.{find_here, find_past}
 use Rattle.tx_counter.proofs.line.first_range.Goals as goal
 

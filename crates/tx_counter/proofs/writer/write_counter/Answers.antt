@@ -1,6 +1,6 @@
 use Rattle.std.proofs.Common.{◌++◌, codes}
 use Rattle.std.specs.List.{flat_map}
-use Rattle.tx_plantext.proofs.PlanWriting.{wrote_then, wrote_first}
+use Rattle.tx_text.proofs.Wrote.{wrote_then, wrote_first}
 use Rattle.tx_script.specs.Events.{event_text}
 use Rattle.tx_counter.proofs.ReadBack.{scripts_back}
 use Rattle.tx_counter.proofs.writer.write_counter.Goals as goal

@@ -1,4 +1,4 @@
-use Rattle.tx_plantext.proofs.PlanWriting.{texts_stopped}
+use Rattle.tx_text.proofs.Wrote.{texts_stopped}
 use Rattle.tx_script.specs.Events.{event_text}
 use Rattle.tx_counter.proofs.writer.write_events.Goals as goal
 

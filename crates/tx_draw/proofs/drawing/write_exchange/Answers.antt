@@ -1,4 +1,4 @@
-use Rattle.tx_plantext.proofs.PlanWriting.{wrote_then, wrote_first}
+use Rattle.tx_text.proofs.Wrote.{wrote_then, wrote_first}
 use Rattle.tx_draw.specs.Drawing.{box}
 use Rattle.tx_draw.proofs.drawing.write_exchange.Goals as goal
 

@@ -1,5 +1,5 @@
 use Rattle.std.proofs.Common.{length, arith}
-use Rattle.tx_plantext.proofs.PlanWriting.{wrote_none}
+use Rattle.tx_text.proofs.Wrote.{wrote_none}
 use Rattle.tx_draw.specs.Drawing.{exchange_line}
 use Rattle.tx_draw.proofs.Before.{before_more, before_done, before_stopped}
 use Rattle.tx_draw.proofs.drawing.write_exchanges.Goals as goal

@@ -1,5 +1,5 @@
+use Rattle.tx_text.proofs.Wrote.{wrote_then, wrote_first}
 use Rattle.tx_plan.specs.Circuits.{ends_of}
-use Rattle.tx_plantext.proofs.PlanWriting.{wrote_then, wrote_first}
 use Rattle.tx_draw.specs.Drawing.{line_between}
 use Rattle.tx_draw.proofs.drawing.write_group.Goals as goal
 

@@ -1,5 +1,5 @@
 use Rattle.std.proofs.Common.{Ok}
-use Rattle.tx_plantext.specs.Wrote.{Wrote}
+use Rattle.tx_text.specs.Wrote.{Wrote}
 use Rattle.tx_draw.specs.Drawing.{each_before, group_line}
 use Rattle.tx_draw.proofs.drawing.write_groups.Given as goal
 

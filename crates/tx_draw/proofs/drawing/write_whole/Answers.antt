@@ -1,5 +1,5 @@
 use Rattle.std.proofs.Common.{length}
-use Rattle.tx_plantext.proofs.PlanWriting.{wrote_then, wrote_first}
+use Rattle.tx_text.proofs.Wrote.{wrote_then, wrote_first}
 use Rattle.tx_draw.specs.Drawing.{each_before, head, exchange_line, group_line}
 use Rattle.tx_draw.proofs.drawing.write_whole.Goals as goal
 

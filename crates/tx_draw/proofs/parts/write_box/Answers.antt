@@ -1,6 +1,6 @@
 use Rattle.std.proofs.Common.{[], ◌++◌, length, codes}
+use Rattle.tx_text.proofs.Wrote.{wrote_then, wrote_first, text_is}
 use Rattle.tx_plan.specs.Plan.{exchange_name}
-use Rattle.tx_plantext.proofs.PlanWriting.{wrote_then, wrote_first, text_is}
 use Rattle.tx_draw.specs.Drawing.{each_before, home_row}
 use Rattle.tx_draw.proofs.Before.{box_cut}
 use Rattle.tx_draw.proofs.parts.write_box.Goals as goal

@@ -1,5 +1,5 @@
 use Rattle.std.proofs.Common.{Ok}
-use Rattle.tx_plantext.specs.Wrote.{Wrote}
+use Rattle.tx_text.specs.Wrote.{Wrote}
 use Rattle.tx_draw.specs.Drawing.{each_before, home_row}
 use Rattle.tx_draw.proofs.parts.write_home_rows.Given as goal
 

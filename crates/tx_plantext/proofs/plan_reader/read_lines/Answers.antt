@@ -1,12 +1,12 @@
 use Rattle.std.proofs.Common.{◌≡◌, ℕ, List, Ok, subst}
 use Rattle.tx_text.specs.Framing.{to_come, number_of_line, words_of_line}
 use Rattle.tx_text.specs.Said.{DeclaredBy, is_no_room}
-use Rattle.tx_text.proofs.CallCounts.{went_none, went_on, calls_on, broken_on, stopped_by_with}
+use Rattle.tx_text.proofs.CallCounts.{went_none, went_on, went_past, calls_on, broken_on, stopped_by_with}
 use Rattle.tx_text.proofs.Saying.{headed_on, declared_on, refused, done_on, stopped_by}
 use Rattle.tx_text.proofs.NoRoom.{come_said}
 use Rattle.tx_text.proofs.Wanting.{finds_headed, finds_declared, found_here}
 use Rattle.tx_plantext.specs.PlanText.{declare, plan_of, is_memory, WantingAt}
-use Rattle.tx_plantext.proofs.Reading.{found, at_start, went_past}
+use Rattle.tx_plantext.proofs.Reading.{found, at_start}
 use Rattle.tx_plantext.proofs.plan_reader.read_lines.Goals as goal
 
 pub lines-init : goal.lines-init
@@ -52,7 +52,7 @@ returns-in-Err-declare-clause-answer g c =
     let a = g.R.Source.rest c.args.source.now in
     let b = g.R.Source.rest c.advance.new.source in
     let here = found_here declare _ _ _ found (to_come c.lines.frame) (to_come v) c.lines.version c.lines.plan n ws c.lines.invariant.finds q in
-    rw c.number.ensures (refused declare _ _ _ plan_of (to_come c.lines.frame) (to_come v) (WantingAt a b) c.lines.version c.lines.plan x n ws (is_memory x) c.lines.invariant.says q d here)
+    rw c.number-line.ensures (refused declare _ _ _ plan_of (to_come c.lines.frame) (to_come v) (WantingAt a b) c.lines.version c.lines.plan x n ws (is_memory x) c.lines.invariant.says q d here)
 
 pub returns-in-Ok-End-clause-answer : goal.returns-in-Ok-End-clause-answer
 returns-in-Ok-End-clause-answer g c =

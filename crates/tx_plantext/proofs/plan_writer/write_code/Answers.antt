@@ -1,5 +1,6 @@
+use Rattle.tx_text.proofs.Wrote.{wrote_none}
 use Rattle.tx_plantext.specs.PlanWritten.{code_words}
-use Rattle.tx_plantext.proofs.PlanWriting.{wrote_none, line_past, none_at, code_text}
+use Rattle.tx_plantext.proofs.PlanWriting.{line_past, none_at, code_text}
 use Rattle.tx_plantext.proofs.plan_writer.write_code.Goals as goal
 
 pub returns-in-None : goal.returns-in-None

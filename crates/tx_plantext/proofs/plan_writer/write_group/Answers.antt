@@ -1,7 +1,8 @@
 use Rattle.std.proofs.Common.{◌++◌, refl}
+use Rattle.tx_text.proofs.Wrote.{wrote_none, text_is, wrote_then, wrote_first}
 use Rattle.tx_plan.specs.Circuits.{count_of, direction_of}
 use Rattle.tx_plantext.specs.PlanWritten.{group_words, direction_word}
-use Rattle.tx_plantext.proofs.PlanWriting.{wrote_none, line_past, none_at, group_text, group_head, group_end, text_is, wrote_then, wrote_first}
+use Rattle.tx_plantext.proofs.PlanWriting.{line_past, none_at, group_text, group_head, group_end}
 use Rattle.tx_plantext.proofs.plan_writer.write_group.Goals as goal
 
 pub returns-in-None : goal.returns-in-None

@@ -1,7 +1,7 @@
 use Rattle.std.proofs.Common.{◌++◌, take, Ok, codes}
 use Rattle.std.specs.List.{flat_map}
+use Rattle.tx_text.specs.Wrote.{Wrote}
 use Rattle.tx_plan.specs.Plan.{group_name}
-use Rattle.tx_plantext.specs.Wrote.{Wrote}
 use Rattle.tx_plantext.proofs.plan_writer.write_names.Given as goal
 
 abbrev pub invariant-loop-i : goal.invariant-loop-i

@@ -1,6 +1,6 @@
 use Rattle.std.proofs.Common.{take, Ok}
-use Rattle.tx_plantext.specs.PlanWritten.{range_words}
-use Rattle.tx_plantext.specs.Wrote.{Wrote, lines_of_list}
+use Rattle.tx_text.specs.Wrote.{Wrote}
+use Rattle.tx_plantext.specs.PlanWritten.{range_words, lines_of_list}
 use Rattle.tx_plantext.proofs.plan_writer.write_ranges.Given as goal
 
 abbrev pub invariant-loop-place : goal.invariant-loop-place

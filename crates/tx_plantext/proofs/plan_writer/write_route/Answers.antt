@@ -1,5 +1,6 @@
 use Rattle.std.proofs.Common.{refl}
-use Rattle.tx_plantext.proofs.PlanWriting.{text_is, wrote_then, wrote_first, route_text, route_head}
+use Rattle.tx_text.proofs.Wrote.{text_is, wrote_then, wrote_first}
+use Rattle.tx_plantext.proofs.PlanWriting.{route_text, route_head}
 use Rattle.tx_plantext.proofs.plan_writer.write_route.Goals as goal
 
 pub returns-in_err-write_text-in-Some : goal.returns-in_err-write_text-in-Some

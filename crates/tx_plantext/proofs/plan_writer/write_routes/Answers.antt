@@ -1,6 +1,7 @@
 use Rattle.std.proofs.Common.{arith}
+use Rattle.tx_text.proofs.Wrote.{wrote_none}
 use Rattle.tx_plantext.specs.PlanWritten.{route_words}
-use Rattle.tx_plantext.proofs.PlanWriting.{wrote_none, list_more, list_done, list_stopped}
+use Rattle.tx_plantext.proofs.PlanWriting.{list_more, list_done, list_stopped}
 use Rattle.tx_plantext.proofs.plan_writer.write_routes.Goals as goal
 
 pub loop-place-init : goal.loop-place-init

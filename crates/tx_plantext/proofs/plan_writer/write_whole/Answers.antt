@@ -1,7 +1,7 @@
 use Rattle.tx_text.specs.Written.{line_written}
-use Rattle.tx_plantext.specs.PlanWritten.{head_of, has_bars, exchange_words, code_words, range_words, group_words, route_words, bar_words}
-use Rattle.tx_plantext.specs.Wrote.{lines_of_list}
-use Rattle.tx_plantext.proofs.PlanWriting.{plan_cut, wrote_then, wrote_first}
+use Rattle.tx_text.proofs.Wrote.{wrote_then, wrote_first}
+use Rattle.tx_plantext.specs.PlanWritten.{head_of, has_bars, exchange_words, code_words, range_words, group_words, route_words, bar_words, lines_of_list}
+use Rattle.tx_plantext.proofs.PlanWriting.{plan_cut}
 use Rattle.tx_plantext.proofs.plan_writer.write_whole.Goals as goal
 
 pub returns-in_err-write_head : goal.returns-in_err-write_head

@@ -5,11 +5,10 @@ use Rattle.tx_text.specs.Frame.{is_read}
 use Rattle.tx_text.specs.Framing.{to_come, number_of_line, words_of_line}
 use Rattle.tx_text.specs.Told.{Reading}
 use Rattle.tx_text.proofs.NoRoom.{come_said}
-use Rattle.tx_text.proofs.CallCounts.{went_none, went_on, went_same, calls_on, broken_on, stopped_with}
+use Rattle.tx_text.proofs.CallCounts.{went_none, went_on, went_past, went_same, calls_on, broken_on, stopped_with}
 use Rattle.tx_script.specs.declared.run_cause.RunCause.{RunCause}
 use Rattle.tx_script.specs.declared.run_cause.RunCause.TheVariants.{Script}
 use Rattle.tx_script.specs.Events.{event_of}
-use Rattle.tx_script.proofs.Scripts.{went_past}
 use Rattle.tx_script.proofs.Running.{start_runs, header_runs, event_runs, few_answered, few_refused, few_calls, few_made, none_left, word_answers, stop_answers, halted_answers, whole_answers}
 use Rattle.tx_script.proofs.runner.run_lines.Goals as goal
 

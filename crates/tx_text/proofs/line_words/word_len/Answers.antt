@@ -1,13 +1,18 @@
-use Rattle.std.proofs.Common.{arith, sym, length}
-use Rattle.std.proofs.lemmas.Grind.{common_steps}
-use Rattle.std.proofs.lemmas.List.Sums.{prefix_len_is}
+use Rattle.std.proofs.Common.{sym, ap, ◌∙◌, arith}
+use Rattle.std.proofs.lemmas.List.Sums.{prefix_len-le-length}
 use Rattle.tx_text.specs.Words.{is_word_byte}
+use Rattle.tx_text.proofs.WordEnds.{ends_at}
+use lib.Count.{count_trailing_zeros}
 use Rattle.tx_text.proofs.line_words.word_len.Goals as goal
 
-pub returns-then-is_blank-clause-count : goal.returns-then-is_blank-clause-count
-returns-then-is_blank-clause-count c =
-    sym (prefix_len_is is_word_byte c.args.text.now _ 0 (omega arith) c.loop-i.invariant (λ lt. grind (arith, common_steps)))
+pub returns-then-ends-ne0-clause-count : goal.returns-then-ends-ne0-clause-count
+returns-then-ends-ne0-clause-count c =
+    let ends = c.word_ends-ends in
+    let run = ends_at c.args.text.now (omega arith) (omega (arith, ends.ensures)) ∙ ap (count_trailing_zeros 64) (sym ends.ensures) in
+    omega (arith, run)
 
-pub returns-clause-count : goal.returns-clause-count
-returns-clause-count c =
-    sym (prefix_len_is is_word_byte c.args.text.now (length c.args.text.now) 0 (omega arith) (λ k lt. c.loop-i.invariant k (omega arith)) (λ lt. absurd (omega arith)))
+pub returns-then-ends-ne0-clause-within : goal.returns-then-ends-ne0-clause-within
+returns-then-ends-ne0-clause-within c =
+    let ends = c.word_ends-ends in
+    let run = ends_at c.args.text.now (omega arith) (omega (arith, ends.ensures)) ∙ ap (count_trailing_zeros 64) (sym ends.ensures) in
+    omega (arith, run, prefix_len-le-length is_word_byte c.args.text.now)

@@ -10,4 +10,5 @@ returns c =
     let check = with_command _ _ _ _ _ grade c.in_ok-check_grammar.ensures refl c.in_ok-subcommand-3.ensures in
     let run = with_command _ _ _ _ _ check c.in_ok-run_grammar.ensures refl c.in_ok-subcommand-4.ensures in
     let listed = with_command _ _ _ _ _ run c.in_ok-codes_grammar.ensures refl c.in_ok-subcommand-5.ensures in
-    IfOk-weaker c.subcommand-6.result _ _ (λ n adds. with_command _ n _ _ _ listed c.in_ok-explain_grammar.ensures refl adds) c.subcommand-6.ensures
+    let draw = with_command _ _ _ _ _ listed c.in_ok-draw_grammar.ensures refl c.in_ok-subcommand-6.ensures in
+    IfOk-weaker c.subcommand-7.result _ _ (λ n adds. with_command _ n _ _ _ draw c.in_ok-explain_grammar.ensures refl adds) c.subcommand-7.ensures

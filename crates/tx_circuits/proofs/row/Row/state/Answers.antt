@@ -1,4 +1,4 @@
-use Rattle.std.proofs.Common.{◌≡◌, ◌∙◌, ℕ, ◌-◌, ◌<◌, ◌≤◌, map, sym, arith}
+use Rattle.std.proofs.Common.{◌∙◌, ◌-◌, ◌<◌, ◌≤◌, Some, ap, map, sym, arith}
 use Rattle.tx_circuits.specs.inner.Slots.{state_of}
 use Rattle.tx_circuits.specs.inner.Groups.{group_slots}
 use Rattle.tx_circuits.proofs.Kept.{numbered_at, slot_at}
@@ -9,4 +9,4 @@ returns c =
     let n = c.args.number in
     let some : 0 < n = omega (arith, c.if-number-eq0.false) in
     let few : n ≤ c.args.self.count = c.if-number-self.false in
-    sym (numbered_at (map state_of (group_slots c.args.slots.now c.args.self)) n some ∙ slot_at c.args.slots.now c.args.self (n - 1) _ c.requires.within (omega arith))
+    ap Some (c.state.ensures ∙ ap state_of c.index-slots-self.is) ∙ sym (numbered_at (map state_of (group_slots c.args.slots.now c.args.self)) n some ∙ slot_at c.args.slots.now c.args.self (n - 1) _ c.requires.within (omega arith))

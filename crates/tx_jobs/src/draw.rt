@@ -1,0 +1,134 @@
+// The job of `draw PLAN [--code C] [--limit L --spare K]`.
+ghost use Rattle.std.specs.Prelude.{◌≡◌, ◌≤◌, ◌<◌, length, IfOk, IfSome, option_map};
+ghost use Rattle.tx_text.specs.Calls.{Broken, CallsAtMost, source_calls};
+ghost use Rattle.tx_draw.specs.Drawing.{drawing};
+ghost use Rattle.tx_jobs.specs.JobFaults.{mark_after};
+ghost use Rattle.tx_jobs.specs.DrawJobs.{AreToShow, ToldText, DrewCode, Drew, DrawJobAnswers};
+
+use crate::job_fault::JobFault;
+use std::alloc::Allocator;
+use tx_draw::{reached, write_code_drawing, write_drawing};
+use tx_plan::{CodeId, Plan};
+use tx_plantext::read_plan_from;
+use tx_rank::{Finding, Ranking, rank};
+use tx_text::{NoMemory, Sink, Source, WriteFault};
+
+/// Reads a plan, and writes its picture; with the figures of a code that of the routes for the code, and with a limit and a spare number too that with the
+/// walk of the code's first finding.
+///
+/// Nothing is written where the plan is refused or has no such code, or where memory is wanting. Without a code the limit and the spare number change nothing.
+#[tactic(auto, using(crate::proofs::Marks::plan_unmarked))]
+pub fn draw_job<A: Allocator + Copy, P: Source, W: Sink>(
+    alloc: A,
+    plan: &mut P,
+    code: Option<&[u8]>,
+    bounds: Option<(u8, u8)>,
+    out: &mut W,
+) -> Result<(), JobFault>
+    requires limit { IfSome bounds (λ b. b.0 ≤ 62) }
+    requires spare { IfSome bounds (λ b. b.1 ≤ 15) }
+    ensures answers { DrawJobAnswers A (P.rest plan.old) (P.rest plan.new) (option_map (λ f. f.now) code.entry) bounds (W.taken out.old) (W.taken out.new) (Broken P.called (P.failed plan.new) source_calls plan.old plan.new) (plan.new ≡ plan.old) (out.new ≡ out.old) result }
+    ensures mark { W.failed out.new ≡ mark_after (W.failed out.old) result }
+    ensures calls { CallsAtMost P.called source_calls plan.old plan.new }
+{
+    match read_plan_from(alloc, plan) {
+        Ok(plan) => {
+            plan.rules();
+            draw_plan(alloc, &plan, code, bounds, out)
+        }
+        Err(fault) => Err(JobFault::of_plan(fault)),
+    }
+}
+
+/// Draws a plan, or the code of some figures.
+fn draw_plan<A: Allocator + Copy, W: Sink>(
+    alloc: A,
+    plan: &Plan<A>,
+    code: Option<&[u8]>,
+    bounds: Option<(u8, u8)>,
+    out: &mut W,
+) -> Result<(), JobFault>
+    requires limit { IfSome bounds (λ b. b.0 ≤ 62) }
+    requires spare { IfSome bounds (λ b. b.1 ≤ 15) }
+    ensures drew { Drew A plan.now (option_map (λ f. f.now) code.entry) bounds (W.taken out.old) (W.taken out.new) (out.new ≡ out.old) result }
+    ensures mark { W.failed out.new ≡ mark_after (W.failed out.old) result }
+{
+    match code {
+        None => draw_whole(plan, out),
+        Some(figures) => match plan.code_named(figures) {
+            Some(code) => draw_code(alloc, plan, code, bounds, out),
+            None => Err(JobFault::UnknownCode),
+        },
+    }
+}
+
+fn draw_whole<A: Allocator, W: Sink>(plan: &Plan<A>, out: &mut W) -> Result<(), JobFault>
+    ensures told { ToldText (drawing plan.now) (W.taken out.old) (W.taken out.new) result }
+    ensures mark { W.failed out.new ≡ mark_after (W.failed out.old) result }
+{
+    match write_drawing(plan, out) {
+        Ok(()) => Ok(()),
+        Err(WriteFault) => Err(JobFault::Write),
+    }
+}
+
+fn draw_code<A: Allocator + Copy, W: Sink>(
+    alloc: A,
+    plan: &Plan<A>,
+    code: CodeId,
+    bounds: Option<(u8, u8)>,
+    out: &mut W,
+) -> Result<(), JobFault>
+    requires code { code < length plan.now.codes }
+    requires limit { IfSome bounds (λ b. b.0 ≤ 62) }
+    requires spare { IfSome bounds (λ b. b.1 ≤ 15) }
+    ensures drew { DrewCode A plan.now code bounds (W.taken out.old) (W.taken out.new) (out.new ≡ out.old) result }
+    ensures mark { W.failed out.new ≡ mark_after (W.failed out.old) result }
+{
+    match findings_to_show(alloc, plan, bounds) {
+        Ok(findings) => draw_finding(alloc, plan, code, bounds, &findings, out),
+        Err(NoMemory) => Err(JobFault::NoMemory),
+    }
+}
+
+/// What is wrong with a plan, for a limit and a spare number; nothing without these.
+fn findings_to_show<A: Allocator + Copy>(
+    alloc: A,
+    plan: &Plan<A>,
+    bounds: Option<(u8, u8)>,
+) -> Result<Vec<Finding<A>, A>, NoMemory>
+    requires limit { IfSome bounds (λ b. b.0 ≤ 62) }
+    requires spare { IfSome bounds (λ b. b.1 ≤ 15) }
+    ensures { IfOk result (λ findings. AreToShow plan.now bounds findings.items) }
+{
+    match bounds {
+        None => Ok(Vec::new(alloc)),
+        Some((limit, spare)) => match rank(alloc, plan, limit, spare)? {
+            Ranking::Found(_) => Ok(Vec::new(alloc)),
+            Ranking::Fails(findings) => Ok(findings),
+        },
+    }
+}
+
+/// Draws a code, with the walk of its first finding.
+fn draw_finding<A: Allocator + Copy, W: Sink>(
+    alloc: A,
+    plan: &Plan<A>,
+    code: CodeId,
+    bounds: Option<(u8, u8)>,
+    findings: &[Finding<A>],
+    out: &mut W,
+) -> Result<(), JobFault>
+    requires code { code < length plan.now.codes }
+    requires found { AreToShow plan.now bounds findings.now }
+    ensures drew { DrewCode A plan.now code bounds (W.taken out.old) (W.taken out.new) (out.new ≡ out.old) result }
+    ensures mark { W.failed out.new ≡ mark_after (W.failed out.old) result }
+{
+    match reached(alloc, plan, code) {
+        Ok(marks) => match write_code_drawing(plan, code, &marks, findings, out) {
+            Ok(()) => Ok(()),
+            Err(WriteFault) => Err(JobFault::Write),
+        },
+        Err(NoMemory) => Err(JobFault::NoMemory),
+    }
+}

@@ -1,0 +1,70 @@
+-- A word's end, found in a block of bytes at once.
+use Rattle.std.proofs.Common.{◌≡◌, ℕ, ◌+◌, ◌*◌, ◌%◌, ◌^◌, ◌<◌, ◌≤◌, Bool, true, false, not, cond, eqb, ◌||◌, List, [], ◌∷◌, map, length, drop, refl, sym, ap, ap₂, ◌∙◌, arith}
+use Rattle.std.proofs.lemmas.Bool.{ne_eqb}
+use Rattle.std.proofs.lemmas.List.{length-map}
+use Rattle.std.proofs.lemmas.List.Folds.{prefix_len-append}
+use Rattle.std.proofs.lemmas.List.Sums.{prefix_len-le-length}
+use Rattle.std.proofs.lemmas.Simd.{chunk-drop, length-chunk, mask_l-mod, trailing_mask_l, zip2_of_maps}
+use Rattle.std.specs.List.{prefix_len}
+use lib.Bits.{bit_or}
+use lib.Count.{count_trailing_zeros}
+use lib.Lanes.{chunk, zip2, mask_l, top}
+use Rattle.tx_text.specs.Words.{is_word_byte}
+
+-- THE MASK
+
+abbrev hit : ℕ → ℕ → ℕ
+hit a b = cond (eqb a b) 255 0
+
+-- what three comparisons of a byte come to
+abbrev lane : ℕ → ℕ
+lane b = bit_or (bit_or (hit b 32) (hit b 9)) (hit b 35)
+
+one_of_three : (x y z : Bool) → top 7 (bit_or (bit_or (cond x 255 0) (cond y 255 0)) (cond z 255 0)) ≡ not (not ((x || y) || z))
+one_of_three true true true = refl
+one_of_three true true false = refl
+one_of_three true false true = refl
+one_of_three true false false = refl
+one_of_three false true true = refl
+one_of_three false true false = refl
+one_of_three false false true = refl
+one_of_three false false false = refl
+
+marked : (v : List ℕ) → map (top 7) (map lane v) ≡ map (λ b. not (is_word_byte b)) v
+marked [] = refl
+marked (b ∷ bs) = ap₂ (λ x xs. x ∷ xs) (one_of_three (eqb b 32) (eqb b 9) (eqb b 35)) (marked bs)
+
+pub mask_of : (v z : List ℕ) → length v ≡ 16 → z ≡ map lane v → mask_l (map (top 7) z) % 2 ^ 64 ≡ mask_l (map (λ b. not (is_word_byte b)) v)
+mask_of v z long e =
+    ap (λ l. mask_l l % 2 ^ 64) (ap (map (top 7)) e ∙ marked v)
+    ∙ mask_l-mod (map (λ b. not (is_word_byte b)) v) 64 (omega (arith, length-map v (λ b. not (is_word_byte b)), long))
+
+pub three_lanes : (v : List ℕ) (a b c : List ℕ) → a ≡ map (λ x. hit x 32) v → b ≡ map (λ x. hit x 9) v → c ≡ map (λ x. hit x 35) v → zip2 bit_or (zip2 bit_or a b) c ≡ map lane v
+three_lanes v a b c p q r = zip2_of_maps bit_or (λ x. bit_or (hit x 32) (hit x 9)) (λ x. hit x 35) v (zip2_of_maps bit_or (λ x. hit x 32) (λ x. hit x 9) v p q) r
+
+-- THE WORD
+
+same_run : (xs : List ℕ) → prefix_len is_word_byte xs ≡ prefix_len (λ b. not (not (is_word_byte b))) xs
+same_run [] = refl
+same_run (x ∷ xs) = ap₂ (λ b n. cond b (1 + n) 0) (twice (is_word_byte x)) (same_run xs)
+  where
+    twice : (b : Bool) → b ≡ not (not b)
+    twice true = refl
+    twice false = refl
+
+no_end : (b : Bool) (n l m : ℕ) → n ≤ l → cond b (1 + n) 0 ≡ 1 + l → (n ≡ l → m ≡ 0) → cond (not b) 1 0 + 2 * m ≡ 0
+no_end true n l m le e ih = let z = ih (omega arith) in omega arith
+no_end false n l m le e ih = let no : ⊥ = omega arith in absurd no
+
+none_ends : (xs : List ℕ) → prefix_len is_word_byte xs ≡ length xs → mask_l (map (λ b. not (is_word_byte b)) xs) ≡ 0
+none_ends [] e = refl
+none_ends (x ∷ xs) e = no_end (is_word_byte x) _ (length xs) _ (prefix_len-le-length is_word_byte xs) (omega arith) (none_ends xs)
+
+-- where a byte of the first sixteen is no byte of a word, the first of these ends the word
+pub ends_at : (text : List ℕ) → 16 ≤ length text → 0 < mask_l (map (λ b. not (is_word_byte b)) (chunk 0 16 text))
+    → prefix_len is_word_byte text ≡ count_trailing_zeros 64 (mask_l (map (λ b. not (is_word_byte b)) (chunk 0 16 text)))
+ends_at text room some =
+    let c = chunk 0 16 text in
+    ap (prefix_len is_word_byte) (chunk-drop 0 16 text) ∙ prefix_len-append is_word_byte c (drop 16 text)
+    ∙ ap (λ b. cond b (length c + prefix_len is_word_byte (drop 16 text)) (prefix_len is_word_byte c)) (ne_eqb _ _ (λ (e : prefix_len is_word_byte c ≡ length c). omega (arith, none_ends c e)))
+    ∙ same_run c ∙ sym (trailing_mask_l (λ b. not (is_word_byte b)) 64 c (omega (arith, length-chunk 0 16 text room)) some)

@@ -1,0 +1,43 @@
+-- Texts that are written one after another, told by `Wrote`.
+use Rattle.std.proofs.Common.{◌≡◌, ℕ, ◌<◌, ◌≤◌, Bool, List, [], ◌++◌, length, take, get_or, Option, Result, Ok, Err, refl, sym, ap, ◌∙◌, subst}
+use Rattle.std.specs.Prelude.{IsErr}
+use Rattle.std.specs.List.{flat_map}
+use Rattle.std.specs.Io.KnownBytes.{append_known}
+use Rattle.std.proofs.lemmas.Bool.{false≢true}
+use Rattle.std.proofs.lemmas.List.{take_all}
+use Rattle.tx_text.specs.declared.sink.WriteFault.{WriteFault}
+use Rattle.tx_text.specs.Wrote.{Wrote}
+use Rattle.tx_text.proofs.Writing.{append_known-nil, append_known_twice, stops_first, stops_later, stops_at}
+
+abbrev pub Outcome : Type 0
+Outcome = Result (Unit {0}) WriteFault
+
+-- ---- one text and another
+
+pub wrote_none : (a : Option (List ℕ)) (f : Bool) → Wrote a a f f [] (Ok tt)
+wrote_none a f = (append_known-nil a, refl)
+
+pub wrote_then : (a b c : Option (List ℕ)) (f g h : Bool) (s t : List ℕ) (r : Outcome) → Wrote a b f g s (Ok tt) → Wrote b c g h t r → Wrote a c f h (s ++ t) r
+wrote_then a b c f g h s t (Ok x) v w = (w.0 ∙ ap (λ l. append_known l t) v.0 ∙ append_known_twice a s t, w.1 ∙ v.1)
+wrote_then a b c f g h s t (Err x) v w = (stops_later s v.0 w.0, w.1)
+
+-- the sink failed in the first of two texts
+pub wrote_first : (a b : Option (List ℕ)) (f g : Bool) (s t : List ℕ) (r : Outcome) (x : WriteFault) → Wrote a b f g s (Err x) → IsErr r → Wrote a b f g (s ++ t) r
+wrote_first a b f g s t (Ok y) x w bad = absurd (false≢true bad)
+wrote_first a b f g s t (Err y) x w bad = (stops_first t w.0, w.1)
+
+pub text_is : (a b : Option (List ℕ)) (f g : Bool) (s t : List ℕ) (r : Outcome) → s ≡ t → Wrote a b f g t r → Wrote a b f g s r
+text_is a b f g s t r e w = subst (λ (l : List ℕ). Wrote a b f g l r) (sym e) w
+
+-- ---- the texts of a list
+
+module _ {A : Type 0} (text : A → List ℕ) where
+  -- one of them was not written
+  pub texts_stopped : (xs : List A) (i : ℕ) (x : A) (a b c : Option (List ℕ)) (f g h : Bool) (r : Outcome) (fault : WriteFault) → i < length xs → x ≡ get_or xs i x
+      → Wrote a b f g (flat_map text (take i xs)) (Ok tt) → Wrote b c g h (text x) (Err fault) → IsErr r → Wrote a c f h (flat_map text xs) r
+  texts_stopped xs i x a b c f g h (Ok y) fault lt is v w bad = absurd (false≢true bad)
+  texts_stopped xs i x a b c f g h (Err y) fault lt is v w bad = (stops_at text xs i x lt is v.0 w.0, w.1)
+
+  -- all of them were written
+  pub texts_done : (xs : List A) (i : ℕ) (a b : Option (List ℕ)) (f g : Bool) → length xs ≤ i → Wrote a b f g (flat_map text (take i xs)) (Ok tt) → Wrote a b f g (flat_map text xs) (Ok tt)
+  texts_done xs i a b f g all v = subst (λ (l : List A). Wrote a b f g (flat_map text l) (Ok tt)) (take_all i xs all) v
