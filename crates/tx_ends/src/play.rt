@@ -84,6 +84,7 @@ fn tell_command(read: &Result<Command, WordsFault>, log: &Log) {
             match fault {
                 WordsFault::Clap(e) => log.tell_value(&e.kind()),
                 WordsFault::Together => log.tell("refused:", "Together"),
+                WordsFault::DrawTogether => log.tell("refused:", "DrawTogether"),
                 WordsFault::NoSuchCode(word) => log.tell("refused: NoSuchCode", word.as_str()),
                 WordsFault::NoMemory => log.tell("refused:", "NoMemory"),
             }

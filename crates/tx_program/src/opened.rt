@@ -58,6 +58,11 @@ pub(crate) enum Opened<'a, I: Read + Drop, R: Read + Drop> {
     Grade {
         plan: R,
     },
+    Draw {
+        plan: R,
+        /// The code whose routes are drawn alone, and the numbers for which its first finding is shown.
+        routes: Option<(&'a str, Option<Bounds>)>,
+    },
     Explain {
         entry: Option<Entry>,
     },
@@ -117,6 +122,30 @@ impl<'a, I: Read + Drop, R: Read + Drop> Opened<'a, I, R> {
             }),
             Command::Grade { plan } => Ok(Opened::Grade {
                 plan: open(folder, plan.as_str())?,
+            }),
+            Command::Draw { plan, routes: None } => Ok(Opened::Draw {
+                plan: open(folder, plan.as_str())?,
+                routes: None,
+            }),
+            Command::Draw {
+                plan,
+                routes: Some((code, None)),
+            } => Ok(Opened::Draw {
+                plan: open(folder, plan.as_str())?,
+                routes: Some((code.as_str(), None)),
+            }),
+            Command::Draw {
+                plan,
+                routes: Some((code, Some((limit, spare)))),
+            } => Ok(Opened::Draw {
+                plan: open(folder, plan.as_str())?,
+                routes: Some((
+                    code.as_str(),
+                    Some(Bounds {
+                        limit: *limit,
+                        spare: *spare,
+                    }),
+                )),
             }),
             Command::Explain { entry } => Ok(Opened::Explain { entry: *entry }),
             Command::Audit {

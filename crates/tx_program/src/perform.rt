@@ -1,4 +1,5 @@
 // What is done for a command.
+ghost use Rattle.std.specs.Prelude.{◌≤◌, IfSome};
 ghost use Rattle.tx_words.specs.Commands.{IsInRange};
 
 use crate::audited::audit_file;
@@ -9,7 +10,8 @@ use std::alloc::Allocator;
 use std::io::{Read, Write};
 use tx_explain::{Entry, write_explanation};
 use tx_jobs::{
-    JobFault, check_status, codes_status, grade_status, pipe_job, run_checked_status, run_job,
+    JobFault, check_status, codes_status, draw_job, grade_status, pipe_job, run_checked_status,
+    run_job,
 };
 use tx_words::Command;
 
@@ -52,6 +54,7 @@ fn do_job<A: Allocator + Copy, F: Folder, I: Read + Drop, O: Write + Drop>(
         Opened::Grade { plan } => {
             grade_status(alloc, &mut output.source(alloc, plan)?, &mut output.sink())
         }
+        Opened::Draw { plan, routes } => draw_file(alloc, plan, routes, output),
         Opened::Audit { plan, bounds, keep } => {
             audit_file(alloc, plan, bounds, keep, folder, output)
         }
@@ -122,6 +125,36 @@ fn check_files<A: Allocator + Copy, R: Read + Drop, O: Write + Drop>(
         bounds.spare,
         &mut output.sink(),
     )
+}
+
+/// `draw PLAN [--code C [--limit L --spare K]]`.
+fn draw_file<A: Allocator + Copy, R: Read + Drop, O: Write + Drop>(
+    alloc: A,
+    plan: R,
+    routes: Option<(&str, Option<Bounds>)>,
+    output: &Output<O, A>,
+) -> Result<u8, JobFault> {
+    let mut plan = output.source(alloc, plan)?;
+    let mut sink = output.sink();
+    let drawn = match routes {
+        None => draw_job(alloc, &mut plan, None, None, &mut sink),
+        Some((code, bounds)) => {
+            let code = Some(code.as_bytes());
+            draw_job(alloc, &mut plan, code, numbers(bounds), &mut sink)
+        }
+    };
+    drawn.map(|()| 0)
+}
+
+/// A limit and a spare number, if there are any.
+fn numbers(bounds: Option<Bounds>) -> Option<(u8, u8)>
+    ensures limit { IfSome result (λ n. n.0 ≤ 62) }
+    ensures spare { IfSome result (λ n. n.1 ≤ 15) }
+{
+    match bounds {
+        Some(bounds) => Some((bounds.limit, bounds.spare)),
+        None => None,
+    }
 }
 
 /// `explain [CODE]`.

@@ -21,6 +21,9 @@ pub(crate) fn tell_words<O: Write, E: Write>(
         WordsFault::Together => {
             errors.write_all(b"telexplan: --cert, --limit and --spare go together\n")
         }
+        WordsFault::DrawTogether => {
+            errors.write_all(b"telexplan: --limit and --spare go together, and with --code\n")
+        }
         WordsFault::NoSuchCode(word) => {
             writeln!(
                 errors,

@@ -47,6 +47,22 @@ fn tell_run<W: Sink>(
     }
 }
 
+/// Tells a picture: its code, if it has one, and what is to be shown of it.
+fn tell_drawn<W: Sink>(
+    plan: &String,
+    routes: &Option<(String, Option<(u8, u8)>)>,
+    out: &mut W,
+) -> Result<(), WriteFault> {
+    tell_file(b"draw", Some(plan), out)?;
+    match routes {
+        Some((code, numbers)) => {
+            tell_file(b" code", Some(code), out)?;
+            tell_numbers(*numbers, out)
+        }
+        None => tell_numbers(None, out),
+    }
+}
+
 /// Tells the code that is to be explained, if one is.
 fn tell_entry<W: Sink>(entry: Option<Entry>, out: &mut W) -> Result<(), WriteFault> {
     write_bytes(b"explain", out)?;
@@ -82,6 +98,7 @@ fn tell_command<W: Sink>(command: &Command, out: &mut W) -> Result<(), WriteFaul
             tell_file(b"grade", Some(plan), out)?;
             tell_numbers(None, out)
         }
+        Command::Draw { plan, routes } => tell_drawn(plan, routes, out),
         Command::Audit {
             plan,
             limit,

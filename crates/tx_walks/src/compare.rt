@@ -23,6 +23,8 @@ pub enum Difference {
     ScriptAt(usize),
     /// The events of the first finding that has some.
     FirstScript,
+    /// The grade.
+    Grade,
 }
 
 /// Whether a finding is the one that is wanted: its walk is one for its code, with this wrong.

@@ -5,6 +5,7 @@ ghost use Rattle.tx_rank.specs.Findings.{IsTrueOf};
 
 use crate::compare::{Difference, findings_differ, ranks_differ};
 use crate::families::{count_plans, put_plan};
+use crate::grades::grade_agrees;
 use crate::replay::Replay;
 use crate::scripts::{Judged, ScriptTally, scripts_differ};
 use crate::stop::Stop;
@@ -193,7 +194,7 @@ fn survey_codes(
     Ok(())
 }
 
-/// Judges the rankings of a plan, which has this text.
+/// Judges the grade and the rankings of a plan, which has this text.
 fn judge_plan(
     alloc: Global,
     plan: &Plan,
@@ -202,6 +203,10 @@ fn judge_plan(
     tally: &mut Tally,
 ) -> Result<(), Stop> {
     survey_codes(alloc, plan, &mut work.steps, &mut work.surveys)?;
+    if !grade_agrees(alloc, plan, &work.surveys, &mut work.wanted)? {
+        work.differs = Some(Difference::Grade);
+        return Err(Stop::Differs(0, 0));
+    }
     tally.add_plan();
     for limit in 0..NUMBERS {
         for spare in 0..NUMBERS {

@@ -36,6 +36,7 @@ fn said(difference: Difference) -> (&'static [u8], u64) {
         Difference::Refused => (b"refused ", 0),
         Difference::ScriptAt(place) => (b"script ", place as u64),
         Difference::FirstScript => (b"first script ", 0),
+        Difference::Grade => (b"grade ", 0),
     }
 }
 

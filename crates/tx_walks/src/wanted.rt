@@ -94,6 +94,18 @@ fn add_code(
     Ok(())
 }
 
+/// Makes the list of the findings of one code, in order.
+pub fn put_code(
+    plan: &Plan,
+    survey: &Survey,
+    limit: u8,
+    spare: u8,
+    wanted: &mut Vec<Wanted>,
+) -> Result<(), NoMemory> {
+    wanted.clear();
+    add_code(plan, survey, limit, spare, wanted)
+}
+
 /// Makes the list of all findings, in order.
 pub fn put_wanted(
     plan: &Plan,

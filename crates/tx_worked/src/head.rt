@@ -93,6 +93,8 @@ pub(crate) fn job_of(head: Head<'_>) -> Option<Job> {
         Some(Job::Run)
     } else if head.kind == b"codes".as_slice() {
         Some(Job::Codes)
+    } else if head.kind == b"grade".as_slice() {
+        Some(Job::Grade)
     } else if head.kind == b"check".as_slice() {
         Some(Job::Check { limit, spare })
     } else if head.kind == b"audit".as_slice() {

@@ -7,7 +7,7 @@ use tx_audit::write_counter;
 use tx_cases::Judge;
 use tx_cert::write_cert;
 use tx_jobs::{
-    Evidence, JobFault, check_status, codes_job, draw_job, evidence_job, pipe_job,
+    Evidence, JobFault, check_status, codes_job, draw_job, evidence_job, grade_status, pipe_job,
     run_checked_status, run_job,
 };
 use tx_text::{Figures, MemorySource, Sink, Source};
@@ -21,6 +21,7 @@ pub(crate) enum Job {
     Pipe,
     Run,
     Codes,
+    Grade,
     Check {
         limit: u8,
         spare: u8,
@@ -237,6 +238,7 @@ fn do_job<A: Allocator + Copy, P: Source, R: Source, S: Source, W: Sink>(
     match job {
         Job::Pipe | Job::Run => do_run(alloc, first, second, out),
         Job::Codes => do_codes(alloc, first, out),
+        Job::Grade => grade_status(alloc, first, out),
         Job::Check { limit, spare } => {
             check_status(alloc, first, second, limit.min(62), spare.min(15), out)
         }

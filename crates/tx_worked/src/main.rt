@@ -2,7 +2,7 @@
 //!
 //! A case begins with a line `=== NAME KIND` and has its texts behind it, with a line `---` between two. A text may have the marks of `spell`.
 //!
-//! - `pipe` has a plan and a script in one text, `run` in two; `both` has them in one, which is played in both ways. `codes` and `audit L K` have a plan,
+//! - `pipe` has a plan and a script in one text, `run` in two; `both` has them in one, which is played in both ways. `codes`, `grade` and `audit L K` have a plan,
 //!   `check L K` a plan and a certificate, `checked L K` (a run after a Yes) these and a script. An audit writes behind its report the certificate that it
 //!   found, or the script of the first finding that has one. Each is played by sources of 1, 2, 7 and 4,096 bytes a call, which has to make no difference.
 //!   `draw`, `draw CODE` and `draw CODE L K` have a plan.

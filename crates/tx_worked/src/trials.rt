@@ -110,6 +110,7 @@ fn name(job: Job) -> &'static [u8] {
         Job::Pipe => b"pipe",
         Job::Run => b"run",
         Job::Codes => b"codes",
+        Job::Grade => b"grade",
         Job::Check { .. } => b"check",
         Job::Audit { .. } => b"audit",
         Job::Checked { .. } => b"checked",
@@ -120,7 +121,7 @@ fn name(job: Job) -> &'static [u8] {
 /// How many sources a job has.
 fn sources(job: Job) -> u8 {
     match job {
-        Job::Pipe | Job::Codes | Job::Audit { .. } | Job::Draw { .. } => 1,
+        Job::Pipe | Job::Codes | Job::Grade | Job::Audit { .. } | Job::Draw { .. } => 1,
         Job::Run | Job::Check { .. } => 2,
         Job::Checked { .. } => 3,
     }
