@@ -48,20 +48,20 @@ impl GroupList {
         true
     }
 
-    /// Whether no group stands there twice. From the last group on, each leaves a mark by its place in a table of 256. Where a group finds no mark, none behind it
+    /// Whether no group stands there twice. From the last group on, each leaves a mark by its place, modulo a prime. Where a group finds no mark, none behind it
     /// is the same; where it finds one, they are compared.
     #[inline(always)]
     pub fn none_twice(&self) -> bool
         ensures { result ≡ differ self.now }
     {
         let groups = self.groups();
-        let mut marks = [false; 256];
+        let mut marks = [false; 251];
         let mut rest = groups.len();
         while rest > 0 {
             let others = &groups[rest..];
             rest -= 1;
             let group = groups[rest];
-            let mark = group.index() % 256;
+            let mark = group.index() % 251;
             if marks[mark] && is_among(group, others) {
                 return false;
             }

@@ -33,12 +33,12 @@ loop-rest-preserved c =
     let none : list_any (λ y. y == get_or gs (n - 1) 0) (drop n gs) ≡ false =
     elim c.else-marks-mark.branch [
       | else-marks-mark-via-then-marks-mark+else-is_among w ↦ asked gs (n - 1) n g kept.within here ∙ sym w.is_among.ensures ∙ w.if-is_among.false
-      | else-marks-mark-via-else-marks-mark w ↦ not_among marks (get_or gs (n - 1) 0) (drop n gs) kept.marked (ap (λ z. get_or marks (z % 256) false) place ∙ w.if-marks-mark.false)
+      | else-marks-mark-via-else-marks-mark w ↦ not_among marks (get_or gs (n - 1) 0) (drop n gs) kept.marked (ap (λ z. get_or marks (z % 251) false) place ∙ w.if-marks-mark.false)
     ] in
     let more = one_more marks gs (n - 1) n (omega (arith, c.loop-rest-test.true)) kept.within (omega (arith, kept.size)) none kept.once kept.marked in
     record {
-      size = length-set marks (c.index-mark.result % 256) true ∙ kept.size;
+      size = length-set marks (c.index-mark.result % 251) true ∙ kept.size;
       within = omega (arith, kept.within);
       once = more.0;
-      marked = subst (λ z. AllByRecursion (IsMarked (slice_set marks (z % 256) true)) (drop (n - 1) gs)) place more.1;
+      marked = subst (λ z. AllByRecursion (IsMarked (slice_set marks (z % 251) true)) (drop (n - 1) gs)) place more.1;
     }

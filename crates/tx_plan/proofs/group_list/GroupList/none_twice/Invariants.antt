@@ -6,7 +6,7 @@ use Rattle.tx_plan.proofs.group_list.GroupList.none_twice.Given as goal
 
 abbrev pub invariant-loop-rest : goal.invariant-loop-rest
 invariant-loop-rest l = record {
-  size : length l.marks ≡ 256;
+  size : length l.marks ≡ 251;
   within : l.rest ≤ length l.groups;
   once : differ (drop l.rest l.groups) ≡ true;
   marked : AllByRecursion (IsMarked l.marks) (drop l.rest l.groups);
