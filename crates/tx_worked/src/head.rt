@@ -74,13 +74,10 @@ pub(crate) fn limit_and_spare(head: Head<'_>) -> (u8, u8) {
 fn drawing_of(head: Head<'_>) -> Job {
     let limit = number_of(head.second, 62).min(62) as u8;
     let spare = number_of(head.third, 15).min(15) as u8;
-    Job::Draw {
-        code: Figures::read(head.first),
-        bounds: if head.second.is_empty() {
-            None
-        } else {
-            Some((limit, spare))
-        },
+    match Figures::read(head.first) {
+        None => Job::Draw,
+        Some(code) if head.second.is_empty() => Job::DrawCode { code },
+        Some(code) => Job::DrawFinding { code, limit, spare },
     }
 }
 

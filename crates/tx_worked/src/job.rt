@@ -1,5 +1,5 @@
 // A job, and what it does.
-ghost use Rattle.std.specs.Prelude.{◌≤◌};
+ghost use Rattle.std.specs.Prelude.{◌≤◌, IfSome};
 
 use refusing::Refusing;
 use std::alloc::Allocator;
@@ -22,25 +22,17 @@ pub(crate) enum Job {
     Run,
     Codes,
     Grade,
-    Check {
-        limit: u8,
-        spare: u8,
-    },
+    Check { limit: u8, spare: u8 },
     /// An audit, with its certificate or its counter script behind the report.
-    Audit {
-        limit: u8,
-        spare: u8,
-    },
+    Audit { limit: u8, spare: u8 },
     /// A run after a Yes of the checker.
-    Checked {
-        limit: u8,
-        spare: u8,
-    },
-    /// The picture of a plan, or of a code, with the walk of its first finding where a limit and a spare number are given.
-    Draw {
-        code: Option<Figures>,
-        bounds: Option<(u8, u8)>,
-    },
+    Checked { limit: u8, spare: u8 },
+    /// The picture of a plan.
+    Draw,
+    /// The picture of a code.
+    DrawCode { code: Figures },
+    /// The picture of a code, with the walk of its first finding.
+    DrawFinding { code: Figures, limit: u8, spare: u8 },
 }
 
 /// A job and its texts, in the order in which they are read.
@@ -208,19 +200,14 @@ fn do_audit<A: Allocator + Copy, P: Source, W: Sink>(
 fn do_draw<A: Allocator + Copy, P: Source, W: Sink>(
     alloc: A,
     plan: &mut P,
-    code: Option<Figures>,
+    code: Option<&[u8]>,
     bounds: Option<(u8, u8)>,
     out: &mut W,
-) -> Result<u8, JobFault> {
-    let bounds = match bounds {
-        Some((limit, spare)) => Some((limit.min(62), spare.min(15))),
-        None => None,
-    };
-    let drawn = match &code {
-        Some(figures) => draw_job(alloc, plan, Some(figures.bytes()), bounds, out),
-        None => draw_job(alloc, plan, None, bounds, out),
-    };
-    match drawn {
+) -> Result<u8, JobFault>
+    requires limit { IfSome bounds (λ b. b.0 ≤ 62) }
+    requires spare { IfSome bounds (λ b. b.1 ≤ 15) }
+{
+    match draw_job(alloc, plan, code, bounds, out) {
         Ok(()) => Ok(0),
         Err(fault) => Err(fault),
     }
@@ -247,7 +234,12 @@ fn do_job<A: Allocator + Copy, P: Source, R: Source, S: Source, W: Sink>(
             let (limit, spare) = (limit.min(62), spare.min(15));
             run_checked_status(alloc, first, second, limit, spare, third, out)
         }
-        Job::Draw { code, bounds } => do_draw(alloc, first, code, bounds, out),
+        Job::Draw => do_draw(alloc, first, None, None, out),
+        Job::DrawCode { code } => do_draw(alloc, first, Some(code.bytes()), None, out),
+        Job::DrawFinding { code, limit, spare } => {
+            let bounds = (limit.min(62), spare.min(15));
+            do_draw(alloc, first, Some(code.bytes()), Some(bounds), out)
+        }
     }
 }
 

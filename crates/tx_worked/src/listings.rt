@@ -116,7 +116,13 @@ fn front(text: &[u8], length: usize) -> &[u8] {
 /// The task with a front of its last text.
 fn cut(task: Task<'_>, length: usize) -> Task<'_> {
     match task.job {
-        Job::Pipe | Job::Codes | Job::Grade | Job::Audit { .. } | Job::Draw { .. } => Task {
+        Job::Pipe
+        | Job::Codes
+        | Job::Grade
+        | Job::Audit { .. }
+        | Job::Draw
+        | Job::DrawCode { .. }
+        | Job::DrawFinding { .. } => Task {
             first: front(task.first, length),
             ..task
         },
@@ -133,7 +139,13 @@ fn cut(task: Task<'_>, length: usize) -> Task<'_> {
 
 fn last_text(task: Task<'_>) -> &[u8] {
     match task.job {
-        Job::Pipe | Job::Codes | Job::Grade | Job::Audit { .. } | Job::Draw { .. } => task.first,
+        Job::Pipe
+        | Job::Codes
+        | Job::Grade
+        | Job::Audit { .. }
+        | Job::Draw
+        | Job::DrawCode { .. }
+        | Job::DrawFinding { .. } => task.first,
         Job::Run | Job::Check { .. } => task.second,
         Job::Checked { .. } => task.third,
     }

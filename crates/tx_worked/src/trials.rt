@@ -114,14 +114,20 @@ fn name(job: Job) -> &'static [u8] {
         Job::Check { .. } => b"check",
         Job::Audit { .. } => b"audit",
         Job::Checked { .. } => b"checked",
-        Job::Draw { .. } => b"draw",
+        Job::Draw | Job::DrawCode { .. } | Job::DrawFinding { .. } => b"draw",
     }
 }
 
 /// How many sources a job has.
 fn sources(job: Job) -> u8 {
     match job {
-        Job::Pipe | Job::Codes | Job::Grade | Job::Audit { .. } | Job::Draw { .. } => 1,
+        Job::Pipe
+        | Job::Codes
+        | Job::Grade
+        | Job::Audit { .. }
+        | Job::Draw
+        | Job::DrawCode { .. }
+        | Job::DrawFinding { .. } => 1,
         Job::Run | Job::Check { .. } => 2,
         Job::Checked { .. } => 3,
     }
