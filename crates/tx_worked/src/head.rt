@@ -1,6 +1,6 @@
 // What the head of a case says.
 use crate::job::Job;
-use tx_text::{Figures, number, words};
+use tx_text::{number, words};
 
 /// What is done with a job.
 #[derive(Clone, Copy)]
@@ -70,14 +70,19 @@ pub(crate) fn limit_and_spare(head: Head<'_>) -> (u8, u8) {
     (limit, spare)
 }
 
-/// A picture: of a plan, or of the code of some figures, with a limit and a spare number behind these or without.
+/// A picture: of a plan, or of a code, with a limit and a spare number behind it or without.
 fn drawing_of(head: Head<'_>) -> Job {
-    let limit = number_of(head.second, 62).min(62) as u8;
-    let spare = number_of(head.third, 15).min(15) as u8;
-    match Figures::read(head.first) {
-        None => Job::Draw,
-        Some(code) if head.second.is_empty() => Job::DrawCode { code },
-        Some(code) => Job::DrawFinding { code, limit, spare },
+    if head.first.is_empty() {
+        return Job::Draw;
+    }
+    let code = number_of(head.first, 9999).min(9999) as u16;
+    if head.second.is_empty() {
+        return Job::DrawCode { code };
+    }
+    Job::DrawFinding {
+        code,
+        limit: number_of(head.second, 62).min(62) as u8,
+        spare: number_of(head.third, 15).min(15) as u8,
     }
 }
 

@@ -1,6 +1,7 @@
 // A job, and what it does.
 ghost use Rattle.std.specs.Prelude.{◌≤◌, IfSome};
 
+use itoa::Buffer;
 use refusing::Refusing;
 use std::alloc::Allocator;
 use tx_audit::write_counter;
@@ -10,7 +11,7 @@ use tx_jobs::{
     Evidence, JobFault, check_status, codes_job, draw_job, evidence_job, grade_status, pipe_job,
     run_checked_status, run_job,
 };
-use tx_text::{Figures, MemorySource, Sink, Source};
+use tx_text::{MemorySource, Sink, Source};
 
 /// Room enough for what any job of the cases writes.
 pub(crate) const ROOM: usize = 20_000;
@@ -30,9 +31,9 @@ pub(crate) enum Job {
     /// The picture of a plan.
     Draw,
     /// The picture of a code.
-    DrawCode { code: Figures },
+    DrawCode { code: u16 },
     /// The picture of a code, with the walk of its first finding.
-    DrawFinding { code: Figures, limit: u8, spare: u8 },
+    DrawFinding { code: u16, limit: u8, spare: u8 },
 }
 
 /// A job and its texts, in the order in which they are read.
@@ -213,6 +214,22 @@ fn do_draw<A: Allocator + Copy, P: Source, W: Sink>(
     }
 }
 
+/// Draws the code of some figures, the first of them not 0.
+fn do_draw_code<A: Allocator + Copy, P: Source, W: Sink>(
+    alloc: A,
+    plan: &mut P,
+    code: u16,
+    bounds: Option<(u8, u8)>,
+    out: &mut W,
+) -> Result<u8, JobFault>
+    requires limit { IfSome bounds (λ b. b.0 ≤ 62) }
+    requires spare { IfSome bounds (λ b. b.1 ≤ 15) }
+{
+    let mut figures = Buffer::new();
+    let code = figures.format(code).as_bytes();
+    do_draw(alloc, plan, Some(code), bounds, out)
+}
+
 /// Does a job over its sources, and answers its exit status: that of a pipe has but one.
 fn do_job<A: Allocator + Copy, P: Source, R: Source, S: Source, W: Sink>(
     alloc: A,
@@ -235,10 +252,10 @@ fn do_job<A: Allocator + Copy, P: Source, R: Source, S: Source, W: Sink>(
             run_checked_status(alloc, first, second, limit, spare, third, out)
         }
         Job::Draw => do_draw(alloc, first, None, None, out),
-        Job::DrawCode { code } => do_draw(alloc, first, Some(code.bytes()), None, out),
+        Job::DrawCode { code } => do_draw_code(alloc, first, code, None, out),
         Job::DrawFinding { code, limit, spare } => {
             let bounds = (limit.min(62), spare.min(15));
-            do_draw(alloc, first, Some(code.bytes()), Some(bounds), out)
+            do_draw_code(alloc, first, code, Some(bounds), out)
         }
     }
 }
