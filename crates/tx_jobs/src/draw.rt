@@ -34,7 +34,9 @@ pub fn draw_job<A: Allocator + Copy, P: Source, W: Sink>(
     match read_plan_from(alloc, plan) {
         Ok(plan) => {
             plan.rules();
-            draw_plan(alloc, &plan, code, bounds, out)
+            let drawn = draw_plan(alloc, &plan, code, bounds, out);
+            drop(plan);
+            drawn
         }
         Err(fault) => Err(JobFault::of_plan(fault)),
     }
