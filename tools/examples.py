@@ -43,7 +43,8 @@ class Example:
     def __init__(self, line):
         self.name, status, self.command = line.split(None, 2)
         self.status = int(status)
-        words = self.command.split()
+        command, _, self.out = self.command.partition(" > ")
+        words = command.split()
         bar = words.index("|") if "|" in words else -1
         self.input = words[1:bar] if bar > 0 else []
         self.words = words[bar + 2 :]
@@ -66,7 +67,12 @@ def examples():
 
 
 def out_of(example):
-    return f"examples/{example.name}.out"
+    return example.out or f"examples/{example.name}.out"
+
+
+def shown(example):
+    """What the command of an example shows: what it prints, unless that goes to a file."""
+    return b"" if example.out else read(out_of(example))
 
 
 def run(program, example):
@@ -96,7 +102,7 @@ def difference(wanted, given):
 
 
 def check_examples(program, tell):
-    named = {"examples/list", "examples/README.md"} | pictures()
+    named = {"examples/list", "examples/README.md"} | images()
     for example in examples():
         named.update(example.files + example.input + example.made + [out_of(example)])
         status, printed, made = run(program, example)
@@ -114,18 +120,22 @@ def check_examples(program, tell):
             tell(f"examples/{it}: no example has it")
 
 
-def pictures():
-    """The pictures of plans, and the images that are made of them."""
-    return {f"examples/{it}" for it in os.listdir(os.path.join(TOP, "examples")) if it.endswith((".dot", ".svg"))}
+def in_examples(ending):
+    return {f"examples/{it}" for it in os.listdir(os.path.join(TOP, "examples")) if it.endswith(ending)}
+
+
+def images():
+    """The images that are made of pictures."""
+    return in_examples(".svg")
 
 
 def check_pictures(tell):
     """Each picture is one that the player of pictures prints, and has its image beside it."""
     printed = read("crates/tx_pictures/stdout")
-    for it in sorted(it for it in pictures() if it.endswith(".dot")):
+    for it in sorted(in_examples(".dot")):
         if b"\n" + read(it) not in printed:
             tell(f"{it}: the player of pictures does not print it")
-        if it.replace(".dot", ".svg") not in pictures():
+        if it.replace(".dot", ".svg") not in images():
             tell(f"{it}: it has no image")
 
 
@@ -166,13 +176,13 @@ def comment_before(lines, n):
 
 def check_session(text, known):
     """What is wrong with commands and what they print, if anything is."""
-    printed = {it.command: out_of(it) for it in known.values()}
+    printed = {it.command: shown(it) for it in known.values()}
     wanted = ""
     for command in re.findall(r"(?m)^\$ (.*)\n", text):
-        path = command[4:] if command.startswith("cat examples/") else printed.get(command)
-        if path is None:
+        said = read(command[4:]) if command.startswith("cat examples/") else printed.get(command)
+        if said is None:
             return f"no example has the command {command!r}"
-        wanted += f"$ {command}\n" + read(path).decode()
+        wanted += f"$ {command}\n" + said.decode()
     return None if text == wanted else difference(wanted, text)
 
 
@@ -182,7 +192,7 @@ def check_block(mark, text, known):
     if mark == "not run":
         return None
     if kind == "run" and name in known:
-        wanted = f"$ {known[name].command}\n" + read(out_of(known[name])).decode()
+        wanted = f"$ {known[name].command}\n" + shown(known[name]).decode()
         return None if text == wanted else difference(wanted, text)
     if mark == "session":
         return check_session(text, known)
@@ -352,7 +362,8 @@ def case_of(example):
     if verb == "run" and example.option("--cert"):
         plan, script, cert = texts
         return f"checked{bounds}", b"---\n".join([plan, cert, script])
-    kinds = {"run": "run", "codes": "codes", "grade": "grade", "check": f"check{bounds}", "audit": f"audit{bounds}"}
+    drawn = " ".join(["draw"] + [it for it in map(example.option, ["--code", "--limit", "--spare"]) if it])
+    kinds = {"run": "run", "draw": drawn, "codes": "codes", "grade": "grade", "check": f"check{bounds}", "audit": f"audit{bounds}"}
     return (kinds[verb], b"---\n".join(texts)) if verb in kinds else None
 
 
