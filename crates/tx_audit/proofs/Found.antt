@@ -4,7 +4,7 @@ use Rattle.std.specs.Prelude.{◌↔◌}
 use Rattle.std.specs.List.{AllByRecursion}
 use Rattle.tx_plan.specs.Plan.{Plan}
 use Rattle.tx_plan.specs.Rules.{IsPlan}
-use Rattle.tx_plan.specs.Certified.{IsCertified}
+use Rattle.tx_plan.specs.Certified.{Ranks, IsCertified}
 use Rattle.tx_plantext.specs.PlanText.{SaysPlan}
 use Rattle.tx_cert.specs.Certificate.{Certificate, IsCertificateOf, ranks_of}
 use Rattle.tx_rank.specs.declared.finding.Finding.{Finding}
@@ -15,29 +15,24 @@ use Rattle.tx_rank.specs.Heights.{AreHeights}
 use Rattle.tx_rank.specs.Rankings.{IsFound, OnFound, OnFails}
 use Rattle.tx_audit.specs.declared.audited.AuditFault.{AuditFault}
 use Rattle.tx_audit.specs.declared.audited.AuditFault.TheVariants.{Plan as PlanRefused, Write, NoMemory}
-use Rattle.tx_audit.specs.Audits.{IsAllFound, IsSome, IsCleared, OnUnsound, AuditAnswers}
+use Rattle.tx_audit.specs.Audits.{IsAllFound, IsCleared, OnUnsound, AuditAnswers}
 use Rattle.tx_audit.specs.CheckedRuns.{IsAllowed}
 use Rattle.tx_audit.specs.Ranked.{audited_of, findings_of, IsRight, RankAnswers}
 
 module _ (A : Type 0) (p : Plan) (limit spare : ℕ) where
-  all_found : (findings : List (Finding A)) → findings ≢ [] → AllByRecursion (IsTrueOf p limit spare) findings → AreFindings p limit spare findings → IsAllFound p limit spare findings × IsSome findings
+  all_found : (findings : List (Finding A)) → findings ≢ [] → AllByRecursion (IsTrueOf p limit spare) findings → AreFindings p limit spare findings → IsAllFound p limit spare findings
   all_found [] some each listed = absurd (some refl)
-  all_found (f ∷ findings) some each listed = ((each, listed), tt)
+  all_found (f ∷ findings) some each listed = (each, listed)
 
   -- a ranking whose certificate was confirmed is right
-  pub is_right : (r : Ranking A) → (IsFound r ↔ ((f : Finding A) → IsTrueOf p limit spare f → ⊥)) → OnFound (λ cert. IsCertified p (ranks_of cert) limit spare) r → OnFound (λ cert. AreHeights p (ranks_of cert)) r
+  pub is_right : (r : Ranking A) → (IsFound r ↔ ((f : Finding A) → IsTrueOf p limit spare f → ⊥)) → ((ranks : Ranks) → IsCertified p ranks limit spare → IsFound r) → OnFound (λ cert. IsCertified p (ranks_of cert) limit spare) r → OnFound (λ cert. AreHeights p (ranks_of cert)) r
       → OnFound (IsCertificateOf p) r → OnFails (λ findings. findings ≢ []) r → OnFails (AllByRecursion (IsTrueOf p limit spare)) r → OnFails (AreFindings p limit spare) r
       → OnFound (λ cert. IsAllowed p cert limit spare) r → IsRight p limit spare r
-  is_right (Found cert) found certified heights fits fails each listed allowed = (
+  is_right (Found cert) found wherever certified heights fits fails each listed allowed = (
     found.0 tt,
     record { fits = fits; heights = heights; certified = certified; yes = allowed.yes; sound = allowed.sound; few_routes = allowed.few_routes },
   )
-  is_right (Fails findings) found certified heights fits fails each listed allowed = all_found findings.items fails each listed
-
-  -- some finding is not none
-  none_given : {X : Type 0} (findings : List (Finding A)) → IsSome findings → findings ≡ [] → X
-  none_given [] some h = absurd some
-  none_given (f ∷ findings) some h = absurd (cc)
+  is_right (Fails findings) found wherever certified heights fits fails each listed allowed = (all_found findings.items fails each listed, fails, λ k. wherever k.0 k.1)
 
   all_of : (r : Ranking A) → IsRight p limit spare r → IsAllFound p limit spare (findings_of r)
   all_of (Found cert) right = right.0
@@ -54,12 +49,12 @@ module _ (A : Type 0) (p : Plan) (limit spare : ℕ) where
 
   cleared : (r : Ranking A) → IsRight p limit spare r → findings_of r ≡ [] → (cert : Certificate) × IsCleared p cert limit spare
   cleared (Found cert) right none = (cert, right.1)
-  cleared (Fails findings) right none = none_given findings.items right.1 none
+  cleared (Fails findings) right none = absurd (right.1 none)
 
   module _ (old new taken_old taken_new : Option (List ℕ)) (broken unread silent : Type 0) (rules : IsPlan p) (read : SaysPlan old new p) where
     pub audited : (r : Ranking A) → RankAnswers p limit spare taken_old taken_new silent (Ok r) → AuditAnswers limit spare old new taken_old taken_new broken unread silent (Ok (audited_of p r))
     audited (Found cert) h = (record { rules = rules; read = read; found = h.0.0; wrote = h.1 }, h.0.1)
-    audited (Fails findings) h = (record { rules = rules; read = read; found = h.0.0; wrote = h.1 }, h.0.1)
+    audited (Fails findings) h = (record { rules = rules; read = read; found = h.0.0; wrote = h.1 }, h.0.1, h.0.2)
 
     pub stopped : (f : AuditFault) → RankAnswers {A = A} p limit spare taken_old taken_new silent (Err f) → AuditAnswers {A = A} limit spare old new taken_old taken_new broken unread silent (Err f)
     stopped (PlanRefused f) h = absurd h

@@ -1,5 +1,5 @@
 -- What an audit answers.
-use Rattle.std.specs.Prelude.{◌≡◌, ℕ, Bool, true, List, [], ◌∷◌, Option, Result, Ok, Err}
+use Rattle.std.specs.Prelude.{◌≡◌, ◌≢◌, ℕ, Bool, true, List, [], ◌∷◌, Option, Result, Ok, Err}
 use Rattle.std.specs.List.{AllByRecursion}
 use Rattle.std.specs.Io.KnownBytes.{append_known}
 use Rattle.tx_text.specs.Ends.{StopsIn}
@@ -13,6 +13,7 @@ use Rattle.tx_check.specs.declared.verdict.Verdict.TheVariants.{Yes}
 use Rattle.tx_check.specs.Checks.{check_faults, ranks_for, verdict_of}
 use Rattle.tx_rank.specs.declared.finding.Finding.{Finding}
 use Rattle.tx_rank.specs.Findings.{IsTrueOf, AreFindings}
+use Rattle.tx_rank.specs.Grades.{CanBeCertified}
 use Rattle.tx_rank.specs.Heights.{AreHeights}
 use Rattle.tx_audit.specs.declared.audited.Audited.{Audited}
 use Rattle.tx_audit.specs.declared.audited.Audited.TheVariants.{Sound, Unsound}
@@ -34,11 +35,6 @@ module _ {A : Type 0} where
   abbrev pub IsAllFound : Plan → (limit spare : ℕ) → List (Finding A) → Type 0
   IsAllFound p limit spare [] = (f : Finding A) → IsTrueOf p limit spare f → ⊥
   IsAllFound p limit spare (f ∷ findings) = AllByRecursion (IsTrueOf p limit spare) (f ∷ findings) × AreFindings p limit spare (f ∷ findings)
-
-  -- there is a finding
-  abbrev pub IsSome : List (Finding A) → Type 0
-  IsSome [] = ⊥
-  IsSome (f ∷ findings) = Unit {0}
 
   -- the plan of the whole text was audited, and the report was written
   pub record Reported (p : Plan) (limit spare : ℕ) (old new taken_old taken_new : Option (List ℕ)) (findings : List (Finding A)) : Type 0 where
@@ -71,7 +67,7 @@ pub record ReadAlone (old new : Option (List ℕ)) : Type 0 where
 -- WHAT AN AUDIT ANSWERS. Broken says that the source failed or met the bound on calls, unread that nothing was read, silent that nothing was written.
 abbrev pub AuditAnswers : {A : Type 0} → (limit spare : ℕ) → (old new taken_old taken_new : Option (List ℕ)) → (broken unread silent : Type 0) → Result (Audited A) AuditFault → Type 0
 AuditAnswers {A} limit spare old new taken_old taken_new broken unread silent (Ok (Sound p cert)) = Reported {A = A} p limit spare old new taken_old taken_new [] × IsCleared p cert limit spare
-AuditAnswers limit spare old new taken_old taken_new broken unread silent (Ok (Unsound p findings)) = Reported p limit spare old new taken_old taken_new findings.items × IsSome findings.items
+AuditAnswers limit spare old new taken_old taken_new broken unread silent (Ok (Unsound p findings)) = Reported p limit spare old new taken_old taken_new findings.items × (findings.items ≢ []) × (CanBeCertified p limit spare → ⊥)
 AuditAnswers limit spare old new taken_old taken_new broken unread silent (Err (PlanRefused f)) = ReadsPlan old new broken unread (Err (f.line, f.kind)) × silent
 AuditAnswers {A} limit spare old new taken_old taken_new broken unread silent (Err Write) = ReportedInPart A limit spare old new taken_old taken_new
 AuditAnswers limit spare old new taken_old taken_new broken unread silent (Err NoMemory) = ReadAlone old new × silent

@@ -1,16 +1,17 @@
 -- What an audit answers of a plan that was read.
-use Rattle.std.specs.Prelude.{◌≡◌, ℕ, List, [], Option, Result, Ok, Err}
+use Rattle.std.specs.Prelude.{◌≡◌, ◌≢◌, ℕ, List, [], Option, Result, Ok, Err}
 use Rattle.std.specs.Io.KnownBytes.{append_known}
 use Rattle.tx_text.specs.Ends.{StopsIn}
 use Rattle.tx_plan.specs.Plan.{Plan}
 use Rattle.tx_rank.specs.declared.finding.Finding.{Finding}
 use Rattle.tx_rank.specs.declared.ranking.Ranking.{Ranking}
 use Rattle.tx_rank.specs.declared.ranking.Ranking.TheVariants.{Found, Fails}
+use Rattle.tx_rank.specs.Grades.{CanBeCertified}
 use Rattle.tx_audit.specs.declared.audited.Audited.{Audited}
 use Rattle.tx_audit.specs.declared.audited.Audited.TheVariants.{Sound, Unsound}
 use Rattle.tx_audit.specs.declared.audited.AuditFault.{AuditFault}
 use Rattle.tx_audit.specs.declared.audited.AuditFault.TheVariants.{Plan as PlanRefused, Write, NoMemory}
-use Rattle.tx_audit.specs.Audits.{IsCleared, IsAllFound, IsSome}
+use Rattle.tx_audit.specs.Audits.{IsCleared, IsAllFound}
 use Rattle.tx_audit.specs.Report.{report}
 
 module _ {A : Type 0} where
@@ -23,10 +24,10 @@ module _ {A : Type 0} where
   findings_of (Found cert) = []
   findings_of (Fails findings) = findings.items
 
-  -- a certificate that clears a plan without findings, or its findings
+  -- a certificate that clears a plan without findings, or the findings of one that no ranks certify
   abbrev pub IsRight : Plan → (limit spare : ℕ) → Ranking A → Type 0
   IsRight p limit spare (Found cert) = IsAllFound {A = A} p limit spare [] × IsCleared p cert limit spare
-  IsRight p limit spare (Fails findings) = IsAllFound p limit spare findings.items × IsSome findings.items
+  IsRight p limit spare (Fails findings) = IsAllFound p limit spare findings.items × (findings.items ≢ []) × (CanBeCertified p limit spare → ⊥)
 
 -- a ranking that is right, whose report was written in part
 pub record ToldInPart (A : Type 0) (p : Plan) (limit spare : ℕ) (taken_old taken_new : Option (List ℕ)) : Type 0 where

@@ -5,12 +5,12 @@ ghost use Rattle.tx_text.specs.Wrote.{Wrote};
 ghost use Rattle.tx_audit.specs.Report.{finding_line, verdict_line};
 ghost use Rattle.tx_audit.specs.GradeText.{bounds_text, code_line, findings_text, grade_text, graded_text};
 
-use crate::report::{write_findings, write_text, write_verdict};
+use crate::report::{write_findings, write_verdict};
 use itoa::Buffer;
 use std::alloc::Allocator;
 use tx_plan::{CodeId, Plan};
 use tx_rank::{Bounds, Finding, Grade};
-use tx_text::{Sink, WriteFault};
+use tx_text::{Sink, WriteFault, write_text};
 
 /// Writes the bounds of a plan and of each of its codes, or that there is no grade, and why.
 pub fn write_grade<A: Allocator, W: Sink>(

@@ -8,7 +8,7 @@ use itoa::Buffer;
 use std::alloc::Allocator;
 use tx_plan::{CodeId, ExchangeId, GroupId, Plan};
 use tx_rank::{Finding, Walk};
-use tx_text::{Sink, WriteFault, write_parts};
+use tx_text::{Sink, WriteFault, write_text};
 
 /// Writes what was asked, a line for each finding, and the verdict.
 pub(crate) fn write_report<A: Allocator, W: Sink>(
@@ -23,13 +23,6 @@ pub(crate) fn write_report<A: Allocator, W: Sink>(
     write_head(limit, spare, sink)?;
     write_findings(plan, findings, sink)?;
     write_verdict(findings.len(), sink)
-}
-
-/// Writes the parts of a text, one after another.
-pub(crate) fn write_text<W: Sink>(parts: &[&[u8]], sink: &mut W) -> Result<(), WriteFault>
-    ensures { Wrote (W.taken sink.old) (W.taken sink.new) (W.failed sink.old) (W.failed sink.new) (flat_map (λ p. p.now) parts.now) result }
-{
-    write_parts(parts, sink)
 }
 
 fn write_head<W: Sink>(limit: u8, spare: u8, sink: &mut W) -> Result<(), WriteFault>

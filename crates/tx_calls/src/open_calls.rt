@@ -1,7 +1,7 @@
 // The open calls, under keys and by number.
 ghost use Rattle.std.specs.Prelude.{◌≡◌, ◌<◌, ◌≤◌, ◌+◌, ◌^◌, ◌++◌, ◌∷◌, [], ℕ, not, filter, length, OnOk, IfSome, IfNone, Some, None, is_some, true, vec_len, vec_capacity};
 ghost use Rattle.tx_state.specs.Call.{Call, call_of, is_numbered};
-ghost use Rattle.tx_state.specs.Members.{Mem};
+ghost use Rattle.tx_plan.specs.Among.{Among};
 ghost use Rattle.tx_state.specs.Routing.{in_phase, set_call};
 ghost use Rattle.tx_state.specs.Confirming.{carried_on, thrown_back};
 ghost use Rattle.slab.specs.Slab.{get, HasRoomFor, Updates};
@@ -10,20 +10,21 @@ ghost use Rattle.tx_network.specs.declared.open_call.OpenCall.{OpenCall};
 ghost use Rattle.tx_calls.specs.Calls.{Kept, HasRoom, kept_at, Changes, calls_in, kept_of};
 ghost use Rattle.tx_network.specs.Seen.{call_seen};
 
-use indexmap::IndexMap;
+use crate::numbered_keys::{NumberedKey, NumberedKeys, is_open};
 use slab::Slab;
 use std::alloc::{Allocator, Global};
-use std::hash::{BuildHasherDefault, FoldHasher};
 use std::marker::Model;
 use tx_network::OpenCall;
-use tx_state::{Hop, Phase, put};
+use tx_state::{Hop, Phase};
 use tx_text::NoMemory;
 
 /// The open calls. Each has a key of 32 bits from its opening to its end, and is found by its number.
+///
+/// The key of a call that has ended stays under its number until room is wanted, so `find` looks whether the call that has the key now is of the number.
 #[derive(Drop)]
 pub struct OpenCalls<A: Allocator = Global> {
     calls: Slab<OpenCall<A>, A>,
-    by_number: IndexMap<u32, u32, BuildHasherDefault<FoldHasher>, A>,
+    by_number: NumberedKeys<A>,
 }
 
 impl<A: Allocator> Model for OpenCalls<A> {
@@ -32,9 +33,9 @@ impl<A: Allocator> Model for OpenCalls<A> {
 
     ghost Value = { Calls };
 
-    ghost view = { λ c. calls_of c.calls c.by_number };
+    ghost view = { λ c. calls_of c.calls c.by_number.room };
 
-    ghost invariant = { λ c. IsTied (slots_of c.calls) c.by_number };
+    ghost invariant = { λ c. IsTied (slots_of c.calls) c.by_number.keys };
 }
 
 impl<A: Allocator + Copy> OpenCalls<A> {
@@ -44,7 +45,7 @@ impl<A: Allocator + Copy> OpenCalls<A> {
     {
         OpenCalls {
             calls: Slab::new(alloc),
-            by_number: IndexMap::new(alloc),
+            by_number: NumberedKeys::new(alloc),
         }
     }
 }
@@ -66,8 +67,7 @@ impl<A: Allocator> OpenCalls<A> {
             return Err(NoMemory);
         }
         self.calls.reserve(1)?;
-        self.by_number.reserve(1)?;
-        Ok(())
+        self.by_number.reserve_one(&self.calls)
     }
 
     /// The key of the call of a number.
@@ -75,9 +75,13 @@ impl<A: Allocator> OpenCalls<A> {
         ensures found { IfSome result (λ key. (k : Kept) × (kept_at self.now key ≡ Some k) × (call_of number (calls_in self.now) ≡ Some k.call) × (k.call.number ≡ number)) }
         ensures none { IfNone result (call_of number (calls_in self.now) ≡ None) }
     {
-        match self.by_number.get(&number) {
-            Some(key) => Some(*key),
-            None => None,
+        let Some(key) = self.by_number.find(number) else {
+            return None;
+        };
+        if is_open(&self.calls, NumberedKey { number, key }) {
+            Some(key)
+        } else {
+            None
         }
     }
 
@@ -95,14 +99,14 @@ impl<A: Allocator> OpenCalls<A> {
     /// Opens a call of the next number.
     pub fn open(&mut self, call: OpenCall<A>) -> u32
         requires room { HasRoom self.old }
-        requires next { (d : Call) → Mem (calls_in self.old) d → d.number < call.number }
+        requires next { (d : Call) → Among d (calls_in self.old) → d.number < call.number }
         ensures vacant { kept_at self.old result ≡ None }
         ensures changes { Changes self.old self.new result (Some (kept_of call)) }
         ensures calls { calls_in self.new ≡ calls_in self.old ++ call_seen call ∷ [] }
     {
         let number = call.number;
         let key = put_in(&mut self.calls, call);
-        let _absent = self.by_number.insert(number, key).unwrap();
+        self.by_number.put_last(number, key);
         key
     }
 
@@ -150,9 +154,7 @@ impl<A: Allocator> OpenCalls<A> {
         ensures changes { Changes self.old self.new key None }
         ensures calls { calls_in self.new ≡ filter (λ c. not (is_numbered result.number c)) (calls_in self.old) }
     {
-        let call = self.calls.try_remove(key as usize).unwrap();
-        let _key = self.by_number.swap_remove(&call.number);
-        call
+        self.calls.try_remove(key as usize).unwrap()
     }
 }
 
@@ -217,7 +219,7 @@ fn add_hop<A: Allocator>(calls: &mut Slab<OpenCall<A>, A>, key: u32, hop: Hop)
     ensures { (c : OpenCall A) → get calls.old key ≡ Some c → (d : OpenCall A) × Updates calls.old calls.new key (Some d) × (call_seen d ≡ carried_on hop.circuit hop.far (call_seen c)) }
 {
     if let Some(call) = calls.get_mut(key as usize) {
-        put(&mut call.hops, hop);
+        call.hops.push_reserved(hop);
         call.phase = Phase::Standing;
         call.collided = false;
     }

@@ -58,28 +58,13 @@ fn write_no<A: Allocator, W: Sink>(
             )
         }
         CheckFault::OriginUnranked(code, exchange) => {
-            write_words(
-                b"NO K3 ",
-                plan.code_figures(code),
-                plan.exchange_name(exchange),
-                sink,
-            )
+            write_exchange(b"NO K3 ", plan, code, exchange, sink)
         }
         CheckFault::TooHigh(code, exchange) => {
-            write_words(
-                b"NO K4 ",
-                plan.code_figures(code),
-                plan.exchange_name(exchange),
-                sink,
-            )
+            write_exchange(b"NO K4 ", plan, code, exchange, sink)
         }
         CheckFault::Short(code, exchange) => {
-            write_words(
-                b"NO K5 ",
-                plan.code_figures(code),
-                plan.exchange_name(exchange),
-                sink,
-            )
+            write_exchange(b"NO K5 ", plan, code, exchange, sink)
         }
         CheckFault::TargetUnranked(code, exchange, group) => {
             write_group(b"NO K6 ", plan, code, exchange, group, sink)
@@ -104,6 +89,27 @@ fn write_words<W: Sink>(
 {
     write_parts(
         &[front, first, b" ".as_slice(), second, b"\n".as_slice()],
+        sink,
+    )
+}
+
+/// Writes the front of a line, and its code and exchange.
+fn write_exchange<A: Allocator, W: Sink>(
+    front: &[u8],
+    plan: &Plan<A>,
+    code: CodeId,
+    exchange: ExchangeId,
+    sink: &mut W,
+) -> Result<(), WriteFault>
+    ensures ok { OnOk result (W.taken sink.new ≡ append_known (W.taken sink.old) (front.now ++ (figures_of plan.now code ++ 32 ∷ (exchange_name plan.now exchange ++ 10 ∷ [])))) }
+    ensures err { OnErr result (StopsIn (W.taken sink.old) (W.taken sink.new) (front.now ++ (figures_of plan.now code ++ 32 ∷ (exchange_name plan.now exchange ++ 10 ∷ [])))) }
+    ensures mark { OnErr result (W.failed sink.new ≡ true) }
+    ensures unmarked { OnOk result (W.failed sink.new ≡ W.failed sink.old) }
+{
+    write_words(
+        front,
+        plan.code_figures(code),
+        plan.exchange_name(exchange),
         sink,
     )
 }

@@ -10,17 +10,18 @@ use Rattle.std.proofs.lemmas.Option.{slice_get-map}
 use Rattle.std.proofs.lemmas.Map.Lookups.{exact_unsigned}
 use Rattle.tx_plan.specs.Plan.{Group}
 use Rattle.tx_plan.specs.Orders.{same_circuit, circuit_cmp}
-use Rattle.tx_plan.specs.declared.circuit.Circuit.{Circuit}
-use Rattle.tx_plan.proofs.Named.{circuits_total, exact_circuits, same_circuit-is, same_circuit-itself}
+use Rattle.tx_entries.specs.declared.circuit.Circuit.{Circuit}
+use Rattle.tx_entries.proofs.Named.{circuits_total, exact_circuits, same_circuit-is, same_circuit-itself}
 use Rattle.tx_circuits.specs.declared.free_lists.End.{End}
 use Rattle.tx_circuits.specs.declared.free_lists.End.TheVariants.{First, Other}
 use Rattle.tx_circuits.specs.declared.state.State.{State}
 use Rattle.tx_circuits.specs.declared.group_head.GroupHead.{GroupHead}
 use Rattle.tx_circuits.specs.inner.Slots.{has_seized, opposite, rising}
-use Rattle.tx_circuits.specs.inner.Groups.{GroupState, state_at, numbered, set_numbered, seizing_end, end_at, change_at, with_state}
+use Rattle.tx_rows.specs.Rows.{change_at}
+use Rattle.tx_circuits.specs.inner.Groups.{GroupState, state_at, numbered, set_numbered, seizing_end, end_at, with_state}
 use Rattle.tx_circuits.specs.Table.{Seat, seat_cmp, Table}
 use Rattle.tx_circuits.specs.inner.Seen.{those, group_of, circuits_of, seats_of, gathered, is_marked, holds, sits, table_of}
-use Rattle.tx_circuits.proofs.Kept.{get-change_here, get-change_there, get-set_here, get-set_there, length-change}
+use Rattle.tx_rows.proofs.Lists.{get-change_here, get-change_there, get-set_here, get-set_there, length-change}
 use Rattle.tx_circuits.proofs.Members.{Known, holds_in, sits_in, marked_in, end_is}
 use Rattle.tx_circuits.proofs.Seats.{seats_total, exact_seats}
 use Rattle.tx_circuits.proofs.Those.{those_stay, those_inserted, those_removed, those_retained}

@@ -4,10 +4,11 @@ use Rattle.std.specs.Prelude.{filter, find}
 use Rattle.std.proofs.lemmas.List.{length-map}
 use Rattle.tx_circuits.specs.declared.free_lists.End.{End}
 use Rattle.tx_circuits.specs.declared.slot.Slot.{Slot}
-use Rattle.tx_circuits.specs.declared.row.Row.{Row}
+use Rattle.tx_circuits.specs.declared.free_lists.FreeLists.{FreeLists}
+use Rattle.tx_circuits.specs.declared.group_head.GroupHead.{GroupHead}
 use Rattle.tx_circuits.specs.inner.Linked.{Follows}
 use Rattle.tx_circuits.specs.inner.Slots.{chain, free_at, list_of, in_order, state_of, IsSound}
-use Rattle.tx_circuits.specs.inner.Groups.{group_slots, group_state, first_place, way_of}
+use Rattle.tx_circuits.specs.inner.Groups.{first_place, way_of}
 
 head_is : (next : Option ℕ → Option ℕ) (q : Option ℕ) (p : ℕ → Bool) (xs : List ℕ) → Follows next q (filter p xs) → next q ≡ find p xs
 head_is next q p [] f = f
@@ -16,9 +17,8 @@ head_is next q p (x ∷ xs) f = elim (p x) as (λ b. Follows next q (cond b (x �
   | false ↦ λ f. head_is next q p xs f
 ] f
 
-pub first_place_is : (slots : List Slot) (row : Row) (end : End) → IsSound (group_slots slots row) row.lists
-    → chain end (way_of end) (group_slots slots row) (list_of end row.lists) None ≡ first_place (group_state slots row) end
-first_place_is slots row end sound =
-    let part = group_slots slots row in
-    head_is (chain end (way_of end) part (list_of end row.lists)) None (free_at end part) (in_order (way_of end) (length part)) (sound.followed end (way_of end))
-    ∙ ap (λ (n : ℕ). find (free_at end part) (in_order (way_of end) n)) (sym (length-map part state_of))
+pub first_place_is : (slots : List Slot) (lists : FreeLists) (head : GroupHead) (end : End) → IsSound slots lists
+    → chain end (way_of end) slots (list_of end lists) None ≡ first_place (record { head = head; states = map state_of slots }) end
+first_place_is slots lists head end sound =
+    head_is (chain end (way_of end) slots (list_of end lists)) None (free_at end slots) (in_order (way_of end) (length slots)) (sound.followed end (way_of end))
+    ∙ ap (λ (n : ℕ). find (free_at end slots) (in_order (way_of end) n)) (sym (length-map slots state_of))

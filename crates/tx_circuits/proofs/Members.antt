@@ -4,7 +4,7 @@ use Rattle.std.specs.Prelude.{slice_get, is_some, option_and_then, if◌then◌e
 use Rattle.std.specs.Option.{option_map, option_map_or}
 use Rattle.std.proofs.lemmas.Bool.{and_parts}
 use Rattle.tx_plan.specs.Circuits.{upward, is_both}
-use Rattle.tx_plan.specs.declared.circuit.Circuit.{Circuit}
+use Rattle.tx_entries.specs.declared.circuit.Circuit.{Circuit}
 use Rattle.tx_circuits.specs.declared.free_lists.End.{End}
 use Rattle.tx_circuits.specs.declared.free_lists.End.TheVariants.{First, Other}
 use Rattle.tx_circuits.specs.declared.free_lists.Way.TheVariants.{Up}
@@ -16,7 +16,8 @@ use Rattle.tx_circuits.specs.Table.{Seat}
 use Rattle.tx_circuits.specs.inner.Seen.{circuits_of, seats_of, gathered, is_marked, holds, sits}
 use Rattle.tx_circuits.proofs.Ordered.{In, from_left, from_right, member}
 use Rattle.tx_circuits.proofs.Linked.{le_or}
-use Rattle.tx_circuits.proofs.Kept.{number_in, get_within}
+use Rattle.tx_rows.proofs.Lists.{get_within}
+use Rattle.tx_circuits.proofs.Kept.{number_in}
 
 -- where a circuit is among the groups
 pub record Known (ts : List GroupState) (c : Circuit) : Type 0 where

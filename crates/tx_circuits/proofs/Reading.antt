@@ -12,8 +12,8 @@ use Rattle.std.proofs.lemmas.Map.Lookups.{exact_unsigned}
 use Rattle.tx_plan.specs.Plan.{Plan, Group}
 use Rattle.tx_plan.specs.Circuits.{is_both, is_circuit, may_seize, may_seize_row, circuits_at, order_at, upward, downward}
 use Rattle.tx_plan.specs.Orders.{circuit_cmp}
-use Rattle.tx_plan.specs.declared.circuit.Circuit.{Circuit}
-use Rattle.tx_plan.proofs.Named.{circuits_total, exact_circuits}
+use Rattle.tx_entries.specs.declared.circuit.Circuit.{Circuit}
+use Rattle.tx_entries.proofs.Named.{circuits_total, exact_circuits}
 use Rattle.tx_circuits.specs.declared.free_lists.End.{End}
 use Rattle.tx_circuits.specs.declared.free_lists.End.TheVariants.{First, Other}
 use Rattle.tx_circuits.specs.declared.free_lists.Way.{Way}
@@ -25,7 +25,7 @@ use Rattle.tx_circuits.specs.inner.Groups.{GroupState, state_at, numbered, seizi
 use Rattle.tx_circuits.specs.Table.{Seat, seat_cmp, Table, plan_of, is_free_at, is_down, first_free}
 use Rattle.tx_circuits.specs.inner.Seen.{those, group_of, circuits_of, seats_of, gathered, is_marked, holds, sits, table_of}
 use Rattle.tx_circuits.proofs.Columns.{column_at}
-use Rattle.tx_circuits.proofs.Kept.{get_is}
+use Rattle.tx_rows.proofs.Lists.{get_is}
 use Rattle.tx_circuits.proofs.Ordered.{In, below}
 use Rattle.tx_circuits.proofs.Members.{holds_in, sits_in, marked_in}
 use Rattle.tx_circuits.proofs.Those.{contains_those}

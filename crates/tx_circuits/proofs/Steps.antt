@@ -5,7 +5,7 @@ use Rattle.std.specs.Option.{option_map, option_map_or}
 use Rattle.std.specs.FinSet.{contains}
 use Rattle.std.proofs.lemmas.List.{length-map}
 use Rattle.tx_plan.specs.Circuits.{is_circuit, may_seize}
-use Rattle.tx_plan.specs.declared.circuit.Circuit.{Circuit}
+use Rattle.tx_entries.specs.declared.circuit.Circuit.{Circuit}
 use Rattle.tx_circuits.specs.declared.free_lists.End.{End}
 use Rattle.tx_circuits.specs.declared.state.State.{State}
 use Rattle.tx_circuits.specs.declared.group_head.GroupHead.{GroupHead}
@@ -13,7 +13,7 @@ use Rattle.tx_circuits.specs.inner.Slots.{has_seized}
 use Rattle.tx_circuits.specs.inner.Groups.{GroupState, state_at, end_at, seizing_end, first_place}
 use Rattle.tx_circuits.specs.Table.{Table, plan_of, IsSeizedBy}
 use Rattle.tx_circuits.specs.inner.Seen.{group_of, is_marked, holds, sits, table_of}
-use Rattle.tx_circuits.proofs.Kept.{get_within}
+use Rattle.tx_rows.proofs.Lists.{get_within}
 use Rattle.tx_circuits.proofs.Members.{Known, known, some_from, end_is}
 use Rattle.tx_circuits.proofs.Reading.{contains_circuits, contains_seats, contains_marks, circuit_known, end_known}
 

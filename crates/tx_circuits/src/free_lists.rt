@@ -1,5 +1,6 @@
 // The free lists of a group: its ends, the ways through a list, the links of a circuit, and the heads.
-ghost use Rattle.std.specs.Prelude.{◌≡◌, ◌<◌, None};
+ghost use Rattle.std.specs.Prelude.{◌≡◌, ◌<◌, ◌≤◌, None};
+ghost use Rattle.tx_circuits.specs.inner.Groups.{whole_list, whole_lists};
 ghost use Rattle.tx_circuits.specs.declared.free_lists.End.{End as EndValue};
 ghost use Rattle.tx_circuits.specs.declared.free_lists.Way.{Way as WayValue};
 ghost use Rattle.tx_circuits.specs.inner.Slots.{ahead, back, begins, list_of, rank_of};
@@ -71,6 +72,23 @@ pub struct FreeList {
 }
 
 impl FreeList {
+    /// The list of so many circuits, all of them free.
+    fn whole(count: usize) -> FreeList
+        requires { count ≤ 240 }
+        ensures { result ≡ whole_list count }
+    {
+        if count == 0 {
+            return FreeList {
+                least: None,
+                greatest: None,
+            };
+        }
+        FreeList {
+            least: Some(0),
+            greatest: Some((count - 1) as u8),
+        }
+    }
+
     /// Where the list begins in a way.
     pub fn begins(self, way: Way) -> Option<u8>
         ensures { result ≡ begins way self }
@@ -101,6 +119,17 @@ impl FreeLists {
         FreeLists {
             first: empty,
             other: empty,
+        }
+    }
+    /// Those of so many circuits, all of them free at both ends.
+    pub fn whole(count: usize) -> FreeLists
+        requires { count ≤ 240 }
+        ensures { result ≡ whole_lists count }
+    {
+        let list = FreeList::whole(count);
+        FreeLists {
+            first: list,
+            other: list,
         }
     }
 }

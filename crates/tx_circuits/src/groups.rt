@@ -1,8 +1,9 @@
-// All circuits of a plan in one vector.
+// All circuits of a plan, in rows.
 ghost use Rattle.std.specs.Prelude.{◌≡◌, ◌≤◌, ◌<◌, ◌++◌, ◌∷◌, [], ℕ, true, false, is_some, map, length, replicate, Some, None, slice_get, OnOk, OnErr, IfOk, IfSome};
 ghost use Rattle.std.specs.Option.{option_map, option_map_or};
+ghost use Rattle.tx_rows.specs.Rows.{change_at};
 ghost use Rattle.tx_circuits.specs.inner.Slots.{cleared, has_seized};
-ghost use Rattle.tx_circuits.specs.inner.Groups.{state_at, end_at, change_at, with_state, with_failed, with_blocked, first_place, idle, IsAppended};
+ghost use Rattle.tx_circuits.specs.inner.Groups.{state_at, end_at, with_state, with_failed, with_blocked, first_place, idle};
 ghost use Rattle.tx_circuits.specs.inner.Seen.{holds};
 
 use crate::free_lists::{End, FreeLists};
@@ -13,24 +14,25 @@ use crate::state::State;
 use std::alloc::{Allocator, Global};
 use std::marker::Model;
 use tx_plan::{Circuit, ExchangeId, GroupId};
+use tx_rows::LateRows;
 use tx_text::NoMemory;
 
-/// The groups of a plan with the states of their circuits: all circuits in one vector, group by group, linked in free lists.
+/// The groups of a plan with the states of their circuits, linked in free lists. The slots of a group are written when one of its circuits first changes.
 #[derive(Drop)]
 pub struct Groups<A: Allocator = Global> {
-    slots: Vec<Slot, A>,
-    rows: Vec<Row, A>,
+    rows: LateRows<Row, Slot, A>,
 }
 
 impl<A: Allocator> Model for Groups<A> {
     ghost use Rattle.std.specs.Prelude.{List, map};
-    ghost use Rattle.tx_circuits.specs.inner.Groups.{GroupState, group_state, AreKept};
+    ghost use Rattle.tx_rows.specs.inner.Kept.{rows_in};
+    ghost use Rattle.tx_circuits.specs.inner.Groups.{GroupState, group_state, AreGroupsKept};
 
     ghost Value = { List GroupState };
 
-    ghost view = { λ g. map (group_state g.slots.items) g.rows.items };
+    ghost view = { λ g. map group_state (rows_in g.rows) };
 
-    ghost invariant = { λ g. AreKept g.slots.items g.rows.items };
+    ghost invariant = { λ g. AreGroupsKept g.rows };
 }
 
 impl<A: Allocator + Copy> Groups<A> {
@@ -38,30 +40,9 @@ impl<A: Allocator + Copy> Groups<A> {
     pub fn with_room(alloc: A, groups: usize, circuits: usize) -> Result<Self, NoMemory>
         ensures { IfOk result (λ g. g ≡ []) }
     {
-        let rows = Vec::with_capacity(alloc, groups)?;
-        let slots = Vec::with_capacity(alloc, circuits)?;
-        Ok(Groups { slots, rows })
+        let rows = LateRows::with_room(alloc, groups, circuits, Slot::idle())?;
+        Ok(Groups { rows })
     }
-}
-
-// Appends the slots of a group, all idle, and gives its row.
-fn append<A: Allocator>(
-    slots: &mut Vec<Slot, A>,
-    head: GroupHead,
-    count: usize,
-) -> Result<Row, NoMemory>
-    requires { count ≤ 240 }
-    ensures ok { IfOk result (IsAppended slots.old.items slots.new.items head count) }
-    ensures err { OnErr result (slots.new.items ≡ slots.old.items) }
-{
-    let row = Row {
-        head,
-        start: slots.len(),
-        count,
-        lists: FreeLists::new(),
-    };
-    slots.resize(row.start + count, Slot::idle())?;
-    Ok(row.relist(slots.as_mut_slice()))
 }
 
 impl<A: Allocator> Groups<A> {
@@ -71,9 +52,12 @@ impl<A: Allocator> Groups<A> {
         ensures ok { OnOk result (self.new ≡ self.old ++ record { head = head; states = replicate count idle } ∷ []) }
         ensures err { OnErr result (self.new ≡ self.old) }
     {
-        let row = append(&mut self.slots, head, count)?;
-        self.rows.push(row)?;
-        Ok(())
+        let row = Row {
+            head,
+            lists: FreeLists::whole(count),
+            linked: false,
+        };
+        self.rows.add(row, count)
     }
 
     /// How many groups.
@@ -87,7 +71,7 @@ impl<A: Allocator> Groups<A> {
     pub fn head(&self, group: GroupId) -> Option<GroupHead>
         ensures { result ≡ option_map (λ t. t.head) (slice_get self.now group) }
     {
-        match self.rows.get(group.index()) {
+        match self.rows.head(group.index()) {
             Some(row) => Some(row.head),
             None => None,
         }
@@ -97,8 +81,12 @@ impl<A: Allocator> Groups<A> {
     pub fn state(&self, circuit: &Circuit) -> Option<State>
         ensures { result ≡ state_at self.now circuit.now }
     {
-        match self.rows.get(circuit.group.index()) {
-            Some(row) => row.state(self.slots.as_slice(), circuit.number),
+        let number = circuit.number as usize;
+        if number == 0 {
+            return None;
+        }
+        match self.rows.get(circuit.group.index(), number - 1) {
+            Some(slot) => Some(slot.state()),
             None => None,
         }
     }
@@ -107,7 +95,7 @@ impl<A: Allocator> Groups<A> {
     pub fn end(&self, group: GroupId, exchange: ExchangeId) -> Option<End>
         ensures { result ≡ end_at self.now group exchange }
     {
-        match self.rows.get(group.index()) {
+        match self.rows.head(group.index()) {
             Some(row) => row.head.seizing_end(exchange),
             None => None,
         }
@@ -154,7 +142,7 @@ impl<A: Allocator> Groups<A> {
         requires { group < length self.now }
         ensures { IfSome (slice_get self.now group) (λ t. result ≡ first_place t end) }
     {
-        let lists = &self.rows[group.index()].lists;
+        let lists = self.rows.head(group.index()).unwrap().lists;
         match end {
             End::First => lists.first.least,
             End::Other => lists.other.greatest,
@@ -167,9 +155,11 @@ impl<A: Allocator> Groups<A> {
         ensures { self.new ≡ change_at (with_state circuit.now to) circuit.now.group self.old }
     {
         let group = circuit.group.index();
-        let row = self.rows[group];
         let place = circuit.number as usize - 1;
-        self.rows[group] = row.set_state(self.slots.as_mut_slice(), place, to);
+        let row = self.rows.head(group).unwrap();
+        let (start, end) = self.rows.written(group);
+        let row = row.set_state(&mut self.rows.items[start..end], place, to);
+        self.rows.set_head(group, row);
     }
 
     /// Takes all calls off the circuits of a group.
@@ -178,21 +168,29 @@ impl<A: Allocator> Groups<A> {
         ensures { self.new ≡ change_at (λ t. record t { states = map cleared t.states }) group self.old }
     {
         let place = group.index();
-        let row = self.rows[place];
-        self.rows[place] = row.clear(self.slots.as_mut_slice());
+        let row = self.rows.head(place).unwrap();
+        let (start, end) = self.rows.written(place);
+        let row = row.clear(&mut self.rows.items[start..end]);
+        self.rows.set_head(place, row);
     }
 
     pub fn set_failed(&mut self, group: GroupId, to: bool)
         requires { group < length self.old }
         ensures { self.new ≡ change_at (with_failed to) group self.old }
     {
-        self.rows[group.index()].head.failed = to;
+        let place = group.index();
+        let mut row = self.rows.head(place).unwrap();
+        row.head.failed = to;
+        self.rows.set_head(place, row);
     }
 
     pub fn set_blocked(&mut self, group: GroupId, to: bool)
         requires { group < length self.old }
         ensures { self.new ≡ change_at (with_blocked to) group self.old }
     {
-        self.rows[group.index()].head.blocked = to;
+        let place = group.index();
+        let mut row = self.rows.head(place).unwrap();
+        row.head.blocked = to;
+        self.rows.set_head(place, row);
     }
 }

@@ -10,14 +10,13 @@ use Rattle.tx_plan.specs.Plan.{Plan, Group}
 use Rattle.tx_plan.specs.Rules.{IsPlan, IsGroup}
 use Rattle.tx_plan.specs.Routes.{route_list}
 use Rattle.tx_plan.specs.Circuits.{is_circuit, circuits_at, count_of}
-use Rattle.tx_plan.specs.declared.circuit.Circuit.{Circuit}
-use Rattle.tx_plan.specs.declared.line.Line.{Line}
+use Rattle.tx_entries.specs.declared.circuit.Circuit.{Circuit}
+use Rattle.tx_entries.specs.declared.line.Line.{Line}
 use Rattle.tx_plan.specs.Among.{Among}
 use Rattle.tx_state.specs.declared.hop.Hop.{Hop}
 use Rattle.tx_state.specs.declared.phase.Phase.TheVariants.{Standing}
 use Rattle.tx_state.specs.InUse.{carries, is_free_at, is_down, first_free, first_in, choice}
 use Rattle.tx_state.specs.Refusals.{is_group}
-use Rattle.tx_state.specs.Members.{Mem}
 use Rattle.tx_state.proofs.Lists.{any_none, at_place}
 use Rattle.tx_state.proofs.Uses.{chosen}
 use Rattle.tx_state.proofs.Excuses.{circuit_listed}
@@ -27,7 +26,7 @@ use Rattle.tx_counter.specs.Counter.{listed_before}
 
 -- LISTS
 
-pub find_some : {A : Type 0} (t : A → Bool) (xs : List A) (z : A) → Mem xs z → t z ≡ true → (y : A) × (find t xs ≡ Some y)
+pub find_some : {A : Type 0} (t : A → Bool) (xs : List A) (z : A) → Among z xs → t z ≡ true → (y : A) × (find t xs ≡ Some y)
 find_some t [] z m h = elim m [ ]
 find_some t (x ∷ xs) z m h =
     elim (t x) as (λ b. t x ≡ b → (y : _) × (cond b (Some x) (find t xs) ≡ Some y)) [
@@ -42,7 +41,7 @@ first_in_at look (h ∷ gs) g y m none some =
       | true ↦ λ e n. let same : look h ≡ Some y = ap look (eqb-true h g e) ∙ some in rw same refl
       | false ↦ λ e n.
           let down : look h ≡ None = n h (inl refl) in
-          let later : Among g gs = elim m [ inl q ↦ absurd (eqb-false h g e (sym q)) | inr k ↦ k ] in
+          let later : Among g gs = elim m [ inl q ↦ absurd (eqb-false h g e q) | inr k ↦ k ] in
           rw down (first_in_at look gs g y later (λ k a. n k (inr a)) some)
     ] refl none
 
@@ -77,15 +76,15 @@ pub record IsLoose (p : Plan) (hops : List Hop) (g : ℕ) : Type 0 where
   pub number : ℕ
   pub some : 0 < number
   pub few : number ≤ count_of p g
-  pub apart : (h : Hop) → Mem hops h → same_circuit h.circuit (record { group = g; number = number }) ≡ false
+  pub apart : (h : Hop) → Among h hops → same_circuit h.circuit (record { group = g; number = number }) ≡ false
 
 module _ (p : Plan) (hops : List Hop) (g : ℕ) where
   -- the call has not gone by the group
-  pub loose_new : 1 ≤ count_of p g → ((h : Hop) → Mem hops h → h.circuit.group ≡ g → ⊥) → IsLoose p hops g
+  pub loose_new : 1 ≤ count_of p g → ((h : Hop) → Among h hops → h.circuit.group ≡ g → ⊥) → IsLoose p hops g
   loose_new many new = record { number = 1; some = omega arith; few = many; apart = λ h m. and_left (h.circuit.group == g) _ (ne_eqb _ _ (new h m)) }
 
   -- it has gone by one circuit of it, and there is another
-  pub loose_other : (y : Circuit) → 2 ≤ count_of p g → ((h : Hop) → Mem hops h → h.circuit.group ≡ g → y ≡ h.circuit) → IsLoose p hops g
+  pub loose_other : (y : Circuit) → 2 ≤ count_of p g → ((h : Hop) → Among h hops → h.circuit.group ≡ g → y ≡ h.circuit) → IsLoose p hops g
   loose_other y many only =
       elim (cases_eq y.number 1) [
         | inl e ↦ at 2 (omega arith) (omega arith) (omega arith)

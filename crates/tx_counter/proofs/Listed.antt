@@ -8,25 +8,14 @@ use Rattle.tx_plan.specs.Plan.{Plan, Group, Route}
 use Rattle.tx_plan.specs.Rules.{IsPlan, IsRoute}
 use Rattle.tx_plan.specs.Routes.{route_list}
 use Rattle.tx_plan.specs.Circuits.{far_end, other_end, may_seize, is_both, direction_of}
-use Rattle.tx_plan.specs.declared.direction.Direction.TheVariants.{OneWay}
+use Rattle.tx_entries.specs.declared.direction.Direction.TheVariants.{OneWay}
 use Rattle.tx_plan.specs.Among.{Among}
 use Rattle.tx_rank.specs.Walks.{AllDiffer}
 use Rattle.tx_rank.proofs.Ways.{among_all, all_among, once_first, once_cons}
-use Rattle.tx_state.specs.Members.{Mem}
 use Rattle.tx_state.specs.Refusals.{is_group}
 use Rattle.tx_state.proofs.Lists.{find_mem}
 use Rattle.tx_state.proofs.Steps.{all_mem, row_of, listed_leads}
 use Rattle.tx_counter.specs.Counter.{listed_before}
-
-pub mem_from : {A : Type 0} (x : A) (xs : List A) → Among x xs → Mem xs x
-mem_from x [] m = absurd m
-mem_from x (y ∷ xs) (inl e) = inl (sym e)
-mem_from x (y ∷ xs) (inr m) = inr (mem_from x xs m)
-
-pub among_from : {A : Type 0} (x : A) (xs : List A) → Mem xs x → Among x xs
-among_from x [] m = elim m [ ]
-among_from x (y ∷ xs) (inl e) = inl (sym e)
-among_from x (y ∷ xs) (inr m) = inr (among_from x xs m)
 
 -- what holds of the groups of each route and of no groups holds of each list
 of_list : (p : Plan) → IsPlan p → (P : List ℕ → Type 0) → P [] → ((r : Route) → IsRoute p r → P r.groups) → (x c : ℕ) → P (route_list p x c)
@@ -52,11 +41,11 @@ module _ (p : Plan) (ok : IsPlan p) where
   listed_few x c = of_list p ok (λ gs. length gs ≤ 16) (omega arith) (λ r h. h.few) x c
 
   pub listed_known : (x c : ℕ) → AllByRecursion (λ g. is_group p g ≡ true) (route_list p x c)
-  listed_known x c = among_all (λ g. is_group p g ≡ true) (route_list p x c) (λ g m. let l = listed_leads p ok x c g (mem_from g (route_list p x c) m) in known_from p g x l.0 l.1)
+  listed_known x c = among_all (λ g. is_group p g ≡ true) (route_list p x c) (λ g m. let l = listed_leads p ok x c g m in known_from p g x l.0 l.1)
 
   pub listed_may : (x c g : ℕ) → Among g (route_list p x c) → may_seize p g x ≡ true
   listed_may x c g m =
-      let r = row_of p.routes x c g (mem_from g (route_list p x c) m) in
+      let r = row_of p.routes x c g m in
       subst (λ k. may_seize p g k ≡ true) r.2 (all_mem (λ k. may_seize p k r.0.exchange ≡ true) r.0.groups g (all_mem (IsRoute p) p.routes r.0 ok.routes r.1).outgoing r.3)
 
 -- a group that may be seized from two exchanges is a both-way one
@@ -89,7 +78,7 @@ not_before g [] m = m
 not_before g (k ∷ gs) m =
     elim (k == g) as (λ b. (k == g) ≡ b → Among g (if b then [] else k ∷ listed_before g gs) → ⊥) [
       | true ↦ λ e n. n
-      | false ↦ λ e n. elim n [ inl q ↦ eqb-false k g e (sym q) | inr l ↦ not_before g gs l ]
+      | false ↦ λ e n. elim n [ inl q ↦ eqb-false k g e q | inr l ↦ not_before g gs l ]
     ] refl m
 
 pub before_once : (g : ℕ) (gs : List ℕ) → AllDiffer gs → AllDiffer (listed_before g gs)

@@ -12,7 +12,6 @@ use Rattle.tx_state.proofs.Lists.{none_any}
 use Rattle.tx_state.proofs.Uses.{two_ends}
 use Rattle.tx_state.specs.Passed.{is_transit}
 use Rattle.tx_counter.specs.Counter.{is_single, turns_on_one}
-use Rattle.tx_counter.proofs.Listed.{mem_from}
 
 pub passed_is : (x : ℕ) (steps : List (ℕ × ℕ)) → passed x steps ≡ x ∷ map (λ s. s.1) steps
 passed_is x [] = refl
@@ -32,8 +31,8 @@ before_once x (s ∷ steps) d = once_cons x (before_end s.1 steps) (λ m. once_f
 pub twice : (x : ℕ) (steps : List (ℕ × ℕ)) → Among (end_of x steps) (before_end x steps) → NoneTwice (λ y z. y == z) (passed x steps) → ⊥
 twice x [] m n = m
 twice x (s ∷ steps) (inl e) n =
-    let new = none_any (λ y. x == y) (passed s.1 steps) (end_of s.1 steps) n.0 (mem_from (end_of s.1 steps) (passed s.1 steps) (end_passed s.1 steps)) in
-    eqb-false x (end_of s.1 steps) new (sym e)
+    let new = none_any (λ y. x == y) (passed s.1 steps) (end_of s.1 steps) n.0 (end_passed s.1 steps) in
+    eqb-false x (end_of s.1 steps) new e
 twice x (s ∷ steps) (inr m) n = twice s.1 steps m n.1
 
 -- where nothing repeats, no walk turns back
@@ -54,9 +53,9 @@ module _ (p : Plan) (c : ℕ) where
 
   -- a walk that does not end at home is away from it all the way
   all_away : (x : ℕ) (steps : List (ℕ × ℕ)) → Goes (net_of p c) x steps → end_of x steps ≢ home_of p c → (u : ℕ) → Among u (passed x steps) → u ≢ home_of p c
-  all_away x [] goes away u (inl e) = λ q. away (sym e ∙ q)
+  all_away x [] goes away u (inl e) = λ q. away (e ∙ q)
   all_away x [] goes away u (inr m) = absurd m
-  all_away x (s ∷ steps) goes away u (inl e) = λ q. goes.0 (sym e ∙ q)
+  all_away x (s ∷ steps) goes away u (inl e) = λ q. goes.0 (e ∙ q)
   all_away x (s ∷ steps) goes away u (inr m) = all_away s.1 steps goes.3 away u m
 
 all_pass : (t : ℕ → Bool) (xs : List ℕ) → ((u : ℕ) → Among u xs → t u ≡ true) → filter t xs ≡ xs

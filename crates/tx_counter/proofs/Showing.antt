@@ -11,7 +11,7 @@ use Rattle.tx_plan.specs.Plan.{Plan, home_of, figures_of}
 use Rattle.tx_plan.specs.Rules.{IsPlan}
 use Rattle.tx_plan.specs.Codes.{code_of}
 use Rattle.tx_plan.specs.Routes.{route_list, is_barred, is_origin}
-use Rattle.tx_plan.specs.declared.line.Line.{Line}
+use Rattle.tx_entries.specs.declared.line.Line.{Line}
 use Rattle.tx_plan.specs.Among.{Among}
 use Rattle.tx_rank.specs.declared.finding.Finding.{Finding}
 use Rattle.tx_rank.specs.declared.finding.Finding.TheVariants.{Ambiguous, Loop, Short, Long}
@@ -26,7 +26,7 @@ use Rattle.tx_state.specs.declared.service.Service.TheVariants.{Nc}
 use Rattle.tx_state.specs.Call.{Call, place_of}
 use Rattle.tx_state.specs.State.{State, opening}
 use Rattle.tx_state.specs.InUse.{first_free, choice}
-use Rattle.tx_state.specs.Members.{Mem, NoneTwice}
+use Rattle.tx_state.specs.Members.{NoneTwice}
 use Rattle.tx_state.specs.Runs.{Moment, moment, run, state_after}
 use Rattle.tx_state.specs.Passed.{passed, transits, is_transit}
 use Rattle.tx_state.specs.Safe.{IsSafe, IsSafeCall}
@@ -53,7 +53,7 @@ last_state p Holds s [] h all = h
 last_state p Holds s (e ∷ es) h all = last_state p Holds (step p s e).1 es all.0 all.1
 
 -- an event is a moment of its run
-comes_last : (p : Plan) (s : State) (es : List Event) (e : Event) → Mem (run p s (es ++ e ∷ [])) (moment p (state_after p s es) e)
+comes_last : (p : Plan) (s : State) (es : List Event) (e : Event) → Among (moment p (state_after p s es) e) (run p s (es ++ e ∷ []))
 comes_last p s [] e = inl refl
 comes_last p s (d ∷ es) e = inr (comes_last p (step p s d).1 es e)
 
@@ -208,7 +208,7 @@ module _ (p : Plan) (ok : IsPlan p) (c : ℕ) (within : c < length p.codes) (x :
         let same : before_last ++ (Route 1 ∷ []) ≡ Key g.line keyed ∷ (walk_events p c x steps ++ (map Block list ++ (Route 1 ∷ []))) = ap (λ l. Key g.line keyed ∷ l) (append_assoc (walk_events p c x steps) (map Block list) (Route 1 ∷ [])) in
         record {
           moment = moment p (state_after p (opening 0 0) before_last) (Route 1);
-          comes = subst (λ es. Mem (run p (opening 0 0) es) (moment p (state_after p (opening 0 0) before_last) (Route 1))) same (comes_last p (opening 0 0) before_last (Route 1));
+          comes = subst (λ es. Among (moment p (state_after p (opening 0 0) before_last) (Route 1)) (run p (opening 0 0) es)) same (comes_last p (opening 0 0) before_last (Route 1));
           reply = subst (λ t. (step p t (Route 1)).0 ≡ Answered Nc) at (answered_nc h.away);
           bare = subst (λ t. IsExcused p spare t (Route 1) (step p t (Route 1)).0 → ⊥) at (bare spare h.away h.few);
         }

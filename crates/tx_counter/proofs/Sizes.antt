@@ -12,7 +12,7 @@ use Rattle.tx_rank.specs.Walks.{AllDiffer, Goes, IsWalk, net_of, before_end}
 use Rattle.tx_rank.proofs.Nets.{is_net}
 use Rattle.tx_state.proofs.Lists.{any_mem}
 use Rattle.tx_counter.specs.Counter.{step_events, walk_events}
-use Rattle.tx_counter.proofs.Listed.{listed_few, before_few, among_from}
+use Rattle.tx_counter.proofs.Listed.{listed_few, before_few}
 use Rattle.tx_counter.proofs.Walking.{step_count}
 
 before_count : (x : ℕ) (steps : List (ℕ × ℕ)) → length (before_end x steps) ≡ length steps
@@ -34,7 +34,7 @@ module _ (p : Plan) (ok : IsPlan p) (c : ℕ) (within : c < length p.codes) wher
 
   before_below : (x : ℕ) (steps : List (ℕ × ℕ)) → Goes (net_of p c) x steps → x < length p.exchanges → (u : ℕ) → Among u (before_end x steps) → u < length p.exchanges
   before_below x [] goes h u m = absurd m
-  before_below x (s ∷ steps) goes h u (inl e) = subst (λ k. k < length p.exchanges) (sym e) h
+  before_below x (s ∷ steps) goes h u (inl e) = subst (λ k. k < length p.exchanges) e h
   before_below x (s ∷ steps) goes h u (inr m) =
       let l = net.leads x s.0 goes.1 in
       let far = l.1 in
@@ -47,7 +47,7 @@ module _ (p : Plan) (ok : IsPlan p) (c : ℕ) (within : c < length p.codes) wher
   steps_few x steps w once =
       let below : (q : ℕ) → list_any (eqb q) (before_end x steps) ≡ true → q < length p.exchanges =
       λ q h. let a = any_mem (eqb q) (before_end x steps) h in
-      before_below x steps w.goes (net.origins x w.origin) q (subst (λ k. Among k (before_end x steps)) (sym (eqb-true q a.0 a.2)) (among_from a.0 (before_end x steps) a.1))
+      before_below x steps w.goes (net.origins x w.origin) q (subst (λ k. Among k (before_end x steps)) (sym (eqb-true q a.0 a.2)) a.1)
       in
       let l = length-le_from_distinct_below (before_end x steps) (length p.exchanges) (all_distinct (before_end x steps) once) below in
       let e = before_count x steps in

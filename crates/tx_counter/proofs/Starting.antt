@@ -14,16 +14,15 @@ use Rattle.tx_plan.specs.Rules.{IsPlan, IsRange}
 use Rattle.tx_plan.specs.Lines.{at_most, in_range, is_line}
 use Rattle.tx_plan.specs.Codes.{after, is_prefix, codes_before, longer, longest, code_of}
 use Rattle.tx_plan.specs.Routes.{is_origin}
-use Rattle.tx_plan.specs.declared.line.Line.{Line}
-use Rattle.tx_plan.specs.declared.range.LineRange.{LineRange}
-use Rattle.tx_plan.proofs.Among.{among_places, among_filter}
+use Rattle.tx_entries.specs.declared.line.Line.{Line}
+use Rattle.tx_entries.specs.declared.range.LineRange.{LineRange}
+use Rattle.tx_plan.proofs.Among.{among_places, among_filter, filter_among}
 use Rattle.tx_plan.proofs.ByPlace.{entry_at}
-use Rattle.tx_state.specs.Members.{Mem}
-use Rattle.tx_state.proofs.Lists.{mem_filter, any_mem, mem_any, find_mem, places_differ}
+use Rattle.tx_plan.specs.Among.{Among}
+use Rattle.tx_state.proofs.Lists.{any_mem, mem_any, find_mem, places_differ}
 use Rattle.tx_state.proofs.Steps.{all_mem, prefix-is, longest-mem, enumerated}
 use Rattle.tx_counter.specs.Counter.{first_range, calls_from, first_code, low_line, first_line}
 use Rattle.tx_counter.proofs.Choices.{find_some}
-use Rattle.tx_counter.proofs.Listed.{mem_from}
 
 -- THE CODE THAT IS KEYED
 
@@ -45,7 +44,7 @@ record IsLongest (es : List (ℕ × Code)) (e : ℕ × Code) : Type 0 where
   pub longest' : longest es ≡ Some found
   pub long : length e.1.figures ≤ length found.1.figures
 
-longest_most : (es : List (ℕ × Code)) (e : ℕ × Code) → Mem es e → IsLongest es e
+longest_most : (es : List (ℕ × Code)) (e : ℕ × Code) → Among e es → IsLongest es e
 longest_most [] e m = elim m [ ]
 longest_most (d ∷ es) e m = elim m [ inl q ↦ at (longest es) refl q | inr k ↦ later (longest_most es e k) ]
   where
@@ -72,9 +71,9 @@ code_itself p ok c within =
     let figures : figures_of p c ≡ keyed = ap (λ o. option_map_or (λ (k : Code). k.figures) o []) row.1 in
     let starts : is_prefix keyed keyed ≡ true = ap is_some (after_itself keyed) in
     let among = among_filter (λ (e : ℕ × Code). is_prefix e.1.figures keyed) (0 + c, row.0) (enumerate_from 0 p.codes) (among_places 0 c row.0 p.codes row.1) starts in
-    let most = longest_most (codes_before p keyed) (0 + c, row.0) (mem_from (0 + c, row.0) (codes_before p keyed) among) in
+    let most = longest_most (codes_before p keyed) (0 + c, row.0) among in
     let d = most.found in
-    let m = mem_filter (λ (e : ℕ × Code). is_prefix e.1.figures keyed) (enumerate_from 0 p.codes) d (longest-mem (codes_before p keyed) d most.longest') in
+    let m = filter_among (λ (e : ℕ × Code). is_prefix e.1.figures keyed) d (enumerate_from 0 p.codes) (longest-mem (codes_before p keyed) d most.longest') in
     let same = prefix_whole d.1.figures keyed m.1 most.long in
     let place = enumerated 0 p.codes d m.0 in
     let one = places_differ (λ (a b : Code). a.figures ≡ b.figures) (λ a b e. sym e) p.codes ok.codes_differ place.0 c d.1 row.0 place.2 row.1 same in
@@ -83,16 +82,16 @@ code_itself p ok c within =
 
 -- THE LINE THAT CALLS
 
-in_range_len : (a n k : ℕ) → k < n → Mem (range_with_len a n) (a + k)
+in_range_len : (a n k : ℕ) → k < n → Among (a + k) (range_with_len a n)
 in_range_len a zero k h = absurd (omega arith)
 in_range_len a (suc n) zero h = inl (let e : a ≡ a + 0 = omega arith in e)
-in_range_len a (suc n) (suc k) h = inr (subst (Mem (range_with_len (a + 1) n)) (let e : (a + 1) + k ≡ a + suc k = omega arith in e) (in_range_len (a + 1) n k (omega arith)))
+in_range_len a (suc n) (suc k) h = inr (subst (λ z. Among z (range_with_len (a + 1) n)) (let e : (a + 1) + k ≡ a + suc k = omega arith in e) (in_range_len (a + 1) n k (omega arith)))
 
 at_most_itself : (xs : List ℕ) → at_most xs xs ≡ true
 at_most_itself xs = ap is_le (tied_itself nat_list_cmp_total xs)
 
 -- the low end of a range is a line
-low_is_line : (p : Plan) → IsPlan p → (c : ℕ) (r : LineRange) → Mem p.ranges r → (r.code == c) ≡ true → is_line p (low_line c r) ≡ true
+low_is_line : (p : Plan) → IsPlan p → (c : ℕ) (r : LineRange) → Among r p.ranges → (r.code == c) ≡ true → is_line p (low_line c r) ≡ true
 low_is_line p ok c r m e =
     let h = all_mem (IsRange p) p.ranges r ok.ranges m in
     let within : in_range r.low r ≡ true = and_from (length r.low == length r.low) _ (eq-eqb (length r.low) (length r.low) refl) (and_from (at_most r.low r.low) _ (at_most_itself r.low) h.order) in
@@ -112,7 +111,7 @@ caller p ok x origin =
     let within = (all_mem (IsRange p) p.ranges r.0 ok.ranges r.1).code in
     let some = find_some (λ (q : LineRange). q.code == c) p.ranges r.0 r.1 (eq-eqb c c refl) in
     let calls : calls_from p x c ≡ true = and_from (home_of p c == x) _ r.2 (ap is_some some.1) in
-    let found = find_some (calls_from p x) (range_with_len 0 (length p.codes)) c (subst (Mem (range_with_len 0 (length p.codes))) (let e : 0 + c ≡ c = omega arith in e) (in_range_len 0 (length p.codes) c within)) calls in
+    let found = find_some (calls_from p x) (range_with_len 0 (length p.codes)) c (subst (λ z. Among z (range_with_len 0 (length p.codes))) (let e : 0 + c ≡ c = omega arith in e) (in_range_len 0 (length p.codes) c within)) calls in
     let d = found.0 in
     let true_of = and_parts (home_of p d == x) (is_some (first_range p d)) (find_mem (calls_from p x) (range_with_len 0 (length p.codes)) d found.1).1 in
     at d found.1 (eqb-true (home_of p d) x true_of.0) (first_range p d) refl true_of.1

@@ -6,18 +6,17 @@ use Rattle.tx_plan.specs.Plan.{Plan, home_of}
 use Rattle.tx_plan.specs.Rules.{IsPlan}
 use Rattle.tx_plan.specs.Routes.{route_list}
 use Rattle.tx_plan.specs.Circuits.{other_end, may_seize, is_both, direction_of, count_of}
-use Rattle.tx_plan.specs.declared.circuit.Circuit.{Circuit}
-use Rattle.tx_plan.specs.declared.line.Line.{Line}
+use Rattle.tx_entries.specs.declared.circuit.Circuit.{Circuit}
+use Rattle.tx_entries.specs.declared.line.Line.{Line}
 use Rattle.tx_plan.specs.Among.{Among}
+use Rattle.tx_plan.proofs.Among.{among_cases}
 use Rattle.tx_rank.specs.Walks.{AllDiffer, Goes, net_of, before_end, end_of}
 use Rattle.tx_rank.proofs.Ways.{once_first}
 use Rattle.tx_state.specs.declared.event.Event.TheVariants.{Route, Confirm, Block, Unblock}
 use Rattle.tx_state.specs.declared.hop.Hop.{Hop}
 use Rattle.tx_state.specs.declared.phase.Phase.TheVariants.{Standing, Calling}
 use Rattle.tx_state.specs.declared.reply.Reply.TheVariants.{Seized, At}
-use Rattle.tx_state.specs.Members.{Mem}
 use Rattle.tx_state.specs.Refusals.{is_group}
-use Rattle.tx_state.proofs.Lists.{mem_append}
 use Rattle.tx_state.proofs.Uses.{two_ends, map_push}
 use Rattle.tx_state.proofs.Playing.{Groups, AllUp, Plays, plays_none, plays_first, plays_one, plays_then, shut, opened, shut_out, shut_among, all_up_again}
 use Rattle.tx_state.proofs.OneCall.{alone, on_way, IsPlaced, routed_there, placed_next, route_step, confirm_step, blocks, unblocks}
@@ -35,8 +34,8 @@ pub record IsPast (p : Plan) (x : ℕ) (past : List ℕ) (h : Hop) : Type 0 wher
 
 -- the hops of a call that stands at x, and the circuit by which it came
 pub record IsOn (p : Plan) (x : ℕ) (past : List ℕ) (hops : List Hop) (last : Option Circuit) : Type 0 where
-  pub each : (h : Hop) → Mem hops h → IsPast p x past h
-  pub back : (h : Hop) → Mem hops h → h.far ≡ x → last ≡ Some h.circuit
+  pub each : (h : Hop) → Among h hops → IsPast p x past h
+  pub back : (h : Hop) → Among h hops → h.far ≡ x → last ≡ Some h.circuit
 
 -- no exchange stands in both lists
 abbrev pub Apart : List ℕ → List ℕ → Type 0
@@ -89,8 +88,8 @@ module _ (p : Plan) (ok : IsPlan p) (code : ℕ) where
       (λ h m e. let b = on.back h m (turn x y g past h (on.each h m) (λ a. apart x a (inl refl)) listed leads e).here in let bad : ⊥ = cc in bad)
   loose x y g [] past hops (Some z) on apart listed leads free =
       let some = count_some p ok g (known_from p g x y leads) in
-      let t : (h : Hop) → Mem hops h → h.circuit.group ≡ g → IsTurn p x y g past h = λ h m e. turn x y g past h (on.each h m) (λ a. apart x a (inl refl)) listed leads e in
-      let came : (h : Hop) → Mem hops h → h.circuit.group ≡ g → z ≡ h.circuit = λ h m e. some_same (on.back h m (t h m e).here) in
+      let t : (h : Hop) → Among h hops → h.circuit.group ≡ g → IsTurn p x y g past h = λ h m e. turn x y g past h (on.each h m) (λ a. apart x a (inl refl)) listed leads e in
+      let came : (h : Hop) → Among h hops → h.circuit.group ≡ g → z ≡ h.circuit = λ h m e. some_same (on.back h m (t h m e).here) in
       elim (cases_eq z.group g) [
         | inr ne ↦ loose_new p hops g some (λ h m e. ne (ap (λ (c : Circuit). c.group) (came h m e) ∙ e))
         | inl same ↦ elim (cases_eq (count_of p g) 1) [
@@ -172,11 +171,11 @@ module _ (p : Plan) (ok : IsPlan p) (code : ℕ) where
     on_next : (x z : ℕ) (past : List ℕ) (hops : List Hop) (last : Option Circuit) (y : Circuit) → IsOn p x past hops last → other_end p y.group x ≡ Some z → may_seize p y.group x ≡ true → (Among z past → ⊥) → x ≢ z → IsOn p z (x ∷ past) (hops ++ hop y z ∷ []) (Some y)
     on_next x z past hops last y on leads may new apart =
         record {
-          each = λ h m. elim (mem_append hops (hop y z ∷ []) h m) [
+          each = λ h m. elim (among_cases h hops (hop y z ∷ []) m) [
             | inl a ↦ old h (on.each h a)
             | inr a ↦ elim a [ inl e ↦ subst (IsPast p z (x ∷ past)) e fresh | inr bad ↦ absurd bad ]
           ];
-          back = λ h m here. elim (mem_append hops (hop y z ∷ []) h m) [
+          back = λ h m here. elim (among_cases h hops (hop y z ∷ []) m) [
             | inl a ↦ absurd (elim (on.each h a).to [ inl far ↦ new (subst (λ u. Among u past) here far) | inr far ↦ apart (sym far ∙ here) ])
             | inr a ↦ elim a [ inl e ↦ ap (λ (k : Hop). Some k.circuit) e | inr bad ↦ absurd bad ]
           ];
@@ -186,12 +185,12 @@ module _ (p : Plan) (ok : IsPlan p) (code : ℕ) where
         fresh = record { from = x; passed = inl refl; leads = leads; may = may; to = inr refl }
 
         old : (h : Hop) → IsPast p x past h → IsPast p z (x ∷ past) h
-        old h i = record { from = i.from; passed = inr i.passed; leads = i.leads; may = i.may; to = inl (elim i.to [ inl a ↦ inr a | inr e ↦ inl e ]) }
+        old h i = record { from = i.from; passed = inr i.passed; leads = i.leads; may = i.may; to = inl (elim i.to [ inl a ↦ inr a | inr e ↦ inl (sym e) ]) }
 
     more_next : (x z : ℕ) (steps : List (ℕ × ℕ)) (past : List ℕ) (hops : List Hop) (last : Option Circuit) (y : Circuit) → IsOn p x past hops last → other_end p y.group x ≡ Some z → may_seize p y.group x ≡ true
         → Apart past (x ∷ before_end z steps) → AllDiffer (x ∷ before_end z steps) → IfMore steps (IsOn p z (x ∷ past) (hops ++ hop y z ∷ []) (Some y))
     more_next x z [] past hops last y on leads may apart once = tt
-    more_next x z (t ∷ steps) past hops last y on leads may apart once = on_next x z past hops last y on leads may (λ a. apart z a (inr (inl refl))) (λ e. once_first x (before_end z (t ∷ steps)) once (inl e))
+    more_next x z (t ∷ steps) past hops last y on leads may apart once = on_next x z past hops last y on leads may (λ a. apart z a (inr (inl refl))) (λ e. once_first x (before_end z (t ∷ steps)) once (inl (sym e)))
 
     -- the step and the steps after it
     walk_next : (hops : List Hop) (b : Groups) (n x g z : ℕ) (steps : List (ℕ × ℕ)) (one : Stepped hops b n x g z) → Walked (hops ++ hop one.circuit z ∷ []) one.blocked (n + length (step_events (route_list p x code) g)) z steps → Walked hops b n x ((g, z) ∷ steps)
@@ -227,7 +226,7 @@ module _ (p : Plan) (ok : IsPlan p) (code : ℕ) where
         let turns : turns_on_one p ((y.group, 0) ∷ steps) ≡ false = ap (λ k. turns_on_one p ((k, 0) ∷ steps)) one.group ∙ free_next last g z steps free in
         walk_next hops b n x g z steps one
         (go z (x ∷ past) (hops ++ hop y z ∷ []) (Some y) one.blocked (n + length es) (placed_next p line keyed hops code x (hop y z) placed) goes.3 once.1
-        (λ u a m. elim a [ inl e ↦ once_first x (before_end z steps) once (subst (λ v. Among v (before_end z steps)) e m) | inr k ↦ apart u k (inr m) ])
+        (λ u a m. elim a [ inl e ↦ once_first x (before_end z steps) once (subst (λ v. Among v (before_end z steps)) (sym e) m) | inr k ↦ apart u k (inr m) ])
         (more_next x z steps past hops last y on leads may apart once) turns one.up (omega arith))
 
     pub walk_plays : (steps : List (ℕ × ℕ)) → CanGo steps

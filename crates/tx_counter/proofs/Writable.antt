@@ -9,15 +9,15 @@ use Rattle.tx_text.specs.Words.{is_figure, are_figures, figures_of as keyed_of}
 use Rattle.tx_plan.specs.Plan.{Plan, Code, Group, figures_of}
 use Rattle.tx_plan.specs.Rules.{IsPlan, IsCode}
 use Rattle.tx_plan.specs.Routes.{route_list}
-use Rattle.tx_plan.specs.declared.line.Line.{Line}
-use Rattle.tx_plan.specs.declared.range.LineRange.{LineRange}
+use Rattle.tx_entries.specs.declared.line.Line.{Line}
+use Rattle.tx_entries.specs.declared.range.LineRange.{LineRange}
 use Rattle.tx_plan.proofs.ByPlace.{entry_at}
+use Rattle.tx_plan.specs.Among.{Among}
 use Rattle.tx_rank.specs.declared.finding.Finding.{Finding}
 use Rattle.tx_rank.specs.declared.finding.Finding.TheVariants.{Ambiguous, Loop, Short, Long}
 use Rattle.tx_rank.specs.Walks.{Walk, end_of}
 use Rattle.tx_state.specs.declared.event.Event.{Event}
 use Rattle.tx_state.specs.declared.event.Event.TheVariants.{Route, Confirm, Block, Unblock}
-use Rattle.tx_state.specs.Members.{Mem}
 use Rattle.tx_state.specs.Refusals.{is_group}
 use Rattle.tx_state.proofs.Lists.{find_mem, at_place}
 use Rattle.tx_script.specs.Events.{IsWritable}
@@ -75,7 +75,7 @@ module _ (p : Plan) (ok : IsPlan p) where
   shut_writable c x = all_append (IsWritable p) (map Block (route_list p x c)) (Route 1 ∷ []) (blocks_writable (route_list p x c) (listed_known p ok x c)) (tt, tt)
 
   -- the line that calls is one of a code of the plan
-  below : (a n k : ℕ) → Mem (range_with_len a n) k → k < a + n
+  below : (a n k : ℕ) → Among k (range_with_len a n) → k < a + n
   below a zero k m = elim m [ ]
   below a (suc n) k (inl e) = omega arith
   below a (suc n) k (inr m) = let r = below (a + 1) n k m in omega arith

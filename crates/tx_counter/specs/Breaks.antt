@@ -1,12 +1,13 @@
 -- What a run shows that breaks what a sound plan keeps.
 use Rattle.std.specs.Prelude.{◌≡◌, ℕ, ◌<◌, ◌==◌, List, length}
 use Rattle.tx_plan.specs.Plan.{Plan}
+use Rattle.tx_plan.specs.Among.{Among}
 use Rattle.tx_state.specs.declared.event.Event.{Event}
 use Rattle.tx_state.specs.declared.reply.Reply.TheVariants.{Answered}
 use Rattle.tx_state.specs.declared.service.Service.TheVariants.{Nc}
 use Rattle.tx_state.specs.Call.{Call}
 use Rattle.tx_state.specs.State.{State, opening}
-use Rattle.tx_state.specs.Members.{Mem, NoneTwice}
+use Rattle.tx_state.specs.Members.{NoneTwice}
 use Rattle.tx_state.specs.Runs.{Moment, run, state_after}
 use Rattle.tx_state.specs.Passed.{passed, transits}
 use Rattle.tx_state.specs.Excused.{IsExcused}
@@ -18,19 +19,19 @@ use Rattle.tx_rank.specs.declared.finding.Finding.TheVariants.{Ambiguous, Loop, 
 -- an open call has passed an exchange twice
 pub record PassesTwice (p : Plan) (s : State) : Type 0 where
   pub call : Call
-  pub open' : Mem s.calls call
+  pub open' : Among call s.calls
   pub twice : NoneTwice (λ x y. x == y) (passed p call) → ⊥
 
 -- an open call has more than so many transits
 pub record PassesMany (p : Plan) (limit : ℕ) (s : State) : Type 0 where
   pub call : Call
-  pub open' : Mem s.calls call
+  pub open' : Among call s.calls
   pub many : limit < length (transits p call)
 
 -- an event of the run is answered NC, and that is not excused
 pub record AnswersBare (p : Plan) (spare : ℕ) (s : State) (events : List Event) : Type 0 where
   pub moment : Moment
-  pub comes : Mem (run p s events) moment
+  pub comes : Among moment (run p s events)
   pub reply : moment.reply ≡ Answered Nc
   pub bare : IsExcused p spare moment.before moment.event moment.reply → ⊥
 
@@ -50,5 +51,5 @@ pub record Shows {A : Type 0} (p : Plan) (limit spare : ℕ) (finding : Finding 
 -- they show one of some findings
 pub record ShowsOne {A : Type 0} (p : Plan) (limit spare : ℕ) (findings : List (Finding A)) (events : List Event) : Type 0 where
   pub finding : Finding A
-  pub listed : Mem findings finding
+  pub listed : Among finding findings
   pub shows : Shows p limit spare finding events

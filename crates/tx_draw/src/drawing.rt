@@ -5,11 +5,11 @@ ghost use Rattle.tx_text.specs.Ends.{StopsIn};
 ghost use Rattle.tx_text.specs.Wrote.{Wrote};
 ghost use Rattle.tx_draw.specs.Drawing.{each_before, exchange_line, arrow_text, group_label, group_line, drawing};
 
-use crate::parts::{write_box, write_head, write_line_between, write_text};
+use crate::parts::{write_box, write_head, write_line_between};
 use itoa::Buffer;
 use std::alloc::Allocator;
 use tx_plan::{Direction, ExchangeId, GroupId, Plan};
-use tx_text::{Sink, WriteFault};
+use tx_text::{Sink, WriteFault, write_text};
 
 /// Writes the picture of a plan as a Graphviz text: each exchange with the codes that are at home there, and each group with its circuits.
 ///

@@ -1,19 +1,11 @@
 // What both pictures have.
 ghost use Rattle.std.specs.Prelude.{length};
-ghost use Rattle.std.specs.List.{flat_map};
 ghost use Rattle.tx_text.specs.Wrote.{Wrote};
 ghost use Rattle.tx_draw.specs.Drawing.{head, home_row, box, line_between, each_before};
 
 use std::alloc::Allocator;
 use tx_plan::{CodeId, ExchangeId, Plan};
-use tx_text::{Sink, WriteFault, write_parts};
-
-/// Writes the parts of a text, one after another.
-pub fn write_text<W: Sink>(parts: &[&[u8]], sink: &mut W) -> Result<(), WriteFault>
-    ensures { Wrote (W.taken sink.old) (W.taken sink.new) (W.failed sink.old) (W.failed sink.new) (flat_map (λ p. p.now) parts.now) result }
-{
-    write_parts(parts, sink)
-}
+use tx_text::{Sink, WriteFault, write_text};
 
 /// Writes the first lines: what all exchanges and all groups look like.
 pub fn write_head<W: Sink>(sink: &mut W) -> Result<(), WriteFault>

@@ -5,13 +5,14 @@ use Rattle.std.specs.Prelude.{if◌then◌else◌, unwrap_or}
 use Rattle.std.specs.List.{list_any}
 use Rattle.std.specs.FinSet as set
 use Rattle.tx_plan.specs.Orders.{circuit_cmp, same_circuit, same_line}
-use Rattle.tx_plan.proofs.Named.{circuits_total, circuit_tie, lines_total, line_tie, same_circuit-is, same_circuit-itself}
-use Rattle.tx_plan.proofs.Tables.{list_any-map}
+use Rattle.tx_entries.proofs.Named.{circuits_total, circuit_tie, lines_total, line_tie, same_circuit-is, same_circuit-itself}
+use Rattle.tx_entries.proofs.Tables.{list_any-map}
 use Rattle.tx_plan.specs.Plan.{Plan}
 use Rattle.tx_plan.specs.Lines.{is_line}
 use Rattle.tx_plan.specs.Circuits.{is_circuit, other_end}
-use Rattle.tx_plan.specs.declared.circuit.Circuit.{Circuit}
-use Rattle.tx_plan.specs.declared.line.Line.{Line}
+use Rattle.tx_plan.specs.Among.{Among}
+use Rattle.tx_entries.specs.declared.circuit.Circuit.{Circuit}
+use Rattle.tx_entries.specs.declared.line.Line.{Line}
 use Rattle.tx_state.specs.declared.hop.Hop.{Hop}
 use Rattle.tx_state.specs.declared.phase.Phase.{Phase}
 use Rattle.tx_state.specs.declared.phase.Phase.TheVariants.{Standing, Calling, Connected}
@@ -21,7 +22,6 @@ use Rattle.tx_state.specs.Lines.{takes_part, is_connected_to}
 use Rattle.tx_state.specs.Routing.{set_call, in_phase}
 use Rattle.tx_state.specs.Confirming.{far_of, carried_on, rival}
 use Rattle.tx_state.specs.Step.{keyed_call}
-use Rattle.tx_state.specs.Members.{Mem}
 use Rattle.tx_state.specs.Safe.{IsKeyedLine}
 use Rattle.tx_state.specs.Invariant.{Inv}
 use Rattle.tx_state.proofs.Lists.{any_none, mem_any, find_none}
@@ -41,7 +41,7 @@ or_turn true false = refl
 or_turn false true = refl
 or_turn false false = refl
 
-module _ (p : Plan) (cs : List Call) (rel : set.FinSet circuit_cmp) (numbers : ℕ) (inv : Inv p cs rel numbers) (c : Call) (m : Mem cs c) where
+module _ (p : Plan) (cs : List Call) (rel : set.FinSet circuit_cmp) (numbers : ℕ) (inv : Inv p cs rel numbers) (c : Call) (m : Among c cs) where
   -- a test of all calls, where one changes
   pub any_set : (f : Call → Call) (t : Call → Bool) → list_any t (set_call c.number f cs) ≡ (t (f c) || list_any t (rest p cs rel numbers inv c m))
   any_set f t =
@@ -70,7 +70,7 @@ module _ (p : Plan) (cs : List Call) (t : Table) (b : Book) (numbers : ℕ) (k :
         engaged = λ l. set.contains-insert lines_total b.engaged line l ∙ (λ i. line_tie l line i || k.engaged l i) ∙ ap (λ z. z || list_any (λ d. takes_part d l) cs) (sym (or_none (same_line line l))) ∙ sym (after (λ d. takes_part d l));
       }
 
-  module _ (c : Call) (m : Mem cs c) where
+  module _ (c : Call) (m : Among c cs) where
     -- A CALL IS CONNECTED
     pub connected_together : (l : Line) (room : ℕ) → c.phase ≡ Standing → IsKeyedLine p c l → set.contains b.engaged l ≡ false
         → AreTogether p (set_call c.number (in_phase (Connected l)) cs) t (record b { engaged = set.insert b.engaged l; room = room }) numbers
@@ -122,7 +122,7 @@ module _ (p : Plan) (cs : List Call) (t : Table) (b : Book) (numbers : ℕ) (k :
     -- A CALL GOES ON OVER ITS CIRCUIT
     module _ (x : Circuit) (calls : c.phase ≡ Calling x) (alone : rival p (state_seen cs t b numbers 0 []) c x ≡ None) where
       -- no other call has seized it
-      pub nobody_else : (d : Call) → Mem cs d → d.number ≢ c.number → d.phase ≡ Calling x → ⊥
+      pub nobody_else : (d : Call) → Among d cs → d.number ≢ c.number → d.phase ≡ Calling x → ⊥
       nobody_else d i ne e =
           let to = (k.inv.each c m).calling x calls in
           let to' = (k.inv.each d i).calling x e in

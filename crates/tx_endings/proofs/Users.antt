@@ -7,15 +7,16 @@ use Rattle.std.specs.Option.{option_map_or}
 use Rattle.std.specs.List.{list_any}
 use Rattle.std.specs.FinSet as set
 use Rattle.tx_plan.specs.Orders.{circuit_cmp, same_circuit}
-use Rattle.tx_plan.proofs.Named.{same_circuit-itself}
+use Rattle.tx_entries.proofs.Named.{same_circuit-itself}
 use Rattle.tx_plan.specs.Plan.{Plan, Group}
 use Rattle.tx_plan.specs.Circuits.{is_circuit, other_end, far_end, count_of, ends_of}
-use Rattle.tx_plan.specs.declared.circuit.Circuit.{Circuit}
+use Rattle.tx_plan.specs.Among.{Among}
+use Rattle.tx_entries.specs.declared.circuit.Circuit.{Circuit}
+use Rattle.tx_plan.proofs.Among.{among_left, among_right, filter_among}
 use Rattle.tx_state.specs.Call.{Call, place_of, is_numbered, call_of}
 use Rattle.tx_state.specs.InUse.{circuits_used, carries, seizes, seizes_from, uses_group}
-use Rattle.tx_state.specs.Members.{Mem}
 use Rattle.tx_state.specs.Invariant.{IsRising, Inv}
-use Rattle.tx_state.proofs.Lists.{any_none, mem_any, find_mem, find_none, mem_filter}
+use Rattle.tx_state.proofs.Lists.{any_none, mem_any, find_mem, find_none}
 use Rattle.tx_state.proofs.Uses.{calling_on, an_end}
 use Rattle.tx_circuits.specs.Table.{Table}
 use Rattle.tx_endings.specs.inner.InTurn.{uses}
@@ -27,7 +28,7 @@ use Rattle.tx_endings.proofs.After.{carried_mem, seizing_from, seizes_at}
 use Rattle.tx_endings.proofs.Losing.{used_known}
 
 -- the one call that passes is found
-pub find_one : (t : Call → Bool) (cs : List Call) (c : Call) → Mem cs c → t c ≡ true → ((d : Call) → Mem cs d → t d ≡ true → d ≡ c) → find t cs ≡ Some c
+pub find_one : (t : Call → Bool) (cs : List Call) (c : Call) → Among c cs → t c ≡ true → ((d : Call) → Among d cs → t d ≡ true → d ≡ c) → find t cs ≡ Some c
 find_one t [] c m e one = elim m [ ]
 find_one t (d ∷ ds) c m e one =
     elim (t d) as (λ b. t d ≡ b → cond b (Some d) (find t ds) ≡ Some c) [
@@ -37,21 +38,12 @@ find_one t (d ∷ ds) c m e one =
 
 -- NUMBERS OF CALLS BY A TEST
 
-pub mem_left : {A : Type 0} (xs ys : List A) (x : A) → Mem xs x → Mem (xs ++ ys) x
-mem_left [] ys x m = elim m [ ]
-mem_left (z ∷ xs) ys x (inl e) = inl e
-mem_left (z ∷ xs) ys x (inr m) = inr (mem_left xs ys x m)
-
-pub mem_right : {A : Type 0} (xs ys : List A) (x : A) → Mem ys x → Mem (xs ++ ys) x
-mem_right [] ys x m = m
-mem_right (z ∷ xs) ys x m = inr (mem_right xs ys x m)
-
-mem_either : {A : Type 0} (xs ys : List A) (x : A) → Mem (xs ++ ys) x → Mem xs x ⊎ Mem ys x
+mem_either : {A : Type 0} (xs ys : List A) (x : A) → Among x (xs ++ ys) → Among x xs ⊎ Among x ys
 mem_either [] ys x m = inr m
 mem_either (z ∷ xs) ys x (inl e) = inl (inl e)
 mem_either (z ∷ xs) ys x (inr m) = elim (mem_either xs ys x m) [ inl k ↦ inl (inr k) | inr k ↦ inr k ]
 
-pub numbers_alike : (t u : Call → Bool) (cs : List Call) (ns : List ℕ) → ((c : Call) → Mem cs c → t c ≡ u c) → AreNumbersOf t cs ns → AreNumbersOf u cs ns
+pub numbers_alike : (t u : Call → Bool) (cs : List Call) (ns : List ℕ) → ((c : Call) → Among c cs → t c ≡ u c) → AreNumbersOf t cs ns → AreNumbersOf u cs ns
 numbers_alike t u cs ns h a = record {
   all = λ c m e. a.all c m (h c m ∙ e);
   only = λ n m. let r = a.only n m in (r.0, r.1, sym (h r.0 r.1) ∙ r.2, r.3);
@@ -59,24 +51,24 @@ numbers_alike t u cs ns h a = record {
 
 pub numbers_or : (t u : Call → Bool) (cs : List Call) (ns ms : List ℕ) → AreNumbersOf t cs ns → AreNumbersOf u cs ms → AreNumbersOf (λ c. t c || u c) cs (ns ++ ms)
 numbers_or t u cs ns ms a b = record {
-  all = λ c m e. elim (or_cases (t c) (u c) e) [ inl f ↦ mem_left ns ms c.number (a.all c m f) | inr f ↦ mem_right ns ms c.number (b.all c m f) ];
+  all = λ c m e. elim (or_cases (t c) (u c) e) [ inl f ↦ among_left c.number ns ms (a.all c m f) | inr f ↦ among_right c.number ns ms (b.all c m f) ];
   only = λ n m. elim (mem_either ns ms n m) [
     | inl k ↦ (let r = a.only n k in (r.0, r.1, or_left (t r.0) (u r.0) r.2, r.3))
     | inr k ↦ (let r = b.only n k in (r.0, r.1, or_right (t r.0) (u r.0) r.2, r.3))
   ];
 }
 
-pub numbers_none : (t : Call → Bool) (cs : List Call) → ((c : Call) → Mem cs c → t c ≡ false) → AreNumbersOf t cs []
+pub numbers_none : (t : Call → Bool) (cs : List Call) → ((c : Call) → Among c cs → t c ≡ false) → AreNumbersOf t cs []
 numbers_none t cs h = record { all = λ c m e. absurd (both_ways (t c) (h c m) e); only = λ n m. elim m [ ] }
 
-pub numbers_one : (t : Call → Bool) (cs : List Call) (c : Call) → Mem cs c → t c ≡ true → ((d : Call) → Mem cs d → t d ≡ true → d ≡ c) → AreNumbersOf t cs (c.number ∷ [])
+pub numbers_one : (t : Call → Bool) (cs : List Call) (c : Call) → Among c cs → t c ≡ true → ((d : Call) → Among d cs → t d ≡ true → d ≡ c) → AreNumbersOf t cs (c.number ∷ [])
 numbers_one t cs c m e one = record {
   all = λ d k f. inl (ap (λ (z : Call). z.number) (sym (one d k f)));
   only = λ n k. elim k [ inl q ↦ (c, m, e, q) | inr bad ↦ absurd bad ];
 }
 
 -- the same numbers in another order
-pub numbers_along : (t : Call → Bool) (cs : List Call) (ns ms : List ℕ) → ((n : ℕ) → Mem ns n → Mem ms n) → ((n : ℕ) → Mem ms n → Mem ns n) → AreNumbersOf t cs ns → AreNumbersOf t cs ms
+pub numbers_along : (t : Call → Bool) (cs : List Call) (ns ms : List ℕ) → ((n : ℕ) → Among n ns → Among n ms) → ((n : ℕ) → Among n ms → Among n ns) → AreNumbersOf t cs ns → AreNumbersOf t cs ms
 numbers_along t cs ns ms to from a = record { all = λ c m e. to c.number (a.all c m e); only = λ n m. a.only n (from n m) }
 
 -- UP TO A NUMBER
@@ -125,7 +117,7 @@ numbered p x e = at (slice_get p.groups x.group) e
         below m n e = elim (leb_tells m n) [ inl l ↦ l.1 | inr l ↦ absurd (both_ways (nat_le m n) l.0 e) ]
 
 module _ (p : Plan) (cs : List Call) (rel : set.FinSet circuit_cmp) (numbers : ℕ) (inv : Inv p cs rel numbers) (g : ℕ) where
-  used_numbered : (c : Call) → Mem cs c → (x : Circuit) → Mem (circuits_used c) x → (1 ≤ x.number) × (x.number ≤ count_of p x.group)
+  used_numbered : (c : Call) → Among c cs → (x : Circuit) → Among x (circuits_used c) → (1 ≤ x.number) × (x.number ≤ count_of p x.group)
   used_numbered c m x k = numbered p x (used_known p c (inv.each c m) x (sym (uses_is c x) ∙ mem_any (λ y. same_circuit y x) (circuits_used c) x k (same_circuit-itself x)))
 
   -- up to 0 there is none
@@ -143,7 +135,7 @@ module _ (p : Plan) (cs : List Call) (rel : set.FinSet circuit_cmp) (numbers : �
   pub all_up_to : (ns : List ℕ) → AreNumbersOf (uses_up_to g (count_of p g)) cs ns → AreNumbersOf (uses_group g) cs ns
   all_up_to ns = numbers_alike (uses_up_to g (count_of p g)) (uses_group g) cs ns (λ c m. any_alike (λ x. (x.group == g) && nat_le x.number (count_of p g)) (λ x. x.group == g) (circuits_used c) (λ x k. whole c m x k (x.group == g) refl))
     where
-      whole : (c : Call) → Mem cs c → (x : Circuit) → Mem (circuits_used c) x → (b : Bool) → (x.group == g) ≡ b → ((x.group == g) && nat_le x.number (count_of p g)) ≡ (x.group == g)
+      whole : (c : Call) → Among c cs → (x : Circuit) → Among x (circuits_used c) → (b : Bool) → (x.group == g) ≡ b → ((x.group == g) && nat_le x.number (count_of p g)) ≡ (x.group == g)
       whole c m x k true e =
           let n = subst (λ h. x.number ≤ count_of p h) (eqb-true x.group g e) (used_numbered c m x k).1 in
           elim (leb_tells x.number (count_of p g)) [ inl l ↦ and_from (x.group == g) (nat_le x.number (count_of p g)) e l.0 ∙ sym e | inr l ↦ (let lt = l.1 in absurd (omega arith)) ]
@@ -152,7 +144,7 @@ module _ (p : Plan) (cs : List Call) (rel : set.FinSet circuit_cmp) (numbers : �
 -- THE USERS OF ONE CIRCUIT
 module _ (p : Plan) (cs : List Call) (rel : set.FinSet circuit_cmp) (numbers : ℕ) (inv : Inv p cs rel numbers) (x : Circuit) where
   -- one that carries it is the one user
-  pub carrier_alone : (c : Call) → Mem cs c → carries c x ≡ true → AreNumbersOf (λ d. uses d x) cs (c.number ∷ [])
+  pub carrier_alone : (c : Call) → Among c cs → carries c x ≡ true → AreNumbersOf (λ d. uses d x) cs (c.number ∷ [])
   carrier_alone c m e = numbers_one (λ d. uses d x) cs c m (or_left (carries c x) (seizes c x) e) (λ d k u. elim (cases_eq d.number c.number) [
     | inl n ↦ inv.one d c k m n
     | inr ne ↦ elim (or_cases (carries d x) (seizes d x) u) [
@@ -162,7 +154,7 @@ module _ (p : Plan) (cs : List Call) (rel : set.FinSet circuit_cmp) (numbers : �
   ])
 
   -- one that has seized it from an end is the one that has
-  pub seizer_alone : (c : Call) (e : ℕ) → Mem cs c → seizes_from p c x e ≡ true → AreNumbersOf (λ d. seizes_from p d x e) cs (c.number ∷ [])
+  pub seizer_alone : (c : Call) (e : ℕ) → Among c cs → seizes_from p c x e ≡ true → AreNumbersOf (λ d. seizes_from p d x e) cs (c.number ∷ [])
   seizer_alone c e m s =
       let f = seizing_from p c x e s in
       numbers_one (λ d. seizes_from p d x e) cs c m s (λ d k u. elim (cases_eq d.number c.number) [
@@ -181,7 +173,7 @@ module _ (p : Plan) (cs : List Call) (rel : set.FinSet circuit_cmp) (numbers : �
         numbers_alike (λ d. seizes_from p d x (ends_of p x.group).0 || seizes_from p d x (ends_of p x.group).1) (λ d. uses d x) cs (ns ++ ms) (λ d m. sym (by_ends d m))
         (numbers_or (λ d. seizes_from p d x (ends_of p x.group).0) (λ d. seizes_from p d x (ends_of p x.group).1) cs ns ms a b)
       where
-        uncarried : (d : Call) → Mem cs d → carries d x ≡ false
+        uncarried : (d : Call) → Among d cs → carries d x ≡ false
         uncarried d m = false_from_ne_true (carries d x) (λ b. both_ways _ (sym (used.carried x) ∙ f) (mem_any (λ d. carries d x) cs d m b))
 
         at_end : (y z : ℕ) → other_end p x.group y ≡ Some z → ((ends_of p x.group).0 ≡ y) ⊎ ((ends_of p x.group).1 ≡ y)
@@ -191,7 +183,7 @@ module _ (p : Plan) (cs : List Call) (rel : set.FinSet circuit_cmp) (numbers : �
             at None e = let bad : ⊥ = cc in absurd bad
             at (Some r) e = an_end r y z e
 
-        by_seizure : (d : Call) → Mem cs d → (b : Bool) → seizes d x ≡ b → seizes d x ≡ (seizes_from p d x (ends_of p x.group).0 || seizes_from p d x (ends_of p x.group).1)
+        by_seizure : (d : Call) → Among d cs → (b : Bool) → seizes d x ≡ b → seizes d x ≡ (seizes_from p d x (ends_of p x.group).0 || seizes_from p d x (ends_of p x.group).1)
         by_seizure d m true e =
             let calls = calling_on d.phase x e in
             let to = (inv.each d m).calling x calls in
@@ -201,19 +193,19 @@ module _ (p : Plan) (cs : List Call) (rel : set.FinSet circuit_cmp) (numbers : �
             ])
         by_seizure d m false e = e ∙ sym (λ i. (e i && (place_of p d == (ends_of p x.group).0)) || (e i && (place_of p d == (ends_of p x.group).1)))
 
-        by_ends : (d : Call) → Mem cs d → uses d x ≡ (seizes_from p d x (ends_of p x.group).0 || seizes_from p d x (ends_of p x.group).1)
+        by_ends : (d : Call) → Among d cs → uses d x ≡ (seizes_from p d x (ends_of p x.group).0 || seizes_from p d x (ends_of p x.group).1)
         by_ends d m = ap (λ b. b || seizes d x) (uncarried d m) ∙ by_seizure d m (seizes d x) refl
 
 -- USERS THAT END IN ORDER OF THEIR NUMBERS
 -- some of the calls are left; the numbers of those of them that use the group are among these
 pub record AreLeft (g : ℕ) (old now : List Call) (numbers : List ℕ) : Type 0 where
-  pub among : (c : Call) → Mem now c → Mem old c
-  pub users : (c : Call) → Mem now c → uses_group g c ≡ true → Mem numbers c.number
+  pub among : (c : Call) → Among c now → Among c old
+  pub users : (c : Call) → Among c now → uses_group g c ≡ true → Among c.number numbers
 
 module _ (g : ℕ) (old now : List Call) (n : ℕ) (ns : List ℕ) (left : AreLeft g old now (n ∷ ns)) where
   -- the call of the first number is the first user
-  pub first_user : IsRising now → ((c d : Call) → Mem old c → Mem old d → c.number ≡ d.number → c ≡ d) → (c₀ : Call) → Mem old c₀ → uses_group g c₀ ≡ true → c₀.number ≡ n
-      → ((m : ℕ) → Mem ns m → n ≤ m) → (c : Call) → call_of n now ≡ Some c → find (uses_group g) now ≡ Some c
+  pub first_user : IsRising now → ((c d : Call) → Among c old → Among d old → c.number ≡ d.number → c ≡ d) → (c₀ : Call) → Among c₀ old → uses_group g c₀ ≡ true → c₀.number ≡ n
+      → ((m : ℕ) → Among m ns → n ≤ m) → (c : Call) → call_of n now ≡ Some c → find (uses_group g) now ≡ Some c
   first_user rising one c₀ in₀ uses₀ is₀ least c found =
       let f = find_mem (is_numbered n) now c found in
       let same : c ≡ c₀ = one c c₀ (left.among c f.0) in₀ (eqb-true c.number n f.1 ∙ sym is₀) in
@@ -224,14 +216,14 @@ module _ (g : ℕ) (old now : List Call) (n : ℕ) (ns : List ℕ) (left : AreLe
   -- it ended
   pub left_after : (now' : List Call) → now' ≡ filter (λ c. not (is_numbered n c)) now → AreLeft g old now' ns
   left_after now' is = record {
-    among = λ c m. left.among c (kept c (subst (λ l. Mem l c) is m)).0;
+    among = λ c m. left.among c (kept c (subst (λ l. Among c l) is m)).0;
     users = λ c m u.
-        let k = kept c (subst (λ l. Mem l c) is m) in
+        let k = kept c (subst (λ l. Among c l) is m) in
         elim (left.users c k.0 u) [ inl e ↦ absurd (k.1 (sym e)) | inr h ↦ h ];
   }
     where
-      kept : (c : Call) → Mem (filter (λ c. not (is_numbered n c)) now) c → Mem now c × (c.number ≢ n)
-      kept c m = let r = mem_filter (λ c. not (is_numbered n c)) now c m in (r.0, λ e. both_ways (c.number == n) (not-true (c.number == n) r.1) (eq-eqb c.number n e))
+      kept : (c : Call) → Among c (filter (λ c. not (is_numbered n c)) now) → Among c now × (c.number ≢ n)
+      kept c m = let r = filter_among (λ c. not (is_numbered n c)) c now m in (r.0, λ e. both_ways (c.number == n) (not-true (c.number == n) r.1) (eq-eqb c.number n e))
 
   -- no call has the first number
   pub left_without : call_of n now ≡ None → AreLeft g old now ns
@@ -245,10 +237,10 @@ pub none_left : (g : ℕ) (old now : List Call) → AreLeft g old now [] → fin
 none_left g old now left = find_nobody (uses_group g) now (λ c m. false_from_ne_true (uses_group g c) (λ u. elim (left.users c m u) [ ]))
 
 -- no more calls are open than numbers were given, and one
-pub few_calls : (cs : List Call) (n : ℕ) → IsRising cs → ((c : Call) → Mem cs c → c.number ≤ n) → length cs ≤ n + 1
+pub few_calls : (cs : List Call) (n : ℕ) → IsRising cs → ((c : Call) → Among c cs → c.number ≤ n) → length cs ≤ n + 1
 few_calls cs n r h = let all = above 0 cs r (λ c m. omega arith) (omega arith) h in omega arith
   where
-    above : (low : ℕ) (cs : List Call) → IsRising cs → ((c : Call) → Mem cs c → low ≤ c.number) → low ≤ n + 1 → ((c : Call) → Mem cs c → c.number ≤ n) → length cs + low ≤ n + 1
+    above : (low : ℕ) (cs : List Call) → IsRising cs → ((c : Call) → Among c cs → low ≤ c.number) → low ≤ n + 1 → ((c : Call) → Among c cs → c.number ≤ n) → length cs + low ≤ n + 1
     above low [] r a l h = omega arith
     above low (c ∷ cs) r a l h =
         let here = a c (inl refl) in let most = h c (inl refl) in

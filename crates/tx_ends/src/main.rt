@@ -22,22 +22,41 @@ fn tell_arguments(kind: io::ErrorKind, out: &mut impl Write) -> io::Result<()> {
     writeln!(out, "status {status}")
 }
 
-fn main(rt: HostRuntime) -> io::Result<()> {
-    let mut out = BufWriter::new(rt.alloc(), rt.stdout())?;
-    tell_arguments(io::ErrorKind::InvalidData, &mut out)?;
-    tell_arguments(io::ErrorKind::OutOfMemory, &mut out)?;
-    let cases = fs::read_to_string(&rt, "cases")?;
-    for line in cases.as_str().lines() {
+/// Plays the case of a line, and prints what happened.
+fn play_line(rt: &HostRuntime, line: &str, out: &mut impl Write) -> io::Result<()> {
+    let case = Case::read(rt.alloc(), line)?;
+    let log = Log::new(rt.alloc());
+    if play(rt, &case, &log).is_err() {
+        log.tell("BROKEN:", "the case could not be played");
+    }
+    drop(case);
+    let printed = print(line, &log, out);
+    drop(log);
+    printed
+}
+
+fn print(line: &str, log: &Log, out: &mut impl Write) -> io::Result<()> {
+    writeln!(out, "=== {line}")?;
+    log.print(out)
+}
+
+fn play_lines(rt: &HostRuntime, cases: &str, out: &mut impl Write) -> io::Result<()> {
+    for line in cases.lines() {
         if line.is_empty() || line.starts_with('#') {
             continue;
         }
-        let case = Case::read(rt.alloc(), line)?;
-        let log = Log::new(rt.alloc());
-        if play(&rt, &case, &log).is_err() {
-            log.tell("BROKEN:", "the case could not be played");
-        }
-        writeln!(out, "=== {line}")?;
-        log.print(&mut out)?;
+        play_line(rt, line, out)?;
     }
+    Ok(())
+}
+
+fn main(rt: HostRuntime) -> io::Result<()> {
+    let cases = fs::read_to_string(&rt, "cases")?;
+    let mut out = BufWriter::new(rt.alloc(), rt.stdout())?;
+    tell_arguments(io::ErrorKind::InvalidData, &mut out)?;
+    tell_arguments(io::ErrorKind::OutOfMemory, &mut out)?;
+    let played = play_lines(&rt, cases.as_str(), &mut out);
+    drop(cases);
+    played?;
     out.flush()
 }

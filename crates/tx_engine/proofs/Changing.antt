@@ -7,15 +7,15 @@ use Rattle.tx_plan.specs.Plan.{Plan, Code}
 use Rattle.tx_plan.specs.Rules.{IsPlan}
 use Rattle.tx_plan.specs.Lines.{is_line_at, is_line}
 use Rattle.tx_plan.specs.Circuits.{is_circuit}
-use Rattle.tx_plan.specs.declared.circuit.Circuit.{Circuit}
-use Rattle.tx_plan.specs.declared.line.Line.{Line}
+use Rattle.tx_plan.specs.Among.{Among}
+use Rattle.tx_entries.specs.declared.circuit.Circuit.{Circuit}
+use Rattle.tx_entries.specs.declared.line.Line.{Line}
 use Rattle.tx_state.specs.declared.hop.Hop.{Hop}
 use Rattle.tx_state.specs.declared.phase.Phase.TheVariants.{Standing, Calling}
 use Rattle.tx_state.specs.Call.{Call, place_of}
 use Rattle.tx_state.specs.InUse.{circuits_carried}
 use Rattle.tx_state.specs.Routing.{set_call}
 use Rattle.tx_state.specs.Step.{keyed_call}
-use Rattle.tx_state.specs.Members.{Mem}
 use Rattle.tx_state.specs.Invariant.{Inv}
 use Rattle.tx_state.proofs.Invariant.{inv_opening}
 use Rattle.tx_state.proofs.Changes.{not_standing}
@@ -52,7 +52,7 @@ pub sound_opening : (p : Plan) (codes : List Code) (c : Calls) (ks : List (List 
     → AreSound p codes c ks b t numbers made room
 sound_opening p codes c ks b t numbers made room ok codes_are none keys lines idle free zero' =
     let calls : calls_in c ≡ [] = ap sorted_calls none in
-    let nothing : (key : ℕ) (e : Kept) → kept_at c key ≡ Some e → ⊥ = λ key e at. elim (subst (λ (s : List Call). Mem s e.call) calls (sorted_mem c.slots key e at)) [ ] in
+    let nothing : (key : ℕ) (e : Kept) → kept_at c key ≡ Some e → ⊥ = λ key e at. elim (subst (λ (s : List Call). Among e.call s) calls (sorted_mem c.slots key e at)) [ ] in
     record {
       rules = ok;
       codes_are = codes_are;
@@ -100,7 +100,7 @@ module _ (p : Plan) (codes : List Code) (c : Calls) (ks : List (List EndKeys)) (
         together = subst (λ s. AreTogether p s t b' (numbers + 1)) (sym calls) (together_in p _ t (record b { engaged = set.insert b.engaged line; room = b.room }) b' (numbers + 1) engaged (keyed_together p (calls_in c) t b numbers sound.together line keyed event b.room known free));
         keyed = keyed_updated p c c' key ks ks sound.keyed sound.keyed.all e up
             (λ x f. absurd (not_standing (ap (λ (z : Call). z.phase) (sym seen) ∙ f)))
-            (λ x m. absurd (subst (λ (z : Call). Mem (circuits_carried z) x) seen m))
+            (λ x m. absurd (subst (λ (z : Call). Among x (circuits_carried z)) seen m))
             (λ k d ne was x f. refl) (λ k d ne was x m f. refl);
         hop_room = hop_room_updated c c' key e up sound.hop_room (λ x f. absurd (not_standing (ap (λ (z : Call). z.phase) (sym seen) ∙ f)));
         ticket_room = (let n = ap length calls ∙ length_push (calls_in c) (keyed_call (numbers + 1) line keyed event) in omega (arith, more));
@@ -112,7 +112,7 @@ module _ (p : Plan) (codes : List Code) (c : Calls) (ks : List (List EndKeys)) (
 
   -- ONE CALL CHANGES
   module _ (key : ℕ) (k : Kept) (was : kept_at c key ≡ Some k) where
-    pub inside : Mem (calls_in c) k.call
+    pub inside : Among k.call (calls_in c)
     inside = sorted_mem c.slots key k was
 
     pub sound_after : (c' : Calls) (e : Kept) (f : Call → Call) (b' : Book) (t' : Table) (ks' : List (List EndKeys))
@@ -120,9 +120,9 @@ module _ (p : Plan) (codes : List Code) (c : Calls) (ks : List (List EndKeys)) (
         → AreTogether p (set_call k.call.number f (calls_in c)) t' b' numbers
         → ((x : Circuit) → is_circuit p x ≡ true → HasKeys ks' x)
         → ((x : Circuit) → e.call.phase ≡ Calling x → pick (is_first_end p x (place_of p e.call)) (keys_of ks' x) ≡ key)
-        → ((x : Circuit) → Mem (circuits_carried e.call) x → (f : Bool) → pick f (keys_of ks' x) ≡ key)
+        → ((x : Circuit) → Among x (circuits_carried e.call) → (f : Bool) → pick f (keys_of ks' x) ≡ key)
         → ((i : ℕ) (d : Kept) → i ≢ key → kept_at c i ≡ Some d → (x : Circuit) → d.call.phase ≡ Calling x → pick (is_first_end p x (place_of p d.call)) (keys_of ks' x) ≡ pick (is_first_end p x (place_of p d.call)) (keys_of ks x))
-        → ((i : ℕ) (d : Kept) → i ≢ key → kept_at c i ≡ Some d → (x : Circuit) → Mem (circuits_carried d.call) x → (f : Bool) → pick f (keys_of ks' x) ≡ pick f (keys_of ks x))
+        → ((i : ℕ) (d : Kept) → i ≢ key → kept_at c i ≡ Some d → (x : Circuit) → Among x (circuits_carried d.call) → (f : Bool) → pick f (keys_of ks' x) ≡ pick f (keys_of ks x))
         → ((x : Circuit) → e.call.phase ≡ Calling x → 0 < e.room)
         → AreSound p codes c' ks' b' t' numbers made room
     sound_after c' e f b' t' ks' up calls ranges together all seizers carriers other_seizers other_carriers hop = record {

@@ -4,10 +4,12 @@ use Rattle.std.specs.Prelude.{if◌then◌else◌, unwrap_or}
 use Rattle.std.specs.Option.{option_map}
 use Rattle.std.specs.FinSet as set
 use Rattle.tx_plan.specs.Orders.{same_circuit}
-use Rattle.tx_plan.proofs.Named.{same_circuit-is}
+use Rattle.tx_entries.proofs.Named.{same_circuit-is}
 use Rattle.tx_plan.specs.Plan.{Plan}
 use Rattle.tx_plan.specs.Circuits.{other_end}
-use Rattle.tx_plan.specs.declared.circuit.Circuit.{Circuit}
+use Rattle.tx_plan.specs.Among.{Among}
+use Rattle.tx_entries.specs.declared.circuit.Circuit.{Circuit}
+use Rattle.tx_plan.proofs.Among.{among_cases}
 use Rattle.tx_state.specs.declared.hop.Hop.{Hop}
 use Rattle.tx_state.specs.declared.phase.Phase.TheVariants.{Calling}
 use Rattle.tx_state.specs.declared.event.Event.TheVariants.{Confirm}
@@ -17,8 +19,6 @@ use Rattle.tx_state.specs.InUse.{circuits_carried}
 use Rattle.tx_state.specs.Confirming.{far_of, carried_on, rival, confirmed, confirmed_by}
 use Rattle.tx_state.specs.Routing.{set_call}
 use Rattle.tx_state.specs.Step.{accepted, counted, with_call}
-use Rattle.tx_state.specs.Members.{Mem}
-use Rattle.tx_state.proofs.Lists.{mem_append}
 use Rattle.tx_state.proofs.Uses.{map_push}
 use Rattle.tx_circuits.specs.Table.{Table, IsSeizedBy, with_held}
 use Rattle.tx_calls.specs.Calls.{Kept, Calls, kept_at, Changes, calls_in}
@@ -37,7 +37,7 @@ module _ {A : Type 0} (n : Parts A) (sound : IsSound n) (number key : ℕ) (x : 
   abbrev p : Plan
   p = n.plan.now
 
-  in' : Mem (calls_in n.calls) k.call
+  in' : Among k.call (calls_in n.calls)
   in' = sorted_mem n.calls.slots key k at.kept
 
   far_is : other_end p x.group (place_of p k.call) ≡ Some (far_of p k.call x)
@@ -59,7 +59,7 @@ module _ {A : Type 0} (n : Parts A) (sound : IsSound n) (number key : ℕ) (x : 
     pub may_hold_it : (e : ℕ) × IsSeizedBy n.circuits x e
     may_hold_it = may_hold p (calls_in n.calls) n.circuits n.lines n.numbers sound.together k.call in' x calling alone
 
-    nobody : (d : Call) → Mem (calls_in n.calls) d → d.number ≢ k.call.number → d.phase ≡ Calling x → ⊥
+    nobody : (d : Call) → Among d (calls_in n.calls) → d.number ≢ k.call.number → d.phase ≡ Calling x → ⊥
     nobody = nobody_else p (calls_in n.calls) n.circuits n.lines n.numbers sound.together k.call in' x calling alone
 
     module _ (t : Table) (held : t ≡ with_held n.circuits x) (ks : List (List EndKeys))
@@ -76,8 +76,8 @@ module _ {A : Type 0} (n : Parts A) (sound : IsSound n) (number key : ℕ) (x : 
       key_else y g ne = ap (pick g) (keys_else n.keys ks x (λ _. record { first = key; other = key }) has_keys keys y (not_so (same_circuit y x) ne))
 
       -- what it carried has its key
-      key_kept : (y : Circuit) → Mem (circuits_carried k.call) y → (g : Bool) → pick g (keys_of ks y) ≡ key
-      key_kept y m g = key_else y g (λ q. (sound.together.inv.each k.call in').own x (subst (Mem (circuits_carried k.call)) (same_circuit-is y x q) m) calling) ∙ sound.keyed.carriers key k at.kept y m g
+      key_kept : (y : Circuit) → Among y (circuits_carried k.call) → (g : Bool) → pick g (keys_of ks y) ≡ key
+      key_kept y m g = key_else y g (λ q. (sound.together.inv.each k.call in').own x (subst (λ z. Among z (circuits_carried k.call)) (same_circuit-is y x q) m) calling) ∙ sound.keyed.carriers key k at.kept y m g
 
       pub sound_confirmed : AreSound p n.codes c ks n.lines t n.numbers (deque_len n.tickets) (deque_capacity n.tickets)
       sound_confirmed = sound_after p n.codes n.calls n.keys n.lines n.circuits n.numbers (deque_len n.tickets) (deque_capacity n.tickets) sound key k at.kept c (record { call = carried_on x far k.call; room = r }) (carried_on x far) n.lines t ks up calls refl
@@ -85,13 +85,13 @@ module _ {A : Type 0} (n : Parts A) (sound : IsSound n) (number key : ℕ) (x : 
           (carried_together p (calls_in n.calls) n.circuits n.lines n.numbers sound.together k.call in' x calling alone far (far_is ∙ ap Some (sym is_far))))
           (λ y q. keys_stay n.keys ks x (λ _. record { first = key; other = key }) has_keys keys y (sound.keyed.all y q))
           (λ y g. let bad : ⊥ = cc in absurd bad)
-          (λ y m g. elim (mem_append (circuits_carried k.call) (x ∷ []) y (subst (λ l. Mem l y) (map_push (λ (h : Hop). h.circuit) k.call.hops (record { circuit = x; far = far })) m)) [
+          (λ y m g. elim (among_cases y (circuits_carried k.call) (x ∷ []) (subst (λ l. Among y l) (map_push (λ (h : Hop). h.circuit) k.call.hops (record { circuit = x; far = far })) m)) [
             | inl o ↦ key_kept y o g
             | inr o ↦ elim o [ inl e ↦ ap (λ z. pick g (keys_of ks z)) (sym e) ∙ key_x g | inr bad ↦ absurd bad ]
           ])
           (λ i d ne q y g. key_else y (is_first_end p y (place_of p d.call)) (λ tie. nobody d.call (sorted_mem n.calls.slots i d q) (apart i d ne q) (g ∙ ap Calling (same_circuit-is y x tie))))
           (λ i d ne q y m g. key_else y g (λ tie.
-          (sound.together.inv.pairs k.call d.call in' (sorted_mem n.calls.slots i d q) (λ e. apart i d ne q (sym e))).right x calling (subst (Mem (circuits_carried d.call)) (same_circuit-is y x tie) m)))
+          (sound.together.inv.pairs k.call d.call in' (sorted_mem n.calls.slots i d q) (λ e. apart i d ne q (sym e))).right x calling (subst (λ z. Among z (circuits_carried d.call)) (same_circuit-is y x tie) m)))
           (λ y g. let bad : ⊥ = cc in absurd bad)
 
       pub step_confirmed : counted (accepted p (state_of n) (Confirm number)) ≡ (At far, state_seen (calls_in c) t n.lines n.numbers (n.events + 1) n.tickets.items)

@@ -2,11 +2,11 @@
 use Rattle.std.proofs.Common.{◌≡◌, ℕ, suc, ◌+◌, ◌<◌, Bool, true, false, not, cond, List, [], ◌∷◌, ◌++◌, length, Some, None, refl, ap, ◌∙◌, arith, deque_len, deque_capacity}
 use Rattle.std.specs.Prelude.{filter}
 use Rattle.tx_plan.specs.Plan.{Plan}
+use Rattle.tx_plan.specs.Among.{Among}
 use Rattle.tx_state.specs.declared.cause.Cause.{Cause}
 use Rattle.tx_state.specs.Call.{Call, is_numbered}
 use Rattle.tx_state.specs.Ended.{Ended}
 use Rattle.tx_state.specs.Ending.{end_call, ticket_of}
-use Rattle.tx_state.specs.Members.{Mem}
 use Rattle.tx_lines.specs.Book.{Book, is_line_of}
 use Rattle.tx_circuits.specs.Table.{Table}
 use Rattle.tx_calls.specs.Calls.{Kept, Calls, kept_at, Changes, calls_in}
@@ -31,7 +31,7 @@ module _ {A : Type 0} (n : Parts A) (sound : IsSound n) (key : ℕ) (k : Kept) (
   abbrev p : Plan
   p = n.plan.now
 
-  in' : Mem (calls_in n.calls) k.call
+  in' : Among k.call (calls_in n.calls)
   in' = sorted_mem n.calls.slots key k was
 
   pub may_give_back : CanGiveBack p k.call n.circuits

@@ -3,14 +3,14 @@ use Rattle.std.proofs.Common.{◌≡◌, ◌≢◌, ℕ, Bool, true, false, [], 
 use Rattle.std.specs.Prelude.{if◌then◌else◌, nat_lt}
 use Rattle.std.specs.FinSet as set
 use Rattle.tx_plan.specs.Plan.{Plan}
-use Rattle.tx_plan.specs.declared.circuit.Circuit.{Circuit}
+use Rattle.tx_plan.specs.Among.{Among}
+use Rattle.tx_entries.specs.declared.circuit.Circuit.{Circuit}
 use Rattle.tx_state.specs.declared.cause.Cause.{Cause}
 use Rattle.tx_state.specs.declared.phase.Phase.TheVariants.{Calling}
 use Rattle.tx_state.specs.Call.{Call, place_of}
 use Rattle.tx_state.specs.State.{State}
 use Rattle.tx_state.specs.Confirming.{far_of, thrown_back, collide}
 use Rattle.tx_state.specs.Routing.{set_call}
-use Rattle.tx_state.specs.Members.{Mem}
 use Rattle.tx_circuits.specs.Table.{Table}
 use Rattle.tx_calls.specs.Calls.{Kept, Calls, kept_at, Changes, calls_in}
 use Rattle.tx_calls.specs.inner.Keys.{keys_of, pick}
@@ -30,7 +30,7 @@ use Rattle.tx_engine.proofs.Leading.{seizer_kept}
 -- the rival of a call whose circuit is seized at its far end, and where its key is found
 module _ {A : Type 0} (n : Parts A) (sound : IsSound n) (number key : ℕ) (x : Circuit) (k : Kept) (at : IsUnder n.calls number key k) (calling : k.call.phase ≡ Calling x)
     (far : ℕ) (is_far : far ≡ far_of n.plan.now k.call x) (seized : set.contains n.circuits.seized (x, far) ≡ true) where
-  in' : Mem (calls_in n.calls) k.call
+  in' : Among k.call (calls_in n.calls)
   in' = sorted_mem n.calls.slots key k at.kept
 
   told : (d : Call) × IsRival n.plan.now (state_of n) k.call x d
@@ -54,7 +54,7 @@ module _ {A : Type 0} (n : Parts A) (sound : IsSound n) (key other : ℕ) (x : C
   abbrev p : Plan
   p = n.plan.now
 
-  first_in' : Mem (calls_in n.calls) k.call
+  first_in' : Among k.call (calls_in n.calls)
   first_in' = sorted_mem n.calls.slots key k m.one
 
   pub rivals : IsRival p (state_of n) k.call x d.call

@@ -4,14 +4,14 @@ use Rattle.std.proofs.lemmas.Bool.Decides.{eqb_tells}
 use Rattle.std.specs.Prelude.{slice_get, if◌then◌else◌, option_and_then}
 use Rattle.std.specs.Option.{option_map, option_map_or}
 use Rattle.tx_plan.specs.Orders.{same_circuit}
-use Rattle.tx_plan.proofs.Named.{same_circuit-itself}
+use Rattle.tx_entries.proofs.Named.{same_circuit-itself}
 use Rattle.tx_plan.specs.Plan.{Plan, Group}
 use Rattle.tx_plan.specs.Circuits.{is_circuit, other_end, ends_of, far_end}
-use Rattle.tx_plan.specs.declared.circuit.Circuit.{Circuit}
+use Rattle.tx_plan.specs.Among.{Among}
+use Rattle.tx_entries.specs.declared.circuit.Circuit.{Circuit}
 use Rattle.tx_state.specs.declared.phase.Phase.TheVariants.{Calling}
 use Rattle.tx_state.specs.Call.{place_of}
 use Rattle.tx_state.specs.InUse.{circuits_carried}
-use Rattle.tx_state.specs.Members.{Mem}
 use Rattle.tx_state.proofs.Uses.{an_end}
 use Rattle.tx_calls.specs.Calls.{Kept, Calls, kept_at, Changes}
 use Rattle.tx_calls.specs.inner.Keys.{HasKeys, keys_at, keys_of, pick, with_key, no_keys}
@@ -77,9 +77,9 @@ ends_same p g x y a b hx hy same = at (slice_get p.groups g) hx hy same
 module _ (p : Plan) (c c' : Calls) (key : ℕ) (ks ks' : List (List EndKeys)) (keyed : AreKeyed p c ks) (all : (x : Circuit) → is_circuit p x ≡ true → HasKeys ks' x) where
   pub keyed_updated : (d : Kept) → Changes c c' key (Some d)
       → ((x : Circuit) → d.call.phase ≡ Calling x → pick (is_first_end p x (place_of p d.call)) (keys_of ks' x) ≡ key)
-      → ((x : Circuit) → Mem (circuits_carried d.call) x → (f : Bool) → pick f (keys_of ks' x) ≡ key)
+      → ((x : Circuit) → Among x (circuits_carried d.call) → (f : Bool) → pick f (keys_of ks' x) ≡ key)
       → ((k : ℕ) (e : Kept) → k ≢ key → kept_at c k ≡ Some e → (x : Circuit) → e.call.phase ≡ Calling x → pick (is_first_end p x (place_of p e.call)) (keys_of ks' x) ≡ pick (is_first_end p x (place_of p e.call)) (keys_of ks x))
-      → ((k : ℕ) (e : Kept) → k ≢ key → kept_at c k ≡ Some e → (x : Circuit) → Mem (circuits_carried e.call) x → (f : Bool) → pick f (keys_of ks' x) ≡ pick f (keys_of ks x))
+      → ((k : ℕ) (e : Kept) → k ≢ key → kept_at c k ≡ Some e → (x : Circuit) → Among x (circuits_carried e.call) → (f : Bool) → pick f (keys_of ks' x) ≡ pick f (keys_of ks x))
       → AreKeyed p c' ks'
   keyed_updated d up seizes carries same_seizers same_carriers = record {
     all = all;
@@ -90,7 +90,7 @@ module _ (p : Plan) (c c' : Calls) (key : ℕ) (ks ks' : List (List EndKeys)) (k
     ];
     carriers = λ k e at x m y. elim (eqb_tells k key) [
       | inl h ↦ (let both : Some e ≡ Some d = sym at ∙ subst (λ j. kept_at c' j ≡ Some d) (sym h.1) up.changed in let one : e ≡ d = cc in
-          carries x (subst (λ (z : Kept). Mem (circuits_carried z.call) x) one m) y ∙ sym h.1)
+          carries x (subst (λ (z : Kept). Among x (circuits_carried z.call)) one m) y ∙ sym h.1)
       | inr h ↦ (let old : kept_at c k ≡ Some e = sym (up.others k h.1) ∙ at in same_carriers k e h.1 old x m y ∙ keyed.carriers k e old x m y)
     ];
   }

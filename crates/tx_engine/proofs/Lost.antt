@@ -6,12 +6,12 @@ use Rattle.std.specs.List.{Contains}
 use Rattle.std.specs.List.Sorted.{IsSorted, IsNonDecreasingBy, IsPermutation}
 use Rattle.std.proofs.lemmas.List.Sorted.{IsNonDecreasingBy-from_sort, Contains-permutation, IsPermutation-sym}
 use Rattle.tx_plan.specs.Plan.{Plan}
+use Rattle.tx_plan.specs.Among.{Among}
 use Rattle.tx_state.specs.declared.cause.Cause.TheVariants.{Lost as ByLoss}
 use Rattle.tx_state.specs.Call.{Call, call_of, is_numbered}
 use Rattle.tx_state.specs.State.{State}
 use Rattle.tx_state.specs.InUse.{uses_group}
 use Rattle.tx_state.specs.Ending.{end_call}
-use Rattle.tx_state.specs.Members.{Mem}
 use Rattle.tx_state.proofs.Lists.{find_mem}
 use Rattle.tx_endings.specs.inner.InTurn.{IsLosing}
 use Rattle.tx_endings.proofs.Losing.{losing_goes_on}
@@ -23,13 +23,13 @@ drop_first [] i h = absurd (omega arith)
 drop_first (y ∷ ys) zero h = refl
 drop_first (y ∷ ys) (suc i) h = drop_first ys i (omega arith) ∙ ap (λ k. get_or ys i 0 ∷ drop k (y ∷ ys)) (let q : suc (i + 1) ≡ suc i + 1 = omega arith in q)
 
-pub mem_there : (xs : List ℕ) (i : ℕ) → i < length xs → Mem xs (get_or xs i 0)
+pub mem_there : (xs : List ℕ) (i : ℕ) → i < length xs → Among (get_or xs i 0) xs
 mem_there [] i h = absurd (omega arith)
 mem_there (y ∷ ys) zero h = inl refl
 mem_there (y ∷ ys) (suc i) h = inr (mem_there ys i (omega arith))
 
 -- where a number behind a place stands
-placed : (xs : List ℕ) (k m : ℕ) → Mem (drop k xs) m → (j : ℕ) × (k ≤ j) × (j < length xs) × (slice_index_or xs j 0 ≡ m)
+placed : (xs : List ℕ) (k m : ℕ) → Among m (drop k xs) → (j : ℕ) × (k ≤ j) × (j < length xs) × (slice_index_or xs j 0 ≡ m)
 placed [] zero m h = elim h [ ]
 placed [] (suc k) m h = elim h [ ]
 placed (x ∷ xs) zero m (inl e) = (0, omega arith, omega arith, e)
@@ -42,7 +42,7 @@ index_is (y ∷ ys) zero h = refl
 index_is (y ∷ ys) (suc i) h = index_is ys i (omega arith)
 
 -- of sorted numbers none behind a place is below the one there
-pub least_there : (xs : List ℕ) → IsSorted nat_cmp xs → (i : ℕ) → i < length xs → (m : ℕ) → Mem (drop (i + 1) xs) m → get_or xs i 0 ≤ m
+pub least_there : (xs : List ℕ) → IsSorted nat_cmp xs → (i : ℕ) → i < length xs → (m : ℕ) → Among m (drop (i + 1) xs) → get_or xs i 0 ≤ m
 least_there xs sorted i h m k =
     let r = placed xs (i + 1) m k in
     let low = r.1 in
@@ -53,27 +53,27 @@ least_there xs sorted i h m k =
     omega arith
 
 -- MEMBERS OF A SORTED LIST
-mem_contains : (xs : List ℕ) (x : ℕ) → Mem xs x → Contains xs x
+mem_contains : (xs : List ℕ) (x : ℕ) → Among x xs → Contains xs x
 mem_contains [] x m = elim m [ ]
 mem_contains (y ∷ ys) x (inl e) = (0, omega arith, e)
 mem_contains (y ∷ ys) x (inr m) = let r = mem_contains ys x m in let within = r.1 in (suc r.0, omega arith, r.2)
 
-contains_mem : (xs : List ℕ) (x k : ℕ) → k < length xs → slice_index_or xs k x ≡ x → Mem xs x
+contains_mem : (xs : List ℕ) (x k : ℕ) → k < length xs → slice_index_or xs k x ≡ x → Among x xs
 contains_mem [] x k h e = absurd (omega arith)
 contains_mem (y ∷ ys) x zero h e = inl e
 contains_mem (y ∷ ys) x (suc k) h e = inr (contains_mem ys x k (omega arith) e)
 
 -- a list and one that it was sorted to have the same members
-pub permuted : (xs ys : List ℕ) → IsPermutation xs ys → (n : ℕ) → Mem xs n → Mem ys n
+pub permuted : (xs ys : List ℕ) → IsPermutation xs ys → (n : ℕ) → Among n xs → Among n ys
 permuted xs ys p n m = let r = Contains-permutation xs ys n p (mem_contains xs n m) in contains_mem ys n r.0 r.1 r.2
 
-pub permuted_back : (xs ys : List ℕ) → IsPermutation xs ys → (n : ℕ) → Mem ys n → Mem xs n
+pub permuted_back : (xs ys : List ℕ) → IsPermutation xs ys → (n : ℕ) → Among n ys → Among n xs
 permuted_back xs ys p = permuted ys xs (IsPermutation-sym xs ys p)
 
 -- ONE NUMBER AFTER ANOTHER
 module _ (p : Plan) (g : ℕ) (old now new : State) (lost r x : ℕ) (ns : List ℕ) (losing : IsLosing p g old now lost) (left : AreLeft g old.calls now.calls (x ∷ ns))
-    (one : (c d : Call) → Mem old.calls c → Mem old.calls d → c.number ≡ d.number → c ≡ d) (user : (c : Call) × Mem old.calls c × (uses_group g c ≡ true) × (c.number ≡ x))
-    (least : (m : ℕ) → Mem ns m → x ≤ m)
+    (one : (c d : Call) → Among c old.calls → Among d old.calls → c.number ≡ d.number → c ≡ d) (user : (c : Call) × Among c old.calls × (uses_group g c ≡ true) × (c.number ≡ x))
+    (least : (m : ℕ) → Among m ns → x ≤ m)
     (some : (c : Call) → call_of x now.calls ≡ Some c → (r ≡ 1) × (new ≡ end_call p ByLoss x now)) (none : call_of x now.calls ≡ None → (r ≡ 0) × (new ≡ now)) where
   -- its call ended, or no call has it any more
   pub goes_on : IsLosing p g old new (lost + r) × AreLeft g old.calls new.calls ns

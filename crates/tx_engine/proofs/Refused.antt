@@ -7,7 +7,7 @@ use Rattle.std.specs.Prelude.{slice_get, length, is_some, Option}
 use Rattle.std.proofs.Common.{refl}
 use Rattle.tx_plan.specs.Plan.{Plan, Group}
 use Rattle.tx_plan.specs.Lines.{is_line}
-use Rattle.tx_plan.specs.declared.line.Line.{Line}
+use Rattle.tx_entries.specs.declared.line.Line.{Line}
 use Rattle.tx_state.specs.Lines.{is_engaged}
 use Rattle.tx_state.specs.declared.event.Event.TheVariants.{Key, Fail}
 use Rattle.tx_state.specs.State.{State}

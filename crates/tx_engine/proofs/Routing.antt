@@ -4,21 +4,21 @@ use Rattle.std.specs.Prelude.{if◌then◌else◌, find, unwrap_or}
 use Rattle.std.specs.Option.{option_map}
 use Rattle.std.specs.FinSet as set
 use Rattle.tx_plan.specs.Orders.{same_circuit}
-use Rattle.tx_plan.proofs.Named.{same_circuit-is}
+use Rattle.tx_entries.proofs.Named.{same_circuit-is}
 use Rattle.tx_plan.specs.Plan.{Plan, home_of, figures_of}
 use Rattle.tx_plan.specs.Codes.{code_of, after}
 use Rattle.tx_plan.specs.Routes.{route_list, is_barred}
 use Rattle.tx_plan.specs.Circuits.{may_seize, other_end, circuits_at}
 use Rattle.tx_plan.specs.Circuits.{is_circuit}
-use Rattle.tx_plan.specs.declared.circuit.Circuit.{Circuit}
-use Rattle.tx_plan.specs.declared.line.Line.{Line}
+use Rattle.tx_plan.specs.Among.{Among}
+use Rattle.tx_entries.specs.declared.circuit.Circuit.{Circuit}
+use Rattle.tx_entries.specs.declared.line.Line.{Line}
 use Rattle.tx_state.specs.declared.phase.Phase.TheVariants.{Calling, Connected}
 use Rattle.tx_state.specs.declared.service.Service.TheVariants.{Na}
 use Rattle.tx_state.specs.Call.{Call, place_of, is_first}
 use Rattle.tx_state.specs.InUse.{circuits_carried, first_in}
 use Rattle.tx_state.specs.Routing.{set_call, in_phase, line_of}
 use Rattle.tx_state.specs.Safe.{IsKeyedLine}
-use Rattle.tx_state.specs.Members.{Mem}
 use Rattle.tx_state.proofs.Lists.{find_mem}
 use Rattle.tx_state.proofs.Steps.{listed_leads, listed_may, prefix-is, code_begins}
 use Rattle.tx_state.proofs.Uses.{first_in-is, chosen, IsChosen}
@@ -117,7 +117,7 @@ module _ {A : Type 0} (n : Parts A) (sound : IsSound n) (key : ℕ) (k : Kept) w
 
   -- CONNECTED
   module _ (l : Line) (d : IsDecided n key k (Connect l)) where
-    in_connect : Mem (calls_in n.calls) k.call
+    in_connect : Among k.call (calls_in n.calls)
     in_connect = sorted_mem n.calls.slots key k d.kept
 
     told_line : (code : ℕ) × (code_of p k.call.keyed ≡ Some code) × ((home_of p code == place) ≡ true) × (by_line (answer_of n.lines code (unwrap_or (after (figures_of p code) k.call.keyed) [])) ≡ Connect l)
@@ -144,13 +144,13 @@ module _ {A : Type 0} (n : Parts A) (sound : IsSound n) (key : ℕ) (k : Kept) w
 
   -- SEIZES
   module _ (x : Circuit) (pl : ℕ) (d : IsDecided n key k (Seize x pl)) where
-    in_seize : Mem (calls_in n.calls) k.call
+    in_seize : Among k.call (calls_in n.calls)
     in_seize = sorted_mem n.calls.slots key k d.kept
 
     told : (pl ≡ place) × ((code : ℕ) × (first_in (table_first t place) (route_list p place code) ≡ Some x))
     told = seized_by_choice p n.lines t k.call (code_of p k.call.keyed) x pl (sym d.decides)
 
-    listed : (g : ℕ) × Mem (route_list p place told.1.0) g × (table_first t place g ≡ Some x)
+    listed : (g : ℕ) × Among g (route_list p place told.1.0) × (table_first t place g ≡ Some x)
     listed = first_in-is (table_first t place) (route_list p place told.1.0) x told.1.1
 
     choice : IsChosen p (state_of n) place listed.0 x
@@ -200,8 +200,8 @@ module _ {A : Type 0} (n : Parts A) (sound : IsSound n) (key : ℕ) (k : Kept) w
           (λ i. pick (is_first_end p (sym one i) (at i)) (keys_of ks2 (sym one i)))
           ∙ ap (λ z. pick z (keys_of ks2 x)) (sym first_here) ∙ ap (pick first) (keys_here n.keys ks2 x (with_key first key) has_keys keys) ∙ pick_same first key (keys_of n.keys x))
           (λ y m g.
-          let old = subst (λ (z : Call). Mem (circuits_carried z) y) call_is m in
-          else_kept y g (λ q s. choice.free.carried k.call in_seize (subst (Mem (circuits_carried k.call)) (same_circuit-is y x q) old)) ∙ sound.keyed.carriers key k d.kept y old g)
+          let old = subst (λ (z : Call). Among y (circuits_carried z)) call_is m in
+          else_kept y g (λ q s. choice.free.carried k.call in_seize (subst (λ z. Among z (circuits_carried k.call)) (same_circuit-is y x q) old)) ∙ sound.keyed.carriers key k d.kept y old g)
           (λ i e ne q y g. else_kept y (is_first_end p y (place_of p e.call)) (λ tie same.
           let e_in = sorted_mem n.calls.slots i e q in
           let one = same_circuit-is y x tie in
@@ -209,5 +209,5 @@ module _ {A : Type 0} (n : Parts A) (sound : IsSound n) (key : ℕ) (k : Kept) w
           let e_leads = (sound.together.inv.each e.call e_in).calling x e_calls in
           let flags : is_first_end p x (place_of p e.call) ≡ is_first_end p x place = ap (λ z. is_first_end p z (place_of p e.call)) (sym one) ∙ same ∙ first_here ∙ ap (is_first_end p x) told.0 in
           choice.free.seized e.call e_in e_calls (ends_same p x.group (place_of p e.call) place e_leads.0 leads.0 e_leads.1 leads.1 flags)))
-          (λ i e ne q y m g. else_kept y g (λ tie s. choice.free.carried e.call (sorted_mem n.calls.slots i e q) (subst (Mem (circuits_carried e.call)) (same_circuit-is y x tie) m)))
+          (λ i e ne q y m g. else_kept y g (λ tie s. choice.free.carried e.call (sorted_mem n.calls.slots i e q) (subst (λ z. Among z (circuits_carried e.call)) (same_circuit-is y x tie) m)))
           (λ y g. hop)

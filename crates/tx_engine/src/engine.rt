@@ -13,8 +13,8 @@ use tx_plan::Plan;
 use tx_state::{Event, Network, Reply, Ticket};
 use tx_text::NoMemory;
 
-/// The indexed network. It finds calls, lines and circuits by index, so that the work of an event does not grow with the open calls, but where it takes more
-/// room: then it may move what it keeps. No clause counts these steps.
+/// The indexed network. It finds lines and circuits by index, and a call by its number, at worst by a binary search. So the work of an event hardly grows
+/// with the open calls, but where it takes more room: then it may move what it keeps. No clause counts these steps.
 #[derive(Drop)]
 pub struct Engine<'p, A: Allocator = Global> {
     pub(crate) parts: Parts<'p, A>,

@@ -292,7 +292,7 @@ pub static TABLE: [Entry; 63] = [
     (
         "M10",
         "NotReleasing",
-        "The circuit is not releasing: nobody has given it up, or it was released before, or its group failed since.",
+        "The circuit is not releasing: nobody has given it up, it was released before, its group failed since, or a call has seized it from the far end.",
         "Release each circuit once, after its call has ended.",
     ),
     (
@@ -358,7 +358,7 @@ pub static TABLE: [Entry; 63] = [
     (
         "F2",
         "LOOP",
-        "The lists lead a call back to an exchange that it has passed.",
+        "The lists lead back to an exchange that the walk has passed.",
         "Take one group of the walk out of the list that leads back.",
     ),
     (

@@ -12,8 +12,8 @@ use Rattle.tx_script.specs.declared.run_fault.RunFault.{RunFault}
 use Rattle.tx_script.specs.declared.run_cause.RunCause.{RunCause}
 use Rattle.tx_script.specs.declared.run_cause.RunCause.TheVariants.{Read, Write, Script as OfScript, NoMemory}
 use Rattle.tx_script.specs.Answers.{Moved, Stopped, RunAnswers}
-use Rattle.tx_audit.specs.CheckedRuns.{Bytes}
 use Rattle.tx_jobs.specs.declared.job_fault.JobFault.{JobFault}
+use Rattle.tx_jobs.specs.JobEnds.{Output}
 use Rattle.tx_jobs.specs.Jobs.{ScriptRan}
 
 module _ (B D : Type 0) (f : B → D) where
@@ -32,6 +32,7 @@ module _ (B D : Type 0) (f : B → D) where
     ran_with x U (Ok summary) h = h
     ran_with x U (Err q) h = stopped_with x U q.event q.cause h
 
-    pub simulated_with : (x : Bytes) (U : Type 0) (result : Result Summary JobFault) → ScriptRan p x B U result → ScriptRan p x D U result
-    simulated_with x U result (inl h) = inl (record { answer = h.answer; ran = record { state = h.ran.state; ran = ran_with _ _ h.answer h.ran.ran }; told = h.told })
-    simulated_with x U result (inr h) = inr h
+    pub simulated_with : (old new : Option (List ℕ)) (U : Type 0) (out : Output) (result : Result Summary JobFault)
+        → ScriptRan p (record { old = old; new = new; broken = B; unread = U }) out result → ScriptRan p (record { old = old; new = new; broken = D; unread = U }) out result
+    simulated_with old new U out result (inl h) = inl (record { answer = h.answer; ran = record { state = h.ran.state; ran = ran_with _ _ h.answer h.ran.ran }; told = h.told })
+    simulated_with old new U out result (inr h) = inr h

@@ -10,20 +10,20 @@ use Rattle.tx_script.specs.Answers.{RanWhole}
 use Rattle.tx_audit.specs.declared.checked.Checked.{Checked}
 use Rattle.tx_audit.specs.declared.checked.Checked.TheVariants.{Ran, Denied}
 use Rattle.tx_audit.specs.CheckedRuns.{CheckedAnswers}
+use Rattle.tx_jobs.specs.JobEnds.{Input, output, bytes_moved}
 use Rattle.tx_jobs.specs.CheckedJobs.{ToldRun, ToldNo}
 
-module _ {W : Type 0} (taken : W → Option (List ℕ)) (p : Plan) (t : Certificate) (limit spare : ℕ) (rest_old rest_new : Option (List ℕ)) (a b c : W) (broken unread : Type 0) where
+module _ {W : Type 0} (taken : W → Option (List ℕ)) (p : Plan) (t : Certificate) (limit spare : ℕ) (script : Input) (a b c : W) where
   pub told_run_by : (checked : Checked)
-      → CheckedAnswers p t limit spare (record { rest_old = rest_old; rest_new = rest_new; taken_old = taken a; taken_new = taken b }) broken (unread × (b ≡ a)) (Ok checked)
-      → ToldNo p checked (taken b) (taken c) (c ≡ b) (Ok tt)
-      → ToldRun p t limit spare (record { rest_old = rest_old; rest_new = rest_new; taken_old = taken a; taken_new = taken c }) broken unread (c ≡ a) (Ok checked)
+      → CheckedAnswers p t limit spare (bytes_moved script (output taken a b)) script.broken (script.unread × (b ≡ a)) (Ok checked)
+      → ToldNo p checked (output taken b c) (Ok tt) → ToldRun p t limit spare script (output taken a c) (Ok checked)
   told_run_by (Ran summary) h e = (
     h.0,
     record {
       state = h.1.state;
       ran =
           subst
-          (λ (w : W). RanWhole p (record { rest_old = rest_old; rest_new = rest_new; taken_old = taken a; taken_new = taken w; state_old = opening 0 0; state_new = h.1.state }) summary)
+          (λ (w : W). RanWhole p (record { rest_old = script.old; rest_new = script.new; taken_old = taken a; taken_new = taken w; state_old = opening 0 0; state_new = h.1.state }) summary)
           (sym e) h.1.ran;
     },
   )

@@ -1,5 +1,5 @@
 -- What `audit PLAN` answers.
-use Rattle.std.specs.Prelude.{◌≡◌, ℕ, List, Option, Result, Ok, Err}
+use Rattle.std.specs.Prelude.{◌≡◌, ℕ, Result, Ok, Err}
 use Rattle.tx_audit.specs.declared.audited.Audited.{Audited}
 use Rattle.tx_audit.specs.declared.audited.AuditFault.{AuditFault}
 use Rattle.tx_audit.specs.declared.audited.AuditFault.TheVariants.{Plan, Write as AuditWrite, NoMemory as AuditNoMemory}
@@ -7,6 +7,7 @@ use Rattle.tx_audit.specs.Audits.{AuditAnswers}
 use Rattle.tx_jobs.specs.declared.job_fault.JobFault.{JobFault}
 use Rattle.tx_jobs.specs.declared.job_fault.JobFault.TheVariants.{Write, NoMemory}
 use Rattle.tx_jobs.specs.JobFaults.{plan_fault}
+use Rattle.tx_jobs.specs.JobEnds.{Input, Output}
 
 -- why an audit stopped, as a job tells it
 abbrev pub audit_fault : AuditFault → JobFault
@@ -19,6 +20,6 @@ told_audit (Ok audited) = Ok audited
 told_audit (Err f) = Err (audit_fault f)
 
 -- `audit PLAN --limit L --spare K`
-abbrev pub AuditJobAnswers : {A : Type 0} → (limit spare : ℕ) → (old new taken_old taken_new : Option (List ℕ)) → (broken unread silent : Type 0) → Result (Audited A) JobFault → Type 0
-AuditJobAnswers {A} limit spare old new taken_old taken_new broken unread silent result =
-    (answer : Result (Audited A) AuditFault) × AuditAnswers limit spare old new taken_old taken_new broken unread silent answer × (result ≡ told_audit answer)
+abbrev pub AuditJobAnswers : {A : Type 0} → (limit spare : ℕ) → Input → Output → Result (Audited A) JobFault → Type 0
+AuditJobAnswers {A} limit spare plan out result =
+    (answer : Result (Audited A) AuditFault) × AuditAnswers limit spare plan.old plan.new out.old out.new plan.broken plan.unread out.silent answer × (result ≡ told_audit answer)

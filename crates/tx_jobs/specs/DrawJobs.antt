@@ -12,6 +12,7 @@ use Rattle.tx_draw.specs.CodeDrawing.{code_drawing}
 use Rattle.tx_audit.specs.Audits.{IsAllFound}
 use Rattle.tx_jobs.specs.declared.job_fault.JobFault.{JobFault}
 use Rattle.tx_jobs.specs.declared.job_fault.JobFault.TheVariants.{Write, NoMemory, UnknownCode}
+use Rattle.tx_jobs.specs.JobEnds.{Input, Output}
 use Rattle.tx_jobs.specs.Jobs.{PlanRead, PlanRefused}
 
 -- the findings of which one may be shown: those of an audit for a limit and a spare number, and none without these
@@ -28,32 +29,31 @@ pub record IsCodePicture (A : Type 0) (p : Plan) (c : ℕ) (bounds : Option (ℕ
   pub is : text ≡ code_drawing p c marks (first_shown c findings)
 
 -- the text was written, or a front of it before the sink failed
-abbrev pub ToldText : List ℕ → (old new : Option (List ℕ)) → Result (Unit {0}) JobFault → Type 0
-ToldText text old new (Ok x) = new ≡ append_known old text
-ToldText text old new (Err Write) = StopsIn old new text
-ToldText text old new (Err other) = ⊥
+abbrev pub ToldText : List ℕ → Output → Result (Unit {0}) JobFault → Type 0
+ToldText text out (Ok x) = out.new ≡ append_known out.old text
+ToldText text out (Err Write) = StopsIn out.old out.new text
+ToldText text out (Err other) = ⊥
 
 -- the picture of the code was written
-pub record CodeDrawn (A : Type 0) (p : Plan) (c : ℕ) (bounds : Option (ℕ × ℕ)) (old new : Option (List ℕ)) (result : Result (Unit {0}) JobFault) : Type 0 where
+pub record CodeDrawn (A : Type 0) (p : Plan) (c : ℕ) (bounds : Option (ℕ × ℕ)) (out : Output) (result : Result (Unit {0}) JobFault) : Type 0 where
   pub text : List ℕ
   pub picture : IsCodePicture A p c bounds text
-  pub told : ToldText text old new result
+  pub told : ToldText text out result
 
 -- it was written, or there was no memory for it, and nothing was written
-abbrev pub DrewCode : (A : Type 0) → Plan → ℕ → Option (ℕ × ℕ) → (old new : Option (List ℕ)) → (untouched : Type 0) → Result (Unit {0}) JobFault → Type 0
-DrewCode A p c bounds old new untouched result = CodeDrawn A p c bounds old new result ⊎ ((result ≡ Err NoMemory) × untouched)
+abbrev pub DrewCode : (A : Type 0) → Plan → ℕ → Option (ℕ × ℕ) → Output → Result (Unit {0}) JobFault → Type 0
+DrewCode A p c bounds out result = CodeDrawn A p c bounds out result ⊎ ((result ≡ Err NoMemory) × out.silent)
 
 -- the code of some figures was drawn, or the plan has none, and nothing was written
-abbrev pub DrewNamed : (A : Type 0) → Plan → Option ℕ → Option (ℕ × ℕ) → (old new : Option (List ℕ)) → (untouched : Type 0) → Result (Unit {0}) JobFault → Type 0
-DrewNamed A p (Some c) bounds old new untouched result = DrewCode A p c bounds old new untouched result
-DrewNamed A p None bounds old new untouched result = (result ≡ Err UnknownCode) × untouched
+abbrev pub DrewNamed : (A : Type 0) → Plan → Option ℕ → Option (ℕ × ℕ) → Output → Result (Unit {0}) JobFault → Type 0
+DrewNamed A p (Some c) bounds out result = DrewCode A p c bounds out result
+DrewNamed A p None bounds out result = (result ≡ Err UnknownCode) × out.silent
 
 -- THE PICTURE of a plan, or of the code of some figures
-abbrev pub Drew : (A : Type 0) → Plan → Option (List ℕ) → Option (ℕ × ℕ) → (old new : Option (List ℕ)) → (untouched : Type 0) → Result (Unit {0}) JobFault → Type 0
-Drew A p None bounds old new untouched result = ToldText (drawing p) old new result
-Drew A p (Some figures) bounds old new untouched result = DrewNamed A p (code_named p figures) bounds old new untouched result
+abbrev pub Drew : (A : Type 0) → Plan → Option (List ℕ) → Option (ℕ × ℕ) → Output → Result (Unit {0}) JobFault → Type 0
+Drew A p None bounds out result = ToldText (drawing p) out result
+Drew A p (Some figures) bounds out result = DrewNamed A p (code_named p figures) bounds out result
 
 -- `draw PLAN [--code C] [--limit L --spare K]`
-abbrev pub DrawJobAnswers : (A : Type 0) → (old new code : Option (List ℕ)) → Option (ℕ × ℕ) → (taken_old taken_new : Option (List ℕ)) → (broken unread untouched : Type 0) → Result (Unit {0}) JobFault → Type 0
-DrawJobAnswers A old new code bounds taken_old taken_new broken unread untouched result =
-    PlanRead old new (λ p. Drew A p code bounds taken_old taken_new untouched result) ⊎ PlanRefused old new broken unread untouched result
+abbrev pub DrawJobAnswers : (A : Type 0) → (code : Option (List ℕ)) → Option (ℕ × ℕ) → Input → Output → Result (Unit {0}) JobFault → Type 0
+DrawJobAnswers A code bounds plan out result = PlanRead plan (λ p. Drew A p code bounds out result) ⊎ PlanRefused plan out.silent result

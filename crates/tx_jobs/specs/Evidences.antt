@@ -13,6 +13,7 @@ use Rattle.tx_jobs.specs.declared.evidence.Evidence.{Evidence}
 use Rattle.tx_jobs.specs.declared.evidence.Evidence.TheVariants.{Sound, Unsound}
 use Rattle.tx_jobs.specs.declared.job_fault.JobFault.{JobFault}
 use Rattle.tx_jobs.specs.declared.job_fault.JobFault.TheVariants.{NoMemory}
+use Rattle.tx_jobs.specs.JobEnds.{Input, Output}
 use Rattle.tx_jobs.specs.AuditJobs.{AuditJobAnswers}
 
 -- 0 after a Yes, 1 after a No
@@ -46,6 +47,6 @@ TellsEvidence with_script limit spare (Ok audited) result = IsEvidenceOf with_sc
 TellsEvidence with_script limit spare (Err fault) result = result ≡ Err fault
 
 -- THE PLAN WAS AUDITED, and then what shows the verdict was made.
-abbrev pub EvidenceJobAnswers : {A : Type 0} → (with_script : Bool) → (limit spare : ℕ) → (old new taken_old taken_new : Option (List ℕ)) → (broken unread silent : Type 0) → Result (Evidence A) JobFault → Type 0
-EvidenceJobAnswers {A} with_script limit spare old new taken_old taken_new broken unread silent result =
-    (answer : Result (Audited A) JobFault) × AuditJobAnswers limit spare old new taken_old taken_new broken unread silent answer × TellsEvidence with_script limit spare answer result
+abbrev pub EvidenceJobAnswers : {A : Type 0} → (with_script : Bool) → (limit spare : ℕ) → Input → Output → Result (Evidence A) JobFault → Type 0
+EvidenceJobAnswers {A} with_script limit spare plan out result =
+    (answer : Result (Audited A) JobFault) × AuditJobAnswers limit spare plan out answer × TellsEvidence with_script limit spare answer result

@@ -1,9 +1,10 @@
 -- What `grade PLAN` answers.
-use Rattle.std.specs.Prelude.{◌≡◌, ◌≢◌, ◌⊎◌, ℕ, List, [], Option, Result, Ok, Err}
+use Rattle.std.specs.Prelude.{◌≡◌, ◌≢◌, ◌⊎◌, ℕ, List, [], Result, Ok, Err}
 use Rattle.std.specs.Io.KnownBytes.{append_known}
 use Rattle.std.specs.List.{AllByRecursion}
 use Rattle.tx_text.specs.Ends.{StopsIn}
 use Rattle.tx_plan.specs.Plan.{Plan}
+use Rattle.tx_state.specs.Sound.{IsSound}
 use Rattle.tx_rank.specs.declared.finding.Finding.{Finding}
 use Rattle.tx_rank.specs.declared.plan_grade.Grade.{Grade}
 use Rattle.tx_rank.specs.declared.plan_grade.Grade.TheVariants.{Graded, Ungraded}
@@ -12,6 +13,7 @@ use Rattle.tx_rank.specs.Grades.{AreBounds, CanBeCertified, AreCodeBounds, AreUn
 use Rattle.tx_audit.specs.GradeText.{grade_text}
 use Rattle.tx_jobs.specs.declared.job_fault.JobFault.{JobFault}
 use Rattle.tx_jobs.specs.declared.job_fault.JobFault.TheVariants.{Write, NoMemory}
+use Rattle.tx_jobs.specs.JobEnds.{Input, Output}
 use Rattle.tx_jobs.specs.Jobs.{PlanRead, PlanRefused}
 
 -- no ranks certify the plan, whatever the limit and the spare number, and the findings say why: those that the rules list, in order, each true
@@ -21,28 +23,27 @@ pub record IsUngraded {A : Type 0} (p : Plan) (findings : List (Finding A)) : Ty
   pub each : (limit spare : ℕ) → AllByRecursion (IsTrueOf p limit spare) findings
   pub listed : AreUnmended p findings
 
--- THE GRADE OF A PLAN: its bounds and those of each of its codes, or that it has none
+-- THE GRADE OF A PLAN: its bounds, with which ranks certify it and with which it is sound, and those of each of its codes; or that it has none
 abbrev pub IsGradeOf : {A : Type 0} → Plan → Grade A → Type 0
-IsGradeOf p (Graded bounds each) = AreBounds (CanBeCertified p) bounds × AreCodeBounds p each.items
+IsGradeOf p (Graded bounds each) = AreBounds (CanBeCertified p) bounds × AreBounds (IsSound p) bounds × AreCodeBounds p each.items
 IsGradeOf p (Ungraded findings) = IsUngraded p findings.items
 
 -- the plan was graded, but a write failed within the text
-pub record GradedInPart (A : Type 0) (p : Plan) (old new : Option (List ℕ)) : Type 0 where
+pub record GradedInPart (A : Type 0) (p : Plan) (out : Output) : Type 0 where
   pub grade : Grade A
   pub right : IsGradeOf p grade
-  pub wrote : StopsIn old new (grade_text p grade)
+  pub wrote : StopsIn out.old out.new (grade_text p grade)
 
 -- the grade was written, and is told
-abbrev pub ToldGrade : {A : Type 0} → Plan → (old new : Option (List ℕ)) → (silent : Type 0) → Result (Grade A) JobFault → Type 0
-ToldGrade p old new silent (Ok grade) = IsGradeOf p grade × (new ≡ append_known old (grade_text p grade))
-ToldGrade {A} p old new silent (Err Write) = GradedInPart A p old new
-ToldGrade p old new silent (Err NoMemory) = silent
-ToldGrade p old new silent (Err other) = ⊥
+abbrev pub ToldGrade : {A : Type 0} → Plan → Output → Result (Grade A) JobFault → Type 0
+ToldGrade p out (Ok grade) = IsGradeOf p grade × (out.new ≡ append_known out.old (grade_text p grade))
+ToldGrade {A} p out (Err Write) = GradedInPart A p out
+ToldGrade p out (Err NoMemory) = out.silent
+ToldGrade p out (Err other) = ⊥
 
 -- `grade PLAN`
-abbrev pub GradeJobAnswers : {A : Type 0} → (old new taken_old taken_new : Option (List ℕ)) → (broken unread silent : Type 0) → Result (Grade A) JobFault → Type 0
-GradeJobAnswers old new taken_old taken_new broken unread silent result =
-    PlanRead old new (λ p. ToldGrade p taken_old taken_new silent result) ⊎ PlanRefused old new broken unread silent result
+abbrev pub GradeJobAnswers : {A : Type 0} → Input → Output → Result (Grade A) JobFault → Type 0
+GradeJobAnswers plan out result = PlanRead plan (λ p. ToldGrade p out result) ⊎ PlanRefused plan out.silent result
 
 -- 0 where there is a grade, else 1
 abbrev pub status_of_grade : {A : Type 0} → Grade A → ℕ
@@ -54,6 +55,5 @@ told_grade_status (Ok grade) = Ok (status_of_grade grade)
 told_grade_status (Err fault) = Err fault
 
 -- the same, told as an exit status
-abbrev pub GradeStatusAnswers : (A : Type 0) → (old new taken_old taken_new : Option (List ℕ)) → (broken unread silent : Type 0) → Result ℕ JobFault → Type 0
-GradeStatusAnswers A old new taken_old taken_new broken unread silent result =
-    (answer : Result (Grade A) JobFault) × GradeJobAnswers old new taken_old taken_new broken unread silent answer × (result ≡ told_grade_status answer)
+abbrev pub GradeStatusAnswers : (A : Type 0) → Input → Output → Result ℕ JobFault → Type 0
+GradeStatusAnswers A plan out result = (answer : Result (Grade A) JobFault) × GradeJobAnswers plan out answer × (result ≡ told_grade_status answer)

@@ -1,5 +1,5 @@
 -- What jobs answer: what their calls do, one after another, and the fault of the first that fails.
-use Rattle.std.specs.Prelude.{◌≡◌, ◌⊎◌, ℕ, List, Option, None, Some, Result, Ok, Err}
+use Rattle.std.specs.Prelude.{◌≡◌, ◌⊎◌, ℕ, Option, None, Some, Result, Ok, Err}
 use Rattle.tx_text.specs.declared.frame.FaultAt.{FaultAt}
 use Rattle.tx_plan.specs.Plan.{Plan}
 use Rattle.tx_plan.specs.Rules.{IsPlan}
@@ -11,10 +11,11 @@ use Rattle.tx_plantext.specs.declared.fault.PlanWord.{PlanWord}
 use Rattle.tx_plantext.specs.PlanText.{SaysPlan, ReadsPlan}
 use Rattle.tx_script.specs.declared.summary.Summary.{Summary}
 use Rattle.tx_script.specs.declared.run_fault.RunFault.{RunFault}
-use Rattle.tx_audit.specs.CheckedRuns.{Bytes, RanFromOpening}
+use Rattle.tx_audit.specs.CheckedRuns.{RanFromOpening}
 use Rattle.tx_jobs.specs.declared.job_fault.JobFault.{JobFault}
 use Rattle.tx_jobs.specs.declared.job_fault.JobFault.TheVariants.{Write, NoMemory}
 use Rattle.tx_jobs.specs.JobFaults.{plan_fault, run_fault}
+use Rattle.tx_jobs.specs.JobEnds.{Input, Output, bytes_moved}
 
 -- what a run answers, as a job tells it
 abbrev pub told_run : Result Summary RunFault → Result Summary JobFault
@@ -22,48 +23,46 @@ told_run (Ok summary) = Ok summary
 told_run (Err f) = Err (run_fault f)
 
 -- the script was run over a network of the plan, from the opening state
-pub record RanPlan (p : Plan) (x : Bytes) (broken untouched : Type 0) (result : Result Summary JobFault) : Type 0 where
+pub record RanPlan (p : Plan) (script : Input) (out : Output) (result : Result Summary JobFault) : Type 0 where
   pub answer : Result Summary RunFault
-  pub ran : RanFromOpening p x broken untouched answer
+  pub ran : RanFromOpening p (bytes_moved script out) script.broken (script.unread × out.silent) answer
   pub told : result ≡ told_run answer
 
 -- there was no memory for the network, and nothing was read or written
-abbrev pub HadNoRoom : Type 0 → Result Summary JobFault → Type 0
-HadNoRoom untouched result = (result ≡ Err NoMemory) × untouched
+abbrev pub HadNoRoom : Input → Output → Result Summary JobFault → Type 0
+HadNoRoom script out result = (result ≡ Err NoMemory) × script.unread × out.silent
 
 -- the script was run, or there was no memory for the network
-abbrev pub ScriptRan : Plan → Bytes → (broken untouched : Type 0) → Result Summary JobFault → Type 0
-ScriptRan p x broken untouched result = RanPlan p x broken untouched result ⊎ HadNoRoom untouched result
+abbrev pub ScriptRan : Plan → Input → Output → Result Summary JobFault → Type 0
+ScriptRan p script out result = RanPlan p script out result ⊎ HadNoRoom script out result
 
 -- the plan was read, and then the script was run
-pub record PlanRead (old new : Option (List ℕ)) (after : Plan → Type 0) : Type 0 where
+pub record PlanRead (text : Input) (after : Plan → Type 0) : Type 0 where
   pub plan : Plan
   pub rules : IsPlan plan
-  pub read : SaysPlan old new plan
+  pub read : SaysPlan text.old text.new plan
   pub goes_on : after plan
 
--- the plan was refused, and nothing else was read or written; unread says that nothing was read of its text
-pub record PlanRefused {X : Type 0} (old new : Option (List ℕ)) (broken unread untouched : Type 0) (result : Result X JobFault) : Type 0 where
+-- the plan was refused, and nothing else was read or written
+pub record PlanRefused {X : Type 0} (text : Input) (untouched : Type 0) (result : Result X JobFault) : Type 0 where
   pub fault : FaultAt PlanWord
-  pub read : ReadsPlan old new broken unread (Err (fault.line, fault.kind))
+  pub read : ReadsPlan text.old text.new text.broken text.unread (Err (fault.line, fault.kind))
   pub told : result ≡ Err (plan_fault fault)
   pub rest : untouched
 
 -- `run PLAN SCRIPT`
-abbrev pub RunJobAnswers : (old new : Option (List ℕ)) → Bytes → (plan_broken unread script_broken untouched : Type 0) → Result Summary JobFault → Type 0
-RunJobAnswers old new x plan_broken unread script_broken untouched result =
-    PlanRead old new (λ p. ScriptRan p x script_broken untouched result) ⊎ PlanRefused old new plan_broken unread untouched result
+abbrev pub RunJobAnswers : (plan script : Input) → Output → Result Summary JobFault → Type 0
+RunJobAnswers plan script out result = PlanRead plan (λ p. ScriptRan p script out result) ⊎ PlanRefused plan (script.unread × out.silent) result
 
 -- `codes PLAN`: the codes and the least ambiguous pair were written, and that pair is told
-abbrev pub ToldCodes : Plan → (old new : Option (List ℕ)) → (untouched : Type 0) → Result (Option (ℕ × ℕ)) JobFault → Type 0
-ToldCodes p old new untouched (Ok pair) = (pair ≡ ambiguous_of p.codes) × (new ≡ append_known old (codes_text p))
-ToldCodes p old new untouched (Err Write) = StopsIn old new (codes_text p)
-ToldCodes p old new untouched (Err NoMemory) = untouched
-ToldCodes p old new untouched (Err other) = ⊥
+abbrev pub ToldCodes : Plan → Output → Result (Option (ℕ × ℕ)) JobFault → Type 0
+ToldCodes p out (Ok pair) = (pair ≡ ambiguous_of p.codes) × (out.new ≡ append_known out.old (codes_text p))
+ToldCodes p out (Err Write) = StopsIn out.old out.new (codes_text p)
+ToldCodes p out (Err NoMemory) = out.silent
+ToldCodes p out (Err other) = ⊥
 
-abbrev pub CodesJobAnswers : (old new taken_old taken_new : Option (List ℕ)) → (broken unread untouched : Type 0) → Result (Option (ℕ × ℕ)) JobFault → Type 0
-CodesJobAnswers old new taken_old taken_new broken unread untouched result =
-    PlanRead old new (λ p. ToldCodes p taken_old taken_new untouched result) ⊎ PlanRefused old new broken unread untouched result
+abbrev pub CodesJobAnswers : Input → Output → Result (Option (ℕ × ℕ)) JobFault → Type 0
+CodesJobAnswers plan out result = PlanRead plan (λ p. ToldCodes p out result) ⊎ PlanRefused plan out.silent result
 
 -- 1 where a code begins another, else 0
 abbrev pub status_of_codes : Option (ℕ × ℕ) → ℕ
@@ -75,6 +74,5 @@ told_codes_status (Ok pair) = Ok (status_of_codes pair)
 told_codes_status (Err fault) = Err fault
 
 -- the same, told as an exit status
-abbrev pub CodesStatusAnswers : (old new taken_old taken_new : Option (List ℕ)) → (broken unread untouched : Type 0) → Result ℕ JobFault → Type 0
-CodesStatusAnswers old new taken_old taken_new broken unread untouched result =
-    (answer : Result (Option (ℕ × ℕ)) JobFault) × CodesJobAnswers old new taken_old taken_new broken unread untouched answer × (result ≡ told_codes_status answer)
+abbrev pub CodesStatusAnswers : Input → Output → Result ℕ JobFault → Type 0
+CodesStatusAnswers plan out result = (answer : Result (Option (ℕ × ℕ)) JobFault) × CodesJobAnswers plan out answer × (result ≡ told_codes_status answer)

@@ -1,4 +1,5 @@
 pub mod JobFaults
+pub mod JobEnds
 pub mod Jobs
 pub mod PipeJobs
 pub mod CheckJobs

@@ -8,6 +8,7 @@ use Rattle.tx_pipe.specs.InputCalls.{FailedLast, calls_of_input}
 use Rattle.tx_pipe.specs.Telling.{text_in_hand, text_behind, at_script, PipeCall}
 use Rattle.tx_script.specs.declared.summary.Summary.{Summary}
 use Rattle.tx_jobs.specs.declared.job_fault.JobFault.{JobFault}
+use Rattle.tx_jobs.specs.JobEnds.{Input, Output}
 use Rattle.tx_jobs.specs.Jobs.{PlanRead, PlanRefused, ScriptRan}
 
 -- A text was read by at most so many calls of `read`, and so by at most so many calls of the source inside.
@@ -29,25 +30,31 @@ pub record PipeMetBound {R : Type 0} (rest : R → Option (List ℕ)) (failed : 
 abbrev pub PipeBroken : {R : Type 0} → (R → Option (List ℕ)) → (R → Bool) → (ℕ → Result ℕ ReadFault → R → R → Type 0) → (old a c : TwoTexts R) → Type 0
 PipeBroken rest failed called old a c = PipeFailed failed called old a c ⊎ PipeMetBound rest failed called a c
 
+-- the plan as an input of its own
+abbrev pub plan_in : {R : Type 0} → (R → Option (List ℕ)) → (R → Bool) → (ℕ → Result ℕ ReadFault → R → R → Type 0) → (old c : TwoTexts R) → Input
+plan_in rest failed called old c = record { old = text_in_hand rest old; new = text_in_hand rest c; broken = PipeBroken rest failed called old old c; unread = c ≡ old }
+
+-- the script as an input of its own: the plan was read from old to mid
+abbrev pub script_behind : {R : Type 0} → (R → Option (List ℕ)) → (R → Bool) → (ℕ → Result ℕ ReadFault → R → R → Type 0) → (old mid c : TwoTexts R) → Input
+script_behind rest failed called old mid c =
+    record { old = text_behind rest old; new = text_in_hand rest c; broken = PipeBroken rest failed called old (at_script mid) c; unread = c ≡ at_script mid }
+
 -- The plan was read, and then the script, which begins where the plan ends.
-pub record PipeRan {R : Type 0} (rest : R → Option (List ℕ)) (failed : R → Bool) (called : ℕ → Result ℕ ReadFault → R → R → Type 0) (old new : TwoTexts R) (taken_old taken_new : Option (List ℕ)) (silent : Type 0) (result : Result Summary JobFault) : Type 0 where
+pub record PipeRan {R : Type 0} (rest : R → Option (List ℕ)) (failed : R → Bool) (called : ℕ → Result ℕ ReadFault → R → R → Type 0) (old new : TwoTexts R) (out : Output) (result : Result Summary JobFault) : Type 0 where
   pub read_to : TwoTexts R
   pub begins : text_in_hand rest (at_script read_to) ≡ text_behind rest old
   pub plan_calls : PipeCalls rest failed called old read_to
   pub script_calls : PipeCalls rest failed called (at_script read_to) new
-  pub answers :
-      PlanRead (text_in_hand rest old) (text_in_hand rest read_to)
-      (λ p. ScriptRan p (record { rest_old = text_behind rest old; rest_new = text_in_hand rest new; taken_old = taken_old; taken_new = taken_new }) (PipeBroken rest failed called old (at_script read_to) new) ((new ≡ at_script read_to) × silent) result)
+  pub answers : PlanRead (plan_in rest failed called old read_to) (λ p. ScriptRan p (script_behind rest failed called old read_to new) out result)
 
 -- The plan was refused, and nothing was written.
-pub record PipeRefused {R : Type 0} (rest : R → Option (List ℕ)) (failed : R → Bool) (called : ℕ → Result ℕ ReadFault → R → R → Type 0) (old new : TwoTexts R) (silent : Type 0) (result : Result Summary JobFault) : Type 0 where
+pub record PipeRefused {R : Type 0} (rest : R → Option (List ℕ)) (failed : R → Bool) (called : ℕ → Result ℕ ReadFault → R → R → Type 0) (old new : TwoTexts R) (out : Output) (result : Result Summary JobFault) : Type 0 where
   pub plan_calls : PipeCalls rest failed called old new
-  pub answers : PlanRefused (text_in_hand rest old) (text_in_hand rest new) (PipeBroken rest failed called old old new) (new ≡ old) silent result
+  pub answers : PlanRefused (plan_in rest failed called old new) out.silent result
 
 -- What is told of an input of two texts, before and after.
-abbrev pub TwoTextsAnswers : {R : Type 0} → (R → Option (List ℕ)) → (R → Bool) → (ℕ → Result ℕ ReadFault → R → R → Type 0) → (old new : TwoTexts R) → (taken_old taken_new : Option (List ℕ)) → Type 0 → Result Summary JobFault → Type 0
-TwoTextsAnswers rest failed called old new taken_old taken_new silent result =
-    PipeRan rest failed called old new taken_old taken_new silent result ⊎ PipeRefused rest failed called old new silent result
+abbrev pub TwoTextsAnswers : {R : Type 0} → (R → Option (List ℕ)) → (R → Bool) → (ℕ → Result ℕ ReadFault → R → R → Type 0) → (old new : TwoTexts R) → Output → Result Summary JobFault → Type 0
+TwoTextsAnswers rest failed called old new out result = PipeRan rest failed called old new out result ⊎ PipeRefused rest failed called old new out result
 
 -- The input of two texts over this source, of which nothing was read yet.
 pub record BeginsOver {R : Type 0} (input : R) (texts : TwoTexts R) : Type 0 where
@@ -58,8 +65,8 @@ pub record BeginsOver {R : Type 0} (input : R) (texts : TwoTexts R) : Type 0 whe
   pub failed : texts.failed ≡ false
 
 -- The program without words: its input was read as two texts, which end says.
-pub record PipeJobAnswers {R : Type 0} (rest : R → Option (List ℕ)) (failed : R → Bool) (called : ℕ → Result ℕ ReadFault → R → R → Type 0) (input : R) (taken_old taken_new : Option (List ℕ)) (silent : Type 0) (result : Result Summary JobFault) : Type 0 where
+pub record PipeJobAnswers {R : Type 0} (rest : R → Option (List ℕ)) (failed : R → Bool) (called : ℕ → Result ℕ ReadFault → R → R → Type 0) (input : R) (out : Output) (result : Result Summary JobFault) : Type 0 where
   pub begin : TwoTexts R
   pub over : BeginsOver input begin
   pub end : TwoTexts R
-  pub answers : TwoTextsAnswers rest failed called begin end taken_old taken_new silent result
+  pub answers : TwoTextsAnswers rest failed called begin end out result

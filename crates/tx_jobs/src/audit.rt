@@ -1,10 +1,11 @@
 // The job of `audit PLAN --limit L --spare K`.
 ghost use Rattle.std.specs.Prelude.{◌≡◌, ◌≤◌, IfOk};
 ghost use Rattle.std.specs.List.{AllByRecursion};
-ghost use Rattle.tx_text.specs.Calls.{Broken, CallsAtMost, source_calls};
+ghost use Rattle.tx_text.specs.Calls.{CallsAtMost, source_calls};
 ghost use Rattle.tx_rank.specs.Findings.{IsTrueOf};
 ghost use Rattle.tx_audit.specs.Audits.{OnUnsound};
 ghost use Rattle.tx_jobs.specs.JobFaults.{mark_after};
+ghost use Rattle.tx_jobs.specs.JobEnds.{input, output};
 ghost use Rattle.tx_jobs.specs.AuditJobs.{AuditJobAnswers};
 
 use crate::job_fault::JobFault;
@@ -24,7 +25,7 @@ pub fn audit_job<A: Allocator + Copy, P: Source, W: Sink>(
 ) -> Result<Audited<A>, JobFault>
     requires limit { limit ≤ 62 }
     requires spare { spare ≤ 15 }
-    ensures answers { AuditJobAnswers limit spare (P.rest plan.old) (P.rest plan.new) (W.taken out.old) (W.taken out.new) (Broken P.called (P.failed plan.new) source_calls plan.old plan.new) (plan.new ≡ plan.old) (out.new ≡ out.old) result }
+    ensures answers { AuditJobAnswers limit spare (input P.rest P.failed P.called plan.old plan.new) (output W.taken out.old out.new) result }
     ensures each { IfOk result (OnUnsound (λ p findings. AllByRecursion (IsTrueOf p limit spare) findings)) }
     ensures mark { W.failed out.new ≡ mark_after (W.failed out.old) result }
     ensures calls { CallsAtMost P.called source_calls plan.old plan.new }

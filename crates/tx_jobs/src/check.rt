@@ -1,8 +1,9 @@
 // The job of `check PLAN CERT --limit L --spare K`.
 ghost use Rattle.std.specs.Prelude.{◌≡◌, ◌≤◌};
-ghost use Rattle.tx_text.specs.Calls.{Broken, CallsAtMost, source_calls};
+ghost use Rattle.tx_text.specs.Calls.{CallsAtMost, source_calls};
 ghost use Rattle.tx_jobs.specs.JobFaults.{mark_after};
-ghost use Rattle.tx_jobs.specs.CheckJobs.{CheckJobAnswers, CheckStatusAnswers, CheckAnswers, ToldVerdict};
+ghost use Rattle.tx_jobs.specs.JobEnds.{input, output};
+ghost use Rattle.tx_jobs.specs.CheckJobs.{CheckJobAnswers, CheckStatusAnswers, CheckAnswers, ToldVerdict, status_for};
 
 use crate::job_fault::JobFault;
 use std::alloc::Allocator;
@@ -25,9 +26,7 @@ pub fn check_job<A: Allocator + Copy, P: Source, R: Source, W: Sink>(
 ) -> Result<Verdict, JobFault>
     requires limit { limit ≤ 62 }
     requires spare { spare ≤ 15 }
-    ensures answers { CheckJobAnswers (P.rest plan.old) (P.rest plan.new) (R.rest cert.old) (R.rest cert.new) (W.taken out.old) (W.taken out.new) limit spare
-        (Broken P.called (P.failed plan.new) source_calls plan.old plan.new) (plan.new ≡ plan.old)
-        (Broken R.called (R.failed cert.new) source_calls cert.old cert.new) (cert.new ≡ cert.old) (out.new ≡ out.old) result }
+    ensures answers { CheckJobAnswers limit spare (input P.rest P.failed P.called plan.old plan.new) (input R.rest R.failed R.called cert.old cert.new) (output W.taken out.old out.new) result }
     ensures mark { W.failed out.new ≡ mark_after (W.failed out.old) result }
     ensures plan_calls { CallsAtMost P.called source_calls plan.old plan.new }
     ensures cert_calls { CallsAtMost R.called source_calls cert.old cert.new }
@@ -54,17 +53,23 @@ pub fn check_status<A: Allocator + Copy, P: Source, R: Source, W: Sink>(
 ) -> Result<u8, JobFault>
     requires limit { limit ≤ 62 }
     requires spare { spare ≤ 15 }
-    ensures answers { CheckStatusAnswers (P.rest plan.old) (P.rest plan.new) (R.rest cert.old) (R.rest cert.new) (W.taken out.old) (W.taken out.new) limit spare
-        (Broken P.called (P.failed plan.new) source_calls plan.old plan.new) (plan.new ≡ plan.old)
-        (Broken R.called (R.failed cert.new) source_calls cert.old cert.new) (cert.new ≡ cert.old) (out.new ≡ out.old) result }
+    ensures answers { CheckStatusAnswers limit spare (input P.rest P.failed P.called plan.old plan.new) (input R.rest R.failed R.called cert.old cert.new) (output W.taken out.old out.new) result }
     ensures mark { W.failed out.new ≡ mark_after (W.failed out.old) result }
     ensures plan_calls { CallsAtMost P.called source_calls plan.old plan.new }
     ensures cert_calls { CallsAtMost R.called source_calls cert.old cert.new }
 {
     match check_job(alloc, plan, cert, limit, spare, out) {
-        Ok(Verdict::Yes) => Ok(0),
-        Ok(Verdict::No(_)) => Ok(1),
+        Ok(verdict) => Ok(status_of(&verdict)),
         Err(fault) => Err(fault),
+    }
+}
+
+fn status_of(verdict: &Verdict) -> u8
+    ensures { result ≡ status_for verdict.now }
+{
+    match verdict {
+        Verdict::Yes => 0,
+        Verdict::No(_) => 1,
     }
 }
 
@@ -80,8 +85,7 @@ fn check_cert<A: Allocator + Copy, R: Source, W: Sink>(
 ) -> Result<Verdict, JobFault>
     requires limit { limit ≤ 62 }
     requires spare { spare ≤ 15 }
-    ensures answers { CheckAnswers plan.now (R.rest cert.old) (R.rest cert.new) (W.taken out.old) (W.taken out.new) limit spare
-        (Broken R.called (R.failed cert.new) source_calls cert.old cert.new) (cert.new ≡ cert.old) (out.new ≡ out.old) result }
+    ensures answers { CheckAnswers plan.now limit spare (input R.rest R.failed R.called cert.old cert.new) (output W.taken out.old out.new) result }
     ensures mark { W.failed out.new ≡ mark_after (W.failed out.old) result }
     ensures calls { CallsAtMost R.called source_calls cert.old cert.new }
 {
@@ -101,7 +105,7 @@ fn tell_verdict<A: Allocator, W: Sink>(
 ) -> Result<Verdict, JobFault>
     requires limit { limit ≤ 62 }
     requires spare { spare ≤ 15 }
-    ensures told { ToldVerdict plan.now cert.now limit spare (W.taken out.old) (W.taken out.new) result }
+    ensures told { ToldVerdict plan.now cert.now limit spare (output W.taken out.old out.new) result }
     ensures mark { W.failed out.new ≡ mark_after (W.failed out.old) result }
 {
     let verdict = check(plan, cert, limit, spare);

@@ -1,7 +1,8 @@
 // The job of `codes PLAN`.
 ghost use Rattle.std.specs.Prelude.{◌≡◌};
-ghost use Rattle.tx_text.specs.Calls.{Broken, CallsAtMost, source_calls};
+ghost use Rattle.tx_text.specs.Calls.{CallsAtMost, source_calls};
 ghost use Rattle.tx_jobs.specs.JobFaults.{mark_after};
+ghost use Rattle.tx_jobs.specs.JobEnds.{input, output};
 ghost use Rattle.tx_jobs.specs.Jobs.{CodesJobAnswers, CodesStatusAnswers, ToldCodes};
 
 use crate::job_fault::JobFault;
@@ -19,7 +20,7 @@ pub fn codes_job<A: Allocator + Copy, P: Source, W: Sink>(
     plan: &mut P,
     out: &mut W,
 ) -> Result<Option<(CodeId, CodeId)>, JobFault>
-    ensures answers { CodesJobAnswers (P.rest plan.old) (P.rest plan.new) (W.taken out.old) (W.taken out.new) (Broken P.called (P.failed plan.new) source_calls plan.old plan.new) (plan.new ≡ plan.old) (out.new ≡ out.old) result }
+    ensures answers { CodesJobAnswers (input P.rest P.failed P.called plan.old plan.new) (output W.taken out.old out.new) result }
     ensures mark { W.failed out.new ≡ mark_after (W.failed out.old) result }
     ensures calls { CallsAtMost P.called source_calls plan.old plan.new }
 {
@@ -40,7 +41,7 @@ pub fn codes_status<A: Allocator + Copy, P: Source, W: Sink>(
     plan: &mut P,
     out: &mut W,
 ) -> Result<u8, JobFault>
-    ensures answers { CodesStatusAnswers (P.rest plan.old) (P.rest plan.new) (W.taken out.old) (W.taken out.new) (Broken P.called (P.failed plan.new) source_calls plan.old plan.new) (plan.new ≡ plan.old) (out.new ≡ out.old) result }
+    ensures answers { CodesStatusAnswers (input P.rest P.failed P.called plan.old plan.new) (output W.taken out.old out.new) result }
     ensures mark { W.failed out.new ≡ mark_after (W.failed out.old) result }
     ensures calls { CallsAtMost P.called source_calls plan.old plan.new }
 {
@@ -56,7 +57,7 @@ fn tell_codes<A: Allocator + Copy, W: Sink>(
     plan: &Plan<A>,
     out: &mut W,
 ) -> Result<Option<(CodeId, CodeId)>, JobFault>
-    ensures told { ToldCodes plan.now (W.taken out.old) (W.taken out.new) (out.new ≡ out.old) result }
+    ensures told { ToldCodes plan.now (output W.taken out.old out.new) result }
     ensures mark { W.failed out.new ≡ mark_after (W.failed out.old) result }
 {
     match CodeTrie::build(alloc, plan) {

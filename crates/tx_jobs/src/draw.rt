@@ -1,8 +1,9 @@
 // The job of `draw PLAN [--code C] [--limit L --spare K]`.
 ghost use Rattle.std.specs.Prelude.{◌≡◌, ◌≤◌, ◌<◌, length, IfOk, IfSome, option_map};
-ghost use Rattle.tx_text.specs.Calls.{Broken, CallsAtMost, source_calls};
+ghost use Rattle.tx_text.specs.Calls.{CallsAtMost, source_calls};
 ghost use Rattle.tx_draw.specs.Drawing.{drawing};
 ghost use Rattle.tx_jobs.specs.JobFaults.{mark_after};
+ghost use Rattle.tx_jobs.specs.JobEnds.{input, output};
 ghost use Rattle.tx_jobs.specs.DrawJobs.{AreToShow, ToldText, DrewCode, Drew, DrawJobAnswers};
 
 use crate::job_fault::JobFault;
@@ -27,7 +28,7 @@ pub fn draw_job<A: Allocator + Copy, P: Source, W: Sink>(
 ) -> Result<(), JobFault>
     requires limit { IfSome bounds (λ b. b.0 ≤ 62) }
     requires spare { IfSome bounds (λ b. b.1 ≤ 15) }
-    ensures answers { DrawJobAnswers A (P.rest plan.old) (P.rest plan.new) (option_map (λ f. f.now) code.entry) bounds (W.taken out.old) (W.taken out.new) (Broken P.called (P.failed plan.new) source_calls plan.old plan.new) (plan.new ≡ plan.old) (out.new ≡ out.old) result }
+    ensures answers { DrawJobAnswers A (option_map (λ f. f.now) code.entry) bounds (input P.rest P.failed P.called plan.old plan.new) (output W.taken out.old out.new) result }
     ensures mark { W.failed out.new ≡ mark_after (W.failed out.old) result }
     ensures calls { CallsAtMost P.called source_calls plan.old plan.new }
 {
@@ -52,7 +53,7 @@ fn draw_plan<A: Allocator + Copy, W: Sink>(
 ) -> Result<(), JobFault>
     requires limit { IfSome bounds (λ b. b.0 ≤ 62) }
     requires spare { IfSome bounds (λ b. b.1 ≤ 15) }
-    ensures drew { Drew A plan.now (option_map (λ f. f.now) code.entry) bounds (W.taken out.old) (W.taken out.new) (out.new ≡ out.old) result }
+    ensures drew { Drew A plan.now (option_map (λ f. f.now) code.entry) bounds (output W.taken out.old out.new) result }
     ensures mark { W.failed out.new ≡ mark_after (W.failed out.old) result }
 {
     match code {
@@ -65,7 +66,7 @@ fn draw_plan<A: Allocator + Copy, W: Sink>(
 }
 
 fn draw_whole<A: Allocator, W: Sink>(plan: &Plan<A>, out: &mut W) -> Result<(), JobFault>
-    ensures told { ToldText (drawing plan.now) (W.taken out.old) (W.taken out.new) result }
+    ensures told { ToldText (drawing plan.now) (output W.taken out.old out.new) result }
     ensures mark { W.failed out.new ≡ mark_after (W.failed out.old) result }
 {
     match write_drawing(plan, out) {
@@ -84,7 +85,7 @@ fn draw_code<A: Allocator + Copy, W: Sink>(
     requires code { code < length plan.now.codes }
     requires limit { IfSome bounds (λ b. b.0 ≤ 62) }
     requires spare { IfSome bounds (λ b. b.1 ≤ 15) }
-    ensures drew { DrewCode A plan.now code bounds (W.taken out.old) (W.taken out.new) (out.new ≡ out.old) result }
+    ensures drew { DrewCode A plan.now code bounds (output W.taken out.old out.new) result }
     ensures mark { W.failed out.new ≡ mark_after (W.failed out.old) result }
 {
     match findings_to_show(alloc, plan, bounds) {
@@ -123,7 +124,7 @@ fn draw_finding<A: Allocator + Copy, W: Sink>(
 ) -> Result<(), JobFault>
     requires code { code < length plan.now.codes }
     requires found { AreToShow plan.now bounds findings.now }
-    ensures drew { DrewCode A plan.now code bounds (W.taken out.old) (W.taken out.new) (out.new ≡ out.old) result }
+    ensures drew { DrewCode A plan.now code bounds (output W.taken out.old out.new) result }
     ensures mark { W.failed out.new ≡ mark_after (W.failed out.old) result }
 {
     match reached(alloc, plan, code) {

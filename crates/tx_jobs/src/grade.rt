@@ -1,7 +1,8 @@
 // The job of `grade PLAN`.
 ghost use Rattle.std.specs.Prelude.{◌≡◌};
-ghost use Rattle.tx_text.specs.Calls.{Broken, CallsAtMost, source_calls};
+ghost use Rattle.tx_text.specs.Calls.{CallsAtMost, source_calls};
 ghost use Rattle.tx_jobs.specs.JobFaults.{mark_after};
+ghost use Rattle.tx_jobs.specs.JobEnds.{input, output};
 ghost use Rattle.tx_jobs.specs.GradeJobs.{GradeJobAnswers, GradeStatusAnswers, ToldGrade, status_of_grade};
 
 use crate::job_fault::JobFault;
@@ -21,7 +22,7 @@ pub fn grade_job<A: Allocator + Copy, P: Source, W: Sink>(
     plan: &mut P,
     out: &mut W,
 ) -> Result<Grade<A>, JobFault>
-    ensures answers { GradeJobAnswers (P.rest plan.old) (P.rest plan.new) (W.taken out.old) (W.taken out.new) (Broken P.called (P.failed plan.new) source_calls plan.old plan.new) (plan.new ≡ plan.old) (out.new ≡ out.old) result }
+    ensures answers { GradeJobAnswers (input P.rest P.failed P.called plan.old plan.new) (output W.taken out.old out.new) result }
     ensures mark { W.failed out.new ≡ mark_after (W.failed out.old) result }
     ensures calls { CallsAtMost P.called source_calls plan.old plan.new }
 {
@@ -42,7 +43,7 @@ pub fn grade_status<A: Allocator + Copy, P: Source, W: Sink>(
     plan: &mut P,
     out: &mut W,
 ) -> Result<u8, JobFault>
-    ensures answers { GradeStatusAnswers A (P.rest plan.old) (P.rest plan.new) (W.taken out.old) (W.taken out.new) (Broken P.called (P.failed plan.new) source_calls plan.old plan.new) (plan.new ≡ plan.old) (out.new ≡ out.old) result }
+    ensures answers { GradeStatusAnswers A (input P.rest P.failed P.called plan.old plan.new) (output W.taken out.old out.new) result }
     ensures mark { W.failed out.new ≡ mark_after (W.failed out.old) result }
     ensures calls { CallsAtMost P.called source_calls plan.old plan.new }
 {
@@ -66,9 +67,10 @@ fn tell_grade<A: Allocator + Copy, W: Sink>(
     plan: &Plan<A>,
     out: &mut W,
 ) -> Result<Grade<A>, JobFault>
-    ensures told { ToldGrade plan.now (W.taken out.old) (W.taken out.new) (out.new ≡ out.old) result }
+    ensures told { ToldGrade plan.now (output W.taken out.old out.new) result }
     ensures mark { W.failed out.new ≡ mark_after (W.failed out.old) result }
 {
+    plan.rules();
     match grade(alloc, plan) {
         Err(NoMemory) => Err(JobFault::NoMemory),
         Ok(grade) => match write_grade(plan, &grade, out) {

@@ -2,6 +2,7 @@
 ghost use Rattle.std.specs.Prelude.{◌≡◌};
 ghost use Rattle.tx_pipe.specs.declared.two_texts.Part.TheVariants.{Plan};
 ghost use Rattle.tx_jobs.specs.JobFaults.{mark_after};
+ghost use Rattle.tx_jobs.specs.JobEnds.{output};
 ghost use Rattle.tx_jobs.specs.PipeJobs.{PipeJobAnswers, TwoTextsAnswers};
 
 use crate::job_fault::JobFault;
@@ -19,7 +20,7 @@ pub fn pipe_job<A: Allocator + Copy, R: Source + Drop, W: Sink>(
     input: R,
     out: &mut W,
 ) -> Result<Summary, JobFault>
-    ensures answers { PipeJobAnswers R.rest R.failed R.called input (W.taken out.old) (W.taken out.new) (out.new ≡ out.old) result }
+    ensures answers { PipeJobAnswers R.rest R.failed R.called input (output W.taken out.old out.new) result }
     ensures mark { W.failed out.new ≡ mark_after (W.failed out.old) result }
 {
     let mut texts = TwoTexts::new(input);
@@ -34,7 +35,7 @@ fn run_two_texts<A: Allocator + Copy, R: Source, W: Sink>(
     out: &mut W,
 ) -> Result<Summary, JobFault>
     requires { input.old.part ≡ Plan }
-    ensures answers { TwoTextsAnswers R.rest R.failed R.called input.old input.new (W.taken out.old) (W.taken out.new) (out.new ≡ out.old) result }
+    ensures answers { TwoTextsAnswers R.rest R.failed R.called input.old input.new (output W.taken out.old out.new) result }
     ensures mark { W.failed out.new ≡ mark_after (W.failed out.old) result }
 {
     match read_plan_from(alloc, input) {

@@ -1,7 +1,8 @@
 // The job of `run PLAN SCRIPT`.
 ghost use Rattle.std.specs.Prelude.{◌≡◌};
-ghost use Rattle.tx_text.specs.Calls.{Broken, CallsAtMost, source_calls};
+ghost use Rattle.tx_text.specs.Calls.{CallsAtMost, source_calls};
 ghost use Rattle.tx_jobs.specs.JobFaults.{mark_after};
+ghost use Rattle.tx_jobs.specs.JobEnds.{input, output};
 ghost use Rattle.tx_jobs.specs.Jobs.{RunJobAnswers};
 
 use crate::job_fault::JobFault;
@@ -21,9 +22,7 @@ pub fn run_job<A: Allocator + Copy, P: Source, R: Source, W: Sink>(
     script: &mut R,
     out: &mut W,
 ) -> Result<Summary, JobFault>
-    ensures answers { RunJobAnswers (P.rest plan.old) (P.rest plan.new) (record { rest_old = R.rest script.old; rest_new = R.rest script.new; taken_old = W.taken out.old; taken_new = W.taken out.new })
-        (Broken P.called (P.failed plan.new) source_calls plan.old plan.new) (plan.new ≡ plan.old)
-        (Broken R.called (R.failed script.new) source_calls script.old script.new) ((script.new ≡ script.old) × (out.new ≡ out.old)) result }
+    ensures answers { RunJobAnswers (input P.rest P.failed P.called plan.old plan.new) (input R.rest R.failed R.called script.old script.new) (output W.taken out.old out.new) result }
     ensures mark { W.failed out.new ≡ mark_after (W.failed out.old) result }
     ensures plan_calls { CallsAtMost P.called source_calls plan.old plan.new }
     ensures script_calls { CallsAtMost R.called source_calls script.old script.new }

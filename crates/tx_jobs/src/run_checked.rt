@@ -1,7 +1,8 @@
 // The job of `run PLAN SCRIPT --cert CERT --limit L --spare K`.
 ghost use Rattle.std.specs.Prelude.{◌≡◌, ◌≤◌, true, OnOk, OnErr};
-ghost use Rattle.tx_text.specs.Calls.{Broken, CallsAtMost, source_calls};
+ghost use Rattle.tx_text.specs.Calls.{CallsAtMost, source_calls};
 ghost use Rattle.tx_jobs.specs.JobFaults.{mark_after};
+ghost use Rattle.tx_jobs.specs.JobEnds.{input, output};
 ghost use Rattle.tx_jobs.specs.CheckedJobs.{CheckedJobAnswers, CheckedStatusAnswers, CertAnswers, ToldRun, ToldNo};
 
 use crate::job_fault::JobFault;
@@ -27,10 +28,8 @@ pub fn run_checked_job<A: Allocator + Copy, P: Source, C: Source, R: Source, W: 
 ) -> Result<Checked, JobFault>
     requires limit { limit ≤ 62 }
     requires spare { spare ≤ 15 }
-    ensures answers { CheckedJobAnswers limit spare (P.rest plan.old) (P.rest plan.new) (C.rest cert.old) (C.rest cert.new)
-        (record { rest_old = R.rest script.old; rest_new = R.rest script.new; taken_old = W.taken out.old; taken_new = W.taken out.new })
-        (Broken P.called (P.failed plan.new) source_calls plan.old plan.new) (plan.new ≡ plan.old) (Broken C.called (C.failed cert.new) source_calls cert.old cert.new) (cert.new ≡ cert.old)
-        (Broken R.called (R.failed script.new) source_calls script.old script.new) (script.new ≡ script.old) (out.new ≡ out.old) result }
+    ensures answers { CheckedJobAnswers limit spare (input P.rest P.failed P.called plan.old plan.new) (input C.rest C.failed C.called cert.old cert.new)
+        (input R.rest R.failed R.called script.old script.new) (output W.taken out.old out.new) result }
     ensures mark { W.failed out.new ≡ mark_after (W.failed out.old) result }
     ensures plan_calls { CallsAtMost P.called source_calls plan.old plan.new }
     ensures cert_calls { CallsAtMost C.called source_calls cert.old cert.new }
@@ -59,10 +58,8 @@ pub fn run_checked_status<A: Allocator + Copy, P: Source, C: Source, R: Source, 
 ) -> Result<u8, JobFault>
     requires limit { limit ≤ 62 }
     requires spare { spare ≤ 15 }
-    ensures answers { CheckedStatusAnswers limit spare (P.rest plan.old) (P.rest plan.new) (C.rest cert.old) (C.rest cert.new)
-        (record { rest_old = R.rest script.old; rest_new = R.rest script.new; taken_old = W.taken out.old; taken_new = W.taken out.new })
-        (Broken P.called (P.failed plan.new) source_calls plan.old plan.new) (plan.new ≡ plan.old) (Broken C.called (C.failed cert.new) source_calls cert.old cert.new) (cert.new ≡ cert.old)
-        (Broken R.called (R.failed script.new) source_calls script.old script.new) (script.new ≡ script.old) (out.new ≡ out.old) result }
+    ensures answers { CheckedStatusAnswers limit spare (input P.rest P.failed P.called plan.old plan.new) (input C.rest C.failed C.called cert.old cert.new)
+        (input R.rest R.failed R.called script.old script.new) (output W.taken out.old out.new) result }
     ensures mark { W.failed out.new ≡ mark_after (W.failed out.old) result }
     ensures plan_calls { CallsAtMost P.called source_calls plan.old plan.new }
     ensures cert_calls { CallsAtMost C.called source_calls cert.old cert.new }
@@ -88,10 +85,7 @@ fn read_and_run<A: Allocator + Copy, C: Source, R: Source, W: Sink>(
 ) -> Result<Checked, JobFault>
     requires limit { limit ≤ 62 }
     requires spare { spare ≤ 15 }
-    ensures answers { CertAnswers plan.now limit spare (C.rest cert.old) (C.rest cert.new)
-        (record { rest_old = R.rest script.old; rest_new = R.rest script.new; taken_old = W.taken out.old; taken_new = W.taken out.new })
-        (Broken C.called (C.failed cert.new) source_calls cert.old cert.new) (cert.new ≡ cert.old)
-        (Broken R.called (R.failed script.new) source_calls script.old script.new) (script.new ≡ script.old) (out.new ≡ out.old) result }
+    ensures answers { CertAnswers plan.now limit spare (input C.rest C.failed C.called cert.old cert.new) (input R.rest R.failed R.called script.old script.new) (output W.taken out.old out.new) result }
     ensures mark { W.failed out.new ≡ mark_after (W.failed out.old) result }
     ensures cert_calls { CallsAtMost C.called source_calls cert.old cert.new }
     ensures script_calls { CallsAtMost R.called source_calls script.old script.new }
@@ -115,8 +109,7 @@ fn run_or_tell<A: Allocator + Copy, R: Source, W: Sink>(
 ) -> Result<Checked, JobFault>
     requires limit { limit ≤ 62 }
     requires spare { spare ≤ 15 }
-    ensures told { ToldRun plan.now cert.now limit spare (record { rest_old = R.rest script.old; rest_new = R.rest script.new; taken_old = W.taken out.old; taken_new = W.taken out.new })
-        (Broken R.called (R.failed script.new) source_calls script.old script.new) (script.new ≡ script.old) (out.new ≡ out.old) result }
+    ensures told { ToldRun plan.now cert.now limit spare (input R.rest R.failed R.called script.old script.new) (output W.taken out.old out.new) result }
     ensures mark { W.failed out.new ≡ mark_after (W.failed out.old) result }
     ensures calls { CallsAtMost R.called source_calls script.old script.new }
 {
@@ -135,7 +128,7 @@ fn tell_no<A: Allocator, W: Sink>(
     plan: &Plan<A>,
     out: &mut W,
 ) -> Result<(), WriteFault>
-    ensures told { ToldNo plan.now checked.now (W.taken out.old) (W.taken out.new) (out.new ≡ out.old) result }
+    ensures told { ToldNo plan.now checked.now (output W.taken out.old out.new) result }
     ensures mark { OnErr result (W.failed out.new ≡ true) }
     ensures unmarked { OnOk result (W.failed out.new ≡ W.failed out.old) }
 {

@@ -2,3 +2,4 @@ pub mod Entries
 pub mod Sets
 pub mod Order
 pub mod Arranged
+pub mod Bits

@@ -3,6 +3,7 @@
 
 mod answer;
 mod book;
+mod marks;
 mod ranges;
 mod status;
 mod statuses;

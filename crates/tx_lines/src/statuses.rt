@@ -5,10 +5,11 @@ ghost use Rattle.indexmap.specs.IndexMap.{Updates, get, spare, index_map_len};
 ghost use Rattle.tx_plan.specs.Orders.{same_line};
 ghost use Rattle.tx_lines.specs.Status.{with_mark, unmarked};
 ghost use Rattle.tx_lines.specs.inner.Statuses.{Sets, marked, with_marked, is_marked, kept};
-ghost use Rattle.tx_plan.specs.declared.line.Line.{Line};
+ghost use Rattle.tx_entries.specs.declared.line.Line.{Line};
 ghost use Rattle.tx_lines.specs.declared.status.Status.{Status};
 ghost use Rattle.tx_lines.specs.declared.status.Mark.{Mark};
 
+use crate::marks::Marks;
 use crate::status::{Mark, Status, UNMARKED, is_unmarked, with_mark};
 use indexmap::IndexMap;
 use std::alloc::{Allocator, Global};
@@ -20,7 +21,7 @@ use tx_text::NoMemory;
 /// The lines that have a mark, seen as a set for each mark. A line without a mark is not kept.
 #[derive(Drop)]
 pub struct Statuses<A: Allocator = Global> {
-    entries: IndexMap<Line, Status, BuildHasherDefault<FoldHasher>, A>,
+    entries: IndexMap<Line, Marks, BuildHasherDefault<FoldHasher>, A>,
 }
 
 impl<A: Allocator> Model for Statuses<A> {
@@ -67,7 +68,7 @@ impl<A: Allocator> Statuses<A> {
         ensures engaged { result.engaged ≡ set.contains self.now.engaged line.now }
     {
         match self.entries.get(line) {
-            Some(status) => *status,
+            Some(marks) => marks.status(),
             None => UNMARKED,
         }
     }
@@ -86,8 +87,8 @@ impl<A: Allocator> Statuses<A> {
         ensures lines { self.new ≡ with_marked mark (set.remove (marked mark self.old) line.now) self.new.room self.old }
         ensures room { self.old.room ≤ self.new.room }
     {
-        if let Some((place, _, status)) = self.entries.get_full(line) {
-            let left = with_mark(*status, mark, false);
+        if let Some((place, _, marks)) = self.entries.get_full(line) {
+            let left = with_mark(marks.status(), mark, false);
             rewrite(&mut self.entries, place, left);
         }
     }
@@ -96,7 +97,7 @@ impl<A: Allocator> Statuses<A> {
 /// Sets a mark of a line.
 #[tactic(auto, using(crate::proofs::Entries::write_room))]
 fn set_mark<A: Allocator>(
-    entries: &mut IndexMap<Line, Status, BuildHasherDefault<FoldHasher>, A>,
+    entries: &mut IndexMap<Line, Marks, BuildHasherDefault<FoldHasher>, A>,
     line: &Line,
     mark: Mark,
 )
@@ -104,13 +105,13 @@ fn set_mark<A: Allocator>(
     ensures updates { Updates same_line entries.old entries.new line.now (Some (with_mark mark true (unwrap_or (get same_line entries.old line.now) unmarked))) }
     ensures room { spare entries.old ≤ spare entries.new + (if is_some (get same_line entries.old line.now) then 0 else 1) }
 {
-    let status = entries.entry(*line).unwrap().or_insert(UNMARKED);
-    *status = with_mark(*status, mark, true);
+    let marks = entries.entry(*line).unwrap().or_insert(Marks::of(UNMARKED));
+    *marks = Marks::of(with_mark(marks.status(), mark, true));
 }
 
 /// Writes the status of the line at a place, or takes the line out where it has no mark.
 fn rewrite<A: Allocator>(
-    entries: &mut IndexMap<Line, Status, BuildHasherDefault<FoldHasher>, A>,
+    entries: &mut IndexMap<Line, Marks, BuildHasherDefault<FoldHasher>, A>,
     place: usize,
     status: Status,
 )
@@ -121,6 +122,6 @@ fn rewrite<A: Allocator>(
     if is_unmarked(status) {
         let _entry = entries.swap_remove_index(place);
     } else {
-        *entries.get_index_mut(place).unwrap() = status;
+        *entries.get_index_mut(place).unwrap() = Marks::of(status);
     }
 }

@@ -9,8 +9,10 @@ use Rattle.std.proofs.lemmas.Bool.{false≢true, and_parts}
 use Rattle.tx_plan.specs.Plan.{Plan, Group}
 use Rattle.tx_plan.specs.Rules.{IsPlan, IsGroup}
 use Rattle.tx_plan.specs.Circuits.{is_circuit}
-use Rattle.tx_plan.specs.declared.circuit.Circuit.{Circuit}
-use Rattle.tx_plan.specs.declared.line.Line.{Line}
+use Rattle.tx_plan.specs.Among.{Among}
+use Rattle.tx_entries.specs.declared.circuit.Circuit.{Circuit}
+use Rattle.tx_entries.specs.declared.line.Line.{Line}
+use Rattle.tx_plan.proofs.Among.{among_cases, among_left, among_right, filter_among}
 use Rattle.tx_state.specs.declared.phase.Phase.{Phase}
 use Rattle.tx_state.specs.declared.phase.Phase.TheVariants.{Standing, Calling, Connected}
 use Rattle.tx_state.specs.declared.hop.Hop.{Hop}
@@ -21,8 +23,7 @@ use Rattle.tx_state.specs.Step.{keyed_call}
 use Rattle.tx_state.specs.InUse.{circuits_used, circuits_carried, seizes}
 use Rattle.tx_state.specs.Routing.{set_call}
 use Rattle.tx_state.specs.Ending.{given_up}
-use Rattle.tx_state.specs.Members.{Mem}
-use Rattle.tx_state.proofs.Lists.{mem_append, mem_left, mem_right, mem_filter, find_mem, at_place}
+use Rattle.tx_state.proofs.Lists.{find_mem, at_place}
 use Rattle.tx_state.proofs.Uses.{map_push}
 use Rattle.tx_plain_parts.specs.inner.Marks.{Circuits, Groups, HasMark}
 use Rattle.tx_network.specs.Seen.{call_seen}
@@ -61,33 +62,33 @@ changed_number (Carry h) c = refl
 changed_number ThrowBack c = refl
 
 module _ (groups numbers n : ℕ) (cs : List Call) (h : AreHeld groups numbers cs) where
-  pub marks_to : (phase : Phase) → ((x : Circuit) → phase ≡ Calling x → HasMark groups x) → (c : Call) → Mem cs c → c.number ≡ n → AreMarked groups (circuits_used (changed (To phase) c))
-  marks_to phase new c m e x i = elim (mem_append (circuits_carried c) (circuit_called phase) x i) [ inl o ↦ h.marked c m x (mem_left (circuits_carried c) (circuit_called c.phase) x o) | inr q ↦ new x (called phase q) ]
+  pub marks_to : (phase : Phase) → ((x : Circuit) → phase ≡ Calling x → HasMark groups x) → (c : Call) → Among c cs → c.number ≡ n → AreMarked groups (circuits_used (changed (To phase) c))
+  marks_to phase new c m e x i = elim (among_cases x (circuits_carried c) (circuit_called phase) i) [ inl o ↦ h.marked c m x (among_left x (circuits_carried c) (circuit_called c.phase) o) | inr q ↦ new x (called phase q) ]
     where
-      called : (phase : Phase) → Mem (circuit_called phase) x → phase ≡ Calling x
+      called : (phase : Phase) → Among x (circuit_called phase) → phase ≡ Calling x
       called Standing m = absurd m
       called (Connected l) m = absurd m
       called (Calling y) (inl e) = ap Calling e
       called (Calling y) (inr m) = absurd m
 
-  pub marks_back : (c : Call) → Mem cs c → c.number ≡ n → AreMarked groups (circuits_used (changed ThrowBack c))
-  marks_back c m e x i = elim (mem_append (circuits_carried c) [] x i) [ inl o ↦ h.marked c m x (mem_left (circuits_carried c) (circuit_called c.phase) x o) | inr q ↦ absurd q ]
+  pub marks_back : (c : Call) → Among c cs → c.number ≡ n → AreMarked groups (circuits_used (changed ThrowBack c))
+  marks_back c m e x i = elim (among_cases x (circuits_carried c) [] i) [ inl o ↦ h.marked c m x (among_left x (circuits_carried c) (circuit_called c.phase) o) | inr q ↦ absurd q ]
 
-  pub marks_carry : (hop : Hop) (k : Call) → Mem cs k → k.number ≡ n → k.phase ≡ Calling hop.circuit → (c : Call) → Mem cs c → c.number ≡ n → AreMarked groups (circuits_used (changed (Carry hop) c))
+  pub marks_carry : (hop : Hop) (k : Call) → Among k cs → k.number ≡ n → k.phase ≡ Calling hop.circuit → (c : Call) → Among c cs → c.number ≡ n → AreMarked groups (circuits_used (changed (Carry hop) c))
   marks_carry hop k mk ek pk c m e x i =
       let same = h.one k c mk m (ek ∙ sym e) in
       let p : c.phase ≡ Calling hop.circuit = ap (λ (z : Call). z.phase) (sym same) ∙ pk in
-      elim (mem_append (map (λ (h : Hop). h.circuit) (c.hops ++ hop ∷ [])) [] x i) [
-        | inl o ↦ elim (mem_append (circuits_carried c) (hop.circuit ∷ []) x (subst (λ l. Mem l x) (map_push (λ (h : Hop). h.circuit) c.hops hop) o)) [
-          | inl a ↦ h.marked c m x (mem_left (circuits_carried c) (circuit_called c.phase) x a)
-          | inr b ↦ h.marked c m x (mem_right (circuits_carried c) (circuit_called c.phase) x (subst (λ ph. Mem (circuit_called ph) x) (sym p) b))
+      elim (among_cases x (map (λ (h : Hop). h.circuit) (c.hops ++ hop ∷ [])) [] i) [
+        | inl o ↦ elim (among_cases x (circuits_carried c) (hop.circuit ∷ []) (subst (λ l. Among x l) (map_push (λ (h : Hop). h.circuit) c.hops hop) o)) [
+          | inl a ↦ h.marked c m x (among_left x (circuits_carried c) (circuit_called c.phase) a)
+          | inr b ↦ h.marked c m x (among_right x (circuits_carried c) (circuit_called c.phase) (subst (λ ph. Among x (circuit_called ph)) (sym p) b))
         ]
         | inr q ↦ absurd q
       ]
 
 module _ {A : Type 0} (p : Plan) (calls : Vec (OpenCall A) A) (tickets : Vec Ended A) (failed blocked : Groups) (releasing out : Circuits) (numbers : ℕ) (w : IsWhole p calls tickets failed blocked releasing out numbers) where
   -- other calls
-  pub whole_calls : (calls' : Vec (OpenCall A) A) → vec_len calls' ≡ vec_len calls → AreHeld (length p.groups) numbers (map call_seen calls'.items) → ((c : OpenCall A) → Mem calls'.items c → HasRoom c) → IsWhole p calls' tickets failed blocked releasing out numbers
+  pub whole_calls : (calls' : Vec (OpenCall A) A) → vec_len calls' ≡ vec_len calls → AreHeld (length p.groups) numbers (map call_seen calls'.items) → ((c : OpenCall A) → Among c calls'.items → HasRoom c) → IsWhole p calls' tickets failed blocked releasing out numbers
   whole_calls calls' len held hops = record {
     rules = w.rules;
     room = (let r = w.room in omega arith);
@@ -100,25 +101,25 @@ module _ {A : Type 0} (p : Plan) (calls : Vec (OpenCall A) A) (tickets : Vec End
   }
 
   -- calls in place of these, as they are seen
-  pub whole_same : (now new : List (OpenCall A)) → now ≡ calls.items → length now ≡ vec_len calls → map call_seen new ≡ map call_seen now → length new ≡ length now → (((c : OpenCall A) → Mem now c → HasRoom c) → (c : OpenCall A) → Mem new c → HasRoom c) → IsWhole p (with_items calls new) tickets failed blocked releasing out numbers
+  pub whole_same : (now new : List (OpenCall A)) → now ≡ calls.items → length now ≡ vec_len calls → map call_seen new ≡ map call_seen now → length new ≡ length now → (((c : OpenCall A) → Among c now → HasRoom c) → (c : OpenCall A) → Among c new → HasRoom c) → IsWhole p (with_items calls new) tickets failed blocked releasing out numbers
   whole_same now new e len seen same room =
       let items = with_items_is calls new (same ∙ len) in
       whole_calls (with_items calls new) refl
       (subst (AreHeld (length p.groups) numbers) (ap (map call_seen) (sym e) ∙ sym seen ∙ ap (map call_seen) (sym items)) w.held)
-      (λ c m. room (subst (λ l. (c : OpenCall A) → Mem l c → HasRoom c) (sym e) w.hops) c (subst (λ l. Mem l c) items m))
+      (λ c m. room (subst (λ l. (c : OpenCall A) → Among c l → HasRoom c) (sym e) w.hops) c (subst (λ l. Among c l) items m))
 
-  pub whole_changed : (n : ℕ) (change : Change) (now new : List (OpenCall A)) → now ≡ calls.items → length now ≡ vec_len calls → map call_seen new ≡ set_call n (changed change) (map call_seen now) → length new ≡ length now → (((c : OpenCall A) → Mem now c → HasRoom c) → (c : OpenCall A) → Mem new c → HasRoom c) → ((c : Call) → Mem (map call_seen calls.items) c → c.number ≡ n → AreMarked (length p.groups) (circuits_used (changed change c))) → IsWhole p (with_items calls new) tickets failed blocked releasing out numbers
+  pub whole_changed : (n : ℕ) (change : Change) (now new : List (OpenCall A)) → now ≡ calls.items → length now ≡ vec_len calls → map call_seen new ≡ set_call n (changed change) (map call_seen now) → length new ≡ length now → (((c : OpenCall A) → Among c now → HasRoom c) → (c : OpenCall A) → Among c new → HasRoom c) → ((c : Call) → Among c (map call_seen calls.items) → c.number ≡ n → AreMarked (length p.groups) (circuits_used (changed change c))) → IsWhole p (with_items calls new) tickets failed blocked releasing out numbers
   whole_changed n change now new e len seen same room marked =
       let items = with_items_is calls new (same ∙ len) in
       whole_calls (with_items calls new) refl
       (subst (AreHeld (length p.groups) numbers) (ap (λ l. set_call n (changed change) (map call_seen l)) (sym e) ∙ sym seen ∙ ap (map call_seen) (sym items)) (held_set (length p.groups) numbers (map call_seen calls.items) w.held n (changed change) (changed_number change) marked))
-      (λ c m. room (subst (λ l. (c : OpenCall A) → Mem l c → HasRoom c) (sym e) w.hops) c (subst (λ l. Mem l c) items m))
+      (λ c m. room (subst (λ l. (c : OpenCall A) → Among c l → HasRoom c) (sym e) w.hops) c (subst (λ l. Among c l) items m))
 
   -- the calls of a number of which one seizes a circuit have room
-  pub whole_ready : (now : List (OpenCall A)) → now ≡ calls.items → (n : ℕ) (k : Call) (x : Circuit) → call_of n (map call_seen calls.items) ≡ Some k → k.phase ≡ Calling x → (c : OpenCall A) → Mem now c → IsReady n c
+  pub whole_ready : (now : List (OpenCall A)) → now ≡ calls.items → (n : ℕ) (k : Call) (x : Circuit) → call_of n (map call_seen calls.items) ≡ Some k → k.phase ≡ Calling x → (c : OpenCall A) → Among c now → IsReady n c
   whole_ready now e n k x f q c m =
       let r = find_mem (λ (c : Call). c.number == n) (map call_seen calls.items) k f in
-      calling_ready (length p.groups) numbers n calls.items w.held w.hops k x r.0 (eqb-true k.number n r.1) q c (subst (λ l. Mem l c) e m)
+      calling_ready (length p.groups) numbers n calls.items w.held w.hops k x r.0 (eqb-true k.number n r.1) q c (subst (λ l. Among c l) e m)
 
   -- other releasing circuits
   pub whole_releasing : (releasing' : Circuits) → releasing'.groups ≡ releasing.groups → IsWhole p calls tickets failed blocked releasing' out numbers
@@ -129,7 +130,7 @@ module _ {A : Type 0} (p : Plan) (calls : Vec (OpenCall A) A) (tickets : Vec End
     rules = w.rules;
     room = room;
     held = subst (AreHeld (length p.groups) numbers) (sym (filter_map_seen (λ c. not (ends_by ends c)) call_seen calls.items) ∙ ap (map call_seen) (sym kept)) (held_filter (length p.groups) numbers (map call_seen calls.items) w.held (λ c. not (ends_by ends c)));
-    hops = λ c m. w.hops c (mem_filter (λ c. not (ends_by ends (call_seen c))) calls.items c (subst (λ l. Mem l c) kept m)).0;
+    hops = λ c m. w.hops c (filter_among (λ c. not (ends_by ends (call_seen c))) c calls.items (subst (λ l. Among c l) kept m)).0;
     failed_all = w.failed_all;
     blocked_all = w.blocked_all;
     releasing_all = e ∙ w.releasing_all;
@@ -139,19 +140,19 @@ module _ {A : Type 0} (p : Plan) (calls : Vec (OpenCall A) A) (tickets : Vec End
 thrown_number : (a b : ℕ) (k : Call) → (thrown_at a b k).number ≡ k.number
 thrown_number a b k = elim (is_numbered a k || is_numbered b k) as (λ t. (if t then thrown_back k else k).number ≡ k.number) [ true ↦ refl | false ↦ refl ]
 
-thrown_marked : (groups numbers a b : ℕ) (cs : List Call) → AreHeld groups numbers cs → (k : Call) → Mem cs k → AreMarked groups (circuits_used (thrown_at a b k))
+thrown_marked : (groups numbers a b : ℕ) (cs : List Call) → AreHeld groups numbers cs → (k : Call) → Among k cs → AreMarked groups (circuits_used (thrown_at a b k))
 thrown_marked groups numbers a b cs h k m = elim (is_numbered a k || is_numbered b k) as (λ t. AreMarked groups (circuits_used (if t then thrown_back k else k))) [
   | true ↦ marks_back groups numbers k.number cs h k m refl
   | false ↦ h.marked k m
 ]
 
 -- two calls are thrown back, and another circuit is releasing
-pub whole_thrown : {A : Type 0} (p : Plan) (calls : Vec (OpenCall A) A) (tickets : Vec Ended A) (failed blocked : Groups) (releasing out : Circuits) (numbers : ℕ) → IsWhole p calls tickets failed blocked releasing out numbers → (a b : ℕ) (now new : List (OpenCall A)) → now ≡ calls.items → length now ≡ vec_len calls → map call_seen new ≡ map (thrown_at a b) (map call_seen now) → length new ≡ length now → (((c : OpenCall A) → Mem now c → HasRoom c) → (c : OpenCall A) → Mem new c → HasRoom c) → IsWhole p (with_items calls new) tickets failed blocked releasing out numbers
+pub whole_thrown : {A : Type 0} (p : Plan) (calls : Vec (OpenCall A) A) (tickets : Vec Ended A) (failed blocked : Groups) (releasing out : Circuits) (numbers : ℕ) → IsWhole p calls tickets failed blocked releasing out numbers → (a b : ℕ) (now new : List (OpenCall A)) → now ≡ calls.items → length now ≡ vec_len calls → map call_seen new ≡ map (thrown_at a b) (map call_seen now) → length new ≡ length now → (((c : OpenCall A) → Among c now → HasRoom c) → (c : OpenCall A) → Among c new → HasRoom c) → IsWhole p (with_items calls new) tickets failed blocked releasing out numbers
 whole_thrown {A} p calls tickets failed blocked releasing out numbers w a b now new e len seen same room =
     let items = with_items_is calls new (same ∙ len) in
     whole_calls p calls tickets failed blocked releasing out numbers w (with_items calls new) refl
     (subst (AreHeld (length p.groups) numbers) (ap (λ l. map (thrown_at a b) (map call_seen l)) (sym e) ∙ sym seen ∙ ap (map call_seen) (sym items)) (held_map (length p.groups) numbers (map call_seen calls.items) w.held (thrown_at a b) (thrown_number a b) (thrown_marked (length p.groups) numbers a b (map call_seen calls.items) w.held)))
-    (λ c m. room (subst (λ l. (c : OpenCall A) → Mem l c → HasRoom c) (sym e) w.hops) c (subst (λ l. Mem l c) items m))
+    (λ c m. room (subst (λ l. (c : OpenCall A) → Among c l → HasRoom c) (sym e) w.hops) c (subst (λ l. Among c l) items m))
 
 pub seen_same : {A : Type 0} (calls : Vec (OpenCall A) A) (now new : List (OpenCall A)) → now ≡ calls.items → length now ≡ vec_len calls → map call_seen new ≡ map call_seen now → length new ≡ length now → map call_seen (with_items calls new).items ≡ map call_seen calls.items
 seen_same calls now new e len seen same = ap (map call_seen) (with_items_is calls new (same ∙ len)) ∙ seen ∙ ap (map call_seen) e
@@ -167,7 +168,7 @@ module _ {A : Type 0} (p : Plan) (calls : Vec (OpenCall A) A) (tickets : Vec End
     rules = w.rules;
     room = room;
     held = subst (λ l. AreHeld (length p.groups) numbers (map call_seen l)) (sym e) w.held;
-    hops = subst (λ l. (c : OpenCall A) → Mem l c → HasRoom c) (sym e) w.hops;
+    hops = subst (λ l. (c : OpenCall A) → Among c l → HasRoom c) (sym e) w.hops;
     failed_all = w.failed_all;
     blocked_all = w.blocked_all;
     releasing_all = w.releasing_all;
@@ -184,7 +185,7 @@ module _ {A : Type 0} (p : Plan) (calls : Vec (OpenCall A) A) (tickets : Vec End
     rules = w.rules;
     room = room;
     held = subst (AreHeld (length p.groups) (numbers + 1)) (ap (λ k. map call_seen calls.items ++ k ∷ []) (sym is) ∙ sym (map_push call_seen calls.items c) ∙ ap (map call_seen) (sym e)) (held_more (length p.groups) numbers (map call_seen calls.items) w.held line keyed event);
-    hops = λ d m. elim (mem_append calls.items (c ∷ []) d (subst (λ l. Mem l d) e m)) [
+    hops = λ d m. elim (among_cases d calls.items (c ∷ []) (subst (λ l. Among d l) e m)) [
       | inl o ↦ w.hops d o
       | inr q ↦ elim q [ inl f ↦ subst HasRoom f (λ t. absurd (false≢true (sym (ap (λ (z : Call). is_calling z.phase) is) ∙ t))) | inr b ↦ absurd b ]
     ];

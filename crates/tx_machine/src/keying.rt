@@ -7,7 +7,7 @@ use crate::plain::Plain;
 use std::alloc::Allocator;
 use tx_network::OpenCall;
 use tx_plan::Line;
-use tx_state::{Phase, Reply, put};
+use tx_state::{Phase, Reply};
 use tx_text::{Figures, NoMemory};
 
 impl<'p, A: Allocator + Copy> Plain<'p, A> {
@@ -32,7 +32,7 @@ impl<'p, A: Allocator + Copy> Plain<'p, A> {
             phase: Phase::Standing,
             collided: false,
         };
-        put(&mut self.calls, call);
+        self.calls.push_reserved(call);
         self.numbers = number;
         self.events += 1;
         Ok(Reply::Keyed(number))

@@ -17,5 +17,5 @@ pub use plain::Plain;
 pub use tx_state::{
     Cause, Event, Hop, Network, Party, Path, Phase, Refusal, Reply, Service, Ticket,
     certified_is_sound, drive, every_nc_is_excused, hops_join_and_carry_once, lines_take_part_once,
-    ranks_fall, routes_are_bounded, tickets_are_appended,
+    ranks_fall, routes_are_bounded, spare_groups_suffice, tickets_are_appended,
 };

@@ -2,10 +2,11 @@
 ghost use Rattle.std.specs.Prelude.{◌≡◌, ◌-◌, ◌^◌, ◌∷◌, [], ◌&&◌, not, nat_le};
 ghost use Rattle.tx_plan.specs.Lines.{is_line};
 ghost use Rattle.tx_plan.specs.Circuits.{is_circuit};
+ghost use Rattle.tx_plan.specs.Declaring.{first_true};
 ghost use Rattle.tx_state.specs.declared.event.Event.TheVariants.{Key, Route, Confirm, Clear};
 ghost use Rattle.tx_state.specs.declared.party.Party.TheVariants.{Caller, Called};
 ghost use Rattle.tx_state.specs.declared.refusal.Refusal.TheVariants.{UnknownLine, UnknownCircuit, Exhausted};
-ghost use Rattle.tx_state.specs.Refusals.{first_true, refusal, is_group};
+ghost use Rattle.tx_state.specs.Refusals.{refusal, is_group};
 
 use crate::facts::Facts;
 use tx_plan::{Circuit, GroupId, Line};

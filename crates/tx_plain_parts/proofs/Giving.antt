@@ -7,8 +7,8 @@ use Rattle.std.specs.List.{list_any, flat_map}
 use Rattle.std.specs.Ordering.{eq_by_cmp}
 use Rattle.std.specs.FinSet as set
 use Rattle.tx_plan.specs.Orders.{circuit_cmp}
-use Rattle.tx_plan.proofs.Named.{circuits_total, exact_circuits}
-use Rattle.tx_plan.specs.declared.circuit.Circuit.{Circuit}
+use Rattle.tx_entries.proofs.Named.{circuits_total, exact_circuits}
+use Rattle.tx_entries.specs.declared.circuit.Circuit.{Circuit}
 use Rattle.tx_plain_parts.specs.inner.Marks.{Circuits}
 use Rattle.tx_plain_parts.specs.inner.GivenUp.{with_more}
 

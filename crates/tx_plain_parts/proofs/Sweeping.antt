@@ -3,7 +3,7 @@ use Rattle.std.proofs.Common.{◌≡◌, ℕ, zero, suc, [], ◌∷◌, ◌+◌,
 use Rattle.std.specs.Prelude.{slice_set}
 use Rattle.std.proofs.lemmas.List.{length-set, take_all}
 use Rattle.tx_state.specs.Call.{Call}
-use Rattle.tx_state.specs.Members.{Mem}
+use Rattle.tx_plan.specs.Among.{Among}
 use Rattle.tx_network.specs.Seen.{call_seen}
 use Rattle.tx_plain_parts.specs.inner.Seen.{changed, change_at, HasRoom, IsReady}
 use Rattle.tx_network.specs.declared.open_call.OpenCall.{OpenCall}
@@ -17,16 +17,16 @@ same c = c
 pub record IsReserving {A : Type 0} (n : ℕ) (old : List (OpenCall A)) (at : ℕ) (now : List (OpenCall A)) : Type 0 where
   pub seen : map call_seen now ≡ map call_seen old
   pub len : length now ≡ length old
-  pub room : ((c : OpenCall A) → Mem old c → HasRoom c) → (c : OpenCall A) → Mem now c → HasRoom c
-  pub ready : (c : OpenCall A) → Mem (take at now) c → IsReady n c
+  pub room : ((c : OpenCall A) → Among c old → HasRoom c) → (c : OpenCall A) → Among c now → HasRoom c
+  pub ready : (c : OpenCall A) → Among c (take at now) → IsReady n c
   pub within : at ≤ length now
 
 -- the calls up to a place are changed
 pub record IsChanging {A : Type 0} (n : ℕ) (change : Change) (old : List (OpenCall A)) (at : ℕ) (now : List (OpenCall A)) : Type 0 where
   pub seen : map call_seen (take at now) ++ map (change_at n (changed change)) (map call_seen (drop at now)) ≡ map (change_at n (changed change)) (map call_seen old)
   pub len : length now ≡ length old
-  pub room : ((c : OpenCall A) → Mem old c → HasRoom c) → (c : OpenCall A) → Mem now c → HasRoom c
-  pub ready : (c : OpenCall A) → Mem (drop at now) c → IsReady n c
+  pub room : ((c : OpenCall A) → Among c old → HasRoom c) → (c : OpenCall A) → Among c now → HasRoom c
+  pub ready : (c : OpenCall A) → Among c (drop at now) → IsReady n c
   pub within : at ≤ length now
 
 map_set_seen : {X Y : Type 0} (f : X → Y) (xs : List X) (i : ℕ) (x y : X) → i < length xs → x ≡ get_or xs i x → f y ≡ f x → map f (slice_set xs i y) ≡ map f xs
@@ -39,7 +39,7 @@ module _ {A : Type 0} (n : ℕ) (old : List (OpenCall A)) (at : ℕ) (now : List
     pub reserved_seen : map call_seen (slice_set now at y) ≡ map call_seen old
     reserved_seen = map_set_seen call_seen now at x y h is seen' ∙ inv.seen
 
-    pub reserved_room : ((c : OpenCall A) → Mem old c → HasRoom c) → (c : OpenCall A) → Mem (slice_set now at y) c → HasRoom c
+    pub reserved_room : ((c : OpenCall A) → Among c old → HasRoom c) → (c : OpenCall A) → Among c (slice_set now at y) → HasRoom c
     reserved_room r c m = elim (mem_set now at y c m) [ inl e ↦ subst HasRoom e (room' (inv.room r x (mem_get now at x h is))) | inr o ↦ inv.room r c o ]
 
     pub reserved_step : IsReady n y → IsReserving n old (at + 1) (slice_set now at y)
@@ -47,7 +47,7 @@ module _ {A : Type 0} (n : ℕ) (old : List (OpenCall A)) (at : ℕ) (now : List
       seen = reserved_seen;
       len = length-set now at y ∙ inv.len;
       room = reserved_room;
-      ready = λ c m. elim (mem_take_set now at y c (subst (λ k. Mem (take k (slice_set now at y)) c) (add-one at) m)) [ inl e ↦ subst (IsReady n) e ready' | inr o ↦ inv.ready c o ];
+      ready = λ c m. elim (mem_take_set now at y c (subst (λ k. Among c (take k (slice_set now at y))) (add-one at) m)) [ inl e ↦ subst (IsReady n) e ready' | inr o ↦ inv.ready c o ];
       within = subst (λ k. at + 1 ≤ k) (sym (length-set now at y)) (omega arith);
     }
 
@@ -55,7 +55,7 @@ module _ {A : Type 0} (n : ℕ) (old : List (OpenCall A)) (at : ℕ) (now : List
     pub ready_here : IsReady n x
     ready_here = inv.ready x (mem_drop now at x h is)
       where
-        mem_drop : (xs : List (OpenCall A)) (i : ℕ) (x : OpenCall A) → i < length xs → x ≡ get_or xs i x → Mem (drop i xs) x
+        mem_drop : (xs : List (OpenCall A)) (i : ℕ) (x : OpenCall A) → i < length xs → x ≡ get_or xs i x → Among x (drop i xs)
         mem_drop [] i x h e = absurd (omega arith)
         mem_drop (y ∷ ys) zero x h e = inl (sym e)
         mem_drop (y ∷ ys) (suc i) x h e = mem_drop ys i x (omega arith) e
@@ -65,23 +65,23 @@ module _ {A : Type 0} (n : ℕ) (old : List (OpenCall A)) (at : ℕ) (now : List
       seen = subst (λ k. map call_seen (take k (slice_set now at y)) ++ map (change_at n (changed change)) (map call_seen (drop k (slice_set now at y))) ≡ map (change_at n (changed change)) (map call_seen old)) (sym (add-one at)) (step_seen call_seen (change_at n (changed change)) now at x y h is seen' ∙ inv.seen);
       len = length-set now at y ∙ inv.len;
       room = λ r c m. elim (mem_set now at y c m) [ inl e ↦ subst HasRoom e (room' (inv.room r x (mem_get now at x h is))) | inr o ↦ inv.room r c o ];
-      ready = λ c m. inv.ready c (mem_later now at y c (subst (λ k. Mem (drop k (slice_set now at y)) c) (add-one at) m));
+      ready = λ c m. inv.ready c (mem_later now at y c (subst (λ k. Among c (drop k (slice_set now at y))) (add-one at) m));
       within = subst (λ k. at + 1 ≤ k) (sym (length-set now at y)) (omega arith);
     }
       where
-        mem_later : (xs : List (OpenCall A)) (i : ℕ) (y c : OpenCall A) → Mem (drop (suc i) (slice_set xs i y)) c → Mem (drop i xs) c
+        mem_later : (xs : List (OpenCall A)) (i : ℕ) (y c : OpenCall A) → Among c (drop (suc i) (slice_set xs i y)) → Among c (drop i xs)
         mem_later [] i y c m = elim m [ ]
         mem_later (x ∷ xs) zero y c m = inr m
         mem_later (x ∷ xs) (suc i) y c m = mem_later xs i y c m
 
-pub all_ready : {A : Type 0} (n at : ℕ) (now : List (OpenCall A)) → ((c : OpenCall A) → Mem (take at now) c → IsReady n c) → length now ≤ at → (c : OpenCall A) → Mem now c → IsReady n c
-all_ready n at now r h c m = r c (subst (λ l. Mem l c) (sym (take_all at now h)) m)
+pub all_ready : {A : Type 0} (n at : ℕ) (now : List (OpenCall A)) → ((c : OpenCall A) → Among c (take at now) → IsReady n c) → length now ≤ at → (c : OpenCall A) → Among c now → IsReady n c
+all_ready n at now r h c m = r c (subst (λ l. Among c l) (sym (take_all at now h)) m)
 
 -- the calls up to a place are changed by a function
 pub record IsSweeping {A : Type 0} (F : Call → Call) (old : List (OpenCall A)) (at : ℕ) (now : List (OpenCall A)) : Type 0 where
   pub seen : map call_seen (take at now) ++ map F (map call_seen (drop at now)) ≡ map F (map call_seen old)
   pub len : length now ≡ length old
-  pub room : ((c : OpenCall A) → Mem old c → HasRoom c) → (c : OpenCall A) → Mem now c → HasRoom c
+  pub room : ((c : OpenCall A) → Among c old → HasRoom c) → (c : OpenCall A) → Among c now → HasRoom c
   pub within : at ≤ length now
 
 pub swept_step : {A : Type 0} (F : Call → Call) (old : List (OpenCall A)) (at : ℕ) (now : List (OpenCall A)) (x y : OpenCall A) → at < length now → x ≡ get_or now at x → IsSweeping F old at now → call_seen y ≡ F (call_seen x) → (HasRoom x → HasRoom y) → IsSweeping F old (at + 1) (slice_set now at y)

@@ -1,7 +1,7 @@
 -- A pass over a list that changes each member in place.
 use Rattle.std.proofs.Common.{◌≡◌, ℕ, zero, suc, ◌<◌, List, [], ◌∷◌, ◌++◌, ◌⊎◌, inl, inr, map, take, drop, length, get_or, ap, sym, ◌∙◌, arith}
 use Rattle.std.specs.Prelude.{slice_set}
-use Rattle.tx_state.specs.Members.{Mem}
+use Rattle.tx_plan.specs.Among.{Among}
 
 module _ {X Y : Type 0} (f : X → Y) (F : Y → Y) where
   -- what is left after the change of one member
@@ -11,18 +11,18 @@ module _ {X Y : Type 0} (f : X → Y) (F : Y → Y) where
   step_seen (z ∷ zs) (suc i) x y h e s = ap (λ l. f z ∷ l) (step_seen zs i x y (omega arith) e s)
 
 -- the members of a list with one replaced
-pub mem_set : {X : Type 0} (xs : List X) (i : ℕ) (y z : X) → Mem (slice_set xs i y) z → (y ≡ z) ⊎ Mem xs z
+pub mem_set : {X : Type 0} (xs : List X) (i : ℕ) (y z : X) → Among z (slice_set xs i y) → (y ≡ z) ⊎ Among z xs
 mem_set [] i y z m = elim m [ ]
 mem_set (x ∷ xs) zero y z m = elim m [ inl e ↦ inl e | inr r ↦ inr (inr r) ]
 mem_set (x ∷ xs) (suc i) y z m = elim m [ inl e ↦ inr (inl e) | inr r ↦ elim (mem_set xs i y z r) [ inl e ↦ inl e | inr q ↦ inr (inr q) ] ]
 
 -- the members up to one that was replaced
-pub mem_take_set : {X : Type 0} (xs : List X) (i : ℕ) (y z : X) → Mem (take (suc i) (slice_set xs i y)) z → (y ≡ z) ⊎ Mem (take i xs) z
+pub mem_take_set : {X : Type 0} (xs : List X) (i : ℕ) (y z : X) → Among z (take (suc i) (slice_set xs i y)) → (y ≡ z) ⊎ Among z (take i xs)
 mem_take_set [] i y z m = elim m [ ]
 mem_take_set (x ∷ xs) zero y z m = elim m [ inl e ↦ inl e | inr r ↦ absurd r ]
 mem_take_set (x ∷ xs) (suc i) y z m = elim m [ inl e ↦ inr (inl e) | inr r ↦ elim (mem_take_set xs i y z r) [ inl e ↦ inl e | inr q ↦ inr (inr q) ] ]
 
-pub mem_get : {X : Type 0} (xs : List X) (i : ℕ) (x : X) → i < length xs → x ≡ get_or xs i x → Mem xs x
+pub mem_get : {X : Type 0} (xs : List X) (i : ℕ) (x : X) → i < length xs → x ≡ get_or xs i x → Among x xs
 mem_get [] i x h e = absurd (omega arith)
 mem_get (y ∷ ys) zero x h e = inl (sym e)
 mem_get (y ∷ ys) (suc i) x h e = inr (mem_get ys i x (omega arith) e)

@@ -2,19 +2,19 @@
 ghost use Rattle.std.specs.Prelude.{◌≡◌, ◌≤◌, ◌<◌, ◌==◌, not, ◌&&◌, OnOk, MatchOption, Some, None, find, map, length, vec_len, vec_capacity};
 ghost use Rattle.std.specs.List.{list_any};
 ghost use Rattle.tx_plan.specs.Orders.{same_line, same_circuit};
+ghost use Rattle.tx_plan.specs.Among.{Among};
 ghost use Rattle.tx_state.specs.Confirming.{far_of};
 ghost use Rattle.tx_state.specs.InUse.{seizes_from, carries, seizes};
 ghost use Rattle.tx_state.specs.Lines.{takes_part};
 ghost use Rattle.tx_state.specs.Call.{place_of, call_of};
 ghost use Rattle.tx_state.specs.Routing.{set_call};
-ghost use Rattle.tx_state.specs.Members.{Mem};
 ghost use Rattle.tx_network.specs.Seen.{call_seen};
 ghost use Rattle.tx_plain_parts.specs.inner.Seen.{changed, change_at, thrown_at, HasRoom, IsReady};
 
 use crate::change::Change;
 use std::alloc::Allocator;
 use tx_network::OpenCall;
-use tx_state::{Phase, put};
+use tx_state::Phase;
 use tx_text::NoMemory;
 
 /// Makes room for a hop of a call with the number.
@@ -33,8 +33,8 @@ fn reserve_one<A: Allocator>(call: &mut OpenCall<A>, number: u32) -> Result<(), 
 pub fn reserve_hop<A: Allocator>(calls: &mut [OpenCall<A>], number: u32) -> Result<(), NoMemory>
     ensures seen { map call_seen calls.new ≡ map call_seen calls.old }
     ensures len { length calls.new ≡ length calls.old }
-    ensures room { ((c : _) → Mem calls.old c → HasRoom c) → (c : _) → Mem calls.new c → HasRoom c }
-    ensures ready { OnOk result ((c : _) → Mem calls.new c → IsReady number c) }
+    ensures room { ((c : _) → Among c calls.old → HasRoom c) → (c : _) → Among c calls.new → HasRoom c }
+    ensures ready { OnOk result ((c : _) → Among c calls.new → IsReady number c) }
 {
     let mut at = 0;
     while at < calls.len() {
@@ -54,7 +54,7 @@ fn change_one<A: Allocator>(call: &mut OpenCall<A>, number: u32, change: &Change
         match change {
             Change::To(phase) => call.phase = *phase,
             Change::Carry(hop) => {
-                put(&mut call.hops, *hop);
+                call.hops.push_reserved(*hop);
                 call.phase = Phase::Standing;
                 call.collided = false;
             }
@@ -68,10 +68,10 @@ fn change_one<A: Allocator>(call: &mut OpenCall<A>, number: u32, change: &Change
 
 /// Changes the calls with the number.
 pub fn change_numbered<A: Allocator>(calls: &mut [OpenCall<A>], number: u32, change: &Change)
-    requires { (c : _) → Mem calls.old c → IsReady number c }
+    requires { (c : _) → Among c calls.old → IsReady number c }
     ensures seen { map call_seen calls.new ≡ set_call number (changed change.now) (map call_seen calls.old) }
     ensures len { length calls.new ≡ length calls.old }
-    ensures room { ((c : _) → Mem calls.old c → HasRoom c) → (c : _) → Mem calls.new c → HasRoom c }
+    ensures room { ((c : _) → Among c calls.old → HasRoom c) → (c : _) → Among c calls.new → HasRoom c }
 {
     let mut at = 0;
     while at < calls.len() {
@@ -95,7 +95,7 @@ fn throw_one<A: Allocator>(call: &mut OpenCall<A>, a: u32, b: u32)
 pub fn throw_back<A: Allocator>(calls: &mut [OpenCall<A>], a: u32, b: u32)
     ensures seen { map call_seen calls.new ≡ map (thrown_at a b) (map call_seen calls.old) }
     ensures len { length calls.new ≡ length calls.old }
-    ensures room { ((c : _) → Mem calls.old c → HasRoom c) → (c : _) → Mem calls.new c → HasRoom c }
+    ensures room { ((c : _) → Among c calls.old → HasRoom c) → (c : _) → Among c calls.new → HasRoom c }
 {
     let mut at = 0;
     while at < calls.len() {

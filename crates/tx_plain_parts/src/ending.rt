@@ -4,7 +4,7 @@ ghost use Rattle.std.specs.List.{list_any, flat_map};
 ghost use Rattle.tx_state.specs.Ending.{ticket_of};
 ghost use Rattle.tx_state.specs.InUse.{seizes, circuits_used};
 ghost use Rattle.tx_state.specs.Call.{circuit_called};
-ghost use Rattle.tx_state.specs.Members.{Mem};
+ghost use Rattle.tx_plan.specs.Among.{Among};
 ghost use Rattle.tx_plain_parts.specs.inner.Marks.{HasMark};
 ghost use Rattle.tx_network.specs.Seen.{call_seen};
 ghost use Rattle.tx_plain_parts.specs.inner.GivenUp.{ends_by, with_more, is_given, AreMarked};
@@ -15,7 +15,7 @@ use crate::ends::Ends;
 use std::alloc::Allocator;
 use tx_network::OpenCall;
 use tx_plan::{Circuit, GroupId, Plan};
-use tx_state::{Cause, Hop, Path, Phase, Ticket, put};
+use tx_state::{Cause, Hop, Path, Phase, Ticket};
 
 /// Whether the call ends.
 fn is_ended<A: Allocator>(call: &OpenCall<A>, ends: &Ends) -> bool
@@ -170,7 +170,7 @@ fn give_if<A: Allocator>(
 
 /// Gives up the circuits of the calls that end.
 fn give_up<A: Allocator>(calls: &[OpenCall<A>], ends: &Ends, releasing: &mut CircuitMarks<A>)
-    requires { (c : _) → Mem calls.now c → AreMarked releasing.old.groups (circuits_used (call_seen c)) }
+    requires { (c : _) → Among c calls.now → AreMarked releasing.old.groups (circuits_used (call_seen c)) }
     ensures { releasing.new ≡ with_more releasing.old (filter (is_given ends.now (map call_seen calls.now)) (flat_map circuits_used (filter (ends_by ends.now) (map call_seen calls.now)))) }
 {
     let mut at = 0;
@@ -223,7 +223,7 @@ fn take_out<A: Allocator>(
         if is_ended(&calls[at], ends) {
             let call = calls.remove(at);
             let made = ticket(plan, call, cause, event);
-            put(tickets, made);
+            tickets.push_reserved(made);
         } else {
             at += 1;
         }
@@ -241,7 +241,7 @@ pub fn end_calls<A: Allocator>(
     event: u64,
 )
     requires room { vec_len tickets.old + vec_len calls.old ≤ vec_capacity tickets.old }
-    requires marked { (c : _) → Mem calls.old.items c → AreMarked releasing.old.groups (circuits_used (call_seen c)) }
+    requires marked { (c : _) → Among c calls.old.items → AreMarked releasing.old.groups (circuits_used (call_seen c)) }
     ensures calls { calls.new.items ≡ filter (λ c. not (ends_by ends.now (call_seen c))) calls.old.items }
     ensures tickets { tickets.new.items ≡ tickets.old.items ++ map (ticket_of plan.now cause event) (filter (ends_by ends.now) (map call_seen calls.old.items)) }
     ensures room { vec_len tickets.new + vec_len calls.new ≤ vec_capacity tickets.new }

@@ -1,24 +1,13 @@
 -- A word that is no name names nothing.
-use Rattle.std.proofs.Common.{◌≡◌, ℕ, ◌<◌, ◌≤◌, Bool, true, false, ◌&&◌, ◌||◌, nat_lt, nat_le, List, [], ◌∷◌, length, None, refl, sym, ap, ◌∙◌, arith}
+use Rattle.std.proofs.Common.{◌≡◌, ℕ, ◌<◌, ◌≤◌, Bool, true, false, ◌&&◌, ◌||◌, nat_le, List, [], ◌∷◌, length, None, refl, sym, ap, ◌∙◌, arith}
 use Rattle.std.specs.Prelude.{position}
-use Rattle.std.specs.List.{position_or_len, AllByRecursion, list_all}
+use Rattle.std.specs.List.{AllByRecursion, list_all}
 use Rattle.std.specs.Str.{bytes_eq}
 use Rattle.std.proofs.lemmas.Slice.Eq.{bytes_eq-Decides}
-use Rattle.std.proofs.lemmas.Bool.Decides.{nat_tests}
 use Rattle.std.proofs.lemmas.Bool.{leb-true, and_parts}
 use Rattle.tx_text.specs.Words.{is_name, is_letter, is_figure}
 use Rattle.tx_plan.specs.Rules.{is_code}
-
--- where no element passes, the place is past the end
-none_len : {A : Type 0} (t : A → Bool) (xs : List A) → AllByRecursion (λ x. t x ≡ false) xs → position_or_len t xs ≡ length xs
-none_len t [] h = refl
-none_len t (x ∷ xs) h = rw (h.0, none_len t xs h.1) (omega arith)
-
-not_below : (n : ℕ) → nat_lt n n ≡ false
-not_below n = grind (arith, nat_tests)
-
-pub no_place : {A : Type 0} (t : A → Bool) (xs : List A) → AllByRecursion (λ x. t x ≡ false) xs → position t xs ≡ None
-no_place t xs h = rw (none_len t xs h, not_below (length xs)) refl
+use Rattle.tx_entries.proofs.Lists.{no_place}
 
 same_not : (b : Bool) → (b ≡ true → true ≡ false) → b ≡ false
 same_not true k = k refl

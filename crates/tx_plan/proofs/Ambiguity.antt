@@ -26,10 +26,10 @@ least_among [] p h = let bad : ⊥ = cc in absurd bad
 least_among (q ∷ ps) p h = by (least ps) (least_among ps) h
   where
     by : (o : Option CodePair) → ((r : CodePair) → o ≡ Some r → Among r ps) → lesser q o ≡ Some p → Among p (q ∷ ps)
-    by None e k = let s : p ≡ q = cc in inl s
+    by None e k = let s : q ≡ p = cc in inl s
     by (Some r) e k =
         elim (is_le (pair_cmp q r)) as (λ b. (if b then Some q else Some r) ≡ Some p → Among p (q ∷ ps)) [
-          | true ↦ λ m. let s : p ≡ q = cc in inl s
+          | true ↦ λ m. let s : q ≡ p = cc in inl s
           | false ↦ λ m. let s : p ≡ r = cc in inr (subst (λ w. Among w ps) (sym s) (e r refl))
         ] k
 
@@ -39,7 +39,7 @@ least_none (p ∷ ps) h = absurd (h p (inl refl))
 
 least_is : (ps : List CodePair) (p : CodePair) → Among p ps → ((q : CodePair) → Among q ps → (q ≡ p) ⊎ (pair_cmp p q ≡ Less)) → least ps ≡ Some p
 least_is [] p h low = absurd h
-least_is (q ∷ ps) p (inl e) low = ap (λ w. lesser w (least ps)) (sym e) ∙ by (least ps) refl
+least_is (q ∷ ps) p (inl e) low = ap (λ w. lesser w (least ps)) e ∙ by (least ps) refl
   where
     by : (o : Option CodePair) → least ps ≡ o → lesser p o ≡ Some p
     by None is = refl
@@ -70,7 +70,7 @@ module _ (codes : List Code) where
       let t = map_among (λ y. record { first = s.0; second = y }) p (enumerate_from 0 codes) s.2 in
       let a = places_among 0 s.0 codes s.1 in
       let b = places_among 0 t.0 codes t.1 in
-      let e : p ≡ record { first = s.0; second = t.0 } = t.2 in
+      let e : p ≡ record { first = s.0; second = t.0 } = sym t.2 in
       record {
         first = ap (slice_get codes) (ap (λ (w : CodePair). w.first.0) e ∙ a.2 ∙ (let z : 0 + a.0 ≡ a.0 = omega arith in z)) ∙ a.1 ∙ ap (λ (w : CodePair). Some w.first.1) (sym e);
         second = ap (slice_get codes) (ap (λ (w : CodePair). w.second.0) e ∙ b.2 ∙ (let z : 0 + b.0 ≡ b.0 = omega arith in z)) ∙ b.1 ∙ ap (λ (w : CodePair). Some w.second.1) (sym e);

@@ -23,14 +23,14 @@ among_map f x [] h = absurd h
 among_map f x (z ∷ xs) (inl e) = inl (ap f e)
 among_map f x (z ∷ xs) (inr h) = inr (among_map f x xs h)
 
-pub map_among : {A B : Type 0} (f : A → B) (y : B) (xs : List A) → Among y (map f xs) → (x : A) × Among x xs × (y ≡ f x)
+pub map_among : {A B : Type 0} (f : A → B) (y : B) (xs : List A) → Among y (map f xs) → (x : A) × Among x xs × (f x ≡ y)
 map_among f y [] h = absurd h
 map_among f y (z ∷ xs) (inl e) = (z, inl refl, e)
 map_among f y (z ∷ xs) (inr h) = let r = map_among f y xs h in (r.0, inr r.1, r.2)
 
 pub among_flat : {A B : Type 0} (f : A → List B) (x : A) (y : B) (xs : List A) → Among x xs → Among y (f x) → Among y (flat_map f xs)
 among_flat f x y [] h k = absurd h
-among_flat f x y (z ∷ xs) (inl e) k = among_left y (f z) (flat_map f xs) (subst (λ w. Among y (f w)) e k)
+among_flat f x y (z ∷ xs) (inl e) k = among_left y (f z) (flat_map f xs) (subst (λ w. Among y (f w)) (sym e) k)
 among_flat f x y (z ∷ xs) (inr h) k = among_right y (f z) (flat_map f xs) (among_flat f x y xs h k)
 
 pub flat_among : {A B : Type 0} (f : A → List B) (y : B) (xs : List A) → Among y (flat_map f xs) → (x : A) × Among x xs × Among y (f x)
@@ -43,7 +43,7 @@ flat_among f y (z ∷ xs) h =
 
 pub among_filter : {A : Type 0} (p : A → Bool) (x : A) (xs : List A) → Among x xs → p x ≡ true → Among x (filter p xs)
 among_filter p x [] h t = absurd h
-among_filter p x (z ∷ xs) (inl e) t = subst (λ b. Among x (cond b (z ∷ filter p xs) (filter p xs))) (sym (sym (ap p e) ∙ t)) (inl e)
+among_filter p x (z ∷ xs) (inl e) t = subst (λ b. Among x (cond b (z ∷ filter p xs) (filter p xs))) (sym (ap p e ∙ t)) (inl e)
 among_filter p x (z ∷ xs) (inr h) t =
     let rest = among_filter p x xs h t in
     elim (p z) as (λ b. Among x (cond b (z ∷ filter p xs) (filter p xs))) [ true ↦ inr rest | false ↦ rest ]
@@ -52,18 +52,18 @@ pub filter_among : {A : Type 0} (p : A → Bool) (x : A) (xs : List A) → Among
 filter_among p x [] h = absurd h
 filter_among p x (z ∷ xs) h =
     elim (p z) as (λ b. p z ≡ b → Among x (cond b (z ∷ filter p xs) (filter p xs)) → Among x (z ∷ xs) × (p x ≡ true)) [
-      | true ↦ λ t h. elim h [ inl e ↦ (inl e, ap p e ∙ t) | inr k ↦ (let r = filter_among p x xs k in (inr r.0, r.1)) ]
+      | true ↦ λ t h. elim h [ inl e ↦ (inl e, ap p (sym e) ∙ t) | inr k ↦ (let r = filter_among p x xs k in (inr r.0, r.1)) ]
       | false ↦ λ t h. let r = filter_among p x xs h in (inr r.0, r.1)
     ] refl h
 
 pub among_places : {A : Type 0} (n i : ℕ) (x : A) (xs : List A) → slice_get xs i ≡ Some x → Among (n + i, x) (enumerate_from n xs)
 among_places n i x [] h = let bad : ⊥ = cc in absurd bad
-among_places n zero x (y ∷ xs) h = inl (let e : x ≡ y = cc in let z : n + 0 ≡ n = omega arith in λ k. (z k, e k))
+among_places n zero x (y ∷ xs) h = inl (let e : y ≡ x = cc in let z : n ≡ n + 0 = omega arith in λ k. (z k, e k))
 among_places n (suc i) x (y ∷ xs) h =
     let z : (n + 1) + i ≡ n + suc i = omega arith in
     inr (subst (λ k. Among (k, x) (enumerate_from (n + 1) xs)) z (among_places (n + 1) i x xs h))
 
 pub places_among : {A : Type 0} (n : ℕ) (e : ℕ × A) (xs : List A) → Among e (enumerate_from n xs) → (i : ℕ) × (slice_get xs i ≡ Some e.1) × (e.0 ≡ n + i)
 places_among n e [] h = absurd h
-places_among n e (y ∷ xs) (inl p) = (0, ap (λ w. Some w.1) (sym p), ap (λ w. w.0) p ∙ (let z : n ≡ n + 0 = omega arith in z))
+places_among n e (y ∷ xs) (inl p) = (0, ap (λ w. Some w.1) p, ap (λ w. w.0) (sym p) ∙ (let z : n ≡ n + 0 = omega arith in z))
 places_among n e (y ∷ xs) (inr h) = let r = places_among (n + 1) e xs h in (suc r.0, r.1, r.2 ∙ (let z : (n + 1) + r.0 ≡ n + suc r.0 = omega arith in z))

@@ -4,4 +4,4 @@ use Rattle.std.specs.Prelude.{◌≡◌, ◌⊎◌, List, [], ◌∷◌}
 -- it is an element of the list
 abbrev pub Among : {A : Type 0} → A → List A → Type 0
 Among x [] = ⊥
-Among x (y ∷ ys) = (x ≡ y) ⊎ Among x ys
+Among x (y ∷ ys) = (y ≡ x) ⊎ Among x ys

@@ -4,19 +4,19 @@ use Rattle.std.specs.List.{list_any}
 use Rattle.std.specs.Option.{option_map_or}
 use Rattle.std.specs.Str.{bytes_eq}
 use Rattle.tx_text.specs.Words.{is_name}
+pub use Rattle.tx_entries.specs.Numbers.{shares}
 use Rattle.tx_plan.specs.Plan.{Plan, exchange_named, code_named, group_named, home_of}
 use Rattle.tx_plan.specs.Lines.{at_most}
 use Rattle.tx_plan.specs.Circuits.{may_seize}
 use Rattle.tx_plan.specs.Routes.{is_barred}
 use Rattle.tx_plan.specs.Rules.{is_code, is_national}
-use Rattle.tx_plan.specs.declared.direction.Direction.{Direction}
-use Rattle.tx_plan.specs.declared.pair.Pair.{Pair}
-use Rattle.tx_plan.specs.declared.range.LineRange.{LineRange}
+use Rattle.tx_entries.specs.declared.direction.Direction.{Direction}
+use Rattle.tx_entries.specs.declared.pair.Pair.{Pair}
 use Rattle.tx_plan.specs.declared.refusal.PlanRefusal.{PlanRefusal}
 use Rattle.tx_plan.specs.declared.refusal.PlanRefusal.TheVariants.{WrongCount, BadName, BadCode, BadNumber, Duplicate, Unknown, RangeOrder, Overlap, SameEnds, NotOutgoing, RepeatedGroup, RouteAtHome, TooMany, BarAtHome, NoMemory}
 
--- the first refusal that applies
-abbrev pub first_true : List (Bool × PlanRefusal) → Option PlanRefusal
+-- the first refusal that applies, of a list of tests and refusals
+abbrev pub first_true : {R : Type 0} → List (Bool × R) → Option R
 first_true [] = None
 first_true (t ∷ ts) = if t.0 then Some t.1 else first_true ts
 
@@ -52,10 +52,6 @@ has_route p x c = list_any (λ r. (r.exchange == x) && (r.code == c)) p.routes
 -- a test of a pair, which fails where it is not declared
 abbrev pub holds_at : Option Pair → (ℕ → ℕ → Bool) → Bool
 holds_at pair test = option_map_or (λ x. test x.exchange x.code) pair false
-
--- two ranges of one code and width share a number
-abbrev pub shares : ℕ → List ℕ → List ℕ → LineRange → Bool
-shares code low high r = (r.code == code) && ((length r.low == length low) && (at_most r.low high && at_most low r.high))
 
 -- the range shares a number with a declared one of its code
 abbrev pub overlaps : Plan → Option ℕ → List ℕ → List ℕ → Bool

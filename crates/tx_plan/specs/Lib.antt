@@ -8,5 +8,5 @@ pub mod Circuits
 pub mod Rules
 pub mod Declaring
 pub mod Certified
-pub mod Orders
+pub use Rattle.tx_entries.specs.Orders
 pub mod inner

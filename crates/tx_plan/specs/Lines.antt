@@ -1,20 +1,10 @@
 -- Subscribers' lines and their full numbers (ITU-T F.69).
-use Rattle.std.specs.Prelude.{ℕ, Bool, ◌&&◌, ◌==◌, List, ◌++◌, length}
+use Rattle.std.specs.Prelude.{ℕ, Bool, ◌&&◌, ◌==◌, List, ◌++◌}
 use Rattle.std.specs.List.{list_any}
-use Rattle.std.specs.Ordering.{is_le, nat_cmp}
-use Rattle.std.specs.Cmp.Lexicographic.{slice_cmp}
 use Rattle.tx_text.specs.Words.{are_figures}
+pub use Rattle.tx_entries.specs.Numbers.{at_most, in_range}
 use Rattle.tx_plan.specs.Plan.{Plan, figures_of}
-use Rattle.tx_plan.specs.declared.line.Line.{Line}
-use Rattle.tx_plan.specs.declared.range.LineRange.{LineRange}
-
--- the one text of figures is not above the other, figure by figure
-abbrev pub at_most : List ℕ → List ℕ → Bool
-at_most low high = is_le (slice_cmp nat_cmp low high)
-
--- of the range's width, and from low to high
-abbrev pub in_range : List ℕ → LineRange → Bool
-in_range number r = (length number == length r.low) && (at_most r.low number && at_most number r.high)
+use Rattle.tx_entries.specs.declared.line.Line.{Line}
 
 -- a code and a text are a line where the text is figures, and lies in a range of the code
 abbrev pub is_line_at : Plan → ℕ → List ℕ → Bool

@@ -1,25 +1,18 @@
 -- The rules that the lists of a plan obey.
-use Rattle.std.specs.Prelude.{◌≡◌, ◌≢◌, ℕ, ◌<◌, ◌≤◌, Bool, true, false, ◌⊎◌, List, [], ◌∷◌, length}
+use Rattle.std.specs.Prelude.{◌≡◌, ◌≢◌, ◌<◌, ◌≤◌, true, false, ◌⊎◌, List, [], ◌∷◌, length}
 use Rattle.std.specs.List.{AllByRecursion}
-use Rattle.tx_text.specs.Words.{is_name, are_figures}
+use Rattle.tx_text.specs.Words.{is_name}
+pub use Rattle.tx_entries.specs.Numbers.{is_code, is_national}
 use Rattle.tx_plan.specs.Plan.{Plan, Code, Group, Route, home_of}
 use Rattle.tx_plan.specs.Lines.{at_most}
 use Rattle.tx_plan.specs.Circuits.{may_seize}
-use Rattle.tx_plan.specs.declared.pair.Pair.{Pair}
-use Rattle.tx_plan.specs.declared.range.LineRange.{LineRange}
+use Rattle.tx_entries.specs.declared.pair.Pair.{Pair}
+use Rattle.tx_entries.specs.declared.range.LineRange.{LineRange}
 
 -- each member of a list stands so to each later one
 abbrev pub EachPair : {A : Type 0} → (A → A → Type 0) → List A → Type 0
 EachPair Apart [] = Unit {0}
 EachPair Apart (x ∷ xs) = AllByRecursion (Apart x) xs × EachPair Apart xs
-
--- two or three figures
-abbrev pub is_code : List ℕ → Bool
-is_code text = are_figures 2 3 text
-
--- one to nine figures
-abbrev pub is_national : List ℕ → Bool
-is_national text = are_figures 1 9 text
 
 pub record IsCode (p : Plan) (c : Code) : Type 0 where
   pub figures : is_code c.figures ≡ true

@@ -3,20 +3,14 @@ ghost use Rattle.std.specs.Prelude.{◌≡◌};
 ghost use Rattle.tx_plan.specs.Plan.{no_plan};
 ghost use Rattle.tx_plan.specs.Declaring.{Declares, first_true, exchange_refusals, with_exchange, code_refusals, with_code, lines_refusals, with_lines, group_refusals, with_group, route_refusals, with_route, bar_refusals, with_bar};
 
-use crate::bars::Bars;
-use crate::codes::Codes;
-use crate::direction::Direction;
 use crate::entries::{
     bar_entry, code_entry, exchange_entry, group_entry, range_entry, route_entry,
 };
-use crate::exchanges::Exchanges;
-use crate::groups::Groups;
 use crate::plan::Plan;
-use crate::ranges::Ranges;
 use crate::refusal::PlanRefusal;
-use crate::routes::Routes;
 use std::alloc::{Allocator, Global};
 use std::marker::Model;
+use tx_entries::{Bars, Codes, Direction, Exchanges, Groups, Ranges, Routes};
 use tx_text::Words;
 
 /// A plan in the making. What it declared so far obeys the rules of a plan.
@@ -59,10 +53,7 @@ impl<A: Allocator> PlanBuilder<A> {
         ensures { Declares (first_true (exchange_refusals self.old name.now)) self.old (with_exchange self.old name.now) self.new result }
     {
         let plan = &mut self.plan;
-        let entry = match exchange_entry(plan, name) {
-            Ok(entry) => entry,
-            Err(refusal) => return Err(refusal),
-        };
+        let entry = exchange_entry(plan, name)?;
         match plan.exchanges.add(entry) {
             Ok(()) => {}
             Err(_) => return Err(PlanRefusal::NoMemory),
@@ -76,10 +67,7 @@ impl<A: Allocator> PlanBuilder<A> {
         ensures { Declares (first_true (code_refusals self.old code.now home.now)) self.old (with_code self.old code.now home.now) self.new result }
     {
         let plan = &mut self.plan;
-        let (figures, home) = match code_entry(plan, code, home) {
-            Ok(entry) => entry,
-            Err(refusal) => return Err(refusal),
-        };
+        let (figures, home) = code_entry(plan, code, home)?;
         match plan.codes.add(figures, home) {
             Ok(()) => {}
             Err(_) => return Err(PlanRefusal::NoMemory),
@@ -117,10 +105,7 @@ impl<A: Allocator> PlanBuilder<A> {
         ensures { Declares (first_true (group_refusals self.old name.now a.now b.now count)) self.old (with_group self.old name.now a.now b.now direction count) self.new result }
     {
         let plan = &mut self.plan;
-        let (key, row) = match group_entry(plan, name, a, b, direction, count) {
-            Ok(entry) => entry,
-            Err(refusal) => return Err(refusal),
-        };
+        let (key, row) = group_entry(plan, name, a, b, direction, count)?;
         match plan.groups.add(key, row) {
             Ok(()) => {}
             Err(_) => return Err(PlanRefusal::NoMemory),

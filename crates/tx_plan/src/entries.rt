@@ -4,47 +4,47 @@ ghost use Rattle.std.specs.List.{list_any};
 ghost use Rattle.tx_text.specs.Words.{is_name};
 ghost use Rattle.tx_plan.specs.Plan.{exchange_named, code_named, group_named};
 ghost use Rattle.tx_plan.specs.Routes.{is_barred};
+ghost use Rattle.tx_plan.specs.Rules.{is_code};
 ghost use Rattle.tx_plan.specs.inner.Seen.{IsSeen};
 ghost use Rattle.tx_plan.specs.Declaring.{first_true, exchange_refusals, code_refusals, lines_refusals, group_refusals, route_refusals, route_plan_refusals, route_group_refusals, bar_refusals, route_word_refusals, has_exchange, has_code, has_group, has_route, pair_named, is_ordered, exchange_at, code_at, group_at};
 
-use crate::direction::Direction;
-use crate::group_list::GroupList;
-use crate::group_row::GroupRow;
 use crate::group_words::none_twice;
-use crate::ids::{CodeId, ExchangeId, GroupId};
-use crate::name_key::NameKey;
-use crate::national::National;
-use crate::pair::Pair;
 use crate::plan::Plan;
-use crate::range::LineRange;
-use crate::ranges::at_most;
 use crate::refusal::PlanRefusal;
 use crate::route_words::{Seen, see};
 use std::alloc::Allocator;
+use tx_entries::{
+    CodeId, Direction, ExchangeId, GroupId, GroupList, GroupRow, LineRange, NameKey, National,
+    Pair, at_most,
+};
 use tx_text::{Short, Words, are_figures, is_name};
 
 /// The exchange of a name, and whether it was declared.
-#[tactic(auto, using(crate::proofs::Lists::found_any))]
+#[tactic(auto, using(tx_entries::proofs::Lists::found_any))]
 #[inline(always)]
 fn exchange_of<A: Allocator>(plan: &Plan<A>, name: &[u8]) -> Option<ExchangeId>
     ensures place { result ≡ exchange_named plan.now name.now }
     ensures found { is_some result ≡ has_exchange plan.now name.now }
+    ensures named { is_some result ≡ true → is_name name.now ≡ true }
 {
+    plan.rules();
     plan.exchange_named(name)
 }
 
 /// The code of these figures, and whether it was declared.
-#[tactic(auto, using(crate::proofs::Lists::found_any))]
+#[tactic(auto, using(tx_entries::proofs::Lists::found_any))]
 #[inline(always)]
 fn code_of<A: Allocator>(plan: &Plan<A>, figures: &[u8]) -> Option<CodeId>
     ensures place { result ≡ code_named plan.now figures.now }
     ensures found { is_some result ≡ has_code plan.now figures.now }
+    ensures formed { is_some result ≡ true → is_code figures.now ≡ true }
 {
+    plan.rules();
     plan.code_named(figures)
 }
 
 /// The group of a name, and whether it was declared.
-#[tactic(auto, using(crate::proofs::Lists::found_any))]
+#[tactic(auto, using(tx_entries::proofs::Lists::found_any))]
 #[inline(always)]
 pub(crate) fn group_of<A: Allocator>(plan: &Plan<A>, name: &[u8]) -> Option<GroupId>
     ensures place { result ≡ group_named plan.now name.now }
@@ -233,10 +233,12 @@ fn pair_of<A: Allocator>(plan: &Plan<A>, exchange: &[u8], code: &[u8]) -> Option
     ensures pair { result ≡ pair_named plan.now exchange.now code.now }
     ensures named { IfSome result (λ x. x ≡ record { exchange = exchange_at plan.now exchange.now; code = code_at plan.now code.now }) }
     ensures few { IfSome result (λ x. x.exchange < 256) }
+    ensures name { is_some result ≡ true → is_name exchange.now ≡ true }
+    ensures figures { is_some result ≡ true → is_code code.now ≡ true }
 {
     plan.rules();
-    let exchange = plan.exchange_named(exchange);
-    let code = plan.code_named(code);
+    let exchange = exchange_of(plan, exchange);
+    let code = code_of(plan, code);
     match exchange {
         None => None,
         Some(exchange) => match code {
@@ -276,19 +278,28 @@ pub(crate) fn bar_entry<A: Allocator>(
     Ok(pair)
 }
 
-/// What the words of a route refuse by themselves.
+/// What the words of a route refuse by themselves. The exchange and the code are looked at only where they are not both declared, since what is declared is
+/// well formed.
 #[inline(always)]
-fn route_words(exchange: &[u8], code: &[u8], groups: &Words<'_>, bad: bool) -> Option<PlanRefusal>
-    requires { bad ≡ list_any (λ g. not (is_name g)) groups.now }
+fn route_words(
+    exchange: &[u8],
+    code: &[u8],
+    groups: &Words<'_>,
+    bad: bool,
+    declared: bool,
+) -> Option<PlanRefusal>
+    requires bad { bad ≡ list_any (λ g. not (is_name g)) groups.now }
+    requires name { declared ≡ true → is_name exchange.now ≡ true }
+    requires code { declared ≡ true → is_code code.now ≡ true }
     ensures { result ≡ first_true (route_word_refusals exchange.now code.now groups.now) }
 {
     if groups.again().next().is_none() {
         return Some(PlanRefusal::WrongCount);
     }
-    if !is_name(exchange) || bad {
+    if bad || !(declared || is_name(exchange)) {
         return Some(PlanRefusal::BadName);
     }
-    if !are_figures(code, 2, 3) {
+    if !(declared || are_figures(code, 2, 3)) {
         return Some(PlanRefusal::BadCode);
     }
     None
@@ -366,7 +377,7 @@ pub(crate) fn route_entry<A: Allocator>(
 {
     let pair = pair_of(plan, exchange, code);
     let seen = see(plan, &pair, groups.again());
-    match route_words(exchange, code, &groups, seen.bad) {
+    match route_words(exchange, code, &groups, seen.bad, pair.is_some()) {
         Some(refusal) => return Err(refusal),
         None => {}
     }

@@ -3,9 +3,9 @@ ghost use Rattle.std.specs.Prelude.{◌≡◌, ◌&&◌, ◌||◌, nat_lt, lengt
 ghost use Rattle.std.specs.Option.{option_map};
 ghost use Rattle.tx_plan.specs.Codes.{code_of, after, is_prefix};
 
-use crate::ids::CodeId;
 use crate::plan::Plan;
 use std::alloc::Allocator;
+use tx_entries::CodeId;
 
 /// What is left of the text after the front, if it begins with it.
 fn after<'t>(front: &[u8], text: &'t [u8]) -> Option<&'t [u8]>

@@ -20,42 +20,18 @@
 //! ```
 #![tactic(auto)]
 
-mod bars;
 mod builder;
-mod circuit;
-mod codes;
-mod direction;
 mod entries;
-mod exchanges;
-mod group_list;
-mod group_row;
 mod group_words;
-mod groups;
-mod ids;
 mod keyed;
-mod keys;
-mod line;
-mod name_key;
-mod national;
-mod pair;
-mod places;
 mod plan;
-mod range;
-mod ranges;
 mod refusal;
-mod route_row;
 mod route_words;
-mod routes;
-mod rows;
 
 pub use builder::PlanBuilder;
-pub use circuit::Circuit;
-pub use direction::Direction;
-pub use ids::{CodeId, ExchangeId, GroupId};
 pub use keyed::{code_of, rest_after};
-pub use line::Line;
-pub use national::National;
-pub use pair::Pair;
 pub use plan::Plan;
-pub use range::LineRange;
 pub use refusal::PlanRefusal;
+pub use tx_entries::{
+    Circuit, CodeId, Direction, ExchangeId, GroupId, Line, LineRange, National, Pair,
+};

@@ -1,5 +1,5 @@
 // A route plan and its readers.
-ghost use Rattle.std.specs.Prelude.{◌≡◌, ◌≤◌, if◌then◌else◌, nat_lt, Some, None, length, slice_get, [], ◌∷◌};
+ghost use Rattle.std.specs.Prelude.{◌≡◌, ◌≤◌, if◌then◌else◌, nat_lt, Some, None, length, slice_get};
 ghost use Rattle.std.specs.Option.{option_map};
 ghost use Rattle.tx_plan.specs.Plan.{exchange_named, code_named, group_named, exchange_name, figures_of, group_name, home_of};
 ghost use Rattle.tx_plan.specs.Lines.{is_line_at};
@@ -8,20 +8,12 @@ ghost use Rattle.tx_plan.specs.Circuits.{direction_of, count_of, ends_of, other_
 ghost use Rattle.tx_plan.specs.Rules.{IsPlan};
 ghost use Rattle.tx_plan.specs.Declaring.{has_route, overlaps};
 
-use crate::bars::Bars;
-use crate::codes::Codes;
-use crate::direction::Direction;
-use crate::exchanges::Exchanges;
-use crate::groups::Groups;
-use crate::ids::{CodeId, ExchangeId, GroupId};
-use crate::line::Line;
-use crate::national::National;
-use crate::pair::Pair;
-use crate::range::LineRange;
-use crate::ranges::Ranges;
-use crate::routes::Routes;
 use std::alloc::{Allocator, Global};
 use std::marker::Model;
+use tx_entries::{
+    Bars, CodeId, Codes, Direction, ExchangeId, Exchanges, GroupId, Groups, Line, LineRange,
+    National, Pair, Ranges, Routes,
+};
 
 /// A route plan: exchanges, codes, ranges, groups, routes and bars, each in order of declaration. It obeys the rules of a plan.
 ///
@@ -361,23 +353,23 @@ impl<A: Allocator> Plan<A> {
         ensures { result ≡ other_end self.now group exchange }
     {
         let row = self.groups.at(group.index())?;
-        if row.a == exchange {
-            Some(row.b)
-        } else if row.b == exchange {
-            Some(row.a)
+        let far = if row.a == exchange { row.b } else { row.a };
+        if (row.a == exchange) | (row.b == exchange) {
+            Some(far)
         } else {
             None
         }
     }
 
-    /// Whether the exchange may seize the group: its first end may, and of a both-way group the other end too.
+    /// Whether the exchange may seize the group: its first end may, and of a both-way group the other end too. Both are looked at, since which of them it is
+    /// cannot be foreseen.
     #[inline(always)]
     pub fn may_seize(&self, group: GroupId, exchange: ExchangeId) -> bool
         ensures { result ≡ may_seize self.now group exchange }
     {
         match self.groups.at(group.index()) {
             Some(row) => {
-                row.a == exchange || (row.direction == Direction::BothWay && row.b == exchange)
+                (row.a == exchange) | ((row.direction == Direction::BothWay) & (row.b == exchange))
             }
             None => false,
         }

@@ -1,5 +1,5 @@
 // What the words of a route's groups come to, in one pass over them.
-ghost use Rattle.std.specs.Prelude.{◌≡◌, ◌||◌, ◌++◌, ◌∷◌, [], not, false, nat_le, length};
+ghost use Rattle.std.specs.Prelude.{◌≡◌, ◌||◌, ◌++◌, ◌∷◌, [], Some, IfSome, not, false, nat_le, length};
 ghost use Rattle.std.specs.Option.{option_map_or};
 ghost use Rattle.tx_text.specs.Words.{is_name};
 ghost use Rattle.tx_plan.specs.Circuits.{may_seize};
@@ -7,11 +7,9 @@ ghost use Rattle.tx_plan.specs.Declaring.{has_group, is_not_outgoing, holds_at, 
 ghost use Rattle.tx_plan.specs.inner.Seen.{IsSeen};
 
 use crate::entries::group_of;
-use crate::group_list::GroupList;
-use crate::ids::GroupId;
-use crate::pair::Pair;
 use crate::plan::Plan;
 use std::alloc::Allocator;
+use tx_entries::{GroupId, GroupList, Pair};
 use tx_text::{Words, is_name};
 
 /// What a route's words come to.
@@ -63,9 +61,48 @@ fn is_closed<A: Allocator>(plan: &Plan<A>, pair: &Option<Pair>, group: Option<Gr
     }
 }
 
-/// What the words come to for a pair.
+/// The groups that the words name, where each names a group that the pair's exchange may seize, and no more than 16 stand there. It stops at the first word
+/// where that fails, and tells nothing of the words then.
+#[inline(always)]
+fn outgoing<A: Allocator>(plan: &Plan<A>, pair: &Pair, words: Words<'_>) -> Option<GroupList>
+    ensures { IfSome result (λ list. IsSeen plan.now (Some pair.now) words.entry (record { bad = false; unknown = false; not_outgoing = false; many = false; list = list })) }
+{
+    let mut rest = words;
+    let mut list = GroupList::new();
+    'words: loop {
+        match rest.next() {
+            None => return Some(list),
+            Some(word) => {
+                let group = group_of(plan, word)?;
+                if !plan.may_seize(group, pair.exchange) || !list.keep(group) {
+                    return None;
+                }
+            }
+        }
+    }
+}
+
+/// What the words come to for a pair. A list as most are, of outgoing groups alone, is told by a shorter loop.
 #[inline(always)]
 pub(crate) fn see<A: Allocator>(plan: &Plan<A>, pair: &Option<Pair>, words: Words<'_>) -> Seen
+    ensures { IsSeen plan.now pair.now words.entry result }
+{
+    if let Some(pair) = pair {
+        if let Some(list) = outgoing(plan, pair, words.again()) {
+            return Seen {
+                bad: false,
+                unknown: false,
+                not_outgoing: false,
+                many: false,
+                list,
+            };
+        }
+    }
+    see_each(plan, pair, words)
+}
+
+/// The same, of any words.
+fn see_each<A: Allocator>(plan: &Plan<A>, pair: &Option<Pair>, words: Words<'_>) -> Seen
     ensures { IsSeen plan.now pair.now words.entry result }
 {
     let mut rest = words;

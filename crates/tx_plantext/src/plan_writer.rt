@@ -11,7 +11,7 @@ ghost use Rattle.tx_plantext.specs.PlanWritten.{plan_written, head_of, exchange_
 use itoa::Buffer;
 use std::alloc::Allocator;
 use tx_plan::{Direction, GroupId, Plan};
-use tx_text::{Sink, WriteFault, write_parts};
+use tx_text::{Sink, WriteFault, write_text};
 
 /// Writes the text of a plan: the header, a line for each entry of the six lists in order of declaration, and END.
 ///
@@ -37,13 +37,6 @@ fn write_whole<A: Allocator, W: Sink>(plan: &Plan<A>, sink: &mut W) -> Result<()
     write_routes(plan, sink)?;
     write_bars(plan, sink)?;
     write_text(&[b"END\n"], sink)
-}
-
-/// Writes the parts of a text, one after another.
-fn write_text<W: Sink>(parts: &[&[u8]], sink: &mut W) -> Result<(), WriteFault>
-    ensures { Wrote (W.taken sink.old) (W.taken sink.new) (W.failed sink.old) (W.failed sink.new) (flat_map (λ p. p.now) parts.now) result }
-{
-    write_parts(parts, sink)
 }
 
 fn write_head<W: Sink>(bars: bool, sink: &mut W) -> Result<(), WriteFault>

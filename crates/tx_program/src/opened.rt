@@ -1,5 +1,6 @@
 // Commands whose files are open.
 ghost use Rattle.std.specs.Prelude.{◌≤◌};
+ghost use Rattle.tx_words.specs.declared.command.Command.TheVariants.{Run, Draw};
 ghost use Rattle.tx_words.specs.Commands.{IsInRange};
 
 use crate::folder::Folder;
@@ -15,6 +16,15 @@ pub(crate) struct Bounds {
     pub spare: u8,
     ghost limited: { limit ≤ 62 },
     ghost spared: { spare ≤ 15 },
+}
+
+impl Bounds {
+    fn of(limit: u8, spare: u8) -> Bounds
+        requires limit { limit ≤ 62 }
+        requires spare { spare ≤ 15 }
+    {
+        Bounds { limit, spare }
+    }
 }
 
 /// Where what shows the verdict of an audit is to be kept.
@@ -72,6 +82,22 @@ fn open<F: Folder>(folder: &F, name: &str) -> Result<F::Input, JobFault> {
     folder.open(name).map_err(|_| JobFault::Read)
 }
 
+/// Opens two files, the first one first.
+fn open_both<F: Folder>(
+    folder: &F,
+    first: &str,
+    second: &str,
+) -> Result<(F::Input, F::Input), JobFault> {
+    let first = open(folder, first)?;
+    match open(folder, second) {
+        Ok(second) => Ok((first, second)),
+        Err(fault) => {
+            drop(first);
+            Err(fault)
+        }
+    }
+}
+
 impl<'a, I: Read + Drop, R: Read + Drop> Opened<'a, I, R> {
     /// Opens the files of a command, in the order plan, certificate, script.
     pub(crate) fn new<F: Folder<Input = R>>(
@@ -86,67 +112,17 @@ impl<'a, I: Read + Drop, R: Read + Drop> Opened<'a, I, R> {
             Command::Run {
                 plan,
                 script,
-                checked: None,
-            } => Ok(Opened::Run {
-                plan: open(folder, plan.as_str())?,
-                script: open(folder, script.as_str())?,
-            }),
-            Command::Run {
-                plan,
-                script,
-                checked: Some((cert, limit, spare)),
-            } => Ok(Opened::Checked {
-                plan: open(folder, plan.as_str())?,
-                cert: open(folder, cert.as_str())?,
-                script: open(folder, script.as_str())?,
-                bounds: Bounds {
-                    limit: *limit,
-                    spare: *spare,
-                },
-            }),
+                checked,
+            } => Opened::run(folder, plan, script, checked),
             Command::Check {
                 plan,
                 cert,
                 limit,
                 spare,
-            } => Ok(Opened::Check {
-                plan: open(folder, plan.as_str())?,
-                cert: open(folder, cert.as_str())?,
-                bounds: Bounds {
-                    limit: *limit,
-                    spare: *spare,
-                },
-            }),
-            Command::Codes { plan } => Ok(Opened::Codes {
-                plan: open(folder, plan.as_str())?,
-            }),
-            Command::Grade { plan } => Ok(Opened::Grade {
-                plan: open(folder, plan.as_str())?,
-            }),
-            Command::Draw { plan, routes: None } => Ok(Opened::Draw {
-                plan: open(folder, plan.as_str())?,
-                routes: None,
-            }),
-            Command::Draw {
-                plan,
-                routes: Some((code, None)),
-            } => Ok(Opened::Draw {
-                plan: open(folder, plan.as_str())?,
-                routes: Some((code.as_str(), None)),
-            }),
-            Command::Draw {
-                plan,
-                routes: Some((code, Some((limit, spare)))),
-            } => Ok(Opened::Draw {
-                plan: open(folder, plan.as_str())?,
-                routes: Some((
-                    code.as_str(),
-                    Some(Bounds {
-                        limit: *limit,
-                        spare: *spare,
-                    }),
-                )),
-            }),
+            } => Opened::check(folder, plan, cert, Bounds::of(*limit, *spare)),
+            Command::Codes { plan } => Opened::codes(folder, plan),
+            Command::Grade { plan } => Opened::grade(folder, plan),
+            Command::Draw { plan, routes } => Opened::draw(folder, plan, routes),
             Command::Explain { entry } => Ok(Opened::Explain { entry: *entry }),
             Command::Audit {
                 plan,
@@ -154,17 +130,100 @@ impl<'a, I: Read + Drop, R: Read + Drop> Opened<'a, I, R> {
                 spare,
                 cert,
                 counter,
-            } => Ok(Opened::Audit {
-                plan: open(folder, plan.as_str())?,
-                bounds: Bounds {
-                    limit: *limit,
-                    spare: *spare,
-                },
-                keep: Keep {
+            } => {
+                let keep = Keep {
                     cert: cert.as_ref().map(|name| name.as_str()),
                     counter: counter.as_ref().map(|name| name.as_str()),
-                },
-            }),
+                };
+                Opened::audit(folder, plan, Bounds::of(*limit, *spare), keep)
+            }
         }
+    }
+
+    fn run<F: Folder<Input = R>>(
+        folder: &F,
+        plan: &String,
+        script: &String,
+        checked: &Option<(String, u8, u8)>,
+    ) -> Result<Opened<'a, I, R>, JobFault>
+        requires { IsInRange (Run plan.now script.now checked.now) }
+    {
+        match checked {
+            None => {
+                let (plan, script) = open_both(folder, plan.as_str(), script.as_str())?;
+                Ok(Opened::Run { plan, script })
+            }
+            Some((cert, limit, spare)) => {
+                let bounds = Bounds::of(*limit, *spare);
+                let (plan, cert) = open_both(folder, plan.as_str(), cert.as_str())?;
+                match open(folder, script.as_str()) {
+                    Ok(script) => Ok(Opened::Checked {
+                        plan,
+                        cert,
+                        script,
+                        bounds,
+                    }),
+                    Err(fault) => {
+                        drop(cert);
+                        drop(plan);
+                        Err(fault)
+                    }
+                }
+            }
+        }
+    }
+
+    fn check<F: Folder<Input = R>>(
+        folder: &F,
+        plan: &String,
+        cert: &String,
+        bounds: Bounds,
+    ) -> Result<Opened<'a, I, R>, JobFault> {
+        let (plan, cert) = open_both(folder, plan.as_str(), cert.as_str())?;
+        Ok(Opened::Check { plan, cert, bounds })
+    }
+
+    fn codes<F: Folder<Input = R>>(
+        folder: &F,
+        plan: &String,
+    ) -> Result<Opened<'a, I, R>, JobFault> {
+        let plan = open(folder, plan.as_str())?;
+        Ok(Opened::Codes { plan })
+    }
+
+    fn grade<F: Folder<Input = R>>(
+        folder: &F,
+        plan: &String,
+    ) -> Result<Opened<'a, I, R>, JobFault> {
+        let plan = open(folder, plan.as_str())?;
+        Ok(Opened::Grade { plan })
+    }
+
+    fn draw<F: Folder<Input = R>>(
+        folder: &F,
+        plan: &String,
+        routes: &'a Option<(String, Option<(u8, u8)>)>,
+    ) -> Result<Opened<'a, I, R>, JobFault>
+        requires { IsInRange (Draw plan.now routes.now) }
+    {
+        let routes = match routes {
+            None => None,
+            Some((code, None)) => Some((code.as_str(), None)),
+            Some((code, Some((limit, spare)))) => {
+                Some((code.as_str(), Some(Bounds::of(*limit, *spare))))
+            }
+        };
+        let plan = open(folder, plan.as_str())?;
+        Ok(Opened::Draw { plan, routes })
+    }
+
+    fn audit<F: Folder<Input = R>>(
+        folder: &F,
+        plan: &String,
+        bounds: Bounds,
+        keep: Keep<'a>,
+    ) -> Result<Opened<'a, I, R>, JobFault> {
+        let plan = open(folder, plan.as_str())?;
+        Ok(Opened::Audit { plan, bounds, keep })
     }
 }

@@ -1,5 +1,8 @@
 // The program, from its words to its exit status.
+ghost use Rattle.std.specs.Prelude.{◌≡◌};
 ghost use Rattle.tx_words.specs.Commands.{IsInRange};
+ghost use Rattle.tx_jobs.specs.JobFaults.{status_of};
+ghost use Rattle.tx_program.specs.Statuses.{AskNothing, IsRefusedWith};
 
 use crate::folder::Folder;
 use crate::perform::perform;
@@ -26,7 +29,9 @@ pub fn run_words<F: Folder, I: Read + Drop, O: Write + Drop, E: Write + Drop>(
     alloc: Global,
     words: &[&str],
     ends: Ends<'_, F, I, O, E>,
-) -> u8 {
+) -> u8
+    ensures refused { AskNothing words.now → IsRefusedWith words.now result }
+{
     match read_command(alloc, words) {
         Ok(command) => run_command(alloc, &command, ends),
         Err(fault) => {
@@ -68,7 +73,9 @@ pub fn run_command<
 }
 
 /// Tells a fault by its line, and answers its exit status.
-fn tell_fault<E: Write + Drop>(fault: &JobFault, errors: E) -> u8 {
+fn tell_fault<E: Write + Drop>(fault: &JobFault, errors: E) -> u8
+    ensures { result ≡ status_of fault.now }
+{
     let _ = write_fault(fault, &mut ToWrite::new(errors));
     fault.status()
 }

@@ -1,4 +1,8 @@
 // What the user is told of refused words.
+ghost use Rattle.std.specs.Prelude.{◌≡◌};
+ghost use Rattle.std.specs.IoError.{error_kind};
+ghost use Rattle.tx_program.specs.Statuses.{status_of_arguments};
+
 use std::io;
 use std::io::Write;
 use tx_words::WordsFault;
@@ -34,8 +38,10 @@ pub(crate) fn tell_words<O: Write, E: Write>(
     }
 }
 
-/// Tells why the arguments of the program could not be taken as words, and answers the exit status.
-pub fn refuse_arguments<E: Write>(why: &io::Error, errors: &mut E) -> u8 {
+/// Tells why the arguments of the program could not be taken as words, and answers the exit status: 4 for want of memory, else 64.
+pub fn refuse_arguments<E: Write>(why: &io::Error, errors: &mut E) -> u8
+    ensures { result ≡ status_of_arguments (error_kind why.now) }
+{
     if why.kind() == io::ErrorKind::OutOfMemory {
         let _ = errors.write_all(b"telexplan: no memory\n");
         4

@@ -5,7 +5,7 @@ use Rattle.std.proofs.lemmas.List.{map-append}
 use Rattle.tx_plan.specs.Rules.{EachPair}
 use Rattle.tx_plan.specs.Among.{Among}
 use Rattle.tx_plan.proofs.Among.{among_left, among_right, among_cases}
-use Rattle.tx_plan.proofs.Lists.{pairs_put}
+use Rattle.tx_plan.proofs.ByPlace.{pairs_put}
 use Rattle.tx_rank.specs.declared.finding.Finding.{Finding}
 use Rattle.tx_rank.specs.declared.finding.Finding.TheVariants.{Short}
 use Rattle.tx_rank.specs.Walks.{Net, Walk, end_of, IsWalk, IsShort}
@@ -49,12 +49,12 @@ module _ {A : Type 0} (n : Net) (code spare : ℕ) where
         record {
           walks = b.walks ++ w ∷ [];
           added = ap (λ l. l ++ Short code w ∷ []) b.added ∙ append_assoc old (map (Short code) b.walks) (Short code w ∷ []) ∙ ap (λ l. old ++ l) (sym (map-append (Short code) b.walks (w ∷ [])));
-          each = λ v m. elim (among_cases v b.walks (w ∷ []) m) [ inl a ↦ b.each v a | inr c ↦ elim c [ inl q ↦ subst (λ (k : Walk). IsShort n spare k.start k.steps) (sym q) is | inr z ↦ absurd z ] ];
+          each = λ v m. elim (among_cases v b.walks (w ∷ []) m) [ inl a ↦ b.each v a | inr c ↦ elim c [ inl q ↦ subst (λ (k : Walk). IsShort n spare k.start k.steps) q is | inr z ↦ absurd z ] ];
           order = subst (EachPair (λ x y. x < y)) (sym f) (pairs_put (λ x y. x < y) (map end_at b.walks) (end_at w) b.order (among_all (λ x. x < end_at w) (map end_at b.walks) (λ y m. let k = b.below y m in omega arith)));
           below = λ y m. elim (among_cases y (map end_at b.walks) (end_at w ∷ []) (subst (Among y) f m)) [ inl a ↦ let k = b.below y a in omega arith | inr c ↦ elim c [ inl q ↦ omega arith | inr z ↦ absurd z ] ];
           all = λ x steps s h. subst (Among (end_of x steps)) (sym f) (
               elim (eqb (end_of x steps) i) as (λ t. eqb (end_of x steps) i ≡ t → Among (end_of x steps) (map end_at b.walks ++ end_at w ∷ [])) [
-                | true ↦ λ q. among_right (end_of x steps) (map end_at b.walks) (end_at w ∷ []) (inl (eqb-true (end_of x steps) i q ∙ sym at))
+                | true ↦ λ q. among_right (end_of x steps) (map end_at b.walks) (end_at w ∷ []) (inl (at ∙ sym (eqb-true (end_of x steps) i q)))
                 | false ↦ λ q. let d = eqb-false (end_of x steps) i q in among_left (end_of x steps) (map end_at b.walks) (end_at w ∷ []) (b.all x steps s (omega arith))
               ] refl
               );

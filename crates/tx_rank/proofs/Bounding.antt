@@ -1,18 +1,19 @@
 -- Bounds of what holds together, and those that ranks by height show.
-use Rattle.std.proofs.Common.{◌≡◌, ◌≢◌, ℕ, ◌+◌, ◌-◌, ◌<◌, ◌≤◌, ◌⊎◌, inl, inr, max, min, true, false, nat_lt, unwrap_or, eqb, eqb-true, List, [], ◌∷◌, ◌++◌, length, Option, Some, None, refl, sym, ap, subst, ◌∙◌, arith, length-append}
+use Rattle.std.proofs.Common.{◌≡◌, ◌≢◌, ℕ, zero, suc, ◌+◌, ◌-◌, ◌<◌, ◌≤◌, ◌⊎◌, inl, inr, max, min, true, false, nat_lt, unwrap_or, eqb, eqb-true, List, [], ◌∷◌, ◌++◌, length, Option, Some, None, refl, sym, ap, subst, ◌∙◌, arith, length-append}
 use Rattle.std.specs.Prelude.{◌↔◌, slice_get, if◌then◌else◌}
-use Rattle.std.proofs.lemmas.Bool.{eqb-false, and_parts, ltb-true}
+use Rattle.std.proofs.lemmas.Bool.{cases_lt, eqb-false, and_parts, ltb-true}
 use Rattle.tx_plan.specs.Plan.{Plan}
 use Rattle.tx_plan.specs.Certified.{Ranks, IsCertified}
 use Rattle.tx_cert.specs.Certificate.{Certificate, rank_at, has_pair, place_of}
 use Rattle.tx_rank.specs.declared.bounds.Bounds.{Bounds}
-use Rattle.tx_rank.specs.Walks.{Net, net_of}
+use Rattle.tx_rank.specs.declared.finding.Finding.TheVariants.{Short, Long}
+use Rattle.tx_rank.specs.Walks.{Net, net_of, Goes, end_of, IsShort, IsLong}
 use Rattle.tx_rank.specs.Heights.{RanksByHeight, AreHeights}
 use Rattle.tx_rank.specs.Nets.{Certifies}
-use Rattle.tx_rank.specs.Grades.{AreBounds, CanBeCertified, CanBeCertifiedFor, AreCodeBounds, Suits}
-use Rattle.tx_rank.proofs.Ranks.{Falls, all_down}
+use Rattle.tx_rank.specs.Grades.{AreBounds, CanBeCertified, CanBeCertifiedFor, NothingIsWrong, AreCodeBounds, Suits}
+use Rattle.tx_rank.proofs.Ranks.{Falls, all_down, once_down}
 use Rattle.tx_rank.proofs.Origins.{at_push}
-use Rattle.tx_rank.proofs.Certifying.{certifies_code, certified_codes}
+use Rattle.tx_rank.proofs.Certifying.{certifies_code, certified_codes, none_true}
 
 -- TOGETHER
 
@@ -33,6 +34,17 @@ module _ (P : ℕ → ℕ → Type 0) where
     bounds_same b p same = record { few = p.few; exactly = λ l s h. (λ q. (p.exactly l s h).0 ((same l s).1 q), λ k. (same l s).0 ((p.exactly l s h).1 k)) }
 
 -- ONE CODE
+
+-- a way, and one on from its end
+joined_goes : (n : Net) (x : ℕ) (way rest : List (ℕ × ℕ)) → Goes n x way → Goes n (end_of x way) rest → Goes n x (way ++ rest)
+joined_goes n x [] rest g h = h
+joined_goes n x (s ∷ way) rest g h = (g.0, g.1, g.2, joined_goes n s.1 way rest g.3 h)
+
+-- the first k steps of a longer way end before the home
+front_goes : (n : Net) (k x : ℕ) (way : List (ℕ × ℕ)) → Goes n x way → k < length way → (front : List (ℕ × ℕ)) × Goes n x front × (end_of x front ≢ n.home) × (length front ≡ k)
+front_goes n k x [] g l = absurd (omega arith)
+front_goes n zero x (s ∷ way) g l = ([], tt, g.0, refl)
+front_goes n (suc k) x (s ∷ way) g l = let f = front_goes n k s.1 way g.3 (omega arith) in (s ∷ f.0, (g.0, g.1, g.2, f.1), f.2, ap suc f.3)
 
 -- what the exchanges before place i ask for
 abbrev pub SuitsBelow : Net → (ℕ → Option ℕ) → (i limit spare : ℕ) → Type 0
@@ -80,6 +92,30 @@ module _ (n : Net) (ranks : ℕ → Option ℕ) where
           lower = certified.lower;
         }
 
+    -- that is so where no walk is short or long
+    pub clear_suits : (l s : ℕ) → ((x : ℕ) (steps : List (ℕ × ℕ)) → IsShort n s x steps → ⊥) → ((x : ℕ) (steps : List (ℕ × ℕ)) → IsLong n l x steps → ⊥) → (x : ℕ) → Suits n ranks x l s
+    clear_suits l s no_short no_long x r ranked away =
+        let falls : Falls n ranks = record { lower = certified.lower } in
+        let w = heights.ranked x r ranked away in
+        let o = certified.origins w.start w.walk.origin in
+        let h = heights.heights x r ranked in
+        let way = joined_goes n w.start w.steps h.steps w.walk.goes (subst (λ y. Goes n y h.steps) (sym w.ends) h.goes) in (
+          elim (cases_lt (l + 1) r) [
+            | inl over ↦
+                let long = length-append w.steps h.steps in
+                let count = h.count in
+                let f = front_goes n (l + 1) w.start (w.steps ++ h.steps) way (omega arith) in
+                absurd (no_long w.start f.0 (record { walk = record { origin = w.walk.origin; goes = f.1 }; once = once_down n ranks falls w.start o.0 f.0 o.1 f.1; away = f.2; long = f.3 }))
+            | inr within ↦ within
+          ],
+          elim (cases_lt s (length (n.list x))) [
+            | inl enough ↦ enough
+            | inr few ↦
+                let once = once_down n ranks falls w.start o.0 w.steps o.1 w.walk.goes in
+                absurd (no_short w.start w.steps (record { walk = w.walk; once = once; away = λ e. away (sym w.ends ∙ e); few = subst (λ y. length (n.list y) < s + 1) (sym w.ends) (omega arith) }))
+          ],
+        )
+
     pub code_bounds : (i : ℕ) (b : Bounds) → ((x r : ℕ) → ranks x ≡ Some r → x < i) → AreBounds (SuitsBelow n ranks i) b → AreBounds (λ l s. (other : ℕ → Option ℕ) × Certifies n other l s) b
     code_bounds i b within p =
         bounds_same (SuitsBelow n ranks i) (λ l s. (other : ℕ → Option ℕ) × Certifies n other l s) b p
@@ -113,6 +149,13 @@ module _ (p : Plan) (ranks : Ranks) where
         let own = certifies_code p ranks 255 0 certified c h in
         suits_certified (net_of p c) (ranks c) (heights c h) own l s (certified_suits (net_of p c) (ranks c) (heights c h) own k.0 l s k.1)
 
+    -- they do so where no finding is true
+    clear_code : {A : Type 0} (c : ℕ) → c < length p.codes → (l s : ℕ) → NothingIsWrong A p l s → Certifies (net_of p c) (ranks c) l s
+    clear_code c h l s none =
+        let own = certifies_code p ranks 255 0 certified c h in
+        suits_certified (net_of p c) (ranks c) (heights c h) own l s
+        (clear_suits (net_of p c) (ranks c) (heights c h) own l s (λ x steps i. none (Short c (record { start = x; steps = steps })) (h, i)) (λ x steps i. none (Long c (record { start = x; steps = steps })) (h, i)))
+
     pub graded_next : (c : ℕ) (a b new : Bounds) (codes : List (ℕ × Bounds)) → c < length p.codes → IsGradedBelow p ranks c a codes → AreBounds (CanBeCertifiedFor p c) b
         → new.limit ≡ max a.limit b.limit → new.spare ≡ min a.spare b.spare → IsGradedBelow p ranks (c + 1) new (codes ++ (c, b) ∷ [])
     graded_next c a b new codes within g q limit spare =
@@ -139,6 +182,14 @@ module _ (p : Plan) (ranks : Ranks) where
       graded_plan =
           bounds_same (CertifiesBelow p ranks c) (CanBeCertified p) b g.together
           (λ l s. (λ k. (ranks, certified_codes p ranks l s certified.no_prefix (λ d h. k d (omega arith))), λ k d h. best d (omega arith) l s (k.0 d, certifies_code p k.0 l s k.1 d (omega arith))))
+
+      pub graded_clear : (A : Type 0) → AreBounds (NothingIsWrong A p) b
+      graded_clear A =
+          bounds_same (CertifiesBelow p ranks c) (NothingIsWrong A p) b g.together
+          (λ l s. (
+            λ k. none_true p ranks l s (certified_codes p ranks l s certified.no_prefix (λ d h. k d (omega arith))),
+            λ none d h. clear_code {A = A} d (omega arith) l s none,
+          ))
 
       pub graded_codes : AreCodeBounds p codes
       graded_codes = record { long = g.long ∙ all; each = g.each }

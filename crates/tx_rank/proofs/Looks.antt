@@ -12,7 +12,7 @@ use Rattle.tx_rank.specs.declared.mark.Mark.{Mark}
 
 pub among_at : {A : Type 0} (xs : List A) (i : ℕ) (x : A) → slice_get xs i ≡ Some x → Among x xs
 among_at [] i x h = absurd (let bad : ⊥ = cc in bad)
-among_at (y ∷ xs) zero x h = let same : x ≡ y = cc in inl same
+among_at (y ∷ xs) zero x h = let same : y ≡ x = cc in inl same
 among_at (y ∷ xs) (suc i) x h = inr (among_at xs i x h)
 
 -- what was read at a place of a list
@@ -32,7 +32,7 @@ module _ (n : Net) (marks : List Mark) (x : ℕ) where
       record {
         lower = λ h m. elim (among_cases h groups (g ∷ []) m) [
           | inl l ↦ let low = t.lower h l in record { to = low.to; rank = low.rank; leads = low.leads; ranked = low.ranked; below = let k = low.below in omega arith }
-          | inr q ↦ elim q [ inl e ↦ record { to = y; rank = r; leads = ap (λ k. n.far k x) e ∙ leads; ranked = ranked; below = omega arith } | inr f ↦ absurd f ]
+          | inr q ↦ elim q [ inl e ↦ record { to = y; rank = r; leads = ap (λ k. n.far k x) (sym e) ∙ leads; ranked = ranked; below = omega arith } | inr f ↦ absurd f ]
         ];
         tight = elim either [
           | inl e ↦ elim t.tight [ inl z ↦ inl (e ∙ z) | inr q ↦ inr (q.0, q.1, among_left q.0 groups (g ∷ []) q.2, q.3, q.4 ∙ ap (λ k. Some k) (sym e)) ]

@@ -8,7 +8,7 @@ use Rattle.tx_plan.specs.Plan.{Plan, Code, Group, Route, home_of}
 use Rattle.tx_plan.specs.Routes.{route_list, is_origin, is_origin_for, is_barred}
 use Rattle.tx_plan.specs.Circuits.{other_end, far_end, may_seize, is_both}
 use Rattle.tx_plan.specs.Rules.{IsPlan, IsCode, IsRange, IsGroup, IsRoute}
-use Rattle.tx_plan.specs.declared.range.LineRange.{LineRange}
+use Rattle.tx_entries.specs.declared.range.LineRange.{LineRange}
 use Rattle.tx_plan.specs.Among.{Among}
 use Rattle.tx_plan.proofs.ByPlace.{entry_at}
 use Rattle.tx_rank.specs.Walks.{net_of}
@@ -21,7 +21,7 @@ module _ {A : Type 0} where
   found_among t [] z h = cc
   found_among t (x ∷ xs) z h =
       elim (t x) as (λ b. t x ≡ b → cond b (Some x) (find t xs) ≡ Some z → Among z (x ∷ xs) × (t z ≡ true)) [
-        | true ↦ λ tx e. let same : z ≡ x = cc in (inl same, ap t same ∙ tx)
+        | true ↦ λ tx e. let same : x ≡ z = cc in (inl same, ap t (sym same) ∙ tx)
         | false ↦ λ tx e. let i = found_among t xs z e in (inr i.0, i.1)
       ] refl h
 

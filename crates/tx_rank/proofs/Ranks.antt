@@ -37,7 +37,7 @@ module _ (n : Net) (ranks : ℕ → Option ℕ) (falls : Falls n ranks) where
   before_down x r [] z ranked go m = absurd m
   before_down x r (s ∷ steps) z ranked go (inl e) =
       let all = all_down x r (s ∷ steps) ranked go in
-      (r, ap ranks e ∙ ranked, record { rank = all.rank; ranked = all.ranked; within = let a = all.within in omega arith })
+      (r, ap ranks (sym e) ∙ ranked, record { rank = all.rank; ranked = all.ranked; within = let a = all.within in omega arith })
   before_down x r (s ∷ steps) z ranked go (inr h) =
       let one = one_down x r s.0 s.1 ranked go.0 go.1 go.2 in before_down s.1 one.rank steps z one.ranked go.3 h
 
@@ -58,8 +58,8 @@ module _ (n : Net) (ranks : ℕ → Option ℕ) (falls : Falls n ranks) where
       once_cons x (passed s.1 steps) no (once_down s.1 one.rank steps one.ranked go.3)
     where
       passed_down : (x r : ℕ) (steps : List (ℕ × ℕ)) (z : ℕ) → ranks x ≡ Some r → Goes n x steps → Among z (passed x steps) → (m : ℕ) × (ranks z ≡ Some m) × (m ≤ r)
-      passed_down x r [] z ranked go m = elim m [ inl e ↦ (r, ap ranks e ∙ ranked, omega arith) | inr b ↦ absurd b ]
-      passed_down x r (s ∷ steps) z ranked go (inl e) = (r, ap ranks e ∙ ranked, omega arith)
+      passed_down x r [] z ranked go m = elim m [ inl e ↦ (r, ap ranks (sym e) ∙ ranked, omega arith) | inr b ↦ absurd b ]
+      passed_down x r (s ∷ steps) z ranked go (inl e) = (r, ap ranks (sym e) ∙ ranked, omega arith)
       passed_down x r (s ∷ steps) z ranked go (inr h) =
           let one = one_down x r s.0 s.1 ranked go.0 go.1 go.2 in
           let i = passed_down s.1 one.rank steps z one.ranked go.3 h in

@@ -104,11 +104,11 @@ module _ (n : Net) (marks : List Mark) (start : ℕ) where
         once = subst AllDiffer e (once_push (passed start steps) s.1 h.once apart);
         on = λ y mem. elim (among_cases y (passed start steps) (s.1 ∷ []) (subst (λ (l : List ℕ). Among y l) (sym e) mem)) [
           | inl l ↦ set_other marks s.1 y Open (λ (q : s.1 ≡ y). apart (subst (λ (k : ℕ). Among k (passed start steps)) (sym q) l)) ∙ h.on y l
-          | inr r ↦ elim r [ inl q ↦ ap (slice_get (set marks s.1 Open)) q ∙ set_same marks s.1 Unseen Open was | inr b ↦ absurd b ]
+          | inr r ↦ elim r [ inl q ↦ ap (slice_get (set marks s.1 Open)) (sym q) ∙ set_same marks s.1 Unseen Open was | inr b ↦ absurd b ]
         ];
         only = λ y open'. subst (λ (l : List ℕ). Among y l) e (
             elim (eqb s.1 y) as (λ t. eqb s.1 y ≡ t → Among y (passed start steps ++ s.1 ∷ [])) [
-              | true ↦ λ q. among_right y (passed start steps) (s.1 ∷ []) (inl (sym (eqb-true s.1 y q)))
+              | true ↦ λ q. among_right y (passed start steps) (s.1 ∷ []) (inl (eqb-true s.1 y q))
               | false ↦ λ q. among_left y (passed start steps) (s.1 ∷ []) (h.only y (sym (set_other marks s.1 y Open (eqb-false s.1 y q)) ∙ open'))
             ] refl
             );
@@ -123,9 +123,9 @@ module _ (n : Net) (marks : List Mark) (start : ℕ) where
       record {
         walk = record { origin = origin; goes = tt };
         once = (tt, tt);
-        on = λ y mem. elim mem [ inl q ↦ ap (slice_get (set marks start Open)) q ∙ set_same marks start Unseen Open was | inr b ↦ absurd b ];
+        on = λ y mem. elim mem [ inl q ↦ ap (slice_get (set marks start Open)) (sym q) ∙ set_same marks start Unseen Open was | inr b ↦ absurd b ];
         only = λ y open'. elim (eqb start y) as (λ t. eqb start y ≡ t → Among y (start ∷ [])) [
-          | true ↦ λ q. inl (sym (eqb-true start y q))
+          | true ↦ λ q. inl (eqb-true start y q)
           | false ↦ λ q. absurd (none y (sym (set_other marks start y Open (eqb-false start y q)) ∙ open'))
         ] refl;
       }
@@ -189,7 +189,7 @@ module _ (n : Net) (marks : List Mark) (start : ℕ) where
           | true ↦ λ e. let same = eqb-true s.1 y e in let z = ap (slice_get (set marks s.1 (Ranked (suc top)))) same in let w = set_same marks s.1 Open (Ranked (suc top)) was in let bad : ⊥ = cc in absurd bad
           | false ↦ λ e. elim (among_cases y (passed start steps) (s.1 ∷ []) (subst (λ (l : List ℕ). Among y l) (passed_push start steps s) (h.only y (sym (set_other marks s.1 y (Ranked (suc top)) (eqb-false s.1 y e)) ∙ open')))) [
             | inl l ↦ l
-            | inr r ↦ elim r [ inl q ↦ absurd (eqb-false s.1 y e (sym q)) | inr b ↦ absurd b ]
+            | inr r ↦ elim r [ inl q ↦ absurd (eqb-false s.1 y e q) | inr b ↦ absurd b ]
           ]
         ] refl;
       }
@@ -202,7 +202,7 @@ module _ (n : Net) (marks : List Mark) (start : ℕ) where
   hand_done top h y open' =
       elim (eqb start y) as (λ b. eqb start y ≡ b → ⊥) [
         | true ↦ λ e. let same = eqb-true start y e in let z = ap (slice_get (set marks start (Ranked (suc top)))) same in let w = set_same marks start Open (Ranked (suc top)) (h.on start (inl refl)) in let bad : ⊥ = cc in bad
-        | false ↦ λ e. elim (h.only y (sym (set_other marks start y (Ranked (suc top)) (eqb-false start y e)) ∙ open')) [ inl q ↦ eqb-false start y e (sym q) | inr b ↦ b ]
+        | false ↦ λ e. elim (h.only y (sym (set_other marks start y (Ranked (suc top)) (eqb-false start y e)) ∙ open')) [ inl q ↦ eqb-false start y e q | inr b ↦ b ]
       ] refl
 
 pub end_within : (n : Net) (marks : List Mark) (start : ℕ) (steps : List (ℕ × ℕ)) → IsMarked n marks → IsInHand n marks start steps → end_of start steps < n.exchanges

@@ -33,12 +33,12 @@ all_distinct (x ∷ xs) d = (each x xs d.0, all_distinct xs d.1)
 
 any_among : (q : ℕ) (xs : List ℕ) → list_any (eqb q) xs ≡ true → Among q xs
 any_among q [] h = absurd (false≢true h)
-any_among q (x ∷ xs) h = elim (or_cases (eqb q x) (list_any (eqb q) xs) h) [ inl a ↦ inl (eqb-true q x a) | inr b ↦ inr (any_among q xs b) ]
+any_among q (x ∷ xs) h = elim (or_cases (eqb q x) (list_any (eqb q) xs) h) [ inl a ↦ inl (sym (eqb-true q x a)) | inr b ↦ inr (any_among q xs b) ]
 
 module _ (n : Net) (net : IsNet n) where
   passed_below : (x : ℕ) (steps : List (ℕ × ℕ)) → Goes n x steps → x < n.exchanges → (u : ℕ) → Among u (passed x steps) → u < n.exchanges
-  passed_below x [] goes h u m = elim m [ inl e ↦ subst (λ k. k < n.exchanges) (sym e) h | inr b ↦ absurd b ]
-  passed_below x (s ∷ steps) goes h u (inl e) = subst (λ k. k < n.exchanges) (sym e) h
+  passed_below x [] goes h u m = elim m [ inl e ↦ subst (λ k. k < n.exchanges) e h | inr b ↦ absurd b ]
+  passed_below x (s ∷ steps) goes h u (inl e) = subst (λ k. k < n.exchanges) e h
   passed_below x (s ∷ steps) goes h u (inr m) =
       let l = net.leads x s.0 goes.1 in
       let far = l.1 in

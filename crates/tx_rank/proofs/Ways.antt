@@ -10,7 +10,7 @@ use Rattle.tx_rank.specs.Walks.{Net, AllDiffer, Goes, end_of, before_end, passed
 
 pub all_among : {A : Type 0} (P : A → Type 0) (xs : List A) (x : A) → AllByRecursion P xs → Among x xs → P x
 all_among P [] x a m = absurd m
-all_among P (y ∷ xs) x a (inl e) = subst P (sym e) a.0
+all_among P (y ∷ xs) x a (inl e) = subst P e a.0
 all_among P (y ∷ xs) x a (inr m) = all_among P xs x a.1 m
 
 pub among_all : {A : Type 0} (P : A → Type 0) (xs : List A) → ((x : A) → Among x xs → P x) → AllByRecursion P xs

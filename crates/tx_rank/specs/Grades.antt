@@ -6,7 +6,7 @@ use Rattle.tx_rank.specs.declared.bounds.Bounds.{Bounds}
 use Rattle.tx_rank.specs.declared.finding.Finding.{Finding}
 use Rattle.tx_rank.specs.Walks.{Net, net_of}
 use Rattle.tx_rank.specs.Nets.{Certifies}
-use Rattle.tx_rank.specs.Findings.{AreFindings}
+use Rattle.tx_rank.specs.Findings.{IsTrueOf, AreFindings}
 
 -- some ranks certify the plan
 abbrev pub CanBeCertified : Plan → (limit spare : ℕ) → Type 0
@@ -15,6 +15,10 @@ CanBeCertified p limit spare = (ranks : Ranks) × IsCertified p ranks limit spar
 -- some ranks certify this code of it
 abbrev pub CanBeCertifiedFor : Plan → (code limit spare : ℕ) → Type 0
 CanBeCertifiedFor p code limit spare = (ranks : ℕ → Option ℕ) × Certifies (net_of p code) ranks limit spare
+
+-- no finding is true of the plan
+abbrev pub NothingIsWrong : (A : Type 0) → Plan → (limit spare : ℕ) → Type 0
+NothingIsWrong A p limit spare = (f : Finding A) → IsTrueOf p limit spare f → ⊥
 
 -- BOUNDS: of the spare numbers up to 15, it holds exactly with a limit that is no smaller and a spare number that is no greater.
 pub record AreBounds (Holds : (limit spare : ℕ) → Type 0) (b : Bounds) : Type 0 where

@@ -6,7 +6,7 @@ ghost use Rattle.tx_plan.specs.Ambiguous.{ambiguous_of};
 ghost use Rattle.tx_cert.specs.Certificate.{ranks_of};
 ghost use Rattle.tx_rank.specs.Heights.{AreHeights};
 ghost use Rattle.tx_rank.specs.Findings.{IsTrueOf, AreFindings, pair_findings};
-ghost use Rattle.tx_rank.specs.Grades.{AreBounds, CanBeCertified, AreCodeBounds, AreUnmended};
+ghost use Rattle.tx_rank.specs.Grades.{AreBounds, CanBeCertified, NothingIsWrong, AreCodeBounds, AreUnmended};
 ghost use Rattle.tx_rank.specs.Gradings.{IsGraded, OnGraded, OnUngraded};
 
 use crate::bounds::Bounds;
@@ -58,6 +58,7 @@ fn graded<A: Allocator + Copy>(
     requires certified { IsCertified plan.now (ranks_of cert.now) 255 0 }
     ensures is_graded { IfOk result IsGraded }
     ensures plan { IfOk result (OnGraded (λ bounds codes. AreBounds (CanBeCertified plan.now) bounds)) }
+    ensures clear { IfOk result (OnGraded (λ bounds codes. AreBounds (NothingIsWrong A plan.now) bounds)) }
     ensures codes { IfOk result (OnGraded (λ bounds codes. AreCodeBounds plan.now codes)) }
 {
     plan.rules();
@@ -75,9 +76,10 @@ fn graded<A: Allocator + Copy>(
 /// Tells with which limits, and which spare numbers up to 15, some ranks certify the plan, and each of its codes alone; or what no limit and no spare number
 /// mends. `Err` is want of memory.
 pub fn grade<A: Allocator + Copy>(alloc: A, plan: &Plan<A>) -> Result<Grade<A>, NoMemory>
-    // A grade is told wherever any ranks certify the plan, and it says with which limits and spare numbers they do.
+    // A grade is told wherever any ranks certify the plan, and it says with which limits and spare numbers they do, and so for which no finding is true.
     ensures wherever { IfOk result (λ g. (ranks : Ranks) (limit spare : ℕ) → IsCertified plan.now ranks limit spare → IsGraded g) }
     ensures plan { IfOk result (OnGraded (λ bounds codes. AreBounds (CanBeCertified plan.now) bounds)) }
+    ensures clear { IfOk result (OnGraded (λ bounds codes. AreBounds (NothingIsWrong A plan.now) bounds)) }
     ensures codes { IfOk result (OnGraded (λ bounds codes. AreCodeBounds plan.now codes)) }
 
     ensures fails { IfOk result (OnUngraded (λ findings. findings ≢ [])) }

@@ -6,12 +6,14 @@ use Rattle.std.specs.List.{list_any, flat_map}
 use Rattle.std.specs.Ordering.{eq_by_cmp}
 use Rattle.std.specs.FinSet as set
 use Rattle.tx_plan.specs.Orders.{circuit_cmp, same_circuit}
-use Rattle.tx_plan.proofs.Named.{same_circuit-is, same_circuit-itself, in_insert, in_remove, in_retain, in_union, by_cmp-is}
+use Rattle.tx_entries.proofs.Named.{same_circuit-is, same_circuit-itself, in_insert, in_remove, in_retain, in_union, by_cmp-is}
 use Rattle.tx_plan.specs.Plan.{Plan}
 use Rattle.tx_plan.specs.Lines.{is_line}
 use Rattle.tx_plan.specs.Circuits.{is_circuit, other_end}
-use Rattle.tx_plan.specs.declared.circuit.Circuit.{Circuit}
-use Rattle.tx_plan.specs.declared.line.Line.{Line}
+use Rattle.tx_plan.specs.Among.{Among}
+use Rattle.tx_entries.specs.declared.circuit.Circuit.{Circuit}
+use Rattle.tx_entries.specs.declared.line.Line.{Line}
+use Rattle.tx_plan.proofs.Among.{among_cases, filter_among, flat_among, map_among}
 use Rattle.tx_state.specs.declared.cause.Cause.{Cause}
 use Rattle.tx_state.specs.declared.cause.Cause.TheVariants.{Lost as ByLoss}
 use Rattle.tx_state.specs.declared.hop.Hop.{Hop}
@@ -23,8 +25,8 @@ use Rattle.tx_state.specs.Lines.{takes_part, is_engaged, lines_of}
 use Rattle.tx_state.specs.Ending.{given_up, end_calls}
 use Rattle.tx_state.specs.Confirming.{carried_on, thrown_back, collide, rival, far_of}
 use Rattle.tx_state.specs.Step.{keyed_call, failed_at}
-use Rattle.tx_state.specs.Members.{NoneTwice, Mem}
-use Rattle.tx_state.proofs.Lists.{mem_append, mem_filter, mem_map, mem_flat_map, none_any, any_mem, find_none}
+use Rattle.tx_state.specs.Members.{NoneTwice}
+use Rattle.tx_state.proofs.Lists.{none_any, any_mem, find_none}
 use Rattle.tx_state.proofs.Uses.{not_seizing, not_taking, IsFree, joins_more, map_push, none_twice_push, no_third_end, two_ends}
 use Rattle.tx_state.specs.Safe.{IsKeyedLine}
 use Rattle.tx_state.specs.Invariant.{IsKept, AreApart, IsUnused, Inv, Holds}
@@ -53,7 +55,7 @@ module _ (p : Plan) (s : State) (h : Holds p s) where
         left = λ x a b. a;
         right = λ x e b. not_standing e;
         ends = λ x e f q. not_standing e;
-        lines = λ l a b. elim a [ inl e ↦ not_taking d line (none_any (λ c. takes_part c line) s.calls d idle m) (subst (Mem (lines_of d)) (sym e) b) | inr z ↦ z ];
+        lines = λ l a b. elim a [ inl e ↦ not_taking d line (none_any (λ c. takes_part c line) s.calls d idle m) (subst (λ z. Among z (lines_of d)) (sym e) b) | inr z ↦ z ];
       })
       (λ x. record { carried = λ m. m; seized = λ e. not_standing e })
 
@@ -61,32 +63,32 @@ module _ (p : Plan) (s : State) (h : Holds p s) where
   pub end_keeps : (cause : Cause) (ends : Call → Bool) → Holds p (end_calls p cause ends s)
   end_keeps cause ends =
       inv_releasing p (filter (λ c. not (ends c)) s.calls) s.releasing s.numbers (inv_filter p s.calls s.releasing s.numbers h (λ c. not (ends c))) _ (λ x i c m. elim (in_union s.releasing _ x i) [
-        | inl o ↦ h.idle x o c (mem_filter (λ c. not (ends c)) s.calls c m).0
+        | inl o ↦ h.idle x o c (filter_among (λ c. not (ends c)) c s.calls m).0
         | inr o ↦ given x (any_mem _ _ o) c m
       ])
     where
-      used : (x : Circuit) (c e : Call) → Mem (circuits_used e) x → Mem s.calls c → Mem s.calls e → c.number ≢ e.number → (c.phase ≡ Calling x → ⊥) → IsUnused c x
+      used : (x : Circuit) (c e : Call) → Among x (circuits_used e) → Among c s.calls → Among e s.calls → c.number ≢ e.number → (c.phase ≡ Calling x → ⊥) → IsUnused c x
       used x c e u mc me ne unseized = record {
-        carried = λ m. elim (mem_append (circuits_carried e) (circuit_called e.phase) x u) [
+        carried = λ m. elim (among_cases x (circuits_carried e) (circuit_called e.phase) u) [
           | inl a ↦ (h.pairs c e mc me ne).carried x m a
           | inr b ↦ (h.pairs c e mc me ne).left x m (called e.phase b)
         ];
         seized = unseized;
       }
         where
-          called : (phase : Phase) → Mem (circuit_called phase) x → phase ≡ Calling x
+          called : (phase : Phase) → Among x (circuit_called phase) → phase ≡ Calling x
           called Standing m = absurd m
           called (Calling y) (inl e) = ap Calling e
           called (Calling y) (inr m) = absurd m
           called (Connected l) m = absurd m
 
-      given : (x : Circuit) → (y : Circuit) × Mem (given_up (filter ends s.calls) (filter (λ c. not (ends c)) s.calls)) y × (eq_by_cmp circuit_cmp x y ≡ true) → (c : Call) → Mem (filter (λ c. not (ends c)) s.calls) c → IsUnused c x
+      given : (x : Circuit) → (y : Circuit) × Among y (given_up (filter ends s.calls) (filter (λ c. not (ends c)) s.calls)) × (eq_by_cmp circuit_cmp x y ≡ true) → (c : Call) → Among c (filter (λ c. not (ends c)) s.calls) → IsUnused c x
       given x (y, m, q) c k =
-          let m' = subst (Mem (given_up (filter ends s.calls) (filter (λ c. not (ends c)) s.calls))) (sym (by_cmp-is x y q)) m in
-          let r = mem_filter (λ x. not (list_any (λ c. seizes c x) (filter (λ c. not (ends c)) s.calls))) (flat_map circuits_used (filter ends s.calls)) x m' in
-          let u = mem_flat_map circuits_used (filter ends s.calls) x r.0 in
-          let e = mem_filter ends s.calls u.0 u.1 in
-          let c' = mem_filter (λ c. not (ends c)) s.calls c k in
+          let m' = subst (λ z. Among z (given_up (filter ends s.calls) (filter (λ c. not (ends c)) s.calls))) (sym (by_cmp-is x y q)) m in
+          let r = filter_among (λ x. not (list_any (λ c. seizes c x) (filter (λ c. not (ends c)) s.calls))) x (flat_map circuits_used (filter ends s.calls)) m' in
+          let u = flat_among circuits_used x (filter ends s.calls) r.0 in
+          let e = filter_among ends u.0 s.calls u.1 in
+          let c' = filter_among (λ c. not (ends c)) c s.calls k in
           used x c u.0 u.2 c'.0 e.0
           (λ same. both_ways (ends c) (not-true _ c'.1) (ap ends (h.one c u.0 c'.0 e.0 same) ∙ e.1))
           (not_seizing c x (none_any (λ c. seizes c x) (filter (λ c. not (ends c)) s.calls) c (not-true _ r.1) k))
@@ -100,11 +102,11 @@ module _ (p : Plan) (s : State) (h : Holds p s) where
   pub release_keeps : (x : Circuit) → Inv p s.calls (set.remove s.releasing x) s.numbers
   release_keeps x = inv_releasing p s.calls s.releasing s.numbers h _ (λ y i c m. h.idle y (in_remove s.releasing x y i) c m)
 
-  module _ (c : Call) (in' : Mem s.calls c) where
+  module _ (c : Call) (in' : Among c s.calls) where
     kept : IsKept p c
     kept = h.each c in'
 
-    apart : (d : Call) → Mem s.calls d → d.number ≢ c.number → AreApart p c d
+    apart : (d : Call) → Among d s.calls → d.number ≢ c.number → AreApart p c d
     apart d m ne = h.pairs c d in' m (λ e. ne (sym e))
 
     -- A CALL THAT IS CONNECTED
@@ -128,12 +130,12 @@ module _ (p : Plan) (s : State) (h : Holds p s) where
           ends = λ x e f q. let bad : ⊥ = cc in bad;
           lines = λ k a' b. elim a' [
             | inl e ↦ a.lines k (inl e) b
-            | inr z ↦ elim z [ inl e ↦ not_taking d l (free d m) (subst (Mem (lines_of d)) (sym e) b) | inr z ↦ z ]
+            | inr z ↦ elim z [ inl e ↦ not_taking d l (free d m) (subst (λ z. Among z (lines_of d)) (sym e) b) | inr z ↦ z ]
           ];
         })
         (λ x i. record { carried = (h.idle x i c in').carried; seized = λ e. let bad : ⊥ = cc in bad })
       where
-        free : (d : Call) → Mem s.calls d → takes_part d l ≡ false
+        free : (d : Call) → Among d s.calls → takes_part d l ≡ false
         free d m = none_any (λ d. takes_part d l) s.calls d idle m
 
     -- A CALL THAT SEIZES A CIRCUIT
@@ -144,7 +146,7 @@ module _ (p : Plan) (s : State) (h : Holds p s) where
           known = kept.known;
           joined = kept.joined;
           once = kept.once;
-          own = λ z m e. let same : x ≡ z = cc in free.carried c in' (subst (Mem (circuits_carried c)) (sym same) m);
+          own = λ z m e. let same : x ≡ z = cc in free.carried c in' (subst (λ z. Among z (circuits_carried c)) (sym same) m);
           planned = λ z e. let same : x ≡ z = cc in subst (λ w. is_circuit p w ≡ true) same known;
           calling = λ z e. let same : x ≡ z = cc in (y, ap (λ (w : Circuit). other_end p w.group (place_of p c)) (sym same) ∙ to);
           connected = λ l e. let bad : ⊥ = cc in absurd bad;
@@ -153,7 +155,7 @@ module _ (p : Plan) (s : State) (h : Holds p s) where
         (λ d m ne. let a = apart d m ne in record {
           carried = a.carried;
           left = a.left;
-          right = λ z e b. let same : x ≡ z = cc in free.carried d m (subst (Mem (circuits_carried d)) (sym same) b);
+          right = λ z e b. let same : x ≡ z = cc in free.carried d m (subst (λ z. Among z (circuits_carried d)) (sym same) b);
           ends = λ z e f q. let same : x ≡ z = cc in free.seized d m (f ∙ ap Calling (sym same)) (sym q);
           lines = λ k a' b. elim a' [ inl e ↦ a.lines k (inl e) b | inr z ↦ absurd z ];
         })
@@ -185,13 +187,13 @@ module _ (p : Plan) (s : State) (h : Holds p s) where
         hop : Hop
         hop = record { circuit = x; far = far }
 
-        new : (y : Circuit) → Mem (circuits_carried c) y → same_circuit y x ≡ false
-        new y m = false_from_ne_true _ (λ e. kept.own x (subst (Mem (circuits_carried c)) (same_circuit-is y x e) m) calls)
+        new : (y : Circuit) → Among y (circuits_carried c) → same_circuit y x ≡ false
+        new y m = false_from_ne_true _ (λ e. kept.own x (subst (λ z. Among z (circuits_carried c)) (same_circuit-is y x e) m) calls)
 
-        cases : (z : Circuit) → Mem (circuits_carried (carried_on x far c)) z → Mem (circuits_carried c) z ⊎ (x ≡ z)
-        cases z u = elim (mem_append (circuits_carried c) (x ∷ []) z (subst (λ l. Mem l z) (map_push (λ (h : Hop). h.circuit) c.hops (record { circuit = x; far = far })) u)) [ inl o ↦ inl o | inr q ↦ elim q [ inl e ↦ inr e | inr b ↦ absurd b ] ]
+        cases : (z : Circuit) → Among z (circuits_carried (carried_on x far c)) → Among z (circuits_carried c) ⊎ (x ≡ z)
+        cases z u = elim (among_cases z (circuits_carried c) (x ∷ []) (subst (λ l. Among z l) (map_push (λ (h : Hop). h.circuit) c.hops (record { circuit = x; far = far })) u)) [ inl o ↦ inl o | inr q ↦ elim q [ inl e ↦ inr e | inr b ↦ absurd b ] ]
 
-        others : (d : Call) → Mem s.calls d → d.number ≢ c.number → d.phase ≡ Calling x → ⊥
+        others : (d : Call) → Among d s.calls → d.number ≢ c.number → d.phase ≡ Calling x → ⊥
         others d m ne e =
             let to' = (h.each d m).calling x e in
             let there : place_of p d ≡ far_of p c x = two_ends p x.group (place_of p c) (place_of p d) far to'.0 to to'.1 (λ q. (apart d m ne).ends x calls e q) ∙ sym (ap (λ o. unwrap_or o 0) to) in
@@ -233,8 +235,8 @@ module _ (p : Plan) where
     backs Q same thrown k = elim (test k) as (λ b. Q k (if b then thrown_back k else k)) [ true ↦ thrown k | false ↦ same k ]
 
   module _ (s : State) (h : Holds p s) (test : Call → Bool) where
-    from_back : (k : Call) → Mem (map (back test) s.calls) k → (j : Call) × Mem s.calls j × (back test j ≡ k)
-    from_back k m = mem_map (back test) s.calls k m
+    from_back : (k : Call) → Among k (map (back test) s.calls) → (j : Call) × Among j s.calls × (back test j ≡ k)
+    from_back k m = map_among (back test) k s.calls m
 
     number_back : (k : Call) → (back test k).number ≡ k.number
     number_back k = backs test (λ j k. k.number ≡ j.number) (λ k. refl) (λ k. refl) k
@@ -263,17 +265,17 @@ module _ (p : Plan) where
     }
 
   -- TWO CALLS THAT COLLIDE
-  module _ (s : State) (h : Holds p s) (c d : Call) (mc : Mem s.calls c) (md : Mem s.calls d) (x : Circuit) (ne : d.number ≢ c.number) (ec : c.phase ≡ Calling x) (ed : d.phase ≡ Calling x) where
+  module _ (s : State) (h : Holds p s) (c d : Call) (mc : Among c s.calls) (md : Among d s.calls) (x : Circuit) (ne : d.number ≢ c.number) (ec : c.phase ≡ Calling x) (ed : d.phase ≡ Calling x) where
     either : Call → Bool
     either k = is_numbered c.number k || is_numbered d.number k
 
-    not_carried_now : (k : Call) → Mem s.calls k → Mem (circuits_carried k) x → ⊥
+    not_carried_now : (k : Call) → Among k s.calls → Among x (circuits_carried k) → ⊥
     not_carried_now k m u = elim (cases_eq k.number c.number) [
-      | inl e ↦ (h.each c mc).own x (subst (λ z. Mem (circuits_carried z) x) (h.one k c m mc e) u) ec
+      | inl e ↦ (h.each c mc).own x (subst (λ z. Among x (circuits_carried z)) (h.one k c m mc e) u) ec
       | inr n ↦ (h.pairs c k mc m (λ e. n (sym e))).right x ec u
     ]
 
-    not_seized_now : (k : Call) → Mem s.calls k → k.number ≢ c.number → k.number ≢ d.number → k.phase ≡ Calling x → ⊥
+    not_seized_now : (k : Call) → Among k s.calls → k.number ≢ c.number → k.number ≢ d.number → k.phase ≡ Calling x → ⊥
     not_seized_now k m n o e =
         let yc = (h.each c mc).calling x ec in let yd = (h.each d md).calling x ed in let yk = (h.each k m).calling x e in
         no_third_end p x.group (place_of p c) (place_of p d) (place_of p k) yc.0 yd.0 yk.0 yc.1 yd.1 yk.1
@@ -281,7 +283,7 @@ module _ (p : Plan) where
         ((h.pairs c k mc m (λ q. n (sym q))).ends x ec e)
         ((h.pairs d k md m (λ q. o (sym q))).ends x ed e)
 
-    unused_now : (k : Call) → Mem s.calls k → IsUnused (back either k) x
+    unused_now : (k : Call) → Among k s.calls → IsUnused (back either k) x
     unfolding back either
     unused_now k m =
         elim (is_numbered c.number k) as (λ a. is_numbered c.number k ≡ a → IsUnused (if a || is_numbered d.number k then thrown_back k else k) x) [

@@ -7,8 +7,10 @@ use Rattle.tx_plan.specs.Rules.{IsPlan}
 use Rattle.tx_plan.specs.Certified.{Ranks, IsCertified}
 use Rattle.tx_plan.specs.Codes.{code_of}
 use Rattle.tx_plan.specs.Routes.{is_barred}
-use Rattle.tx_plan.specs.declared.circuit.Circuit.{Circuit}
-use Rattle.tx_plan.specs.declared.line.Line.{Line}
+use Rattle.tx_plan.specs.Among.{Among}
+use Rattle.tx_entries.specs.declared.circuit.Circuit.{Circuit}
+use Rattle.tx_entries.specs.declared.line.Line.{Line}
+use Rattle.tx_plan.proofs.Among.{filter_among}
 use Rattle.tx_state.specs.declared.event.Event.{Event}
 use Rattle.tx_state.specs.declared.event.Event.TheVariants.{Key, Route, Confirm, Clear, Released, Fail, Restore, Block, Unblock, CircuitOut, CircuitIn, LineFault, LineMend, LineAway, LineBack}
 use Rattle.tx_state.specs.declared.service.Service.{Service}
@@ -31,8 +33,7 @@ use Rattle.tx_state.specs.Step.{with_call, accepted, counted, unless_refused, st
 use Rattle.tx_state.specs.Runs.{run}
 use Rattle.tx_state.specs.Excused.{routed_call}
 use Rattle.tx_state.specs.Sound.{is_refused, is_route_of, routes_of, HasFewRoutes}
-use Rattle.tx_state.specs.Members.{Mem}
-use Rattle.tx_state.proofs.Lists.{mem_filter, find_mem}
+use Rattle.tx_state.proofs.Lists.{find_mem}
 use Rattle.tx_state.proofs.Invariant.{set_cases, inv_opening}
 use Rattle.tx_state.specs.Invariant.{Holds, IsRanked}
 use Rattle.tx_state.proofs.Steps.{tests_false, stands, step_keeps}
@@ -40,27 +41,27 @@ use Rattle.tx_state.proofs.Moves.{Moves, stays, connects, seizes_one, goes_on, f
 use Rattle.tx_state.proofs.Ranks.{AllRanked, step_ranked, hops_within, ranked_place}
 
 -- a Route of a call that stands leaves it in another phase, or ended
-module _ (p : Plan) (s : State) (h : Holds p s) (c' : Call) (c : Call) (m : Mem s.calls c) (n : c'.number ≡ c.number) (e : c'.phase ≡ Standing) where
-  gone : (cause : Cause) → Mem (end_calls p cause (is_numbered c.number) s).calls c' → ⊥
-  gone cause q = eqb-false _ _ (not-true _ (mem_filter (λ k. not (is_numbered c.number k)) s.calls c' q).1) n
+module _ (p : Plan) (s : State) (h : Holds p s) (c' : Call) (c : Call) (m : Among c s.calls) (n : c'.number ≡ c.number) (e : c'.phase ≡ Standing) where
+  gone : (cause : Cause) → Among c' (end_calls p cause (is_numbered c.number) s).calls → ⊥
+  gone cause q = eqb-false _ _ (not-true _ (filter_among (λ k. not (is_numbered c.number k)) c' s.calls q).1) n
 
-  moved : (phase : Phase) → (phase ≡ Standing → ⊥) → Mem (set_call c.number (in_phase phase) s.calls) c' → ⊥
+  moved : (phase : Phase) → (phase ≡ Standing → ⊥) → Among c' (set_call c.number (in_phase phase) s.calls) → ⊥
   moved phase other q = elim (set_cases p s.calls s.releasing s.numbers h c m (in_phase phase) c' q) [ inl o ↦ o.1 n | inr i ↦ other (ap (λ (z : Call). z.phase) i ∙ e) ]
 
-  line_leaves : (l : Line) (o : Option Service) → Mem (at_line p s c l o).1.calls c' → ⊥
+  line_leaves : (l : Line) (o : Option Service) → Among c' (at_line p s c l o).1.calls → ⊥
   line_leaves l None q = moved (Connected l) (λ i. cc) q
   line_leaves l (Some service) q = gone (ByService service) q
 
-  trunk_leaves : (o : Option Circuit) → Mem (at_trunk p s c o).1.calls c' → ⊥
+  trunk_leaves : (o : Option Circuit) → Among c' (at_trunk p s c o).1.calls → ⊥
   trunk_leaves None q = gone (ByService Nc) q
   trunk_leaves (Some x) q = moved (Calling x) (λ i. cc) q
 
-  route_leaves : (o : Option ℕ) → Mem (routed_for p s c o).1.calls c' → ⊥
+  route_leaves : (o : Option ℕ) → Among c' (routed_for p s c o).1.calls → ⊥
   route_leaves None q = gone (ByService Np) q
   route_leaves (Some code) q =
-      elim (is_first c.hops && is_barred p (place_of p c) code) as (λ b. Mem (if b then answer Na else if home_of p code == place_of p c then line else trunk).1.calls c' → ⊥) [
+      elim (is_first c.hops && is_barred p (place_of p c) code) as (λ b. Among c' (if b then answer Na else if home_of p code == place_of p c then line else trunk).1.calls → ⊥) [
         | true ↦ λ q. gone (ByService Na) q
-        | false ↦ elim (home_of p code == place_of p c) as (λ b. Mem (if b then line else trunk).1.calls c' → ⊥) [ true ↦ λ q. line_leaves (line_of p code c.keyed) _ q | false ↦ λ q. trunk_leaves _ q ]
+        | false ↦ elim (home_of p code == place_of p c) as (λ b. Among c' (if b then line else trunk).1.calls → ⊥) [ true ↦ λ q. line_leaves (line_of p code c.keyed) _ q | false ↦ λ q. trunk_leaves _ q ]
       ] q
     where
       answer : Service → Reply × State
@@ -171,7 +172,7 @@ moves_used p e c c' (falls_back x calls first q) = let w = ap waits calls in let
 -- k Routes of call n were accepted so far
 record IsCounted (limit : ℕ) (calls : List Call) (numbers n k : ℕ) : Type 0 where
   few : k ≤ 2 * limit + 3
-  open' : (c : Call) → Mem calls c → c.number ≡ n → k ≤ used c
+  open' : (c : Call) → Among c calls → c.number ≡ n → k ≤ used c
   later : numbers < n → k ≡ 0
 
 abbrev is_counted : ℕ → Event → Reply → Bool
@@ -244,7 +245,7 @@ module _ (p : Plan) (ok : IsPlan p) (ranks : Ranks) (limit spare : ℕ) (cert : 
             open' = λ c' m q. elim (after_accepted p s h (Route n) none c' m) [
               | inl (d, md, moves) ↦
                   let dc = h.one d c md f.0 (moves_number p (Route n) d c' moves ∙ q ∙ sym same) in
-                  let leaves = λ (w : c'.phase ≡ Standing). route_leaves p s h c' c f.0 (q ∙ sym same) w (code_of p c.keyed) (subst (λ o. Mem (with_call o s (λ c. routed_for p s c (code_of p c.keyed))).1.calls c') e m) in
+                  let leaves = λ (w : c'.phase ≡ Standing). route_leaves p s h c' c f.0 (q ∙ sym same) w (code_of p c.keyed) (subst (λ o. Among c' (with_call o s (λ c. routed_for p s c (code_of p c.keyed))).1.calls) e m) in
                   let more = moves_more p (Route n) d c' moves (ap (λ (z : Call). z.phase) dc ∙ st) leaves in
                   let u = ap used dc in
                   omega arith

@@ -10,8 +10,10 @@ use Rattle.tx_plan.specs.Lines.{is_line}
 use Rattle.tx_plan.specs.Codes.{code_of}
 use Rattle.tx_plan.specs.Routes.{route_list, is_barred}
 use Rattle.tx_plan.specs.Circuits.{is_circuit, downward, upward, order_at, circuits_at}
-use Rattle.tx_plan.specs.declared.circuit.Circuit.{Circuit}
-use Rattle.tx_plan.specs.declared.line.Line.{Line}
+use Rattle.tx_plan.specs.Among.{Among}
+use Rattle.tx_entries.specs.declared.circuit.Circuit.{Circuit}
+use Rattle.tx_entries.specs.declared.line.Line.{Line}
+use Rattle.tx_plan.proofs.Among.{among_left, among_map, among_right}
 use Rattle.tx_state.specs.declared.event.Event.{Event}
 use Rattle.tx_state.specs.declared.event.Event.TheVariants.{Key, Route, Confirm, Clear, Released, Fail, Restore, Block, Unblock, CircuitOut, CircuitIn, LineFault, LineMend, LineAway, LineBack}
 use Rattle.tx_state.specs.declared.service.Service.{Service}
@@ -30,31 +32,30 @@ use Rattle.tx_state.specs.Routing.{at_line, at_trunk, line_of, routed_for}
 use Rattle.tx_state.specs.Confirming.{confirmed_by, rival, confirmed, far_of}
 use Rattle.tx_state.specs.Step.{with_call, accepted, counted, unless_refused, step}
 use Rattle.tx_state.specs.Excused.{HadCollided, IsExcusedTo, IsExcused}
-use Rattle.tx_state.specs.Members.{Mem}
-use Rattle.tx_state.proofs.Lists.{mem_left, mem_right, map_mem, find_mem, find_none, all_from_mem}
+use Rattle.tx_state.proofs.Lists.{find_mem, find_none, all_from_mem}
 use Rattle.tx_state.proofs.Uses.{first_in-none}
 use Rattle.tx_state.specs.Invariant.{Holds}
 use Rattle.tx_state.proofs.Ranks.{AllRanked, ranked_place, code_within}
 
 -- THE CIRCUITS OF A GROUP
-pub in_downward : (n k : ℕ) → 0 < k → k ≤ n → Mem (downward n) k
+pub in_downward : (n k : ℕ) → 0 < k → k ≤ n → Among k (downward n)
 in_downward zero k l h = absurd (omega arith)
 in_downward (suc n) k l h = elim (cases_eq (suc n) k) [ inl e ↦ inl e | inr e ↦ inr (in_downward n k l (omega arith)) ]
 
-pub in_upward : (n k : ℕ) → 0 < k → k ≤ n → Mem (upward n) k
+pub in_upward : (n k : ℕ) → 0 < k → k ≤ n → Among k (upward n)
 in_upward zero k l h = absurd (omega arith)
-in_upward (suc n) k l h = elim (cases_eq (suc n) k) [ inl e ↦ mem_right (upward n) (suc n ∷ []) k (inl e) | inr e ↦ mem_left (upward n) (suc n ∷ []) k (in_upward n k l (omega arith)) ]
+in_upward (suc n) k l h = elim (cases_eq (suc n) k) [ inl e ↦ among_right k (upward n) (suc n ∷ []) (inl e) | inr e ↦ among_left k (upward n) (suc n ∷ []) (in_upward n k l (omega arith)) ]
 
-pub circuit_listed : (p : Plan) (x : Circuit) (g place : ℕ) → is_circuit p x ≡ true → x.group ≡ g → Mem (circuits_at p g place) x
-circuit_listed p x g place h e = subst (λ k. Mem (circuits_at p k place) x) e (at (slice_get p.groups x.group) h)
+pub circuit_listed : (p : Plan) (x : Circuit) (g place : ℕ) → is_circuit p x ≡ true → x.group ≡ g → Among x (circuits_at p g place)
+circuit_listed p x g place h e = subst (λ k. Among x (circuits_at p k place)) e (at (slice_get p.groups x.group) h)
   where
-    at : (o : Option Group) → option_map_or (λ r. nat_le 1 x.number && nat_le x.number r.count) o false ≡ true → Mem (option_map_or (λ (r : Group). map (λ n. record { group = x.group; number = n }) (order_at r place)) o []) x
+    at : (o : Option Group) → option_map_or (λ r. nat_le 1 x.number && nat_le x.number r.count) o false ≡ true → Among x (option_map_or (λ (r : Group). map (λ n. record { group = x.group; number = n }) (order_at r place)) o [])
     at None h = absurd (false≢true h)
     at (Some r) h =
         let b = and_parts (nat_le 1 x.number) (nat_le x.number r.count) h in
         let one = leb-true 1 x.number b.0 in let few = leb-true x.number r.count b.1 in
-        map_mem (λ n. record { group = x.group; number = n }) (order_at r place) x.number
-        (elim (r.a == place) as (λ c. Mem (if c then upward r.count else downward r.count) x.number) [ true ↦ in_upward r.count x.number (omega arith) few | false ↦ in_downward r.count x.number (omega arith) few ])
+        among_map (λ n. record { group = x.group; number = n }) x.number (order_at r place)
+        (elim (r.a == place) as (λ c. Among x.number (if c then upward r.count else downward r.count)) [ true ↦ in_upward r.count x.number (omega arith) few | false ↦ in_downward r.count x.number (omega arith) few ])
 
 -- a group in which none was found
 none_there : (p : Plan) (s : State) (place g : ℕ) → first_free p s place g ≡ None → (is_down s g ≡ true) ⊎ ((x : Circuit) → is_circuit p x ≡ true → x.group ≡ g → is_free_at p s place x ≡ false)
@@ -82,7 +83,7 @@ line_excused p spare s n l service h =
     by other e u = subst (IsExcusedTo p spare s (Some n)) e u
 
 -- a call is found by its number
-found : (cs : List Call) (c : Call) → Mem cs c → ((d : Call) → Mem cs d → d.number ≡ c.number → d ≡ c) → call_of c.number cs ≡ Some c
+found : (cs : List Call) (c : Call) → Among c cs → ((d : Call) → Among d cs → d.number ≡ c.number → d ≡ c) → call_of c.number cs ≡ Some c
 found [] c m one = elim m [ ]
 found (d ∷ cs) c m one =
     elim (d.number == c.number) as (λ b. (d.number == c.number) ≡ b → (cond b (Some d) (call_of c.number cs)) ≡ Some c) [
@@ -90,7 +91,7 @@ found (d ∷ cs) c m one =
       | false ↦ λ t. elim m [ inl e ↦ absurd (eqb-false _ _ t (ap (λ (z : Call). z.number) e)) | inr m ↦ found cs c m (λ d m. one d (inr m)) ]
     ] refl
 
-module _ (p : Plan) (ranks : Ranks) (limit spare : ℕ) (cert : IsCertified p ranks limit spare) (s : State) (h : Holds p s) (ranked : AllRanked p ranks limit spare cert s.calls) (n : ℕ) (c : Call) (m : Mem s.calls c) (here : call_of n s.calls ≡ Some c) where
+module _ (p : Plan) (ranks : Ranks) (limit spare : ℕ) (cert : IsCertified p ranks limit spare) (s : State) (h : Holds p s) (ranked : AllRanked p ranks limit spare cert s.calls) (n : ℕ) (c : Call) (m : Among c s.calls) (here : call_of n s.calls ≡ Some c) where
   line_reply : (l : Line) (o : Option Service) → line_answer p s l ≡ o → IsExcused p spare s (Route n) (at_line p s c l o).0
   line_reply l None e = tt
   line_reply l (Some service) e = line_excused p spare s n l service e
@@ -131,7 +132,7 @@ module _ (p : Plan) (ranks : Ranks) (limit spare : ℕ) (cert : IsCertified p ra
       trunk : Reply × State
       trunk = at_trunk p s c (choice p s (place_of p c) code)
 
-  had : (d : Call) → Mem s.calls d → not d.collided ≡ false → HadCollided s d.number
+  had : (d : Call) → Among d s.calls → not d.collided ≡ false → HadCollided s d.number
   had d m e = record { call = d; open' = found s.calls d m (λ k i q. h.one k d i m q); collided = not-false _ e }
 
   meet_reply : (x : Circuit) (o : Option Call) → rival p s c x ≡ o → IsExcused p spare s (Confirm n) (confirmed_by p s c x o).0
@@ -144,7 +145,7 @@ module _ (p : Plan) (ranks : Ranks) (limit spare : ℕ) (cert : IsCertified p ra
   confirm_reply (Connected l) = tt
 
 module _ (p : Plan) (ranks : Ranks) (limit spare : ℕ) (cert : IsCertified p ranks limit spare) (s : State) (h : Holds p s) (ranked : AllRanked p ranks limit spare cert s.calls) where
-  with_reply : (e : Event) (n : ℕ) (act : Call → Reply × State) → ((c : Call) → Mem s.calls c → call_of n s.calls ≡ Some c → IsExcused p spare s e (act c).0) → IsExcused p spare s e (with_call (call_of n s.calls) s act).0
+  with_reply : (e : Event) (n : ℕ) (act : Call → Reply × State) → ((c : Call) → Among c s.calls → call_of n s.calls ≡ Some c → IsExcused p spare s e (act c).0) → IsExcused p spare s e (with_call (call_of n s.calls) s act).0
   with_reply e n act each = at (call_of n s.calls) refl
     where
       at : (o : Option Call) → call_of n s.calls ≡ o → IsExcused p spare s e (with_call o s act).0

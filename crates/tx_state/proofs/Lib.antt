@@ -7,6 +7,7 @@ pub mod Moves
 pub mod Ranks
 pub mod Safe
 pub mod Excuses
+pub mod Spares
 pub mod Sound
 pub mod Counts
 pub mod Appending

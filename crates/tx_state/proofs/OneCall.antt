@@ -10,8 +10,8 @@ use Rattle.tx_plan.specs.Codes.{code_of}
 use Rattle.tx_plan.specs.Lines.{is_line}
 use Rattle.tx_plan.specs.Routes.{is_barred}
 use Rattle.tx_plan.specs.Circuits.{other_end}
-use Rattle.tx_plan.specs.declared.circuit.Circuit.{Circuit}
-use Rattle.tx_plan.specs.declared.line.Line.{Line}
+use Rattle.tx_entries.specs.declared.circuit.Circuit.{Circuit}
+use Rattle.tx_entries.specs.declared.line.Line.{Line}
 use Rattle.tx_plan.specs.Among.{Among}
 use Rattle.tx_state.specs.declared.event.Event.TheVariants.{Key, Route, Confirm, Block, Unblock}
 use Rattle.tx_state.specs.declared.hop.Hop.{Hop}
@@ -59,7 +59,7 @@ none_line l = set.contains-empty line_cmp l
 -- the first of some that differ is none of the others
 first_apart : (g : ℕ) (gs : List ℕ) → AllByRecursion (λ h. g ≢ h) gs → Among g gs → ⊥
 first_apart g [] d m = m
-first_apart g (h ∷ gs) d (inl e) = d.0 e
+first_apart g (h ∷ gs) d (inl e) = d.0 (sym e)
 first_apart g (h ∷ gs) d (inr m) = first_apart g gs d.1 m
 
 module _ (p : Plan) where
@@ -130,7 +130,7 @@ module _ (p : Plan) where
   blocks c b n [] known once up few = subst (λ k. Plays p (alone c b n) [] (alone c b k)) (let e : n ≡ n + 0 = omega arith in e) (plays_none p (alone c b n))
   blocks c b n (g ∷ gs) known once up few =
       let rest = blocks c (set.insert b g) (n + 1) gs known.1 once.1
-      (λ h m. shut_out b (g ∷ []) h (up h (inr m)) (λ k. elim k [ inl e ↦ first_apart g gs once.0 (subst (λ q. Among q gs) e m) | inr z ↦ z ])) (omega arith) in
+      (λ h m. shut_out b (g ∷ []) h (up h (inr m)) (λ k. elim k [ inl e ↦ first_apart g gs once.0 (subst (λ q. Among q gs) (sym e) m) | inr z ↦ z ])) (omega arith) in
       let e : (n + 1) + length gs ≡ n + length (g ∷ gs) = omega arith in
       plays_first p (alone c b n) (alone c (set.insert b g) (n + 1)) _ (Block g) (map Block gs) Done (block_step c b n g known.0 (up g (inl refl)) (omega arith)) refl
       (subst (λ k. Plays p (alone c (set.insert b g) (n + 1)) (map Block gs) (alone c (shut (set.insert b g) gs) k)) e rest)

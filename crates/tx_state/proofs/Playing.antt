@@ -86,7 +86,7 @@ gone b g h e = let t : (h == g) ≡ true = search (arith, e) in in_remove b g h 
 
 pub shut_out : (b : Groups) (gs : List ℕ) (h : ℕ) → set.contains b h ≡ false → (Among h gs → ⊥) → set.contains (shut b gs) h ≡ false
 shut_out b [] h e away = e
-shut_out b (g ∷ gs) h e away = shut_out (set.insert b g) gs h (kept_out b g h e (λ q. away (inl q))) (λ m. away (inr m))
+shut_out b (g ∷ gs) h e away = shut_out (set.insert b g) gs h (kept_out b g h e (λ q. away (inl (sym q)))) (λ m. away (inr m))
 
 shut_in : (b : Groups) (gs : List ℕ) (h : ℕ) → set.contains b h ≡ true → set.contains (shut b gs) h ≡ true
 shut_in b [] h e = e
@@ -94,7 +94,7 @@ shut_in b (g ∷ gs) h e = shut_in (set.insert b g) gs h (kept_in b g h e)
 
 pub shut_among : (b : Groups) (gs : List ℕ) (h : ℕ) → Among h gs → set.contains (shut b gs) h ≡ true
 shut_among b [] h m = absurd m
-shut_among b (g ∷ gs) h (inl e) = shut_in (set.insert b g) gs h (subst (λ k. set.contains (set.insert b g) k ≡ true) (sym e) (inserted b g))
+shut_among b (g ∷ gs) h (inl e) = shut_in (set.insert b g) gs h (subst (λ k. set.contains (set.insert b g) k ≡ true) e (inserted b g))
 shut_among b (g ∷ gs) h (inr m) = shut_among (set.insert b g) gs h m
 
 opened_out : (b : Groups) (gs : List ℕ) (h : ℕ) → set.contains b h ≡ false → set.contains (opened b gs) h ≡ false
@@ -103,14 +103,14 @@ opened_out b (g ∷ gs) h e = opened_out (set.remove b g) gs h (still_out b g h 
 
 opened_among : (b : Groups) (gs : List ℕ) (h : ℕ) → Among h gs → set.contains (opened b gs) h ≡ false
 opened_among b [] h m = absurd m
-opened_among b (g ∷ gs) h (inl e) = opened_out (set.remove b g) gs h (gone b g h e)
+opened_among b (g ∷ gs) h (inl e) = opened_out (set.remove b g) gs h (gone b g h (sym e))
 opened_among b (g ∷ gs) h (inr m) = opened_among (set.remove b g) gs h m
 
 among_or_not : (h : ℕ) (gs : List ℕ) → Among h gs ⊎ (Among h gs → ⊥)
 among_or_not h [] = inr (λ m. m)
 among_or_not h (g ∷ gs) =
     elim (h == g) as (λ t. (h == g) ≡ t → Among h (g ∷ gs) ⊎ (Among h (g ∷ gs) → ⊥)) [
-      | true ↦ λ e. inl (inl (eqb-true h g e))
+      | true ↦ λ e. inl (inl (sym (eqb-true h g e)))
       | false ↦ λ e. elim (among_or_not h gs) [ inl m ↦ inl (inr m) | inr n ↦ inr (λ m. elim m [ inl q ↦ false≢true (sym e ∙ search (arith, q)) | inr k ↦ n k ]) ]
     ] refl
 

@@ -6,23 +6,25 @@ use Rattle.std.specs.Prelude.{filter, unwrap_or}
 use Rattle.std.specs.List.{enumerate_from, AllByRecursion}
 use Rattle.std.specs.Option.{option_map}
 use Rattle.tx_plan.specs.Plan.{Plan, Code, home_of}
-use Rattle.tx_plan.specs.declared.range.LineRange.{LineRange}
+use Rattle.tx_entries.specs.declared.range.LineRange.{LineRange}
 use Rattle.tx_plan.specs.Certified.{Ranks, IsBelow, LeadsLower, IsCertified}
 use Rattle.tx_plan.specs.Rules.{is_national}
 use Rattle.tx_plan.specs.Lines.{in_range, is_line}
 use Rattle.tx_plan.specs.Codes.{is_prefix, codes_before, longest, code_of}
 use Rattle.tx_plan.specs.Routes.{route_list, is_barred, is_origin}
-use Rattle.tx_plan.specs.declared.circuit.Circuit.{Circuit}
-use Rattle.tx_plan.specs.declared.line.Line.{Line}
+use Rattle.tx_plan.specs.Among.{Among}
+use Rattle.tx_entries.specs.declared.circuit.Circuit.{Circuit}
+use Rattle.tx_entries.specs.declared.line.Line.{Line}
+use Rattle.tx_plan.proofs.Among.{filter_among}
 use Rattle.tx_state.specs.declared.event.Event.{Event}
 use Rattle.tx_state.specs.declared.hop.Hop.{Hop}
 use Rattle.tx_state.specs.Call.{Call, last_exchange, start_of, place_of, is_first}
 use Rattle.tx_state.specs.State.{State}
 use Rattle.tx_state.specs.Confirming.{far_of}
 use Rattle.tx_state.specs.Step.{step}
-use Rattle.tx_state.specs.Members.{NoneTwice, Mem}
+use Rattle.tx_state.specs.Members.{NoneTwice}
 use Rattle.tx_state.specs.Passed.{IsLower, Falls, passed, transits, is_transit, is_home_of}
-use Rattle.tx_state.proofs.Lists.{mem_filter, any_none, mem_any, any_mem}
+use Rattle.tx_state.proofs.Lists.{any_none, mem_any, any_mem}
 use Rattle.tx_state.proofs.Steps.{all_mem, longest-mem, enumerated}
 use Rattle.tx_state.specs.Invariant.{Holds, IsRanked}
 use Rattle.tx_state.proofs.Changes.{not_standing}
@@ -43,7 +45,7 @@ module _ (r : ℕ → Option ℕ) where
       some : {m n : ℕ} → Some m ≡ Some n → m ≡ n
       some e = cc
 
-  pub falls_below : (x : ℕ) (hops : List Hop) (a y : ℕ) → Falls r x hops → r x ≡ Some a → Mem (map (λ h. h.far) hops) y → (b : ℕ) × (r y ≡ Some b) × (b < a)
+  pub falls_below : (x : ℕ) (hops : List Hop) (a y : ℕ) → Falls r x hops → r x ≡ Some a → Among y (map (λ h. h.far) hops) → (b : ℕ) × (r y ≡ Some b) × (b < a)
   falls_below x [] a y f e m = elim m [ ]
   falls_below x (h ∷ hops) a y f e m =
       let same : f.0.high ≡ a = some (sym f.0.from ∙ e) in
@@ -71,7 +73,7 @@ code_within p keyed i h = at (longest (codes_before p keyed)) refl h
     at : (o : Option (ℕ × Code)) → longest (codes_before p keyed) ≡ o → option_map (λ e. e.0) o ≡ Some i → i < length p.codes
     at None e h = let bad : ⊥ = cc in absurd bad
     at (Some d) e h =
-        let m = mem_filter (λ e. is_prefix e.1.figures keyed) (enumerate_from 0 p.codes) d (longest-mem (codes_before p keyed) d e) in
+        let m = filter_among (λ e. is_prefix e.1.figures keyed) d (enumerate_from 0 p.codes) (longest-mem (codes_before p keyed) d e) in
         let r = enumerated 0 p.codes d m.0 in
         let same : d.0 ≡ i = cc in
         let place : r.0 ≡ i = (let f = r.1 in omega arith) in
@@ -172,7 +174,7 @@ module _ (p : Plan) (ranks : Ranks) (limit spare : ℕ) (cert : IsCertified p ra
   })
 
   abbrev pub AllRanked : List Call → Type 0
-  AllRanked cs = (c : Call) → Mem cs c → IsRanked p ranks c
+  AllRanked cs = (c : Call) → Among c cs → IsRanked p ranks c
 
   pub step_ranked : (s : State) → Holds p s → AllRanked s.calls → (e : Event) → AllRanked (step p s e).1.calls
   step_ranked s h ranked e c m = elim (came p s h e c m) [

@@ -5,22 +5,24 @@ use Rattle.std.specs.Prelude.{if◌then◌else◌, slice_get, is_some}
 use Rattle.std.specs.List.{flat_map}
 use Rattle.std.specs.Option.{option_map_or}
 use Rattle.tx_plan.specs.Orders.{same_circuit, same_line, same_line-is}
-use Rattle.tx_plan.proofs.Named.{same_circuit-is}
+use Rattle.tx_entries.proofs.Named.{same_circuit-is}
 use Rattle.tx_plan.specs.Plan.{Plan, Code, figures_of}
 use Rattle.tx_plan.specs.Rules.{IsPlan, IsRange, is_national}
-use Rattle.tx_plan.specs.declared.range.LineRange.{LineRange}
+use Rattle.tx_entries.specs.declared.range.LineRange.{LineRange}
 use Rattle.tx_plan.specs.Certified.{Ranks, IsCertified}
 use Rattle.tx_plan.specs.Lines.{in_range, is_line, full_number}
 use Rattle.tx_plan.specs.Codes.{after, is_prefix}
-use Rattle.tx_plan.specs.declared.line.Line.{Line}
+use Rattle.tx_plan.specs.Among.{Among}
+use Rattle.tx_entries.specs.declared.line.Line.{Line}
+use Rattle.tx_plan.proofs.Among.{among_cases, flat_among}
 use Rattle.tx_state.specs.Call.{Phase, Standing, Calling, Connected, Call, start_of}
 use Rattle.tx_state.specs.State.{State}
 use Rattle.tx_state.specs.InUse.{circuits_carried}
-use Rattle.tx_state.specs.Members.{NoneTwice, Mem}
+use Rattle.tx_state.specs.Members.{NoneTwice}
 use Rattle.tx_state.specs.Lines.{lines_of}
 use Rattle.tx_state.specs.Passed.{Joins}
 use Rattle.tx_state.specs.Safe.{IsKeyedLine, IsOnlyLine, OfConnected, JoinsAndCarriesOnce, TakesPartOnce, FallsInRank, RanksFall, IsSafeCall, IsSafe}
-use Rattle.tx_state.proofs.Lists.{mem_flat_map, any_none, none_any, any_mem, mem_append, all_from_mem, places_differ}
+use Rattle.tx_state.proofs.Lists.{any_none, none_any, any_mem, all_from_mem, places_differ}
 use Rattle.tx_state.proofs.Steps.{all_mem}
 use Rattle.tx_state.specs.Invariant.{IsRising, Holds}
 use Rattle.tx_state.proofs.Ranks.{AllRanked, few_transits, passed_once}
@@ -32,18 +34,18 @@ of_connected (Calling x) k = tt
 of_connected (Connected l) k = k l refl
 
 -- LISTS OF PARTS
-none_twice_append : {A : Type 0} (same : A → A → Bool) (xs ys : List A) → NoneTwice same xs → NoneTwice same ys → ((x y : A) → Mem xs x → Mem ys y → same x y ≡ false) → NoneTwice same (xs ++ ys)
+none_twice_append : {A : Type 0} (same : A → A → Bool) (xs ys : List A) → NoneTwice same xs → NoneTwice same ys → ((x y : A) → Among x xs → Among y ys → same x y ≡ false) → NoneTwice same (xs ++ ys)
 none_twice_append same [] ys n m h = m
 none_twice_append same (x ∷ xs) ys n m h = (
-  any_none (same x) (xs ++ ys) (λ z q. elim (mem_append xs ys z q) [ inl a ↦ none_any (same x) xs z n.0 a | inr b ↦ h x z (inl refl) b ]),
+  any_none (same x) (xs ++ ys) (λ z q. elim (among_cases z xs ys q) [ inl a ↦ none_any (same x) xs z n.0 a | inr b ↦ h x z (inl refl) b ]),
   none_twice_append same xs ys n.1 m (λ y z a b. h y z (inr a) b),
 )
 
-flat_once : {A : Type 0} (same : A → A → Bool) (f : Call → List A) (cs : List Call) → IsRising cs → ((c : Call) → Mem cs c → NoneTwice same (f c)) → ((c d : Call) → Mem cs c → Mem cs d → c.number ≢ d.number → (x y : A) → Mem (f c) x → Mem (f d) y → same x y ≡ false) → NoneTwice same (flat_map f cs)
+flat_once : {A : Type 0} (same : A → A → Bool) (f : Call → List A) (cs : List Call) → IsRising cs → ((c : Call) → Among c cs → NoneTwice same (f c)) → ((c d : Call) → Among c cs → Among d cs → c.number ≢ d.number → (x y : A) → Among x (f c) → Among y (f d) → same x y ≡ false) → NoneTwice same (flat_map f cs)
 flat_once same f [] r each pairs = tt
 flat_once same f (c ∷ cs) r each pairs =
     none_twice_append same (f c) (flat_map f cs) (each c (inl refl)) (flat_once same f cs r.1 (λ d m. each d (inr m)) (λ d e m q. pairs d e (inr m) (inr q)))
-    (λ x y m q. let d = mem_flat_map f cs y q in pairs c d.0 (inl refl) (inr d.1) (λ e. let l = r.0 d.0 d.1 in omega arith) x y m d.2)
+    (λ x y m q. let d = flat_among f y cs q in pairs c d.0 (inl refl) (inr d.1) (λ e. let l = r.0 d.0 d.1 in omega arith) x y m d.2)
 
 -- FULL NUMBERS
 -- of two beginnings of one text, one begins the other
@@ -98,19 +100,19 @@ module _ (p : Plan) (s : State) (h : Holds p s) where
   carried_once = record {
     joined = all_from_mem (λ c. Joins p (start_of p c) c.hops) s.calls (λ c m. (h.each c m).joined);
     once = flat_once same_circuit circuits_carried s.calls h.order (λ c m. (h.each c m).once)
-        (λ c d m q ne x y a b. false_from_ne_true _ (λ e. (h.pairs c d m q ne).carried x a (subst (Mem (circuits_carried d)) (sym (same_circuit-is x y e)) b)));
+        (λ c d m q ne x y a b. false_from_ne_true _ (λ e. (h.pairs c d m q ne).carried x a (subst (λ z. Among z (circuits_carried d)) (sym (same_circuit-is x y e)) b)));
   }
 
   pub part_once : TakesPartOnce p s
   part_once = record {
     once = flat_once same_line lines_of s.calls h.order (λ c m. (h.each c m).lines)
-        (λ c d m q ne x y a b. false_from_ne_true _ (λ e. (h.pairs c d m q ne).lines x a (subst (Mem (lines_of d)) (sym (same_line-is x y e)) b)));
+        (λ c d m q ne x y a b. false_from_ne_true _ (λ e. (h.pairs c d m q ne).lines x a (subst (λ z. Among z (lines_of d)) (sym (same_line-is x y e)) b)));
     keyed = all_from_mem (λ c. OfConnected c.phase (IsKeyedLine p c)) s.calls (λ c m. of_connected c.phase (λ l e. (h.each c m).connected l e));
   }
 
 -- IN EVERY RUN OF A CERTIFIED PLAN
 module _ (p : Plan) (ok : IsPlan p) (ranks : Ranks) (limit spare : ℕ) (cert : IsCertified p ranks limit spare) (s : State) (h : Holds p s) (ranked : AllRanked p ranks limit spare cert s.calls) where
-  only_line : (c : Call) → Mem s.calls c → (l : Line) → c.phase ≡ Connected l → IsOnlyLine p c l
+  only_line : (c : Call) → Among c s.calls → (l : Line) → c.phase ≡ Connected l → IsOnlyLine p c l
   only_line c m l e n hn f =
       let a = (h.each c m).connected l e in
       one_line p ok ranks limit spare cert l n a.known hn (a.keyed ∙ sym f)
@@ -123,7 +125,7 @@ module _ (p : Plan) (ok : IsPlan p) (ranks : Ranks) (limit spare : ℕ) (cert : 
     only = of_connected c.phase (only_line c m);
   })
 
-  safe_call : (c : Call) → Mem s.calls c → IsSafeCall p limit c
+  safe_call : (c : Call) → Among c s.calls → IsSafeCall p limit c
   safe_call c m = record {
     joined = (h.each c m).joined;
     once = passed_once p ranks limit spare cert c (ranked c m);

@@ -4,12 +4,13 @@ use Rattle.std.specs.List.{AllByRecursion}
 use Rattle.tx_plan.specs.Plan.{Plan}
 use Rattle.tx_plan.specs.Rules.{IsPlan}
 use Rattle.tx_plan.specs.Certified.{Ranks, IsCertified}
+use Rattle.tx_entries.proofs.Lists.{all_map}
 use Rattle.tx_state.specs.declared.event.Event.{Event}
 use Rattle.tx_state.specs.State.{State, opening}
 use Rattle.tx_state.specs.Step.{step}
 use Rattle.tx_state.specs.Runs.{run, InEveryState, OfEveryEvent}
 use Rattle.tx_state.specs.Safe.{JoinsAndCarriesOnce, TakesPartOnce, RanksFall, IsSafe}
-use Rattle.tx_state.specs.Excused.{IsExcused}
+use Rattle.tx_state.specs.Excused.{IsExcused, FewDown, OthersFree, IsNcByCollision}
 use Rattle.tx_state.specs.Sound.{IsSound}
 use Rattle.tx_state.specs.Invariant.{Holds}
 use Rattle.tx_state.proofs.Invariant.{inv_opening}
@@ -17,6 +18,7 @@ use Rattle.tx_state.proofs.Steps.{step_keeps}
 use Rattle.tx_state.proofs.Ranks.{AllRanked, step_ranked}
 use Rattle.tx_state.proofs.Safe.{carried_once, part_once, ranks_fall, safe_state}
 use Rattle.tx_state.proofs.Excuses.{step_excused}
+use Rattle.tx_state.proofs.Spares.{by_collision}
 
 -- IN EVERY RUN OF EVERY PLAN
 module _ (p : Plan) (ok : IsPlan p) where
@@ -62,6 +64,9 @@ module _ (p : Plan) (ok : IsPlan p) where
 
     pub excused_in : OfEveryEvent p (IsExcused p spare)
     excused_in numbers count events = excused_along (opening numbers count) (inv_opening p numbers) none_ranked events
+
+    pub suffice_in : OfEveryEvent p (λ s e r. FewDown p s spare → OthersFree p s e → IsNcByCollision s r)
+    suffice_in numbers count events = all_map (run p (opening numbers count) events) (λ m x few free. by_collision p ok spare m.before m.event few free m.reply x) (excused_in numbers count events)
 
     pub sound : IsSound p limit spare
     sound = record { safe = ranked_in (IsSafe p limit) (λ s h r. safe_state p ok ranks limit spare cert s h r); excused = excused_in }

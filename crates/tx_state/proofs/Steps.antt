@@ -8,12 +8,15 @@ use Rattle.std.specs.FinSet as set
 use Rattle.tx_plan.specs.Plan.{Plan, Code, Group, Route as RouteRow, home_of, figures_of}
 use Rattle.tx_plan.specs.Rules.{IsPlan, IsRoute}
 use Rattle.tx_plan.specs.Lines.{is_line}
+use Rattle.tx_plan.specs.Declaring.{first_true}
 use Rattle.tx_plan.proofs.Fronts.{after-is}
 use Rattle.tx_plan.specs.Codes.{after, is_prefix, codes_before, longer, longest, code_of}
 use Rattle.tx_plan.specs.Routes.{route_list, is_barred}
 use Rattle.tx_plan.specs.Circuits.{far_end, other_end, may_seize, is_both}
-use Rattle.tx_plan.specs.declared.circuit.Circuit.{Circuit}
-use Rattle.tx_plan.specs.declared.line.Line.{Line}
+use Rattle.tx_plan.specs.Among.{Among}
+use Rattle.tx_entries.specs.declared.circuit.Circuit.{Circuit}
+use Rattle.tx_entries.specs.declared.line.Line.{Line}
+use Rattle.tx_plan.proofs.Among.{filter_among}
 use Rattle.tx_state.specs.declared.event.Event.{Event}
 use Rattle.tx_state.specs.declared.event.Event.TheVariants.{Key, Route, Confirm, Clear, Released, Fail, Restore, Block, Unblock, CircuitOut, CircuitIn, LineFault, LineMend, LineAway, LineBack}
 use Rattle.tx_state.specs.declared.service.Service.{Service}
@@ -26,13 +29,12 @@ use Rattle.tx_state.specs.Call.{Phase, Standing, Calling, Connected, Call, place
 use Rattle.tx_state.specs.State.{State}
 use Rattle.tx_state.specs.InUse.{first_free, choice, seizes, seizes_from}
 use Rattle.tx_state.specs.Lines.{is_engaged, line_answer}
-use Rattle.tx_state.specs.Refusals.{first_true, is_other, refusals, refusal}
+use Rattle.tx_state.specs.Refusals.{is_other, refusals, refusal}
 use Rattle.tx_state.specs.Ending.{end_calls}
 use Rattle.tx_state.specs.Routing.{at_line, at_trunk, line_of, routed_for}
 use Rattle.tx_state.specs.Confirming.{far_of, collide, second_time, confirmed_by, rival, confirmed}
 use Rattle.tx_state.specs.Step.{with_call, accepted, counted, unless_refused, step, cause_by}
-use Rattle.tx_state.specs.Members.{Mem}
-use Rattle.tx_state.proofs.Lists.{mem_filter, find_mem}
+use Rattle.tx_state.proofs.Lists.{find_mem}
 use Rattle.tx_state.proofs.Uses.{first_in-is, chosen, calling_on}
 use Rattle.tx_state.specs.Invariant.{Holds}
 use Rattle.tx_state.proofs.Changes.{key_keeps, end_keeps, fail_keeps, release_keeps, connect_keeps, seize_keeps, carry_keeps, collide_keeps}
@@ -46,7 +48,7 @@ tests_false ((b, r) ∷ ts) h =
       | false ↦ λ e. (refl, tests_false ts e)
     ] h
 
-pub all_mem : {A : Type 0} (P : A → Type 0) (xs : List A) (x : A) → AllByRecursion P xs → Mem xs x → P x
+pub all_mem : {A : Type 0} (P : A → Type 0) (xs : List A) (x : A) → AllByRecursion P xs → Among x xs → P x
 all_mem P [] x a m = elim m [ ]
 all_mem P (y ∷ ys) x a (inl e) = subst P e a.0
 all_mem P (y ∷ ys) x a (inr m) = all_mem P ys x a.1 m
@@ -59,19 +61,19 @@ prefix-is front text h = at (after front text) refl h
     at None e h = absurd (false≢true h)
     at (Some rest) e h = after-is front text rest e
 
-pub longest-mem : (es : List (ℕ × Code)) (e : ℕ × Code) → longest es ≡ Some e → Mem es e
+pub longest-mem : (es : List (ℕ × Code)) (e : ℕ × Code) → longest es ≡ Some e → Among e es
 longest-mem [] e h = let bad : ⊥ = cc in absurd bad
 longest-mem (d ∷ es) e h = at (longest es) h (longest-mem es e)
   where
-    at : (o : Option (ℕ × Code)) → longer d o ≡ Some e → (o ≡ Some e → Mem es e) → Mem (d ∷ es) e
+    at : (o : Option (ℕ × Code)) → longer d o ≡ Some e → (o ≡ Some e → Among e es) → Among e (d ∷ es)
     at None h rest = let same : d ≡ e = cc in inl same
     at (Some f) h rest = pick (nat_lt (length f.1.figures) (length d.1.figures)) h
       where
-        pick : (b : Bool) → (if b then Some d else Some f) ≡ Some e → Mem (d ∷ es) e
+        pick : (b : Bool) → (if b then Some d else Some f) ≡ Some e → Among e (d ∷ es)
         pick true h = let same : d ≡ e = cc in inl same
         pick false h = inr (rest h)
 
-pub enumerated : (n : ℕ) (cs : List Code) (e : ℕ × Code) → Mem (enumerate_from n cs) e → (k : ℕ) × (e.0 ≡ n + k) × (slice_get cs k ≡ Some e.1)
+pub enumerated : (n : ℕ) (cs : List Code) (e : ℕ × Code) → Among e (enumerate_from n cs) → (k : ℕ) × (e.0 ≡ n + k) × (slice_get cs k ≡ Some e.1)
 enumerated n [] e m = elim m [ ]
 enumerated n (c ∷ cs) e (inl q) = (0, (let f = ap (λ (z : ℕ × Code). z.0) q in omega arith), ap (λ (z : ℕ × Code). Some z.1) q)
 enumerated n (c ∷ cs) e (inr m) = let r = enumerated (n + 1) cs e m in (suc r.0, (let f = r.1 in omega arith), r.2)
@@ -83,7 +85,7 @@ code_begins p keyed i h = at (longest (codes_before p keyed)) refl h
     at : (o : Option (ℕ × Code)) → longest (codes_before p keyed) ≡ o → option_map (λ e. e.0) o ≡ Some i → is_prefix (figures_of p i) keyed ≡ true
     at None e h = let bad : ⊥ = cc in absurd bad
     at (Some d) e h =
-        let m = mem_filter (λ e. is_prefix e.1.figures keyed) (enumerate_from 0 p.codes) d (longest-mem (codes_before p keyed) d e) in
+        let m = filter_among (λ e. is_prefix e.1.figures keyed) d (enumerate_from 0 p.codes) (longest-mem (codes_before p keyed) d e) in
         let r = enumerated 0 p.codes d m.0 in
         let same : d.0 ≡ i = cc in
         let place : r.0 ≡ i = (let f = r.1 in omega arith) in
@@ -93,22 +95,22 @@ code_begins p keyed i h = at (longest (codes_before p keyed)) refl h
 -- ROUTES
 
 -- the route whose list has a group
-pub row_of : (rs : List RouteRow) (x c g : ℕ) → Mem (option_map_or (λ r. r.groups) (find (λ r. (r.exchange == x) && (r.code == c)) rs) []) g → (r : RouteRow) × Mem rs r × (r.exchange ≡ x) × Mem r.groups g
+pub row_of : (rs : List RouteRow) (x c g : ℕ) → Among g (option_map_or (λ r. r.groups) (find (λ r. (r.exchange == x) && (r.code == c)) rs) []) → (r : RouteRow) × Among r rs × (r.exchange ≡ x) × Among g r.groups
 row_of rs x c g m = at (find (λ r. (r.exchange == x) && (r.code == c)) rs) refl m
   where
-    at : (o : Option RouteRow) → find (λ r. (r.exchange == x) && (r.code == c)) rs ≡ o → Mem (option_map_or (λ r. r.groups) o []) g → (r : RouteRow) × Mem rs r × (r.exchange ≡ x) × Mem r.groups g
+    at : (o : Option RouteRow) → find (λ r. (r.exchange == x) && (r.code == c)) rs ≡ o → Among g (option_map_or (λ r. r.groups) o []) → (r : RouteRow) × Among r rs × (r.exchange ≡ x) × Among g r.groups
     at None e m = elim m [ ]
     at (Some r) e m = let f = find_mem (λ r. (r.exchange == x) && (r.code == c)) rs r e in (r, f.0, eqb-true _ _ (and_parts _ _ f.1).0, m)
 
 -- the groups of a list may be seized where it is used
-pub listed_may : (p : Plan) → IsPlan p → (x c g : ℕ) → Mem (route_list p x c) g → may_seize p g x ≡ true
+pub listed_may : (p : Plan) → IsPlan p → (x c g : ℕ) → Among g (route_list p x c) → may_seize p g x ≡ true
 listed_may p ok x c g m =
     let r = row_of p.routes x c g m in
     let may = all_mem (λ g. may_seize p g r.0.exchange ≡ true) r.0.groups g (all_mem (IsRoute p) p.routes r.0 ok.routes r.1).outgoing r.3 in
     subst (λ x. may_seize p g x ≡ true) r.2 may
 
 -- and so they lead on from there
-pub listed_leads : (p : Plan) → IsPlan p → (x c g : ℕ) → Mem (route_list p x c) g → (y : ℕ) × (other_end p g x ≡ Some y)
+pub listed_leads : (p : Plan) → IsPlan p → (x c g : ℕ) → Among g (route_list p x c) → (y : ℕ) × (other_end p g x ≡ Some y)
 listed_leads p ok x c g m = at (slice_get p.groups g) (listed_may p ok x c g m)
   where
     at : (o : Option Group) → option_map_or (λ r. (r.a == x) || (is_both r.direction && (r.b == x))) o false ≡ true → (y : ℕ) × (option_and_then (λ r. far_end r x) o ≡ Some y)
@@ -141,7 +143,7 @@ stands (Connected l) e = absurd (true≢false e)
 
 -- THE EVENTS
 module _ (p : Plan) (ok : IsPlan p) (s : State) (h : Holds p s) where
-  module _ (c : Call) (m : Mem s.calls c) where
+  module _ (c : Call) (m : Among c s.calls) where
     line_keeps : (code : ℕ) → code_of p c.keyed ≡ Some code → (home_of p code == place_of p c) ≡ true → (o : Option Service) → line_answer p s (line_of p code c.keyed) ≡ o → Holds p (at_line p s c (line_of p code c.keyed) o).1
     line_keeps code e here None a =
         let f = free_line p s (line_of p code c.keyed) a in
@@ -191,7 +193,7 @@ module _ (p : Plan) (ok : IsPlan p) (s : State) (h : Holds p s) where
     confirm_keeps (Connected l) e = h
 
   -- an event on a call
-  with_keeps : (n : ℕ) (act : Call → Reply × State) → ((c : Call) → Mem s.calls c → call_of n s.calls ≡ Some c → Holds p (act c).1) → Holds p (with_call (call_of n s.calls) s act).1
+  with_keeps : (n : ℕ) (act : Call → Reply × State) → ((c : Call) → Among c s.calls → call_of n s.calls ≡ Some c → Holds p (act c).1) → Holds p (with_call (call_of n s.calls) s act).1
   with_keeps n act each = at (call_of n s.calls) refl
     where
       at : (o : Option Call) → call_of n s.calls ≡ o → Holds p (with_call o s act).1

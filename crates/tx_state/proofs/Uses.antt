@@ -6,23 +6,25 @@ use Rattle.std.specs.Option.{option_map_or}
 use Rattle.std.specs.List.{list_any}
 use Rattle.std.specs.FinSet as set
 use Rattle.tx_plan.specs.Orders.{same_circuit, same_line, same_line-itself}
-use Rattle.tx_plan.proofs.Named.{same_circuit-is, same_circuit-itself}
+use Rattle.tx_entries.proofs.Named.{same_circuit-is, same_circuit-itself}
 use Rattle.tx_plan.specs.Plan.{Plan, Group}
 use Rattle.tx_plan.specs.Circuits.{far_end, other_end, is_circuit, circuits_at, order_at, upward, downward}
-use Rattle.tx_plan.specs.declared.circuit.Circuit.{Circuit}
-use Rattle.tx_plan.specs.declared.line.Line.{Line}
+use Rattle.tx_plan.specs.Among.{Among}
+use Rattle.tx_entries.specs.declared.circuit.Circuit.{Circuit}
+use Rattle.tx_entries.specs.declared.line.Line.{Line}
+use Rattle.tx_plan.proofs.Among.{among_cases, map_among}
 use Rattle.tx_state.specs.declared.hop.Hop.{Hop}
 use Rattle.tx_state.specs.Call.{Phase, Standing, Calling, Connected, Call, last_exchange, place_of, lines_called}
 use Rattle.tx_state.specs.State.{State}
 use Rattle.tx_state.specs.InUse.{circuits_carried, carries, is_calling_on, seizes, seizes_from, is_free_at, is_down, first_free, first_in}
 use Rattle.tx_state.specs.Lines.{is_connected_to, takes_part, lines_of}
-use Rattle.tx_state.specs.Members.{NoneTwice, Mem}
+use Rattle.tx_state.specs.Members.{NoneTwice}
 use Rattle.tx_state.specs.Passed.{Joins}
-use Rattle.tx_state.proofs.Lists.{none_any, find_mem, mem_map, mem_append}
+use Rattle.tx_state.proofs.Lists.{none_any, find_mem}
 
-pub not_carried : (c : Call) (x : Circuit) → carries c x ≡ false → Mem (circuits_carried c) x → ⊥
+pub not_carried : (c : Call) (x : Circuit) → carries c x ≡ false → Among x (circuits_carried c) → ⊥
 not_carried c x n m =
-    let r = mem_map (λ (h : Hop). h.circuit) c.hops x m in
+    let r = map_among (λ (h : Hop). h.circuit) x c.hops m in
     let no = none_any (λ (h : Hop). same_circuit h.circuit x) c.hops r.0 n r.1 in
     both_ways _ no (ap (λ y. same_circuit y x) r.2 ∙ same_circuit-itself x)
 
@@ -34,11 +36,11 @@ calling_on (Connected l) x h = absurd (false≢true h)
 pub not_seizing : (c : Call) (x : Circuit) → seizes c x ≡ false → c.phase ≡ Calling x → ⊥
 not_seizing c x n e = both_ways _ n (ap (λ phase. is_calling_on phase x) e ∙ same_circuit-itself x)
 
-pub not_taking : (c : Call) (l : Line) → takes_part c l ≡ false → Mem (lines_of c) l → ⊥
+pub not_taking : (c : Call) (l : Line) → takes_part c l ≡ false → Among l (lines_of c) → ⊥
 not_taking c l n (inl e) = both_ways _ (or_parts (same_line c.line l) (is_connected_to c.phase l) n).0 (ap (λ m. same_line m l) e ∙ same_line-itself l)
 not_taking c l n (inr m) = connected c.phase (or_parts (same_line c.line l) (is_connected_to c.phase l) n).1 m
   where
-    connected : (phase : Phase) → is_connected_to phase l ≡ false → Mem (lines_called phase) l → ⊥
+    connected : (phase : Phase) → is_connected_to phase l ≡ false → Among l (lines_called phase) → ⊥
     connected Standing n m = m
     connected (Calling x) n m = m
     connected (Connected k) n (inl e) = both_ways _ n (ap (λ m. same_line m l) e ∙ same_line-itself l)
@@ -46,9 +48,9 @@ not_taking c l n (inr m) = connected c.phase (or_parts (same_line c.line l) (is_
 
 -- a circuit that an exchange sees as free
 pub record IsFree (p : Plan) (s : State) (place : ℕ) (x : Circuit) : Type 0 where
-  pub carried : (c : Call) → Mem s.calls c → Mem (circuits_carried c) x → ⊥
+  pub carried : (c : Call) → Among c s.calls → Among x (circuits_carried c) → ⊥
   pub releasing : set.contains s.releasing x ≡ true → ⊥
-  pub seized : (c : Call) → Mem s.calls c → c.phase ≡ Calling x → place_of p c ≡ place → ⊥
+  pub seized : (c : Call) → Among c s.calls → c.phase ≡ Calling x → place_of p c ≡ place → ⊥
 
 pub is_free : (p : Plan) (s : State) (place : ℕ) (x : Circuit) → is_free_at p s place x ≡ true → IsFree p s place x
 is_free p s place x h =
@@ -62,38 +64,38 @@ is_free p s place x h =
           (and_from _ _ (ap (λ phase. is_calling_on phase x) e ∙ same_circuit-itself x) (eq-eqb _ _ at));
     }
 
-pub first_in-is : (look : ℕ → Option Circuit) (gs : List ℕ) (x : Circuit) → first_in look gs ≡ Some x → (g : ℕ) × Mem gs g × (look g ≡ Some x)
+pub first_in-is : (look : ℕ → Option Circuit) (gs : List ℕ) (x : Circuit) → first_in look gs ≡ Some x → (g : ℕ) × Among g gs × (look g ≡ Some x)
 first_in-is look [] x h = cc
 first_in-is look (g ∷ gs) x h =
-    elim (is_some (look g)) as (λ b. (if b then look g else first_in look gs) ≡ Some x → (g' : ℕ) × Mem (g ∷ gs) g' × (look g' ≡ Some x)) [
+    elim (is_some (look g)) as (λ b. (if b then look g else first_in look gs) ≡ Some x → (g' : ℕ) × Among g' (g ∷ gs) × (look g' ≡ Some x)) [
       | true ↦ λ e. (g, inl refl, e)
       | false ↦ λ e. let r = first_in-is look gs x e in (r.0, inr r.1, r.2)
     ] h
 
-pub first_in-none : (look : ℕ → Option Circuit) (gs : List ℕ) (g : ℕ) → first_in look gs ≡ None → Mem gs g → look g ≡ None
+pub first_in-none : (look : ℕ → Option Circuit) (gs : List ℕ) (g : ℕ) → first_in look gs ≡ None → Among g gs → look g ≡ None
 first_in-none look [] g h m = elim m [ ]
 first_in-none look (y ∷ gs) g h m = at (look y) refl h m (first_in-none look gs g)
   where
-    at : (o : Option Circuit) → look y ≡ o → (if is_some o then o else first_in look gs) ≡ None → Mem (y ∷ gs) g → (first_in look gs ≡ None → Mem gs g → look g ≡ None) → look g ≡ None
+    at : (o : Option Circuit) → look y ≡ o → (if is_some o then o else first_in look gs) ≡ None → Among g (y ∷ gs) → (first_in look gs ≡ None → Among g gs → look g ≡ None) → look g ≡ None
     at None e h (inl q) rest = ap look (sym q) ∙ e
     at None e h (inr m) rest = rest h m
     at (Some x) e h m rest = cc
 
-in_order : (up : Bool) (count n : ℕ) → Mem (if up then upward count else downward count) n → (1 ≤ n) × (n ≤ count)
+in_order : (up : Bool) (count n : ℕ) → Among n (if up then upward count else downward count) → (1 ≤ n) × (n ≤ count)
 in_order true zero n m = elim m [ ]
-in_order true (suc k) n m = elim (mem_append (upward k) (suc k ∷ []) n m) [ inl o ↦ let r = in_order true k n o in (r.0, let q = r.1 in omega arith) | inr e ↦ elim e [ inl q ↦ (omega arith, omega arith) | inr b ↦ absurd b ] ]
+in_order true (suc k) n m = elim (among_cases n (upward k) (suc k ∷ []) m) [ inl o ↦ let r = in_order true k n o in (r.0, let q = r.1 in omega arith) | inr e ↦ elim e [ inl q ↦ (omega arith, omega arith) | inr b ↦ absurd b ] ]
 in_order false zero n m = elim m [ ]
 in_order false (suc k) n (inl e) = (omega arith, omega arith)
 in_order false (suc k) n (inr m) = let r = in_order false k n m in (r.0, let q = r.1 in omega arith)
 
 -- the circuits of a group are circuits of the plan
-group_at : (p : Plan) (g place : ℕ) (x : Circuit) → Mem (circuits_at p g place) x → (x.group ≡ g) × (is_circuit p x ≡ true)
+pub group_at : (p : Plan) (g place : ℕ) (x : Circuit) → Among x (circuits_at p g place) → (x.group ≡ g) × (is_circuit p x ≡ true)
 group_at p g place x m = at (slice_get p.groups g) refl m
   where
-    at : (o : Option Group) → slice_get p.groups g ≡ o → Mem (option_map_or (λ (r : Group). map (λ n. record { group = g; number = n }) (order_at r place)) o []) x → (x.group ≡ g) × (is_circuit p x ≡ true)
+    at : (o : Option Group) → slice_get p.groups g ≡ o → Among x (option_map_or (λ (r : Group). map (λ n. record { group = g; number = n }) (order_at r place)) o []) → (x.group ≡ g) × (is_circuit p x ≡ true)
     at None e m = elim m [ ]
     at (Some r) e m =
-        let q = mem_map (λ n. record { group = g; number = n }) (order_at r place) x m in
+        let q = map_among (λ n. record { group = g; number = n }) x (order_at r place) m in
         let i = in_order (r.a == place) r.count q.0 q.1 in
         (ap (λ (y : Circuit). y.group) (sym q.2), subst (λ y. is_circuit p y ≡ true) q.2 (ap (λ o. option_map_or (λ (r : Group). nat_le 1 q.0 && nat_le q.0 r.count) o false) e ∙ and_from (nat_le 1 q.0) (nat_le q.0 r.count) (le-leb 1 q.0 i.0) (le-leb q.0 r.count i.1)))
 
@@ -172,6 +174,6 @@ pub any_push : {A : Type 0} (t : A → Bool) (xs : List A) (x : A) → list_any 
 any_push t [] x n h = ap (λ c. c || false) h
 any_push t (y ∷ xs) x n h = let r = or_parts (t y) (list_any t xs) n in ap (λ b. b || list_any t (xs ++ x ∷ [])) r.0 ∙ any_push t xs x r.1 h
 
-pub none_twice_push : {A : Type 0} (same : A → A → Bool) (xs : List A) (x : A) → NoneTwice same xs → ((y : A) → Mem xs y → same y x ≡ false) → NoneTwice same (xs ++ x ∷ [])
+pub none_twice_push : {A : Type 0} (same : A → A → Bool) (xs : List A) (x : A) → NoneTwice same xs → ((y : A) → Among y xs → same y x ≡ false) → NoneTwice same (xs ++ x ∷ [])
 none_twice_push same [] x n h = (refl, tt)
 none_twice_push same (y ∷ xs) x n h = (any_push (same y) xs x n.0 (h y (inl refl)), none_twice_push same xs x n.1 (λ z m. h z (inr m)))

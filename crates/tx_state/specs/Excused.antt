@@ -1,11 +1,11 @@
 -- Answers NC that are excused.
-use Rattle.std.specs.Prelude.{◌≡◌, ℕ, ◌<◌, true, false, ◌⊎◌, length, Option, Some, None}
-use Rattle.std.specs.List.{AllByRecursion}
+use Rattle.std.specs.Prelude.{◌≡◌, ℕ, ◌<◌, ◌≤◌, true, false, ◌⊎◌, length, Option, Some, None, is_some, count_by}
+use Rattle.std.specs.List.{AllByRecursion, range_with_len}
 use Rattle.tx_plan.specs.Plan.{Plan}
 use Rattle.tx_plan.specs.Codes.{code_of}
 use Rattle.tx_plan.specs.Routes.{route_list}
-use Rattle.tx_plan.specs.Circuits.{is_circuit}
-use Rattle.tx_plan.specs.declared.circuit.Circuit.{Circuit}
+use Rattle.tx_plan.specs.Circuits.{is_circuit, may_seize}
+use Rattle.tx_entries.specs.declared.circuit.Circuit.{Circuit}
 use Rattle.tx_state.specs.declared.event.Event.{Event}
 use Rattle.tx_state.specs.declared.event.Event.TheVariants.{Route}
 use Rattle.tx_state.specs.declared.reply.Reply.{Reply}
@@ -14,7 +14,7 @@ use Rattle.tx_state.specs.declared.service.Service.{Service}
 use Rattle.tx_state.specs.declared.service.Service.TheVariants.{Nc}
 use Rattle.tx_state.specs.Call.{Call, call_of, place_of}
 use Rattle.tx_state.specs.State.{State}
-use Rattle.tx_state.specs.InUse.{is_down, is_free_at}
+use Rattle.tx_state.specs.InUse.{is_down, is_free_at, first_free}
 
 -- the group is down, or has no circuit free at the exchange
 abbrev pub IsTaken : Plan → State → ℕ → ℕ → Type 0
@@ -49,9 +49,25 @@ IsExcusedTo p spare s (Some n) Nc = FoundNone p s spare n
 IsExcusedTo p spare s None Nc = ⊥
 IsExcusedTo p spare s n other = Unit {0}
 
+-- NC is told of a call that a collision ends, and that had collided at its exchange before; no call is answered NC
+abbrev pub IsNcByCollision : State → Reply → Type 0
+IsNcByCollision s (Answered Nc) = ⊥
+IsNcByCollision s (HeadOn a b a_stands b_stands) = (a_stands ≡ false → HadCollided s a) × (b_stands ≡ false → HadCollided s b)
+IsNcByCollision s other = Unit {0}
+
 -- An answer NC to a routed call is excused where it found no circuit in a list of more groups than spare. The NC of a call that a collision ends is
 -- excused where it had collided at its exchange before. Other replies need no excuse.
 abbrev pub IsExcused : Plan → ℕ → State → Event → Reply → Type 0
 IsExcused p spare s e (Answered service) = IsExcusedTo p spare s (routed_call e) service
-IsExcused p spare s e (HeadOn a b a_stands b_stands) = (a_stands ≡ false → HadCollided s a) × (b_stands ≡ false → HadCollided s b)
-IsExcused p spare s e other = Unit {0}
+IsExcused p spare s e other = IsNcByCollision s other
+
+-- WHILE FEW GROUPS ARE DOWN
+-- no more groups of the plan are down than this
+abbrev pub FewDown : Plan → State → ℕ → Type 0
+FewDown p s spare = count_by (is_down s) (range_with_len 0 (length p.groups)) ≤ spare
+
+-- in each group that is not down and that may be seized where the routed call stands, a circuit is free there
+abbrev pub OthersFree : Plan → State → Event → Type 0
+OthersFree p s e =
+    (n : ℕ) (c : Call) → routed_call e ≡ Some n → call_of n s.calls ≡ Some c
+    → (g : ℕ) → may_seize p g (place_of p c) ≡ true → is_down s g ≡ false → is_some (first_free p s (place_of p c) g) ≡ true

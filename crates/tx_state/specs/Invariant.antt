@@ -7,9 +7,10 @@ use Rattle.tx_plan.specs.Plan.{Plan}
 use Rattle.tx_plan.specs.Lines.{is_line}
 use Rattle.tx_plan.specs.Codes.{code_of}
 use Rattle.tx_plan.specs.Circuits.{is_circuit, other_end}
-use Rattle.tx_plan.specs.declared.circuit.Circuit.{Circuit}
-use Rattle.tx_plan.specs.declared.line.Line.{Line}
-use Rattle.tx_state.specs.Members.{Mem, NoneTwice}
+use Rattle.tx_plan.specs.Among.{Among}
+use Rattle.tx_entries.specs.declared.circuit.Circuit.{Circuit}
+use Rattle.tx_entries.specs.declared.line.Line.{Line}
+use Rattle.tx_state.specs.Members.{NoneTwice}
 use Rattle.tx_state.specs.Call.{Call, Calling, Connected, start_of, place_of}
 use Rattle.tx_state.specs.State.{State}
 use Rattle.tx_state.specs.InUse.{circuits_carried}
@@ -24,7 +25,7 @@ pub record IsKept (p : Plan) (c : Call) : Type 0 where
   pub known : is_line p c.line ≡ true
   pub joined : Joins p (start_of p c) c.hops
   pub once : NoneTwice same_circuit (circuits_carried c)
-  pub own : (x : Circuit) → Mem (circuits_carried c) x → c.phase ≡ Calling x → ⊥
+  pub own : (x : Circuit) → Among x (circuits_carried c) → c.phase ≡ Calling x → ⊥
   pub planned : (x : Circuit) → c.phase ≡ Calling x → is_circuit p x ≡ true
   pub calling : (x : Circuit) → c.phase ≡ Calling x → (y : ℕ) × (other_end p x.group (place_of p c) ≡ Some y)
   pub connected : (l : Line) → c.phase ≡ Connected l → IsKeyedLine p c l
@@ -33,31 +34,31 @@ pub record IsKept (p : Plan) (c : Call) : Type 0 where
 -- Of two calls: no circuit is carried by both, or carried by one and seized by the other; if both have seized a circuit, they stand at its two ends;
 -- no line takes part in both.
 pub record AreApart (p : Plan) (c d : Call) : Type 0 where
-  pub carried : (x : Circuit) → Mem (circuits_carried c) x → Mem (circuits_carried d) x → ⊥
-  pub left : (x : Circuit) → Mem (circuits_carried c) x → d.phase ≡ Calling x → ⊥
-  pub right : (x : Circuit) → c.phase ≡ Calling x → Mem (circuits_carried d) x → ⊥
+  pub carried : (x : Circuit) → Among x (circuits_carried c) → Among x (circuits_carried d) → ⊥
+  pub left : (x : Circuit) → Among x (circuits_carried c) → d.phase ≡ Calling x → ⊥
+  pub right : (x : Circuit) → c.phase ≡ Calling x → Among x (circuits_carried d) → ⊥
   pub ends : (x : Circuit) → c.phase ≡ Calling x → d.phase ≡ Calling x → place_of p c ≡ place_of p d → ⊥
-  pub lines : (l : Line) → Mem (lines_of c) l → Mem (lines_of d) l → ⊥
+  pub lines : (l : Line) → Among l (lines_of c) → Among l (lines_of d) → ⊥
 
 -- a call has nothing to do with a circuit: it neither carries it nor has seized it
 pub record IsUnused (c : Call) (x : Circuit) : Type 0 where
-  pub carried : Mem (circuits_carried c) x → ⊥
+  pub carried : Among x (circuits_carried c) → ⊥
   pub seized : c.phase ≡ Calling x → ⊥
 
 -- the calls stand in order of their numbers
 abbrev pub IsRising : List Call → Type 0
 IsRising [] = Unit {0}
-IsRising (c ∷ cs) = ((d : Call) → Mem cs d → c.number < d.number) × IsRising cs
+IsRising (c ∷ cs) = ((d : Call) → Among d cs → c.number < d.number) × IsRising cs
 
 -- THE INVARIANT
 -- Each call is kept so, each two of them are apart, a releasing circuit is unused by all, a number has one call, no call has a number that was not
 -- given, and the calls stand in order of their numbers.
 pub record Inv (p : Plan) (calls : List Call) (releasing : set.FinSet circuit_cmp) (numbers : ℕ) : Type 0 where
-  pub each : (c : Call) → Mem calls c → IsKept p c
-  pub pairs : (c d : Call) → Mem calls c → Mem calls d → c.number ≢ d.number → AreApart p c d
-  pub idle : (x : Circuit) → set.contains releasing x ≡ true → (c : Call) → Mem calls c → IsUnused c x
-  pub one : (c d : Call) → Mem calls c → Mem calls d → c.number ≡ d.number → c ≡ d
-  pub given : (c : Call) → Mem calls c → c.number ≤ numbers
+  pub each : (c : Call) → Among c calls → IsKept p c
+  pub pairs : (c d : Call) → Among c calls → Among d calls → c.number ≢ d.number → AreApart p c d
+  pub idle : (x : Circuit) → set.contains releasing x ≡ true → (c : Call) → Among c calls → IsUnused c x
+  pub one : (c d : Call) → Among c calls → Among d calls → c.number ≡ d.number → c ≡ d
+  pub given : (c : Call) → Among c calls → c.number ≤ numbers
   pub order : IsRising calls
 
 -- of a state

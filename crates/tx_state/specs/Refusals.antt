@@ -1,9 +1,10 @@
 -- Which events are refused, and why.
-use Rattle.std.specs.Prelude.{ℕ, ◌-◌, ◌^◌, Bool, false, not, ◌&&◌, nat_le, if◌then◌else◌, List, [], ◌∷◌, ◌++◌, Option, Some, None, is_some, is_none, slice_get}
+use Rattle.std.specs.Prelude.{ℕ, ◌-◌, ◌^◌, Bool, false, not, ◌&&◌, nat_le, List, [], ◌∷◌, ◌++◌, Option, Some, None, is_some, is_none, slice_get}
 use Rattle.std.specs.FinSet as set
 use Rattle.tx_plan.specs.Plan.{Plan}
 use Rattle.tx_plan.specs.Lines.{is_line}
 use Rattle.tx_plan.specs.Circuits.{is_circuit}
+use Rattle.tx_plan.specs.Declaring.{first_true}
 use Rattle.tx_state.specs.declared.event.Event.{Event}
 use Rattle.tx_state.specs.declared.event.Event.TheVariants.{Key, Route, Confirm, Clear, Released, Fail, Restore, Block, Unblock, CircuitOut, CircuitIn, LineFault, LineMend, LineAway, LineBack}
 use Rattle.tx_state.specs.declared.party.Party.TheVariants.{Caller, Called}
@@ -27,11 +28,6 @@ refusal_number NotSo = 9
 refusal_number NotReleasing = 10
 refusal_number UnknownCircuit = 11
 refusal_number Exhausted = 12
-
--- the first refusal whose test is true
-abbrev pub first_true : List (Bool × Refusal) → Option Refusal
-first_true [] = None
-first_true (t ∷ ts) = if t.0 then Some t.1 else first_true ts
 
 -- there is such a call, and it is in another phase
 abbrev pub is_other : (Phase → Bool) → Option Call → Bool

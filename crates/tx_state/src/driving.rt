@@ -6,7 +6,6 @@ ghost use Rattle.tx_state.specs.Driven.{StopsAt};
 use crate::event::Event;
 use crate::network::Network;
 use crate::reply::Reply;
-use crate::room::put;
 use std::alloc::Allocator;
 use tx_text::NoMemory;
 
@@ -26,7 +25,7 @@ pub fn drive<N: Network, B: Allocator>(
     let mut at = 0;
     while at < events.len() {
         let reply = net.apply(events[at])?;
-        put(replies, reply);
+        replies.push_reserved(reply);
         at += 1;
     }
     Ok(())

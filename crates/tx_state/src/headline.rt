@@ -5,7 +5,7 @@ ghost use Rattle.tx_plan.specs.Rules.{IsPlan};
 ghost use Rattle.tx_plan.specs.Certified.{Ranks, IsCertified};
 ghost use Rattle.tx_state.specs.Runs.{InEveryState, OfEveryEvent};
 ghost use Rattle.tx_state.specs.Safe.{JoinsAndCarriesOnce, TakesPartOnce, RanksFall};
-ghost use Rattle.tx_state.specs.Excused.{IsExcused};
+ghost use Rattle.tx_state.specs.Excused.{IsExcused, FewDown, OthersFree, IsNcByCollision};
 ghost use Rattle.tx_state.specs.Sound.{IsSound, HasFewRoutes};
 ghost use Rattle.tx_state.specs.Drained.{AppendsTickets};
 
@@ -28,6 +28,12 @@ pub fn ranks_fall()
 /// In every run of a certified plan every NC is excused.
 pub fn every_nc_is_excused()
     ensures { (p : Plan) (ranks : Ranks) (limit spare : ℕ) → IsPlan p → IsCertified p ranks limit spare → OfEveryEvent p (IsExcused p spare) }
+{}
+
+/// In every run of a certified plan, while at most `spare` groups are down and each other group has a circuit free where the routed call stands, NC is
+/// answered only after a second head-on collision.
+pub fn spare_groups_suffice()
+    ensures { (p : Plan) (ranks : Ranks) (limit spare : ℕ) → IsPlan p → IsCertified p ranks limit spare → OfEveryEvent p (λ s e r. FewDown p s spare → OthersFree p s e → IsNcByCollision s r) }
 {}
 
 /// In every run of a certified plan at most twice `limit` and three Routes of one call are accepted.

@@ -12,7 +12,6 @@ mod path;
 mod phase;
 mod refusal;
 mod reply;
-mod room;
 mod service;
 mod ticket;
 
@@ -21,7 +20,7 @@ pub use driving::drive;
 pub use event::Event;
 pub use headline::{
     certified_is_sound, every_nc_is_excused, hops_join_and_carry_once, lines_take_part_once,
-    ranks_fall, routes_are_bounded, tickets_are_appended,
+    ranks_fall, routes_are_bounded, spare_groups_suffice, tickets_are_appended,
 };
 pub use hop::Hop;
 pub use network::Network;
@@ -30,6 +29,5 @@ pub use path::Path;
 pub use phase::Phase;
 pub use refusal::Refusal;
 pub use reply::Reply;
-pub use room::put;
 pub use service::Service;
 pub use ticket::Ticket;

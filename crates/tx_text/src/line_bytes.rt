@@ -39,7 +39,7 @@ fn are_text(bytes: &[u8]) -> bool
     all
 }
 
-/// Whether all bytes of a line are text, looked at in blocks, of which the last two may overlap.
+/// Whether all bytes of a line are text, looked at in blocks, of which the last two may overlap. It stops at the first block with a bad byte.
 #[inline(always)]
 fn is_text(line: &[u8]) -> bool
     ensures { result ≡ list_all is_text_byte line.now }
@@ -51,13 +51,14 @@ fn is_text(line: &[u8]) -> bool
     if len < 16 {
         return are_text(&line[..8]) & are_text(&line[len - 8..]);
     }
-    let mut all = true;
     let mut done = 0;
     while done + 16 < len {
-        all = all & are_text(&line[done..done + 16]);
+        if !are_text(&line[done..done + 16]) {
+            return false;
+        }
         done += 16;
     }
-    all & are_text(&line[len - 16..])
+    are_text(&line[len - 16..])
 }
 
 /// What is wrong with the bytes of a line, given without its LF and the CR before it.

@@ -4,6 +4,7 @@ ghost use Rattle.std.specs.List.{flat_map};
 ghost use Rattle.std.specs.Io.KnownBytes.{append_known};
 ghost use Rattle.tx_text.specs.declared.sink.WriteFault.{WriteFault};
 ghost use Rattle.tx_text.specs.Ends.{moved, StopsIn};
+ghost use Rattle.tx_text.specs.Wrote.{Wrote};
 
 /// A sink failed.
 #[derive(Clone, Copy, Debug, PartialEq, Eq)]
@@ -60,4 +61,12 @@ pub fn write_parts<W: Sink>(parts: &[&[u8]], sink: &mut W) -> Result<(), WriteFa
         write_bytes(parts[i], sink)?;
     }
     Ok(())
+}
+
+/// Writes the parts of a text, one after another. The four clauses of `write_parts` are one here.
+#[inline(always)]
+pub fn write_text<W: Sink>(parts: &[&[u8]], sink: &mut W) -> Result<(), WriteFault>
+    ensures { Wrote (W.taken sink.old) (W.taken sink.new) (W.failed sink.old) (W.failed sink.new) (flat_map (λ p. p.now) parts.now) result }
+{
+    write_parts(parts, sink)
 }

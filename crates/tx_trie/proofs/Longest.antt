@@ -11,7 +11,7 @@ use Rattle.tx_plan.specs.Codes.{is_prefix, codes_before, longer, longest, code_o
 use Rattle.tx_plan.specs.Rules.{is_code}
 use Rattle.tx_plan.specs.Among.{Among}
 use Rattle.tx_plan.proofs.Among.{among_filter, filter_among, among_places, places_among}
-use Rattle.tx_plan.proofs.Lists.{both, at_least, same_tests}
+use Rattle.tx_entries.proofs.Lists.{both, at_least, same_tests}
 use Rattle.tx_trie.specs.Trie.{plan_of}
 use Rattle.tx_trie.specs.declared.node.Node.{Node}
 use Rattle.tx_trie.specs.inner.Nodes.{IsTrie, child, code_at, walk, look, newer, read_on}
@@ -31,10 +31,10 @@ longest_among [] e h = let bad : ⊥ = cc in absurd bad
 longest_among (d ∷ es) e h = by (longest es) (longest_among es) h
   where
     by : (o : Option (ℕ × Code)) → ((f : ℕ × Code) → o ≡ Some f → Among f es) → longer d o ≡ Some e → Among e (d ∷ es)
-    by None k h = let s : e ≡ d = cc in inl s
+    by None k h = let s : d ≡ e = cc in inl s
     by (Some f) k h =
         elim (nat_lt (length f.1.figures) (length d.1.figures)) as (λ b. (if b then Some d else Some f) ≡ Some e → Among e (d ∷ es)) [
-          | true ↦ λ m. let s : e ≡ d = cc in inl s
+          | true ↦ λ m. let s : d ≡ e = cc in inl s
           | false ↦ λ m. let s : e ≡ f = cc in inr (subst (λ w. Among w es) (sym s) (k f refl))
         ] h
 
@@ -43,7 +43,7 @@ width e = length e.1.figures
 
 longest_is : (es : List (ℕ × Code)) (e : ℕ × Code) → Among e es → ((f : ℕ × Code) → Among f es → (f ≡ e) ⊎ (width f < width e)) → longest es ≡ Some e
 longest_is [] e h low = absurd h
-longest_is (d ∷ es) e (inl is) low = ap (λ w. longer w (longest es)) (sym is) ∙ by (longest es) refl
+longest_is (d ∷ es) e (inl is) low = ap (λ w. longer w (longest es)) is ∙ by (longest es) refl
   where
     by : (o : Option (ℕ × Code)) → longest es ≡ o → longer e o ≡ Some e
     by None k = refl

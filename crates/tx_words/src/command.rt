@@ -1,8 +1,8 @@
 // Commands, and the words that ask for them.
-ghost use Rattle.std.specs.Prelude.{◌≡◌, ◌≢◌, ◌≤◌, [], Ok, IfOk, IfSome, is_some, not, codes, option_map, string_bytes};
-ghost use Rattle.clap.specs.Words.{first_of, found_of, rows_of, subcommand_rows_of};
+ghost use Rattle.std.specs.Prelude.{◌≡◌, ◌≢◌, ◌≤◌, ℕ, List, Option, [], Ok, Some, None, IfOk, IfErr, IfSome, is_some, not, codes, option_map, string_bytes};
+ghost use Rattle.clap.specs.Words.{Row, first_of, found_of, rows_of, subcommand_rows_of};
 ghost use Rattle.tx_words.specs.Commands.{IsInRange, Names, Gives, Asks, AskFor, IsFoundIn};
-ghost use Rattle.tx_words.specs.Faults.{status_of};
+ghost use Rattle.tx_words.specs.Faults.{HasNumber, IsRefusalIn, IsRefusalOf, status_of};
 
 use crate::fault::WordsFault;
 use crate::grammar::grammar;
@@ -77,6 +77,7 @@ fn is_absent(matches: &ArgMatches<'_>, id: &str) -> bool
 fn number(matches: &ArgMatches<'_>, id: &str, most: u8) -> Option<u8>
     ensures range { IfSome result (λ n. n ≤ most) }
     ensures given { IfSome result (Gives (rows_of (found_of matches.now)) id.now) }
+    ensures none { result ≡ None → HasNumber (rows_of (found_of matches.now)) id.now most → ⊥ }
 {
     match matches.get_one::<u8>(id) {
         Some(n) if n <= most => Some(n),
@@ -93,6 +94,7 @@ fn check_of(
     requires { Names (rows_of (found_of matches.now)) (codes "plan") plan }
     ensures range { IfOk result (λ c. IfSome c IsInRange) }
     ensures asked { IfOk result (λ c. IfSome c (Asks (codes "check") (rows_of (found_of matches.now)))) }
+    ensures refused { IfErr result (IsRefusalIn (Some (codes "check", rows_of (found_of matches.now)))) }
 {
     let limit = number(matches, "limit", 62);
     let spare = number(matches, "spare", 15);
@@ -117,6 +119,7 @@ fn audit_of(
     requires { Names (rows_of (found_of matches.now)) (codes "plan") plan }
     ensures range { IfOk result (λ c. IfSome c IsInRange) }
     ensures asked { IfOk result (λ c. IfSome c (Asks (codes "audit") (rows_of (found_of matches.now)))) }
+    ensures refused { IfErr result (IsRefusalIn (Some (codes "audit", rows_of (found_of matches.now)))) }
 {
     let limit = number(matches, "limit", 62);
     let spare = number(matches, "spare", 15);
@@ -143,6 +146,7 @@ fn run_of(
     requires { Names (rows_of (found_of matches.now)) (codes "plan") plan }
     ensures range { IfOk result (λ c. IfSome c IsInRange) }
     ensures asked { IfOk result (λ c. IfSome c (Asks (codes "run") (rows_of (found_of matches.now)))) }
+    ensures refused { IfErr result (IsRefusalIn (Some (codes "run", rows_of (found_of matches.now)))) }
 {
     let Some(script) = text(alloc, matches, "script")? else {
         return Ok(None);
@@ -171,16 +175,22 @@ fn draw_of(
     requires { Names (rows_of (found_of matches.now)) (codes "plan") plan }
     ensures range { IfOk result (λ c. IfSome c IsInRange) }
     ensures asked { IfOk result (λ c. IfSome c (Asks (codes "draw") (rows_of (found_of matches.now)))) }
+    ensures refused { IfErr result (IsRefusalIn (Some (codes "draw", rows_of (found_of matches.now)))) }
 {
     let limit = number(matches, "limit", 62);
     let spare = number(matches, "spare", 15);
     let no_bounds = is_absent(matches, "limit") && is_absent(matches, "spare");
     let code = text(alloc, matches, "code")?;
-    let routes = match (code, limit, spare) {
-        (Some(code), Some(limit), Some(spare)) => Some((code, Some((limit, spare)))),
-        (Some(code), _, _) if no_bounds => Some((code, None)),
-        (None, _, _) if no_bounds => None,
-        _ => return Err(WordsFault::DrawTogether),
+    let routes = if no_bounds {
+        match code {
+            Some(code) => Some((code, None)),
+            None => None,
+        }
+    } else {
+        match (code, limit, spare) {
+            (Some(code), Some(limit), Some(spare)) => Some((code, Some((limit, spare)))),
+            _ => return Err(WordsFault::DrawTogether),
+        }
     };
     Ok(Some(Command::Draw { plan, routes }))
 }
@@ -189,6 +199,7 @@ fn draw_of(
 fn explain_of(alloc: Global, matches: &ArgMatches<'_>) -> Result<Option<Command>, WordsFault>
     ensures range { IfOk result (λ c. IfSome c IsInRange) }
     ensures asked { IfOk result (λ c. IfSome c (Asks (codes "explain") (rows_of (found_of matches.now)))) }
+    ensures refused { IfErr result (IsRefusalIn (Some (codes "explain", rows_of (found_of matches.now)))) }
 {
     let Some(word) = text(alloc, matches, "code")? else {
         return Ok(Some(Command::Explain { entry: None }));
@@ -207,6 +218,7 @@ fn command_of(
 ) -> Result<Option<Command>, WordsFault>
     ensures range { IfOk result (λ c. IfSome c IsInRange) }
     ensures asked { IfOk result (λ c. IfSome c (Asks name.now (rows_of (found_of matches.now)))) }
+    ensures refused { IfErr result (IsRefusalIn (Some (name.now, rows_of (found_of matches.now)))) }
 {
     if name == "explain" {
         return explain_of(alloc, matches);
@@ -239,6 +251,7 @@ fn command_of(
 fn found_command(alloc: Global, matches: &ArgMatches<'_>) -> Result<Option<Command>, WordsFault>
     ensures range { IfOk result (λ c. IfSome c IsInRange) }
     ensures asked { IfOk result (λ c. IfSome c (IsFoundIn (subcommand_rows_of matches.now))) }
+    ensures refused { IfErr result (IsRefusalIn (subcommand_rows_of matches.now)) }
 {
     match matches.subcommand() {
         Some((name, matches)) => command_of(alloc, name, matches),
@@ -248,7 +261,8 @@ fn found_command(alloc: Global, matches: &ArgMatches<'_>) -> Result<Option<Comma
 
 /// Why words without a command are refused.
 fn no_command(grammar: &mut clap::Command<'_>) -> Result<WordsFault, AllocError>
-    ensures { IfOk result (λ fault. status_of fault ≡ 64) }
+    ensures status { IfOk result (λ fault. status_of fault ≡ 64) }
+    ensures refused { IfOk result (λ fault. (command : Option (List ℕ × List Row)) → IsRefusalIn command fault) }
 {
     let e = grammar.error(ErrorKind::MissingSubcommand, "a command is missing")?;
     Ok(WordsFault::of_clap(e))
@@ -259,6 +273,7 @@ pub fn read_command(alloc: Global, words: &[&str]) -> Result<Command, WordsFault
     ensures in_range { IfOk result IsInRange }
     ensures pipe { words.now ≡ [] → result ≡ Ok Command.Pipe }
     ensures asked { IfOk result (λ c. words.now ≢ [] → AskFor words.now c) }
+    ensures refused { IfErr result (IsRefusalOf words.now) }
 {
     if words.is_empty() {
         return Ok(Command::Pipe);

@@ -1,6 +1,7 @@
 // The words that the program takes, with what it tells of them when asked for help.
-ghost use Rattle.std.specs.Prelude.{◌≡◌, false, IfOk, codes};
-ghost use Rattle.clap.specs.Words.{app_of, rule_of};
+ghost use Rattle.std.specs.Prelude.{◌≡◌, false, Ok, IfOk, codes};
+ghost use Rattle.clap.specs.Words.{AddsSubcommand, app_of, rule_of};
+ghost use Rattle.clap.specs.declared.builder.command.Command.{Command};
 ghost use Rattle.tx_words.specs.Grammar as grammar;
 
 use clap::{Arg, ArgAction, value_parser};
@@ -202,16 +203,32 @@ fn top_grammar<'a>(alloc: Global) -> Result<clap::Command<'a>, AllocError>
     )
 }
 
+/// The program with one command more, if its words could be made.
+fn with_command<'a>(
+    program: clap::Command<'a>,
+    command: Result<clap::Command<'a>, AllocError>,
+) -> Result<clap::Command<'a>, AllocError>
+    ensures { IfOk result (λ c. (words : Command) × (command.entry ≡ Ok words) × AddsSubcommand program.entry words c) }
+{
+    match command {
+        Ok(words) => program.subcommand(words),
+        Err(error) => {
+            drop(program);
+            Err(error)
+        }
+    }
+}
+
 /// The words that the program takes.
 pub(crate) fn grammar<'a>(alloc: Global) -> Result<clap::Command<'a>, AllocError>
     ensures { IfOk result (λ c. app_of c ≡ grammar.program_words) }
 {
-    top_grammar(alloc)?
-        .subcommand(audit_grammar(alloc)?)?
-        .subcommand(grade_grammar(alloc)?)?
-        .subcommand(check_grammar(alloc)?)?
-        .subcommand(run_grammar(alloc)?)?
-        .subcommand(codes_grammar(alloc)?)?
-        .subcommand(draw_grammar(alloc)?)?
-        .subcommand(explain_grammar(alloc)?)
+    let top = top_grammar(alloc)?;
+    let program = with_command(top, audit_grammar(alloc))?;
+    let program = with_command(program, grade_grammar(alloc))?;
+    let program = with_command(program, check_grammar(alloc))?;
+    let program = with_command(program, run_grammar(alloc))?;
+    let program = with_command(program, codes_grammar(alloc))?;
+    let program = with_command(program, draw_grammar(alloc))?;
+    with_command(program, explain_grammar(alloc))
 }

@@ -3,7 +3,7 @@ use Rattle.std.specs.Prelude.{◌≡◌, ℕ, ◌&&◌, ◌==◌, if◌then◌el
 use Rattle.tx_plan.specs.Plan.{Plan, home_of, figures_of}
 use Rattle.tx_plan.specs.Codes.{code_of, after}
 use Rattle.tx_plan.specs.Routes.{route_list, is_barred}
-use Rattle.tx_plan.specs.declared.circuit.Circuit.{Circuit}
+use Rattle.tx_entries.specs.declared.circuit.Circuit.{Circuit}
 use Rattle.tx_state.specs.declared.service.Service.TheVariants.{Occ, Nc, Np, Der, Abs, Na}
 use Rattle.tx_state.specs.declared.reply.Reply.{Reply}
 use Rattle.tx_state.specs.declared.reply.Reply.TheVariants.{Seized, Connected as ConnectedTo}

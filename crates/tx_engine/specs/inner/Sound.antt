@@ -5,12 +5,12 @@ use Rattle.tx_plan.specs.Plan.{Plan, Code}
 use Rattle.tx_plan.specs.Rules.{IsPlan}
 use Rattle.tx_plan.specs.Lines.{is_line_at}
 use Rattle.tx_plan.specs.Circuits.{is_circuit, ends_of}
-use Rattle.tx_plan.specs.declared.circuit.Circuit.{Circuit}
+use Rattle.tx_plan.specs.Among.{Among}
+use Rattle.tx_entries.specs.declared.circuit.Circuit.{Circuit}
 use Rattle.tx_state.specs.declared.phase.Phase.TheVariants.{Calling}
 use Rattle.tx_state.specs.Call.{place_of, call_of}
 use Rattle.tx_state.specs.State.{State}
 use Rattle.tx_state.specs.InUse.{circuits_carried}
-use Rattle.tx_state.specs.Members.{Mem}
 use Rattle.tx_lines.specs.Book.{Book, is_line_of}
 use Rattle.tx_circuits.specs.Table.{Table}
 use Rattle.tx_calls.specs.Calls.{Kept, Calls, kept_at, calls_in}
@@ -27,7 +27,7 @@ is_first_end p x place = (ends_of p x.group).0 == place
 pub record AreKeyed (p : Plan) (c : Calls) (ks : List (List EndKeys)) : Type 0 where
   pub all : (x : Circuit) → is_circuit p x ≡ true → HasKeys ks x
   pub seizers : (key : ℕ) (e : Kept) → kept_at c key ≡ Some e → (x : Circuit) → e.call.phase ≡ Calling x → pick (is_first_end p x (place_of p e.call)) (keys_of ks x) ≡ key
-  pub carriers : (key : ℕ) (e : Kept) → kept_at c key ≡ Some e → (x : Circuit) → Mem (circuits_carried e.call) x → (first : Bool) → pick first (keys_of ks x) ≡ key
+  pub carriers : (key : ℕ) (e : Kept) → kept_at c key ≡ Some e → (x : Circuit) → Among x (circuits_carried e.call) → (first : Bool) → pick first (keys_of ks x) ≡ key
 
 -- a call that has seized a circuit has room for a hop
 abbrev pub HasHopRoom : Calls → Type 0

@@ -6,7 +6,7 @@ use Rattle.std.specs.Coded.{Coded, code_by, coded×, coded_ℕ}
 use Rattle.indexmap.specs.IndexMap as index
 use Rattle.indexmap.specs.IndexMap.{IndexMap}
 use Rattle.tx_plan.specs.Orders.{same_line, line_cmp, coded_line}
-use Rattle.tx_plan.specs.declared.line.Line.{Line}
+use Rattle.tx_entries.specs.declared.line.Line.{Line}
 use Rattle.tx_lines.specs.Status.{has, is_unmarked}
 use Rattle.tx_lines.specs.declared.status.Status.{Status}
 use Rattle.tx_lines.specs.declared.status.Mark.{Mark}

@@ -3,8 +3,8 @@ use Rattle.std.specs.Prelude.{◌≡◌, ℕ, ◌+◌, ◌≤◌, List, map, len
 use Rattle.std.specs.FinSet as set
 use Rattle.tx_plan.specs.Plan.{Plan}
 use Rattle.tx_plan.specs.Rules.{IsPlan}
-use Rattle.tx_plan.specs.declared.line.Line.{Line}
-use Rattle.tx_state.specs.Members.{Mem}
+use Rattle.tx_plan.specs.Among.{Among}
+use Rattle.tx_entries.specs.declared.line.Line.{Line}
 use Rattle.tx_state.specs.Call.{Call}
 use Rattle.tx_state.specs.Ended.{Ended}
 use Rattle.tx_state.specs.State.{Net}
@@ -17,9 +17,9 @@ use Rattle.tx_network.specs.declared.open_call.OpenCall.{OpenCall}
 
 -- what holds of the calls: their circuits have marks, each has a number of its own, and its number was given
 pub record AreHeld (groups numbers : ℕ) (calls : List Call) : Type 0 where
-  pub marked : (c : Call) → Mem calls c → AreMarked groups (circuits_used c)
-  pub one : (c d : Call) → Mem calls c → Mem calls d → c.number ≡ d.number → c ≡ d
-  pub given : (c : Call) → Mem calls c → c.number ≤ numbers
+  pub marked : (c : Call) → Among c calls → AreMarked groups (circuits_used c)
+  pub one : (c d : Call) → Among c calls → Among d calls → c.number ≡ d.number → c ≡ d
+  pub given : (c : Call) → Among c calls → c.number ≤ numbers
 
 -- What the fields keep: the rules of the plan; room for a ticket of each open call; what holds of the calls; room for the hop of a call that has
 -- seized a circuit; marks for all groups of the plan.
@@ -27,7 +27,7 @@ pub record IsWhole {A : Type 0} (p : Plan) (calls : Vec (OpenCall A) A) (tickets
   pub rules : IsPlan p
   pub room : vec_len tickets + vec_len calls ≤ vec_capacity tickets
   pub held : AreHeld (length p.groups) numbers (map call_seen calls.items)
-  pub hops : (c : OpenCall A) → Mem calls.items c → HasRoom c
+  pub hops : (c : OpenCall A) → Among c calls.items → HasRoom c
   pub failed_all : failed.groups ≡ length p.groups
   pub blocked_all : blocked.groups ≡ length p.groups
   pub releasing_all : releasing.groups ≡ length p.groups

@@ -2,8 +2,8 @@
 use Rattle.std.specs.Prelude.{ℕ, Bool, not, ◌&&◌, ◌||◌, List}
 use Rattle.std.specs.List.{list_any}
 use Rattle.std.specs.FinSet as set
-use Rattle.tx_plan.specs.declared.circuit.Circuit.{Circuit}
-use Rattle.tx_state.specs.Members.{Mem}
+use Rattle.tx_entries.specs.declared.circuit.Circuit.{Circuit}
+use Rattle.tx_plan.specs.Among.{Among}
 use Rattle.tx_state.specs.Call.{Call, is_numbered}
 use Rattle.tx_state.specs.InUse.{seizes, uses_group}
 use Rattle.tx_plain_parts.specs.inner.Marks.{Circuits, HasMark}
@@ -26,4 +26,4 @@ with_more v xs = record { marked = set.union v.marked (set.from_list xs); groups
 
 -- each of the circuits has a mark
 abbrev pub AreMarked : ℕ → List Circuit → Type 0
-AreMarked groups xs = (x : Circuit) → Mem xs x → HasMark groups x
+AreMarked groups xs = (x : Circuit) → Among x xs → HasMark groups x

@@ -1,16 +1,11 @@
 -- What the words of a route's groups come to.
-use Rattle.std.specs.Prelude.{◌≡◌, ℕ, Bool, true, false, not, ◌&&◌, ◌==◌, nat_lt, List, [], ◌∷◌, length, map, Option}
+use Rattle.std.specs.Prelude.{◌≡◌, ℕ, false, not, nat_lt, List, length, map, Option}
 use Rattle.std.specs.List.{list_any}
 use Rattle.tx_text.specs.Words.{is_name}
 use Rattle.tx_plan.specs.Plan.{Plan}
 use Rattle.tx_plan.specs.Declaring.{has_group, is_not_outgoing, group_at}
-use Rattle.tx_plan.specs.declared.pair.Pair.{Pair}
+use Rattle.tx_entries.specs.declared.pair.Pair.{Pair}
 use Rattle.tx_plan.specs.declared.route_words.Seen.{Seen}
-
--- no place stands there twice
-abbrev pub differ : List ℕ → Bool
-differ [] = true
-differ (x ∷ xs) = not (list_any (λ y. y == x) xs) && differ xs
 
 -- what is seen of these words for a pair
 pub record IsSeen (p : Plan) (pair : Option Pair) (words : List (List ℕ)) (s : Seen) : Type 0 where

@@ -3,6 +3,7 @@ use Rattle.std.specs.Io.KnownBytes.{IsAtEnd}
 use Rattle.tx_text.specs.Calls.{CallsAtMost, Broken, source_calls}
 use Rattle.tx_pipe.specs.declared.two_texts.Part.TheVariants.{Script}
 use Rattle.tx_pipe.specs.Telling.{text_in_hand, text_behind, at_script, PipeCall}
+use Rattle.tx_jobs.specs.JobEnds.{input, output}
 use Rattle.tx_jobs.specs.Jobs.{ScriptRan}
 use Rattle.tx_jobs.specs.PipeJobs.{PipeBroken}
 use Rattle.tx_jobs.proofs.Piping.{begins_behind, pipe_calls, plan_broken, script_broken}
@@ -17,22 +18,16 @@ returns-in-Ok-clause-answers g c =
     let old = c.args.input.now in
     let mid = c.read_plan_from.new.source in
     let new = c.simulate-ran.new.script in
-    let out = c.simulate-ran.new.out in
+    let out = output g.W.Sink.taken c.args.out.now c.simulate-ran.new.out in
     let read = PipeCall rest failed called in
     let on : c.go_on.new.self ≡ at_script mid = c.go_on.ensures.on in
     let plan : CallsAtMost read source_calls old mid = c.read_plan_from.ensures.calls in
     let script : CallsAtMost read source_calls (at_script mid) new = subst (λ s. CallsAtMost read source_calls s new) on c.simulate-ran.ensures.calls in
     let b : text_in_hand rest (at_script mid) ≡ text_behind rest old = begins_behind rest failed called old mid (at_script mid) c.requires plan c.in-Ok.ensures.answer.1 (subst (λ s. mid.part ≢ Script → IsAtEnd (text_in_hand rest mid) → text_in_hand rest s ≡ text_behind rest mid) on c.go_on.ensures.script) in
-    let ran =
-    subst
-    (λ s. ScriptRan c.in-Ok.plan
-    (record { rest_old = text_in_hand rest s; rest_new = text_in_hand rest new; taken_old = g.W.Sink.taken c.args.out.now; taken_new = g.W.Sink.taken out })
-    (Broken read new.failed source_calls s new) ((new ≡ s) × (out ≡ c.args.out.now)) c.simulate-ran.result)
-    on c.simulate-ran.ensures.answers in
+    let ran = subst (λ s. ScriptRan c.in-Ok.plan (input (text_in_hand rest) (λ t. t.failed) read s new) out c.simulate-ran.result) on c.simulate-ran.ensures.answers in
     let told =
     simulated_with (Broken read new.failed source_calls (at_script mid) new) (PipeBroken rest failed called old (at_script mid) new) (script_broken rest failed called old mid new plan script) c.in-Ok.plan
-    (record { rest_old = text_in_hand rest (at_script mid); rest_new = text_in_hand rest new; taken_old = g.W.Sink.taken c.args.out.now; taken_new = g.W.Sink.taken out })
-    ((new ≡ at_script mid) × (out ≡ c.args.out.now)) c.simulate-ran.result ran in
+    (text_in_hand rest (at_script mid)) (text_in_hand rest new) (new ≡ at_script mid) out c.simulate-ran.result ran in
     inl
     (record {
       read_to = mid;
@@ -46,8 +41,7 @@ returns-in-Ok-clause-answers g c =
             read = c.in-Ok.ensures.answer;
             goes_on =
                 subst
-                (λ r. ScriptRan c.in-Ok.plan (record { rest_old = r; rest_new = text_in_hand rest new; taken_old = g.W.Sink.taken c.args.out.now; taken_new = g.W.Sink.taken out })
-                (PipeBroken rest failed called old (at_script mid) new) ((new ≡ at_script mid) × (out ≡ c.args.out.now)) c.simulate-ran.result)
+                (λ r. ScriptRan c.in-Ok.plan (record { old = r; new = text_in_hand rest new; broken = PipeBroken rest failed called old (at_script mid) new; unread = new ≡ at_script mid }) out c.simulate-ran.result)
                 b told;
           };
     })

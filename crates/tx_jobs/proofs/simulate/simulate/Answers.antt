@@ -1,4 +1,5 @@
 use Rattle.std.proofs.Common.{Ok, refl, inl}
+use Rattle.tx_jobs.specs.JobEnds.{input, output}
 use Rattle.tx_jobs.proofs.Simulating.{told_stop}
 use Rattle.tx_jobs.proofs.simulate.simulate.Goals as goal
 
@@ -6,4 +7,6 @@ pub returns-in-Ok-clause-answers : goal.returns-in-Ok-clause-answers
 returns-in-Ok-clause-answers g c = inl (record { answer = Ok c.in-Ok.summary; ran = c.in-Ok.ensures.answers; told = refl })
 
 pub returns-in-Err-clause-answers : goal.returns-in-Err-clause-answers
-returns-in-Err-clause-answers g c = told_stop _ _ _ _ c.in-Err.fault _ c.of_run.ensures c.in-Err.ensures.answers
+returns-in-Err-clause-answers g c =
+    let script = input g.R.Source.rest g.R.Source.failed g.R.Source.called c.args.script.now c.simulate.new.script in
+    told_stop _ script (output g.W.Sink.taken c.args.out.now c.simulate.new.out) c.in-Err.fault _ c.of_run.ensures c.in-Err.ensures.answers

@@ -4,18 +4,18 @@ use Rattle.tx_plain_parts.specs.inner.GivenUp.{is_given, with_more}
 use Rattle.tx_plain_parts.specs.inner.Marks.{Circuits, HasMark}
 use Rattle.tx_state.specs.Call.{circuit_called}
 use Rattle.tx_state.specs.InUse.{circuits_carried}
-use Rattle.tx_state.specs.Members.{Mem}
-use Rattle.tx_state.proofs.Lists.{mem_left, mem_right}
+use Rattle.tx_plan.specs.Among.{Among}
+use Rattle.tx_plan.proofs.Among.{among_left, among_right}
 use Rattle.tx_state.specs.declared.hop.Hop.{Hop}
 use Rattle.std.specs.Prelude.{filter}
 use Rattle.tx_plain_parts.proofs.Giving.{more_given}
 use Rattle.tx_plain_parts.proofs.ending.give_call.Goals as goal
 
 pub give_hops-requires : goal.give_hops-requires
-give_hops-requires g c = λ x m. c.requires x (mem_left (circuits_carried (call_seen c.args.call.now)) (circuit_called c.args.call.now.phase) x (subst (λ (hs : _). Mem (map (λ (h : Hop). h.circuit) hs) x) c.deref.ensures.value m))
+give_hops-requires g c = λ x m. c.requires x (among_left x (circuits_carried (call_seen c.args.call.now)) (circuit_called c.args.call.now.phase) (subst (λ (hs : _). Among x (map (λ (h : Hop). h.circuit) hs)) c.deref.ensures.value m))
 
 pub give_phase-requires : goal.give_phase-requires
-give_phase-requires g c = λ x m. subst (λ n. HasMark n x) (sym (ap (λ (v : Circuits). v.groups) c.give_hops.ensures)) (c.requires x (mem_right (circuits_carried (call_seen c.args.call.now)) (circuit_called c.args.call.now.phase) x m))
+give_phase-requires g c = λ x m. subst (λ n. HasMark n x) (sym (ap (λ (v : Circuits). v.groups) c.give_hops.ensures)) (c.requires x (among_right x (circuits_carried (call_seen c.args.call.now)) (circuit_called c.args.call.now.phase) m))
 
 pub returns : goal.returns
 returns g c =

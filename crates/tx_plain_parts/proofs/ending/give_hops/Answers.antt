@@ -6,8 +6,8 @@ use Rattle.tx_state.specs.declared.hop.Hop.{Hop}
 use Rattle.std.specs.Prelude.{filter}
 use Rattle.tx_plain_parts.proofs.Sweeps.{mem_get}
 use Rattle.tx_plain_parts.proofs.Giving.{more_none, more_given, map_more, take_more}
-use Rattle.tx_state.proofs.Lists.{map_mem}
 use Rattle.tx_plain_parts.proofs.ending.give_hops.Goals as goal
+use Rattle.tx_plan.proofs.Among.{among_map}
 
 pub loop-at-init : goal.loop-at-init
 loop-at-init g c = (omega arith, sym (more_none c.args.releasing.now))
@@ -16,7 +16,7 @@ pub give-requires : goal.give-requires
 give-requires g c =
     let h = get_or c.args.hops.now c.loop-at.at c.index-hops-at.result in
     let m = mem_get c.args.hops.now c.loop-at.at h c.loop-at-test.true (ap (λ d. get_or c.args.hops.now c.loop-at.at d) c.index-hops-at.is) in
-    subst (λ n. HasMark n h.circuit) (sym (ap (λ (v : Circuits). v.groups) c.loop-at.invariant.1)) (c.requires h.circuit (map_mem (λ (h : Hop). h.circuit) c.args.hops.now h m))
+    subst (λ n. HasMark n h.circuit) (sym (ap (λ (v : Circuits). v.groups) c.loop-at.invariant.1)) (c.requires h.circuit (among_map (λ (h : Hop). h.circuit) h c.args.hops.now m))
 
 pub loop-at-preserved : goal.loop-at-preserved
 loop-at-preserved g c =

@@ -1,6 +1,6 @@
 use Rattle.std.proofs.Common.{ap, ◌∙◌, sym, ◌||◌, ◌==◌, map}
 use Rattle.std.specs.List.{list_any}
-use Rattle.tx_plan.specs.declared.circuit.Circuit.{Circuit}
+use Rattle.tx_entries.specs.declared.circuit.Circuit.{Circuit}
 use Rattle.tx_state.specs.declared.hop.Hop.{Hop}
 use Rattle.tx_state.specs.Call.{circuit_called}
 use Rattle.tx_plain_parts.proofs.Views.{any_map}

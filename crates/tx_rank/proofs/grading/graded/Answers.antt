@@ -3,7 +3,7 @@ use Rattle.tx_cert.specs.Certificate.{ranks_of}
 use Rattle.tx_rank.specs.declared.bounds.Bounds.{Bounds}
 use Rattle.tx_rank.specs.Grades.{AreBounds, CanBeCertifiedFor}
 use Rattle.tx_rank.proofs.Certifying.{certifies_code}
-use Rattle.tx_rank.proofs.Bounding.{IsGradedBelow, graded_next, graded_plan, graded_codes}
+use Rattle.tx_rank.proofs.Bounding.{IsGradedBelow, graded_next, graded_plan, graded_clear, graded_codes}
 use Rattle.tx_rank.proofs.grading.graded.Goals as goal
 
 pub code_bounds-alone-requires-clause-certified : goal.code_bounds-alone-requires-clause-certified
@@ -37,3 +37,8 @@ pub returns-clause-codes : goal.returns-clause-codes
 returns-clause-codes g c =
     let all : c.loop-place.place ≡ length c.args.plan.now.codes = let t = c.loop-place-test.false in let a = c.loop-place.auto.place-end in let e = c.codes-place-end.ensures in omega arith in
     graded_codes c.args.plan.now (ranks_of c.args.cert.now) c.requires.heights c.requires.certified c.loop-place.place c.loop-place.bounds c.loop-place.codes.items all c.loop-place.invariant.so_far
+
+pub returns-clause-clear : goal.returns-clause-clear
+returns-clause-clear g c =
+    let all : c.loop-place.place ≡ length c.args.plan.now.codes = let t = c.loop-place-test.false in let a = c.loop-place.auto.place-end in let e = c.codes-place-end.ensures in omega arith in
+    graded_clear c.args.plan.now (ranks_of c.args.cert.now) c.requires.heights c.requires.certified c.loop-place.place c.loop-place.bounds c.loop-place.codes.items all c.loop-place.invariant.so_far _

@@ -1,48 +1,43 @@
-use Rattle.std.proofs.Common.{◌≡◌, ◌∙◌, ℕ, suc, ◌-◌, ◌<◌, ◌≤◌, List, length, map, sym, ap, subst, slice_set, arith}
-use Rattle.std.proofs.lemmas.List.{take_at, with_items_is}
+use Rattle.std.proofs.Common.{◌≡◌, ◌∙◌, ℕ, suc, ◌-◌, ◌<◌, List, length, map, sym, ap, subst, slice_set, arith}
+use Rattle.std.specs.List.{between}
+use Rattle.std.proofs.lemmas.List.{length-map}
+use Rattle.std.proofs.lemmas.List.Edits.{length-between}
+use Rattle.tx_rows.proofs.Parts.{part_ends, part_kept}
 use Rattle.tx_circuits.specs.declared.slot.Slot.{Slot}
 use Rattle.tx_circuits.specs.declared.row.Row.{Row}
-use Rattle.tx_circuits.specs.inner.Slots.{state_of, cleared, IsSound}
-use Rattle.tx_circuits.specs.inner.Groups.{group_slots, group_state, change_at, with_state, AreApart, AreKept}
-use Rattle.tx_circuits.proofs.Kept.{entry_at, get_within, slots_length, kept_updated, view_updated, set_numbered_at}
+use Rattle.tx_circuits.specs.inner.Slots.{state_of, cleared}
+use Rattle.tx_circuits.specs.inner.Groups.{AreListed, GroupState, with_state}
+use Rattle.tx_circuits.proofs.Kept.{part_listed, part_group, part_kept_after, part_view_after, set_numbered_at}
 use Rattle.tx_circuits.proofs.Members.{known}
 use Rattle.tx_circuits.proofs.Steps.{state_in}
 use Rattle.tx_circuits.proofs.groups.Groups.clear.Goals as goal
 
-pub clear-requires-clause-short : goal.clear-requires-clause-short
-clear-requires-clause-short g c =
-    let slots = c.self.inside.slots.items in
-    let rows = c.self.inside.rows.items in
-    let row = c.index-row.result.now in
-    let at = entry_at slots rows c.args.self.now c.args.group c.index-place.result row c.self.view_is c.index-place.ensures c.index-row.ensures c.requires in
-    let short : length (group_slots slots row) ≤ 240 = (c.self.invariant.sound c.index-place.result row at).short in
-    let long : length (group_slots slots row) ≡ row.count = slots_length slots row (c.self.invariant.within c.index-place.result row at) in
-    omega arith
+pub clear-row-requires : goal.clear-row-requires
+clear-row-requires g c =
+    let l0 = c.self.inside.rows in let l = c.written-start.new.self in let w = c.written-start.ensures in let a = c.written-start.result.0 in let b = c.written-start.result.1 in
+    let lt = c.requires in
+    rw c.deref_mut.ensures.value (part_listed l0 l c.self.invariant w.kept c.args.self.now c.self.view_is c.args.group c.index-place.result a b c.index-place.ensures lt w.rows w.idle w.at c.unwrap-row.result (sym c.unwrap-row.ensures ∙ c.head.ensures))
+
+pub set_head-requires-clause-kept : goal.set_head-requires-clause-kept
+set_head-requires-clause-kept g c =
+    let l = c.written-start.new.self in let w = c.written-start.ensures in let a = c.written-start.result.0 in let b = c.written-start.result.1 in
+    part_kept l w.kept c.index-place.result a b w.at c.deref_mut.result.now c.clear-row.new.slots c.deref_mut.ensures.value
+    (c.clear-row.auto.slots ∙ ap (λ (v : List Slot). length (between a b v)) c.deref_mut.ensures.value ∙ length-between l.items.items a b (part_ends l w.kept c.index-place.result a b w.at).1)
 
 pub invariant_of-self : goal.invariant_of-self
 invariant_of-self g c =
-    let slots = c.self.inside.slots.items in
-    let rows = c.self.inside.rows.items in
-    let row = c.index-row.result.now in
-    let at = entry_at slots rows c.args.self.now c.args.group c.index-place.result row c.self.view_is c.index-place.ensures c.index-row.ensures c.requires in
-    let new = c.clear.new.slots in
-    let long : length new ≡ length slots = c.clear.auto.slots ∙ ap length c.as_mut_slice.ensures.value in
-    let len : length new ≡ c.self.inside.slots.len = c.clear.auto.slots ∙ c.as_mut_slice.ensures.len in
-    let rest = λ (s : Row) (a : AreApart row s). c.clear.ensures.rest s a ∙ ap (λ (l : List Slot). group_slots l s) c.as_mut_slice.ensures.value in
-    subst (λ (l : List Slot). AreKept l (slice_set rows c.index-place.result c.clear.result)) (sym (take_at new _ c.self.inside.slots.len len))
-    (kept_updated slots rows c.args.self.now c.self.invariant c.self.view_is c.args.group c.index-place.result c.index-place.ensures row at new long c.clear.result c.clear.ensures.row c.clear.ensures.sound rest)
+    let l0 = c.self.inside.rows in let l = c.written-start.new.self in let w = c.written-start.ensures in let a = c.written-start.result.0 in let b = c.written-start.result.1 in
+    let lt = c.requires in
+    let long = c.clear-row.auto.slots ∙ ap (λ (v : List Slot). length (between a b v)) c.deref_mut.ensures.value ∙ length-between l.items.items a b (part_ends l w.kept c.index-place.result a b w.at).1 in
+    part_kept_after l0 l c.self.invariant w.kept c.args.self.now c.self.view_is c.args.group c.index-place.result a b c.index-place.ensures lt w.rows w.idle w.at c.unwrap-row.result (sym c.unwrap-row.ensures ∙ c.head.ensures)
+    c.deref_mut.result.now c.clear-row.new.slots c.deref_mut.ensures.value long c.clear-row.result c.set_head.new.self c.set_head.ensures.kept c.set_head.ensures.idle c.set_head.ensures.rows c.clear-row.ensures.listed
 
 pub returns : goal.returns
 returns g c =
-    let slots = c.self.inside.slots.items in
-    let rows = c.self.inside.rows.items in
-    let row = c.index-row.result.now in
-    let at = entry_at slots rows c.args.self.now c.args.group c.index-place.result row c.self.view_is c.index-place.ensures c.index-row.ensures c.requires in
-    let new = c.clear.new.slots in
-    let long : length new ≡ length slots = c.clear.auto.slots ∙ ap length c.as_mut_slice.ensures.value in
-    let len : length new ≡ c.self.inside.slots.len = c.clear.auto.slots ∙ c.as_mut_slice.ensures.len in
-    let rest = λ (s : Row) (a : AreApart row s). c.clear.ensures.rest s a ∙ ap (λ (l : List Slot). group_slots l s) c.as_mut_slice.ensures.value in
-    ap (λ (l : List Slot). map (group_state l) (slice_set rows c.index-place.result c.clear.result)) (with_items_is c.self.inside.slots new len)
-    ∙ view_updated slots rows c.args.self.now c.self.invariant c.self.view_is c.args.group c.index-place.result c.index-place.ensures row at new long c.clear.result c.clear.ensures.row c.clear.ensures.sound rest
+    let l0 = c.self.inside.rows in let l = c.written-start.new.self in let w = c.written-start.ensures in let a = c.written-start.result.0 in let b = c.written-start.result.1 in
+    let lt = c.requires in
+    let long = c.clear-row.auto.slots ∙ ap (λ (v : List Slot). length (between a b v)) c.deref_mut.ensures.value ∙ length-between l.items.items a b (part_ends l w.kept c.index-place.result a b w.at).1 in
+    part_view_after l0 l c.self.invariant w.kept c.args.self.now c.self.view_is c.args.group c.index-place.result a b c.index-place.ensures lt w.rows w.idle w.at c.unwrap-row.result (sym c.unwrap-row.ensures ∙ c.head.ensures)
+    c.deref_mut.result.now c.clear-row.new.slots c.deref_mut.ensures.value long c.clear-row.result c.set_head.new.self c.set_head.ensures.kept c.set_head.ensures.idle c.set_head.ensures.rows c.clear-row.ensures.listed
     (λ t. record t { states = map cleared t.states })
-    (λ j. record { head = row.head; states = (c.clear.ensures.states ∙ ap (λ (l : List Slot). map cleared (map state_of (group_slots l row))) c.as_mut_slice.ensures.value) j })
+    (λ i. record { head = c.clear-row.ensures.head i; states = (c.clear-row.ensures.states ∙ ap (λ (v : List Slot). map cleared (map state_of (between a b v))) c.deref_mut.ensures.value) i })

@@ -1,7 +1,7 @@
 use Rattle.std.proofs.Common.{◌≡◌, ◌∙◌, ℕ, suc, ◌+◌, true, false, Option, Some, None, sym, ap, subst, arith}
 use Rattle.std.specs.Option.{option_map}
 use Rattle.tx_plan.specs.Circuits.{is_circuit}
-use Rattle.tx_plan.specs.declared.circuit.Circuit.{Circuit}
+use Rattle.tx_entries.specs.declared.circuit.Circuit.{Circuit}
 use Rattle.tx_circuits.specs.inner.Groups.{first_place}
 use Rattle.tx_circuits.specs.Table.{Table, plan_of, is_down, is_free_at, first_free}
 use Rattle.tx_circuits.specs.inner.Seen.{table_of}

@@ -1,6 +1,6 @@
 use Rattle.std.proofs.Common.{◌+◌, ◌++◌, ◌∷◌, [], refl, ap, ◌∙◌, subst, List, deque_len, deque_capacity, arith, length}
 use Rattle.std.specs.FinSet as set
-use Rattle.tx_state.specs.Members.{Mem}
+use Rattle.tx_plan.specs.Among.{Among}
 use Rattle.tx_state.specs.declared.hop.Hop.{Hop}
 use Rattle.tx_lines.specs.Book.{Book}
 use Rattle.tx_calls.specs.Calls.{Calls, calls_in, sorted_calls}
@@ -44,7 +44,7 @@ overflow_add-self g c =
 
 pub open-key-requires-clause-next : goal.open-key-requires-clause-next
 open-key-requires-clause-next g c = λ d m.
-    let given = c.requires.sound.together.inv.given d (subst (λ (l : _). Mem l d) (ap (λ (v : Calls). sorted_calls v.slots) c.reserve_one.ensures.rest) m) in
+    let given = c.requires.sound.together.inv.given d (subst (λ (l : _). Among d l) (ap (λ (v : Calls). sorted_calls v.slots) c.reserve_one.ensures.rest) m) in
     omega (arith, given)
 
 pub returns-clause-sound : goal.returns-clause-sound

@@ -1,18 +1,18 @@
 use Rattle.std.proofs.Common.{ap, ◌∙◌, sym, subst, not, map}
 use Rattle.std.specs.FinSet as set
 use Rattle.tx_plan.specs.Orders.{circuit_cmp}
+use Rattle.tx_plan.proofs.Among.{among_map}
 use Rattle.tx_state.specs.Ending.{end_calls}
 use Rattle.tx_state.specs.State.{Net}
 use Rattle.tx_plain_parts.specs.inner.Marks.{Circuits, HasMark}
 use Rattle.tx_network.specs.Seen.{call_seen}
 use Rattle.tx_plain_parts.specs.inner.GivenUp.{ends_by}
 use Rattle.tx_machine.proofs.Whole.{whole_ended, given_same}
-use Rattle.tx_state.proofs.Lists.{map_mem}
 use Rattle.tx_plain_parts.proofs.Views.{filter_map_seen}
 use Rattle.tx_machine.proofs.plain.Plain.end.Goals as goal
 
 pub end_calls-requires-clause-marked : goal.end_calls-requires-clause-marked
-end_calls-requires-clause-marked g c = λ d m x n. subst (λ k. HasMark k x) (sym c.self.invariant.releasing_all) (c.self.invariant.held.marked (call_seen d) (map_mem call_seen c.self.inside.calls.items d m) x n)
+end_calls-requires-clause-marked g c = λ d m x n. subst (λ k. HasMark k x) (sym c.self.invariant.releasing_all) (c.self.invariant.held.marked (call_seen d) (among_map call_seen d c.self.inside.calls.items m) x n)
 
 pub invariant_of-self : goal.invariant_of-self
 invariant_of-self g c =

@@ -4,8 +4,9 @@ use Rattle.tx_state.specs.Call.{Call, call_of, circuit_called}
 use Rattle.tx_state.specs.Step.{with_call}
 use Rattle.tx_state.specs.Confirming.{confirmed}
 use Rattle.tx_state.specs.InUse.{circuits_carried}
-use Rattle.tx_state.specs.Members.{Mem}
-use Rattle.tx_state.proofs.Lists.{find_mem, mem_right}
+use Rattle.tx_plan.specs.Among.{Among}
+use Rattle.tx_plan.proofs.Among.{among_right}
+use Rattle.tx_state.proofs.Lists.{find_mem}
 use Rattle.tx_plain_parts.specs.inner.Marks.{HasMark}
 use Rattle.tx_machine.proofs.Routed.{met}
 use Rattle.tx_network.specs.Seen.{call_seen}
@@ -30,4 +31,4 @@ returns-clause-met g c =
     let r = find_mem (λ (k : Call). k.number == n) v.state.calls d e in
     let w = c.self.invariant in
     let m = find_mem (λ (k : Call). k.number == n) (map call_seen c.self.inside.calls.items) d (ap (λ l. call_of n (map call_seen l)) (sym c.as_slice.ensures.value) ∙ c.in-Some.ensures) in
-    met v.plan v.state n d c.meeting.result e c.meeting.ensures.on (λ x q. subst (λ (k : Net). HasMark (length k.plan.groups) x) c.self.view_is (w.held.marked d m.0 x (mem_right (circuits_carried d) (circuit_called d.phase) x (subst (λ ph. Mem (circuit_called ph) x) (sym q) (inl refl)))))
+    met v.plan v.state n d c.meeting.result e c.meeting.ensures.on (λ x q. subst (λ (k : Net). HasMark (length k.plan.groups) x) c.self.view_is (w.held.marked d m.0 x (among_right x (circuits_carried d) (circuit_called d.phase) (subst (λ ph. Among x (circuit_called ph)) (sym q) (inl refl)))))

@@ -1,5 +1,5 @@
 use Rattle.std.proofs.Common.{◌≡◌, ap, ◌∙◌, sym, subst, arith, map, length, []}
-use Rattle.tx_state.specs.Members.{Mem}
+use Rattle.tx_plan.specs.Among.{Among}
 use Rattle.tx_plain_parts.specs.inner.Marks.{Circuits, Groups}
 use Rattle.tx_network.specs.Seen.{call_seen}
 use Rattle.tx_machine.specs.inner.Whole.{AreHeld}
@@ -14,7 +14,7 @@ invariant_of-result g c =
       rules = c.rules.ensures;
       room = (let a = c.new-5.ensures.len in let b = c.new-8.ensures.len in omega arith);
       held = subst (λ l. AreHeld (length p.groups) c.args.numbers (map call_seen l)) (sym none) (held_none (length p.groups) c.args.numbers);
-      hops = λ d m. absurd (subst (λ l. Mem l d) none m);
+      hops = λ d m. absurd (subst (λ l. Among d l) none m);
       failed_all = ap (λ (v : Groups). v.groups) c.in_ok-failed.ensures ∙ c.groups-groups.ensures;
       blocked_all = ap (λ (v : Groups). v.groups) c.in_ok-blocked.ensures ∙ c.groups-groups.ensures;
       releasing_all = ap (λ (v : Circuits). v.groups) c.in_ok-releasing.ensures ∙ c.groups-groups.ensures;

@@ -3,8 +3,8 @@ use Rattle.std.specs.FinSet as set
 use Rattle.std.specs.Vec.{with_items}
 use Rattle.std.proofs.lemmas.List.{with_items_is}
 use Rattle.tx_state.specs.State.{Net}
-use Rattle.tx_state.specs.Members.{Mem}
 use Rattle.tx_plan.specs.Circuits.{is_circuit}
+use Rattle.tx_plan.specs.Among.{Among}
 use Rattle.tx_network.specs.Seen.{call_seen}
 use Rattle.tx_plain_parts.specs.declared.change.Change.TheVariants.{To}
 use Rattle.tx_machine.proofs.Whole.{circuit_marked, marks_to, whole_same, whole_changed, seen_same, err_with}
@@ -23,7 +23,7 @@ returns-in_err-reserve_hop-clause-err g c =
     ∙ c.self.view_is)
 
 pub change_numbered-requires : goal.change_numbered-requires
-change_numbered-requires g c = λ d m. c.in_ok-reserve_hop.ensures.ready d (subst (λ l. Mem l d) (c.as_mut_slice-2.ensures.value ∙ with_items_is c.self.inside.calls c.reserve_hop.new.calls (c.reserve_hop.ensures.len ∙ c.as_mut_slice.ensures.len)) m)
+change_numbered-requires g c = λ d m. c.in_ok-reserve_hop.ensures.ready d (subst (λ l. Among d l) (c.as_mut_slice-2.ensures.value ∙ with_items_is c.self.inside.calls c.reserve_hop.new.calls (c.reserve_hop.ensures.len ∙ c.as_mut_slice.ensures.len)) m)
 
 pub invariant_of-self-2 : goal.invariant_of-self-2
 invariant_of-self-2 g c =

@@ -1,0 +1,72 @@
+// The bars of a plan.
+ghost use Rattle.std.specs.Prelude.{◌≡◌, ◌++◌, ◌∷◌, ◌&&◌, ◌==◌, [], false, OnOk, OnErr, length, slice_get};
+ghost use Rattle.std.specs.List.{list_any};
+ghost use Rattle.std.specs.Option.{option_copied};
+
+use crate::keys::Keys;
+use crate::pair::Pair;
+use std::alloc::{Allocator, Global};
+use std::marker::Model;
+use tx_text::NoMemory;
+
+/// Pairs of an exchange and a code: calls that start there for that code are not admitted.
+#[derive(Drop)]
+pub struct Bars<A: Allocator = Global> {
+    pairs: Keys<Pair, A>,
+}
+
+impl<A: Allocator> Model for Bars<A> {
+    ghost use Rattle.std.specs.Prelude.{List};
+    ghost use Rattle.tx_entries.specs.declared.pair.Pair.{Pair};
+
+    ghost Value = { List Pair };
+
+    ghost view = { λ t. t.pairs };
+}
+
+impl<A: Allocator + Copy> Bars<A> {
+    /// None. Takes no memory.
+    pub fn new(alloc: A) -> Self
+        ensures { result ≡ [] }
+    {
+        Bars {
+            pairs: Keys::new(alloc),
+        }
+    }
+}
+
+impl<A: Allocator> Bars<A> {
+    /// How many bars.
+    #[inline(always)]
+    pub fn len(&self) -> usize
+        ensures { result ≡ length self.now }
+    {
+        self.pairs.len()
+    }
+
+    /// Whether the pair is barred.
+    #[inline(always)]
+    pub fn has(&self, pair: &Pair) -> bool
+        ensures { result ≡ list_any (λ b. (b.exchange == pair.now.exchange) && (b.code == pair.now.code)) self.now }
+    {
+        self.pairs.find(pair).is_some()
+    }
+
+    /// The pair at a place.
+    #[inline(always)]
+    pub fn at(&self, place: usize) -> Option<&Pair>
+        ensures { option_copied result ≡ slice_get self.now place }
+    {
+        self.pairs.at(place)
+    }
+
+    /// Appends a bar.
+    #[inline(always)]
+    pub fn add(&mut self, pair: Pair) -> Result<(), NoMemory>
+        requires { list_any (λ b. (b.exchange == pair.exchange) && (b.code == pair.code)) self.old ≡ false }
+        ensures ok { OnOk result (self.new ≡ self.old ++ pair ∷ []) }
+        ensures err { OnErr result (self.new ≡ self.old) }
+    {
+        self.pairs.add(pair)
+    }
+}

@@ -1,0 +1,78 @@
+// The exchanges of a plan.
+ghost use Rattle.std.specs.Prelude.{◌≡◌, ◌≤◌, ◌<◌, ◌++◌, ◌∷◌, [], false, is_some, OnOk, OnErr, IfSome, length, slice_get, position};
+ghost use Rattle.std.specs.List.{list_any};
+ghost use Rattle.std.specs.Option.{option_map_or};
+ghost use Rattle.std.specs.Str.{bytes_eq};
+
+use crate::keys::Keys;
+use crate::name_key::NameKey;
+use std::alloc::{Allocator, Global};
+use std::marker::Model;
+use tx_text::NoMemory;
+
+/// The names of exchanges.
+#[derive(Drop)]
+pub struct Exchanges<A: Allocator = Global> {
+    names: Keys<NameKey, A>,
+}
+
+impl<A: Allocator> Model for Exchanges<A> {
+    ghost use Rattle.std.specs.Prelude.{ℕ, List};
+
+    ghost Value = { List (List ℕ) };
+
+    ghost view = { λ t. t.names };
+}
+
+impl<A: Allocator + Copy> Exchanges<A> {
+    /// None. Takes no memory.
+    pub fn new(alloc: A) -> Self
+        ensures { result ≡ [] }
+    {
+        Exchanges {
+            names: Keys::new(alloc),
+        }
+    }
+}
+
+impl<A: Allocator> Exchanges<A> {
+    /// How many exchanges.
+    #[inline(always)]
+    pub fn len(&self) -> usize
+        ensures { result ≡ length self.now }
+    {
+        self.names.len()
+    }
+
+    /// The place of a name.
+    #[inline(always)]
+    pub fn find(&self, name: &[u8]) -> Option<usize>
+        requires { length name.now ≤ 8 }
+        ensures place { result ≡ position (bytes_eq name.now) self.now }
+        ensures found { is_some result ≡ list_any (bytes_eq name.now) self.now }
+        ensures within { IfSome result (λ i. i < length self.now) }
+    {
+        self.names.find(&NameKey::new(name))
+    }
+
+    /// The name at a place.
+    #[inline(always)]
+    pub fn name(&self, place: usize) -> &[u8]
+        ensures { result.now ≡ option_map_or (λ name. name) (slice_get self.now place) [] }
+    {
+        match self.names.at(place) {
+            Some(name) => name.bytes(),
+            None => &[],
+        }
+    }
+
+    /// Appends a name.
+    #[inline(always)]
+    pub fn add(&mut self, name: NameKey) -> Result<(), NoMemory>
+        requires { list_any (bytes_eq name) self.old ≡ false }
+        ensures ok { OnOk result (self.new ≡ self.old ++ name ∷ []) }
+        ensures err { OnErr result (self.new ≡ self.old) }
+    {
+        self.names.add(name)
+    }
+}

@@ -1,0 +1,25 @@
+-- The exit status of words that ask for no command.
+use Rattle.std.specs.Prelude.{◌≡◌, ◌≢◌, ℕ, ◌⊎◌, List, []}
+use Rattle.std.specs.Borrow.{Bor}
+use Rattle.std.specs.declared.io.ErrorKind.{ErrorKind}
+use Rattle.std.specs.declared.io.ErrorKind.TheVariants.{OutOfMemory}
+use Rattle.tx_words.specs.Commands.{AskFor}
+use Rattle.tx_words.specs.Faults.{IsRefusalOf, status_of}
+use Rattle.tx_words.specs.declared.command.Command.{Command}
+use Rattle.tx_words.specs.declared.fault.WordsFault.{WordsFault}
+
+-- of arguments that could not be taken as words: 4 for want of memory, else 64
+abbrev pub status_of_arguments : ErrorKind → ℕ
+status_of_arguments OutOfMemory = 4
+status_of_arguments other = 64
+
+-- there are words, and they ask for no command
+pub record AskNothing (words : List (Bor (List ℕ))) : Type 0 where
+  pub some : words ≢ []
+  pub none : (command : Command) → AskFor words command → ⊥
+
+-- the exit status of words that are refused: that of a reason to refuse them, or 3 where a request for help could not be written
+pub record IsRefusedWith (words : List (Bor (List ℕ))) (status : ℕ) : Type 0 where
+  pub fault : WordsFault
+  pub told : IsRefusalOf words fault
+  pub answers : (status ≡ status_of fault) ⊎ ((status_of fault ≡ 0) × (status ≡ 3))
