@@ -11,7 +11,7 @@ use Rattle.tx_words.specs.declared.fault.WordsFault.{WordsFault}
 -- of arguments that could not be taken as words: 4 for want of memory, else 64
 abbrev pub status_of_arguments : ErrorKind → ℕ
 status_of_arguments OutOfMemory = 4
-status_of_arguments other = 64
+status_of_arguments kind = 64
 
 -- there are words, and they ask for no command
 pub record AskNothing (words : List (Bor (List ℕ))) : Type 0 where
