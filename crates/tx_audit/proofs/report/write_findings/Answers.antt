@@ -1,4 +1,4 @@
-use Rattle.tx_text.proofs.Wrote.{texts_stopped}
+use Rattle.tx_text.proofs.Wrote.{wrote_none, texts_stopped, texts_done}
 use Rattle.tx_audit.specs.Report.{finding_line}
 use Rattle.tx_audit.proofs.report.write_findings.Goals as goal
 
@@ -6,3 +6,9 @@ pub returns-in_err-write_finding : goal.returns-in_err-write_finding
 returns-in_err-write_finding g c =
     texts_stopped (finding_line c.args.plan.now) c.args.findings.now c.loop-i.i c.index-findings-i.result _ _ _ _ _ _ _ c.in_err-write_finding.field-0.0 c.loop-i-test.true c.index-findings-i.is c.loop-i.invariant c.in_err-write_finding.ensures
     c.from_residual.ensures.0
+
+pub loop-i-init : goal.loop-i-init
+loop-i-init g c = wrote_none _ _
+
+pub returns : goal.returns
+returns g c = texts_done (finding_line c.args.plan.now) c.args.findings.now c.loop-i.i _ _ _ _ c.loop-i-test.false c.loop-i.invariant
