@@ -2,6 +2,8 @@
 ghost use Rattle.std.specs.Prelude.{◌≡◌, ◌++◌, ◌∷◌, [], true, OnOk, OnErr};
 ghost use Rattle.std.specs.Io.KnownBytes.{append_known};
 ghost use Rattle.tx_text.specs.Ends.{StopsIn};
+ghost use Rattle.tx_text.specs.Written.{line_written};
+ghost use Rattle.tx_text.specs.Wrote.{Wrote};
 ghost use Rattle.tx_plan.specs.Plan.{figures_of, exchange_name, group_name};
 ghost use Rattle.tx_check.specs.declared.verdict.Verdict.TheVariants.{No};
 ghost use Rattle.tx_check.specs.Verdicts.{verdict_written};
@@ -10,7 +12,7 @@ use crate::fault::CheckFault;
 use crate::verdict::Verdict;
 use std::alloc::Allocator;
 use tx_plan::{CodeId, ExchangeId, GroupId, Plan};
-use tx_text::{Sink, WriteFault, write_bytes, write_parts};
+use tx_text::{Sink, WriteFault, write_bytes, write_text};
 
 /// Writes the verdict as one line, as `YES` or `NO K7 24 CENTRAL CENO1`, with its LF. Where the sink fails, a front of the line was taken.
 pub fn write_verdict<A: Allocator, W: Sink>(
@@ -35,27 +37,18 @@ fn write_no<A: Allocator, W: Sink>(
     plan: &Plan<A>,
     sink: &mut W,
 ) -> Result<(), WriteFault>
-    ensures ok { OnOk result (W.taken sink.new ≡ append_known (W.taken sink.old) (verdict_written plan.now (No fault))) }
-    ensures err { OnErr result (StopsIn (W.taken sink.old) (W.taken sink.new) (verdict_written plan.now (No fault))) }
-    ensures mark { OnErr result (W.failed sink.new ≡ true) }
-    ensures unmarked { OnOk result (W.failed sink.new ≡ W.failed sink.old) }
+    ensures { Wrote (W.taken sink.old) (W.taken sink.new) (W.failed sink.old) (W.failed sink.new) (verdict_written plan.now (No fault)) result }
 {
     match fault {
-        CheckFault::Ambiguous(a, b) => write_words(
-            b"NO K1 ",
-            plan.code_figures(a),
-            plan.code_figures(b),
-            sink,
-        ),
-        CheckFault::HomeNotZero(code) => {
-            write_parts(
-                &[
-                    b"NO K2 ".as_slice(),
-                    plan.code_figures(code),
-                    b"\n".as_slice(),
-                ],
+        CheckFault::Ambiguous(a, b) => {
+            let longer = plan.code_figures(b);
+            write_text(
+                &[b"NO K1 ", plan.code_figures(a), b" ", longer, b"\n"],
                 sink,
             )
+        }
+        CheckFault::HomeNotZero(code) => {
+            write_text(&[b"NO K2 ", plan.code_figures(code), b"\n"], sink)
         }
         CheckFault::OriginUnranked(code, exchange) => {
             write_exchange(b"NO K3 ", plan, code, exchange, sink)
@@ -75,24 +68,6 @@ fn write_no<A: Allocator, W: Sink>(
     }
 }
 
-/// Writes the front of a line and its last two words.
-fn write_words<W: Sink>(
-    front: &[u8],
-    first: &[u8],
-    second: &[u8],
-    sink: &mut W,
-) -> Result<(), WriteFault>
-    ensures ok { OnOk result (W.taken sink.new ≡ append_known (W.taken sink.old) (front.now ++ (first.now ++ 32 ∷ (second.now ++ 10 ∷ [])))) }
-    ensures err { OnErr result (StopsIn (W.taken sink.old) (W.taken sink.new) (front.now ++ (first.now ++ 32 ∷ (second.now ++ 10 ∷ [])))) }
-    ensures mark { OnErr result (W.failed sink.new ≡ true) }
-    ensures unmarked { OnOk result (W.failed sink.new ≡ W.failed sink.old) }
-{
-    write_parts(
-        &[front, first, b" ".as_slice(), second, b"\n".as_slice()],
-        sink,
-    )
-}
-
 /// Writes the front of a line, and its code and exchange.
 fn write_exchange<A: Allocator, W: Sink>(
     front: &[u8],
@@ -101,17 +76,11 @@ fn write_exchange<A: Allocator, W: Sink>(
     exchange: ExchangeId,
     sink: &mut W,
 ) -> Result<(), WriteFault>
-    ensures ok { OnOk result (W.taken sink.new ≡ append_known (W.taken sink.old) (front.now ++ (figures_of plan.now code ++ 32 ∷ (exchange_name plan.now exchange ++ 10 ∷ [])))) }
-    ensures err { OnErr result (StopsIn (W.taken sink.old) (W.taken sink.new) (front.now ++ (figures_of plan.now code ++ 32 ∷ (exchange_name plan.now exchange ++ 10 ∷ [])))) }
-    ensures mark { OnErr result (W.failed sink.new ≡ true) }
-    ensures unmarked { OnOk result (W.failed sink.new ≡ W.failed sink.old) }
+    ensures { Wrote (W.taken sink.old) (W.taken sink.new) (W.failed sink.old) (W.failed sink.new)
+        (front.now ++ line_written (figures_of plan.now code ∷ exchange_name plan.now exchange ∷ [])) result }
 {
-    write_words(
-        front,
-        plan.code_figures(code),
-        plan.exchange_name(exchange),
-        sink,
-    )
+    let name = plan.exchange_name(exchange);
+    write_text(&[front, plan.code_figures(code), b" ", name, b"\n"], sink)
 }
 
 /// Writes the front of a line, and its code, exchange and group.
@@ -123,22 +92,20 @@ fn write_group<A: Allocator, W: Sink>(
     group: GroupId,
     sink: &mut W,
 ) -> Result<(), WriteFault>
-    ensures ok { OnOk result (W.taken sink.new ≡ append_known (W.taken sink.old)
-        (front.now ++ (figures_of plan.now code ++ 32 ∷ (exchange_name plan.now exchange ++ 32 ∷ (group_name plan.now group ++ 10 ∷ []))))) }
-    ensures err { OnErr result (StopsIn (W.taken sink.old) (W.taken sink.new)
-        (front.now ++ (figures_of plan.now code ++ 32 ∷ (exchange_name plan.now exchange ++ 32 ∷ (group_name plan.now group ++ 10 ∷ []))))) }
-    ensures mark { OnErr result (W.failed sink.new ≡ true) }
-    ensures unmarked { OnOk result (W.failed sink.new ≡ W.failed sink.old) }
+    ensures { Wrote (W.taken sink.old) (W.taken sink.new) (W.failed sink.old) (W.failed sink.new)
+        (front.now ++ line_written (figures_of plan.now code ∷ exchange_name plan.now exchange ∷ group_name plan.now group ∷ [])) result }
 {
-    write_parts(
+    let code = plan.code_figures(code);
+    let exchange = plan.exchange_name(exchange);
+    write_text(
         &[
             front,
-            plan.code_figures(code),
-            b" ".as_slice(),
-            plan.exchange_name(exchange),
-            b" ".as_slice(),
+            code,
+            b" ",
+            exchange,
+            b" ",
             plan.group_name(group),
-            b"\n".as_slice(),
+            b"\n",
         ],
         sink,
     )
