@@ -25,23 +25,27 @@ spare = number_option (codes "spare") 15
 abbrev pub needed : Rule → Rule
 needed r = record r { required = true }
 
+-- a command whose first word is a plan
+abbrev pub plan_words : List ℕ → App
+plan_words name = with_rule (new_app name) (file (codes "plan"))
+
 abbrev pub run_words : App
-run_words = with_rule (with_rule (with_rule (with_rule (with_rule (new_app (codes "run")) (file (codes "plan"))) (file (codes "script"))) (option (codes "cert"))) limit) spare
+run_words = with_rule (with_rule (with_rule (with_rule (plan_words (codes "run")) (file (codes "script"))) (option (codes "cert"))) limit) spare
 
 abbrev pub check_words : App
-check_words = with_rule (with_rule (with_rule (with_rule (new_app (codes "check")) (file (codes "plan"))) (file (codes "cert"))) (needed limit)) (needed spare)
+check_words = with_rule (with_rule (with_rule (plan_words (codes "check")) (file (codes "cert"))) (needed limit)) (needed spare)
 
 abbrev pub grade_words : App
-grade_words = with_rule (new_app (codes "grade")) (file (codes "plan"))
+grade_words = plan_words (codes "grade")
 
 abbrev pub codes_words : App
-codes_words = with_rule (new_app (codes "codes")) (file (codes "plan"))
+codes_words = plan_words (codes "codes")
 
 abbrev pub audit_words : App
-audit_words = with_rule (with_rule (with_rule (with_rule (with_rule (new_app (codes "audit")) (file (codes "plan"))) (needed limit)) (needed spare)) (option (codes "cert"))) (option (codes "counter"))
+audit_words = with_rule (with_rule (with_rule (with_rule (plan_words (codes "audit")) (needed limit)) (needed spare)) (option (codes "cert"))) (option (codes "counter"))
 
 abbrev pub draw_words : App
-draw_words = with_rule (with_rule (with_rule (with_rule (new_app (codes "draw")) (file (codes "plan"))) (option (codes "code"))) limit) spare
+draw_words = with_rule (with_rule (with_rule (plan_words (codes "draw")) (option (codes "code"))) limit) spare
 
 -- a code, which need not be given
 abbrev pub explain_words : App

@@ -1,6 +1,6 @@
 // The words that the program takes, with what it tells of them when asked for help.
 ghost use Rattle.std.specs.Prelude.{◌≡◌, false, Ok, IfOk, codes};
-ghost use Rattle.clap.specs.Words.{AddsSubcommand, app_of, rule_of};
+ghost use Rattle.clap.specs.Words.{AddsArg, AddsSubcommand, app_of, rule_of};
 ghost use Rattle.clap.specs.declared.builder.command.Command.{Command};
 ghost use Rattle.tx_words.specs.Grammar as grammar;
 
@@ -72,106 +72,143 @@ fn spare<'a>(alloc: Global) -> Arg<'a>
     .value_parser(value_parser!(u8).range(0..=15))
 }
 
+/// A command whose first word is a plan.
+fn over_plan<'a>(
+    alloc: Global,
+    name: &'a str,
+    about: &'a str,
+) -> Result<clap::Command<'a>, AllocError>
+    ensures { IfOk result (λ c. app_of c ≡ grammar.plan_words name.now) }
+{
+    clap::Command::new(alloc, name)
+        .about(about)
+        .arg(plan_file(alloc))
+}
+
+/// A command with one argument more, if it could be made so far.
+fn with_arg<'a>(
+    command: Result<clap::Command<'a>, AllocError>,
+    arg: Arg<'a>,
+) -> Result<clap::Command<'a>, AllocError>
+    ensures { IfOk result (λ c. (made : Command) × (command.entry ≡ Ok made) × AddsArg made arg.entry c) }
+{
+    match command {
+        Ok(made) => made.arg(arg),
+        Err(error) => {
+            drop(arg);
+            Err(error)
+        }
+    }
+}
+
 fn run_grammar<'a>(alloc: Global) -> Result<clap::Command<'a>, AllocError>
     ensures { IfOk result (λ c. app_of c ≡ grammar.run_words) }
 {
-    clap::Command::new(alloc, "run")
-        .about(
-            "Run a script of events over a plan, and print each reply and the ticket of each call that ended",
-        )
-        .arg(plan_file(alloc))?
-        .arg(file(
-            alloc,
-            "script",
-            "SCRIPT",
-            "The script: events, one a line, between SCRIPT 1 and END",
-        ))?
-        .arg(option(
-            alloc,
-            "cert",
-            "CERT",
-            "Run only if this certificate shows that the plan is safe, else print the verdict; goes with --limit and --spare",
-        ))?
-        .arg(limit(alloc))?
-        .arg(spare(alloc))
+    let script = file(
+        alloc,
+        "script",
+        "SCRIPT",
+        "The script: events, one a line, between SCRIPT 1 and END",
+    );
+    let cert = option(
+        alloc,
+        "cert",
+        "CERT",
+        "Run only if this certificate shows that the plan is safe, else print the verdict; goes with --limit and --spare",
+    );
+    let run = over_plan(
+        alloc,
+        "run",
+        "Run a script of events over a plan, and print each reply and the ticket of each call that ended",
+    );
+    let run = with_arg(run, script);
+    let run = with_arg(run, cert);
+    let run = with_arg(run, limit(alloc));
+    with_arg(run, spare(alloc))
 }
 
 fn check_grammar<'a>(alloc: Global) -> Result<clap::Command<'a>, AllocError>
     ensures { IfOk result (λ c. app_of c ≡ grammar.check_words) }
 {
-    clap::Command::new(alloc, "check")
-        .about(
-            "Say whether a certificate shows that a plan is safe: YES, or NO with the first reason",
-        )
-        .arg(plan_file(alloc))?
-        .arg(file(
-            alloc,
-            "cert",
-            "CERT",
-            "The certificate: ranks of exchanges for each code",
-        ))?
-        .arg(limit(alloc).required(true))?
-        .arg(spare(alloc).required(true))
+    let cert = file(
+        alloc,
+        "cert",
+        "CERT",
+        "The certificate: ranks of exchanges for each code",
+    );
+    let check = over_plan(
+        alloc,
+        "check",
+        "Say whether a certificate shows that a plan is safe: YES, or NO with the first reason",
+    );
+    let check = with_arg(check, cert);
+    let check = with_arg(check, limit(alloc).required(true));
+    with_arg(check, spare(alloc).required(true))
 }
 
 fn codes_grammar<'a>(alloc: Global) -> Result<clap::Command<'a>, AllocError>
     ensures { IfOk result (λ c. app_of c ≡ grammar.codes_words) }
 {
-    clap::Command::new(alloc, "codes")
-        .about(
-            "List the destination codes of a plan, and the least pair of a code and a longer one that begins with it",
-        )
-        .arg(plan_file(alloc))
+    over_plan(
+        alloc,
+        "codes",
+        "List the destination codes of a plan, and the least pair of a code and a longer one that begins with it",
+    )
 }
 
 fn audit_grammar<'a>(alloc: Global) -> Result<clap::Command<'a>, AllocError>
     ensures { IfOk result (λ c. app_of c ≡ grammar.audit_words) }
 {
-    clap::Command::new(alloc, "audit")
-        .about(
-            "Say whether a plan is safe: YES, or NO with what is wrong, and a walk for each loop, short list and long way",
-        )
-        .arg(plan_file(alloc))?
-        .arg(limit(alloc).required(true))?
-        .arg(spare(alloc).required(true))?
-        .arg(option(
-            alloc,
-            "cert",
-            "CERT",
-            "After YES, write the certificate to this file",
-        ))?
-        .arg(option(
-            alloc,
-            "counter",
-            "SCRIPT",
-            "After NO, write a script to this file that shows the first finding that has one",
-        ))
+    let cert = option(
+        alloc,
+        "cert",
+        "CERT",
+        "After YES, write the certificate to this file",
+    );
+    let counter = option(
+        alloc,
+        "counter",
+        "SCRIPT",
+        "After NO, write a script to this file that shows the first finding that has one",
+    );
+    let audit = over_plan(
+        alloc,
+        "audit",
+        "Say whether a plan is safe: YES, or NO with what is wrong, and a walk for each loop, short list and long way",
+    );
+    let audit = with_arg(audit, limit(alloc).required(true));
+    let audit = with_arg(audit, spare(alloc).required(true));
+    let audit = with_arg(audit, cert);
+    with_arg(audit, counter)
 }
 
 fn grade_grammar<'a>(alloc: Global) -> Result<clap::Command<'a>, AllocError>
     ensures { IfOk result (λ c. app_of c ≡ grammar.grade_words) }
 {
-    clap::Command::new(alloc, "grade")
-        .about(
-            "Say with which transit limits and spare numbers a plan is safe, and each of its codes, or what is wrong whatever they are",
-        )
-        .arg(plan_file(alloc))
+    over_plan(
+        alloc,
+        "grade",
+        "Say with which transit limits and spare numbers a plan is safe, and each of its codes, or what is wrong whatever they are",
+    )
 }
 
 fn draw_grammar<'a>(alloc: Global) -> Result<clap::Command<'a>, AllocError>
     ensures { IfOk result (λ c. app_of c ≡ grammar.draw_words) }
 {
-    clap::Command::new(alloc, "draw")
-        .about("Draw the exchanges and groups of a plan, as a text of Graphviz")
-        .arg(plan_file(alloc))?
-        .arg(option(
-            alloc,
-            "code",
-            "CODE",
-            "Draw the routes for this destination code alone; with --limit and --spare, the walk of its first finding is red",
-        ))?
-        .arg(limit(alloc))?
-        .arg(spare(alloc))
+    let code = option(
+        alloc,
+        "code",
+        "CODE",
+        "Draw the routes for this destination code alone; with --limit and --spare, the walk of its first finding is red",
+    );
+    let draw = over_plan(
+        alloc,
+        "draw",
+        "Draw the exchanges and groups of a plan, as a text of Graphviz",
+    );
+    let draw = with_arg(draw, code);
+    let draw = with_arg(draw, limit(alloc));
+    with_arg(draw, spare(alloc))
 }
 
 fn explain_grammar<'a>(alloc: Global) -> Result<clap::Command<'a>, AllocError>
@@ -203,17 +240,23 @@ fn top_grammar<'a>(alloc: Global) -> Result<clap::Command<'a>, AllocError>
     )
 }
 
-/// The program with one command more, if its words could be made.
+/// The program with one command more, if both could be made.
 fn with_command<'a>(
-    program: clap::Command<'a>,
+    program: Result<clap::Command<'a>, AllocError>,
     command: Result<clap::Command<'a>, AllocError>,
 ) -> Result<clap::Command<'a>, AllocError>
-    ensures { IfOk result (λ c. (words : Command) × (command.entry ≡ Ok words) × AddsSubcommand program.entry words c) }
+    ensures { IfOk result (λ c. (top : Command) × (words : Command) × (program.entry ≡ Ok top) × (command.entry ≡ Ok words) × AddsSubcommand top words c) }
 {
-    match command {
-        Ok(words) => program.subcommand(words),
+    match program {
+        Ok(top) => match command {
+            Ok(words) => top.subcommand(words),
+            Err(error) => {
+                drop(top);
+                Err(error)
+            }
+        },
         Err(error) => {
-            drop(program);
+            drop(command);
             Err(error)
         }
     }
@@ -223,12 +266,12 @@ fn with_command<'a>(
 pub(crate) fn grammar<'a>(alloc: Global) -> Result<clap::Command<'a>, AllocError>
     ensures { IfOk result (λ c. app_of c ≡ grammar.program_words) }
 {
-    let top = top_grammar(alloc)?;
-    let program = with_command(top, audit_grammar(alloc))?;
-    let program = with_command(program, grade_grammar(alloc))?;
-    let program = with_command(program, check_grammar(alloc))?;
-    let program = with_command(program, run_grammar(alloc))?;
-    let program = with_command(program, codes_grammar(alloc))?;
-    let program = with_command(program, draw_grammar(alloc))?;
+    let program = top_grammar(alloc);
+    let program = with_command(program, audit_grammar(alloc));
+    let program = with_command(program, grade_grammar(alloc));
+    let program = with_command(program, check_grammar(alloc));
+    let program = with_command(program, run_grammar(alloc));
+    let program = with_command(program, codes_grammar(alloc));
+    let program = with_command(program, draw_grammar(alloc));
     with_command(program, explain_grammar(alloc))
 }

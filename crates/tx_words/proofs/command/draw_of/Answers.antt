@@ -1,4 +1,4 @@
-use Rattle.std.proofs.Common.{◌≡◌, ◌∙◌, ◌||◌, true, ap, codes, not, refl, rules, sym}
+use Rattle.std.proofs.Common.{◌∙◌, ◌||◌, ap, codes, refl, rules, sym}
 use Rattle.std.proofs.lemmas.Bool.{not-false, or_right}
 use Rattle.clap.specs.Words.{found_of, rows_of}
 use Rattle.tx_words.specs.Faults.{has}

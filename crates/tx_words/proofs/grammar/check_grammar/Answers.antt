@@ -1,17 +1,16 @@
 use Rattle.std.proofs.Common.{◌≡◌, rules, codes}
-use Rattle.std.proofs.lemmas.Result.{IfOk-weaker}
-use Rattle.clap.specs.Words.{app_of, new_app, rule_of}
+use Rattle.clap.specs.Words.{rule_of, with_rule}
 use Rattle.tx_words.specs.Grammar as grammar
-use Rattle.tx_words.proofs.Grammars.{with_arg, needs, needs_local}
+use Rattle.tx_words.proofs.Grammars.{more, needs, needs_local}
 use Rattle.tx_words.proofs.grammar.check_grammar.Goals as goal
 
 pub returns : goal.returns
 returns c =
-    let named : app_of c.about.result ≡ new_app (codes "check") = search rules in
-    let cert_is : rule_of c.file.result ≡ grammar.file (codes "cert") = search rules in
-    let limit_is = needs c.limit.result c.required.result _ c.required.ensures c.limit.ensures.rule in
-    let spare_is = needs c.spare.result c.required-2.result _ c.required-2.ensures c.spare.ensures.rule in
-    let plan = with_arg _ _ _ _ _ c.plan_file.ensures.local named c.plan_file.ensures.rule c.in_ok-arg.ensures in
-    let cert = with_arg _ _ _ _ _ c.file.ensures.local plan cert_is c.in_ok-arg-2.ensures in
-    let limit = with_arg _ _ _ _ _ (needs_local c.limit.result c.required.result c.required.ensures c.limit.ensures.local) cert limit_is c.in_ok-arg-3.ensures in
-    IfOk-weaker c.arg-4.result _ _ (λ n adds. with_arg _ n _ _ _ (needs_local c.spare.result c.required-2.result c.required-2.ensures c.spare.ensures.local) limit spare_is adds) c.arg-4.ensures
+    let cert_is : rule_of c.file-cert.result ≡ grammar.file (codes "cert") = search rules in
+    let limit_is = needs c.limit.result c.required.result grammar.limit c.required.ensures c.limit.ensures.rule in
+    let spare_is = needs c.spare.result c.required-2.result grammar.spare c.required-2.ensures c.spare.ensures.rule in
+    let limit_local = needs_local c.limit.result c.required.result c.required.ensures c.limit.ensures.local in
+    let spare_local = needs_local c.spare.result c.required-2.result c.required-2.ensures c.spare.ensures.local in
+    let cert = more c.over_plan-check.result c.with_arg-check.result c.file-cert.result (grammar.plan_words (codes "check")) (grammar.file (codes "cert")) c.file-cert.ensures.local c.over_plan-check.ensures cert_is c.with_arg-check.ensures in
+    let limit = more c.with_arg-check.result c.with_arg-check-2.result c.required.result (with_rule (grammar.plan_words (codes "check")) (grammar.file (codes "cert"))) (grammar.needed grammar.limit) limit_local cert limit_is c.with_arg-check-2.ensures in
+    more c.with_arg-check-2.result c.with_arg.result c.required-2.result (with_rule (with_rule (grammar.plan_words (codes "check")) (grammar.file (codes "cert"))) (grammar.needed grammar.limit)) (grammar.needed grammar.spare) spare_local limit spare_is c.with_arg.ensures
