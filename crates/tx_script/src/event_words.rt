@@ -99,13 +99,11 @@ fn clear_event(words: Words<'_>) -> Result<Event, ScriptWord>
 fn party_of(word: &[u8]) -> Option<Party>
     ensures { result ≡ party_of word.now }
 {
-    if word == b"CALLER".as_slice() {
-        return Some(Party::Caller);
+    match word {
+        b"CALLER" => Some(Party::Caller),
+        b"CALLED" => Some(Party::Called),
+        _ => None,
     }
-    if word == b"CALLED".as_slice() {
-        return Some(Party::Called);
-    }
-    None
 }
 
 /// A circuit.

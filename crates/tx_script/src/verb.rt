@@ -29,54 +29,24 @@ impl Verb {
     pub(crate) fn read(word: &[u8]) -> Option<Verb>
         ensures { result ≡ verb_of word.now }
     {
-        if word == b"KEY".as_slice() {
-            return Some(Verb::Key);
+        match word {
+            b"KEY" => Some(Verb::Key),
+            b"ROUTE" => Some(Verb::Route),
+            b"CONFIRM" => Some(Verb::Confirm),
+            b"CLEAR" => Some(Verb::Clear),
+            b"RELEASED" => Some(Verb::Released),
+            b"FAIL" => Some(Verb::Fail),
+            b"RESTORE" => Some(Verb::Restore),
+            b"BLOCK" => Some(Verb::Block),
+            b"UNBLOCK" => Some(Verb::Unblock),
+            b"OUT" => Some(Verb::Out),
+            b"IN" => Some(Verb::In),
+            b"FAULT" => Some(Verb::Fault),
+            b"MEND" => Some(Verb::Mend),
+            b"AWAY" => Some(Verb::Away),
+            b"BACK" => Some(Verb::Back),
+            b"END" => Some(Verb::End),
+            _ => None,
         }
-        if word == b"ROUTE".as_slice() {
-            return Some(Verb::Route);
-        }
-        if word == b"CONFIRM".as_slice() {
-            return Some(Verb::Confirm);
-        }
-        if word == b"CLEAR".as_slice() {
-            return Some(Verb::Clear);
-        }
-        if word == b"RELEASED".as_slice() {
-            return Some(Verb::Released);
-        }
-        if word == b"FAIL".as_slice() {
-            return Some(Verb::Fail);
-        }
-        if word == b"RESTORE".as_slice() {
-            return Some(Verb::Restore);
-        }
-        if word == b"BLOCK".as_slice() {
-            return Some(Verb::Block);
-        }
-        if word == b"UNBLOCK".as_slice() {
-            return Some(Verb::Unblock);
-        }
-        if word == b"OUT".as_slice() {
-            return Some(Verb::Out);
-        }
-        if word == b"IN".as_slice() {
-            return Some(Verb::In);
-        }
-        if word == b"FAULT".as_slice() {
-            return Some(Verb::Fault);
-        }
-        if word == b"MEND".as_slice() {
-            return Some(Verb::Mend);
-        }
-        if word == b"AWAY".as_slice() {
-            return Some(Verb::Away);
-        }
-        if word == b"BACK".as_slice() {
-            return Some(Verb::Back);
-        }
-        if word == b"END".as_slice() {
-            return Some(Verb::End);
-        }
-        None
     }
 }

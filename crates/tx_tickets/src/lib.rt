@@ -1,6 +1,8 @@
 //! The lines that a run prints: replies, and tickets of the calls that ended.
 #![tactic(auto)]
 
+mod line_room;
+mod names;
 mod reply;
 mod ticket;
 mod words;

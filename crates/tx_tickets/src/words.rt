@@ -1,5 +1,5 @@
 // The words of services, causes and refusals.
-ghost use Rattle.std.specs.Prelude.{◌≡◌};
+ghost use Rattle.std.specs.Prelude.{◌≡◌, ◌≤◌, length};
 ghost use Rattle.tx_tickets.specs.Texts.{service_text, cause_text, refusal_text, stands_text};
 
 use tx_state::{Cause, Refusal, Service};
@@ -7,7 +7,8 @@ use tx_state::{Cause, Refusal, Service};
 /// A service code, as it is printed.
 #[inline(always)]
 pub(crate) fn service_word<'a>(service: Service) -> &'a [u8]
-    ensures { result.now ≡ service_text service }
+    ensures text { result.now ≡ service_text service }
+    ensures width { length result.now ≤ 4 }
 {
     match service {
         Service::Occ => b"OCC",
@@ -21,7 +22,8 @@ pub(crate) fn service_word<'a>(service: Service) -> &'a [u8]
 
 #[inline(always)]
 pub(crate) fn cause_word<'a>(cause: Cause) -> &'a [u8]
-    ensures { result.now ≡ cause_text cause }
+    ensures text { result.now ≡ cause_text cause }
+    ensures width { length result.now ≤ 4 }
 {
     match cause {
         Cause::Service(service) => service_word(service),
@@ -33,7 +35,8 @@ pub(crate) fn cause_word<'a>(cause: Cause) -> &'a [u8]
 
 #[inline(always)]
 pub(crate) fn refusal_word<'a>(refusal: Refusal) -> &'a [u8]
-    ensures { result.now ≡ refusal_text refusal }
+    ensures text { result.now ≡ refusal_text refusal }
+    ensures width { length result.now ≤ 4 }
 {
     match refusal {
         Refusal::UnknownCall => b"M1",
@@ -53,7 +56,8 @@ pub(crate) fn refusal_word<'a>(refusal: Refusal) -> &'a [u8]
 
 #[inline(always)]
 pub(crate) fn stands_word<'a>(stands: bool) -> &'a [u8]
-    ensures { result.now ≡ stands_text stands }
+    ensures text { result.now ≡ stands_text stands }
+    ensures width { length result.now ≤ 7 }
 {
     if stands { b" STANDS" } else { b" NC" }
 }

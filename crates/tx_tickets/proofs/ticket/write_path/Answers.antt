@@ -1,0 +1,69 @@
+use Rattle.std.proofs.Common.{◌≡◌, ℕ, ◌+◌, ◌<◌, List, [], ◌∷◌, ◌++◌, codes, length, get_or, take, drop, refl, sym, ap, subst, ◌∙◌, append_assoc, append-nil, take-append-drop, rules, arith}
+use Rattle.std.proofs.Math.Seq.{take-length}
+use Rattle.std.specs.List.{flat_map}
+use Rattle.std.proofs.lemmas.List.{drop_more, take_more}
+use Rattle.std.proofs.lemmas.List.Concat.{flat_map-append}
+use Rattle.std.specs.Io.KnownBytes.{append_known}
+use Rattle.tx_text.specs.Ends.{StopsIn}
+use Rattle.tx_text.proofs.Writing.{on_err}
+use Rattle.tx_tickets.specs.Texts.{hop_text}
+use Rattle.tx_tickets.proofs.Begun.{begun_more, begun_out, begun_stop}
+use Rattle.tx_tickets.proofs.Taking.{err_so}
+use Rattle.tx_tickets.proofs.ticket.write_path.Goals as goal
+
+module _ {X : Type 0} (f : X → List ℕ) (xs : List X) (i : ℕ) (x : X) (lt : i < length xs) (is : x ≡ get_or xs i x) where
+  one_more : flat_map f (take (i + 1) xs) ≡ flat_map f (take i xs) ++ f x
+  one_more = ap (flat_map f) (take_more xs i x lt ∙ ap (λ y. take i xs ++ y ∷ []) (sym is)) ∙ flat_map-append f (take i xs) (x ∷ []) ∙ ap (λ l. flat_map f (take i xs) ++ l) (append-nil (f x))
+
+  -- a line with one hop more
+  text_more : (front : List ℕ) → front ++ flat_map f (take (i + 1) xs) ≡ (front ++ flat_map f (take i xs)) ++ f x
+  text_more front = ap (λ l. front ++ l) one_more ∙ sym (append_assoc front (flat_map f (take i xs)) (f x))
+
+  -- the whole text, cut behind this hop
+  whole : (front back : List ℕ) → front ++ (flat_map f xs ++ back) ≡ ((front ++ flat_map f (take i xs)) ++ f x) ++ (flat_map f (drop (i + 1) xs) ++ back)
+  whole front back =
+      let cut = ap (flat_map f) (sym (take-append-drop (i + 1) xs)) ∙ flat_map-append f (take (i + 1) xs) (drop (i + 1) xs) in
+      ap (λ l. front ++ (l ++ back)) cut ∙ ap (λ l. front ++ l) (append_assoc (flat_map f (take (i + 1) xs)) (flat_map f (drop (i + 1) xs)) back)
+      ∙ sym (append_assoc front (flat_map f (take (i + 1) xs)) (flat_map f (drop (i + 1) xs) ++ back)) ∙ ap (λ l. l ++ (flat_map f (drop (i + 1) xs) ++ back)) (text_more front)
+
+pub loop-hop-preserved-then-len-le-FULL : goal.loop-hop-preserved-then-len-le-FULL
+loop-hop-preserved-then-len-le-FULL g c =
+    let v = c.loop-hop.invariant in
+    let t = text_more (hop_text c.args.plan.now) c.args.hops.now c.loop-hop.hop-index c.hop-item.result c.loop-hop-test.true c.hop-item.is c.args.line in
+    record {
+      begun = rw (t, c.put_hop.ensures.text) (begun_more v.begun (hop_text c.args.plan.now c.hop-item.result));
+      mark = v.mark;
+      room = search rules;
+    }
+
+pub loop-hop-preserved : goal.loop-hop-preserved
+loop-hop-preserved g c =
+    let v = c.loop-hop.invariant in
+    let t = text_more (hop_text c.args.plan.now) c.args.hops.now c.loop-hop.hop-index c.hop-item.result c.loop-hop-test.true c.hop-item.is c.args.line in
+    let e = c.bytes.ensures ∙ c.put_hop.ensures.text in
+    record {
+      begun = rw (t, c.clear.ensures) (begun_out (begun_more v.begun (hop_text c.args.plan.now c.hop-item.result)) (c.in_ok-write_bytes.ensures.ok ∙ ap (append_known (g.W.Sink.taken c.loop-hop.sink)) e));
+      mark = c.in_ok-write_bytes.ensures.unmarked ∙ v.mark;
+      room = search rules;
+    }
+
+pub returns-in_err-write_bytes-clause-err : goal.returns-in_err-write_bytes-clause-err
+returns-in_err-write_bytes-clause-err g c =
+    let v = c.loop-hop.invariant in
+    let t = whole (hop_text c.args.plan.now) c.args.hops.now c.loop-hop.hop-index c.hop-item.result c.loop-hop-test.true c.hop-item.is c.args.line (codes "\n") in
+    let e = c.bytes.ensures ∙ c.put_hop.ensures.text in
+    on_err c.from_residual.result (rw t (begun_stop (begun_more v.begun (hop_text c.args.plan.now c.hop-item.result)) (subst (λ l. StopsIn (g.W.Sink.taken c.loop-hop.sink) (g.W.Sink.taken c.write_bytes.new.sink) l) e c.in_err-write_bytes.ensures.err) _))
+
+pub returns-clause-err : goal.returns-clause-err
+returns-clause-err g c =
+    let f = hop_text c.args.plan.now in
+    let hops = c.args.hops.now in
+    let v = c.loop-hop.invariant in
+    let i : c.loop-hop.hop-index ≡ length hops = omega arith in
+    let all : flat_map f (take c.loop-hop.hop-index hops) ≡ flat_map f hops = ap (λ j. flat_map f (take j hops)) i ∙ ap (flat_map f) (take-length hops) in
+    let e = c.bytes-2.ensures ∙ c.put.ensures in
+    let t : ((c.args.line ++ flat_map f (take c.loop-hop.hop-index hops)) ++ codes "\n") ++ [] ≡ c.args.line ++ (flat_map f hops ++ codes "\n") =
+    append-nil _ ∙ ap (λ l. (c.args.line ++ l) ++ codes "\n") all ∙ append_assoc c.args.line (flat_map f hops) (codes "\n") in
+    err_so c.write_bytes-2.result c.write_bytes-2.ensures.err (λ stop.
+    subst (λ l. StopsIn (g.W.Sink.taken c.args.sink.now) (g.W.Sink.taken c.write_bytes-2.new.sink) l) t
+    (begun_stop (begun_more v.begun (codes "\n")) (subst (λ l. StopsIn (g.W.Sink.taken c.loop-hop.sink) (g.W.Sink.taken c.write_bytes-2.new.sink) l) e stop) []))

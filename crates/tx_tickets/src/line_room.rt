@@ -1,0 +1,106 @@
+// Room for the text of one line.
+ghost use Rattle.std.specs.Prelude.{◌≡◌, ◌+◌, ◌≤◌, ◌++◌, [], length};
+ghost use Rattle.std.specs.List.{flat_map};
+
+use std::marker::Model;
+
+/// How many bytes a line may have at most.
+pub(crate) const ROOM: usize = 192;
+
+/// The bytes of a line so far, in room that is lent. The caller sees that they have room.
+#[derive(Drop)]
+pub(crate) struct LineRoom<'a> {
+    room: &'a mut [u8; ROOM],
+    len: usize,
+}
+
+impl<'a> Model for LineRoom<'a> {
+    ghost use Rattle.std.specs.Prelude.{ℕ, List, take, ◌≤◌};
+
+    ghost Value = { List ℕ };
+
+    ghost view = { λ l. take l.len l.room.now };
+
+    ghost invariant = { λ l. l.len ≤ 192 };
+}
+
+impl<'a> LineRoom<'a> {
+    /// A line of no bytes.
+    #[inline(always)]
+    pub(crate) fn new(room: &'a mut [u8; ROOM]) -> LineRoom<'a>
+        ensures { result ≡ [] }
+    {
+        LineRoom { room, len: 0 }
+    }
+
+    /// The line so far.
+    #[inline(always)]
+    pub(crate) fn bytes(&self) -> &[u8]
+        ensures { result.now ≡ self.now }
+    {
+        &self.room[..self.len]
+    }
+
+    /// How many bytes it has.
+    #[inline(always)]
+    pub(crate) fn len(&self) -> usize
+        ensures { result ≡ length self.now }
+    {
+        self.bytes().len()
+    }
+
+    /// Goes back to no bytes.
+    #[inline(always)]
+    pub(crate) fn clear(&mut self)
+        ensures { self.new ≡ [] }
+    {
+        self.len = 0;
+    }
+
+    /// Appends bytes.
+    #[inline(always)]
+    pub(crate) fn put(&mut self, bytes: &[u8])
+        requires { length self.old + length bytes.now ≤ 192 }
+        ensures { self.new ≡ self.old ++ bytes.now }
+    {
+        let from = self.len;
+        let to = from + bytes.len();
+        let room = &mut self.room[..];
+        copy(&mut room[from..to], bytes);
+        self.len = to;
+    }
+
+    /// Appends parts, one after another.
+    #[inline(always)]
+    pub(crate) fn put_parts(&mut self, parts: &[&[u8]])
+        requires { length self.old + length (flat_map (λ p. p.now) parts.now) ≤ 192 }
+        ensures { self.new ≡ self.old ++ flat_map (λ p. p.now) parts.now }
+    {
+        for i in 0..parts.len() {
+            self.put(parts[i]);
+        }
+    }
+}
+
+/// Copies bytes. At most 16 are copied by two copies of a fixed length, which may overlap.
+#[inline(always)]
+fn copy(to: &mut [u8], from: &[u8])
+    requires { length to.old ≡ length from.now }
+    ensures { to.new ≡ from.now }
+{
+    let len = from.len();
+    if len > 16 {
+        to.copy_from_slice(from);
+    } else if len >= 8 {
+        to[..8].copy_from_slice(&from[..8]);
+        to[len - 8..].copy_from_slice(&from[len - 8..]);
+    } else if len >= 4 {
+        to[..4].copy_from_slice(&from[..4]);
+        to[len - 4..].copy_from_slice(&from[len - 4..]);
+    } else if len >= 2 {
+        to[..2].copy_from_slice(&from[..2]);
+        to[len - 2..].copy_from_slice(&from[len - 2..]);
+    } else if len == 1 {
+        to[0] = from[0];
+    }
+}
