@@ -4,7 +4,7 @@ use std::cell::RefCell;
 use std::io;
 use std::io::{BufReader, BufWriter, Read, Write};
 use tx_jobs::JobFault;
-use tx_text::{FromRead, ToWrite};
+use tx_text::{FromRead, Sink, WriteFault};
 
 /// How many bytes an output holds, and how many are read of an input at a time.
 const ROOM: usize = 65_536;
@@ -64,11 +64,21 @@ impl<W: Write + Drop, A: Allocator> Output<W, A> {
 
     /// Lets out what was written.
     pub(crate) fn let_out(&self) -> Result<(), JobFault> {
-        Buffer { output: self }.flush().map_err(|_| JobFault::Write)
+        self.flush().map_err(|_| JobFault::Write)
     }
 
-    pub(crate) fn sink(&self) -> ToWrite<Buffer<'_, W, A>> {
-        ToWrite::new(Buffer { output: self })
+    fn flush(&self) -> io::Result<()> {
+        match self.writer.try_borrow_mut() {
+            Ok(mut writer) => writer.flush(),
+            Err(_) => Err(io::Error::from(io::ErrorKind::Other)),
+        }
+    }
+
+    pub(crate) fn sink(&self) -> OutputSink<'_, W, A> {
+        OutputSink {
+            output: self,
+            failed: false,
+        }
     }
 
     /// A source over a reader, before each of whose reads the output goes out. An output that fails then is a failure of the source too: the program tells
@@ -88,25 +98,33 @@ impl<W: Write + Drop, A: Allocator> Output<W, A> {
     }
 }
 
-/// A writer to an output.
+/// An output as a sink, which does not tell its bytes. A call takes all its bytes or fails, and a failure stays one.
 #[derive(Drop)]
-pub(crate) struct Buffer<'a, W: Write + Drop, A: Allocator> {
+pub(crate) struct OutputSink<'a, W: Write + Drop, A: Allocator> {
     output: &'a Output<W, A>,
+    failed: bool,
 }
 
-impl<'a, W: Write + Drop, A: Allocator> Write for Buffer<'a, W, A> {
-    fn write(&mut self, bytes: &[u8]) -> io::Result<usize> {
-        match self.output.writer.try_borrow_mut() {
-            Ok(mut writer) => writer.write(bytes),
-            Err(_) => Err(io::Error::from(io::ErrorKind::Other)),
-        }
-    }
+impl<'a, W: Write + Drop, A: Allocator> Sink for OutputSink<'a, W, A> {
+    ghost use Rattle.std.specs.Prelude.{None};
 
-    fn flush(&mut self) -> io::Result<()> {
-        match self.output.writer.try_borrow_mut() {
-            Ok(mut writer) => writer.flush(),
-            Err(_) => Err(io::Error::from(io::ErrorKind::Other)),
+    ghost taken = { λ _. None };
+
+    ghost failed = { λ s. s.failed };
+
+    ghost called = { λ _ _ _ _. Unit {0} };
+
+    #[inline(always)]
+    fn write(&mut self, bytes: &[u8]) -> Result<usize, WriteFault> {
+        if !self.failed {
+            if let Ok(mut writer) = self.output.writer.try_borrow_mut() {
+                if writer.write_all(bytes).is_ok() {
+                    return Ok(bytes.len());
+                }
+            }
         }
+        self.failed = true;
+        Err(WriteFault)
     }
 }
 
@@ -120,10 +138,7 @@ pub(crate) struct Flushing<'a, R: Read + Drop, W: Write + Drop, A: Allocator> {
 impl<'a, R: Read + Drop, W: Write + Drop, A: Allocator> Read for Flushing<'a, R, W, A> {
     fn read(&mut self, buf: &mut [u8]) -> io::Result<usize> {
         if self.reader.buffer().is_empty() {
-            Buffer {
-                output: self.output,
-            }
-            .flush()?;
+            self.output.flush()?;
         }
         self.reader.read(buf)
     }
