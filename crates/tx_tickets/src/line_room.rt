@@ -1,7 +1,7 @@
 // Room for the text of one line.
-ghost use Rattle.std.specs.Prelude.{◌≡◌, ◌+◌, ◌≤◌, ◌++◌, [], length};
-ghost use Rattle.std.specs.List.{flat_map};
+ghost use Rattle.std.specs.Prelude.{◌≡◌, ◌+◌, ◌≤◌, ◌++◌, [], length, decimal};
 
+use itoa::Buffer;
 use std::marker::Model;
 
 /// How many bytes a line may have at most.
@@ -70,15 +70,15 @@ impl<'a> LineRoom<'a> {
         self.len = to;
     }
 
-    /// Appends parts, one after another.
+    /// Appends the figures of a number.
     #[inline(always)]
-    pub(crate) fn put_parts(&mut self, parts: &[&[u8]])
-        requires { length self.old + length (flat_map (λ p. p.now) parts.now) ≤ 192 }
-        ensures { self.new ≡ self.old ++ flat_map (λ p. p.now) parts.now }
+    pub(crate) fn put_number(&mut self, number: u64)
+        requires { length self.old + 20 ≤ 192 }
+        ensures text { self.new ≡ self.old ++ decimal number }
+        ensures width { length (decimal number) ≤ 20 }
     {
-        for i in 0..parts.len() {
-            self.put(parts[i]);
-        }
+        let mut figures = Buffer::new();
+        self.put(figures.format(number).as_bytes());
     }
 }
 

@@ -63,7 +63,9 @@ fn put_word(first: &[u8], word: &[u8], line: &mut LineRoom<'_>)
     requires line { line.old ≡ [] }
     ensures { line.new ≡ first.now ++ (word.now ++ codes "\n") }
 {
-    line.put_parts(&[first, word, b"\n".as_slice()]);
+    line.put(first);
+    line.put(word);
+    line.put(b"\n");
 }
 
 /// Puts a first word, given with its space, and a number.
@@ -73,8 +75,9 @@ fn put_count(first: &[u8], count: u64, line: &mut LineRoom<'_>)
     requires line { line.old ≡ [] }
     ensures { line.new ≡ first.now ++ (decimal count ++ codes "\n") }
 {
-    let mut digits = Buffer::new();
-    put_word(first, digits.format(count).as_bytes(), line);
+    line.put(first);
+    line.put_number(count);
+    line.put(b"\n");
 }
 
 #[inline(always)]
@@ -82,14 +85,11 @@ fn put_circuit<A: Allocator>(circuit: &Circuit, plan: &Plan<A>, line: &mut LineR
     requires { line.old ≡ [] }
     ensures { line.new ≡ codes "SEIZED " ++ (circuit_text plan.now circuit.now ++ codes "\n") }
 {
-    let mut digits = Buffer::new();
-    line.put_parts(&[
-        b"SEIZED ".as_slice(),
-        group_name(plan, circuit.group),
-        b".".as_slice(),
-        digits.format(circuit.number).as_bytes(),
-        b"\n".as_slice(),
-    ]);
+    line.put(b"SEIZED ");
+    line.put(group_name(plan, circuit.group));
+    line.put(b".");
+    line.put_number(u64::from(circuit.number));
+    line.put(b"\n");
 }
 
 #[inline(always)]
@@ -97,13 +97,11 @@ fn put_connected<A: Allocator>(called: &Line, plan: &Plan<A>, line: &mut LineRoo
     requires { line.old ≡ [] }
     ensures { line.new ≡ codes "CONNECTED " ++ (line_text plan.now called.now ++ codes "\n") }
 {
-    line.put_parts(&[
-        b"CONNECTED ".as_slice(),
-        code_figures(plan, called.code),
-        b" ".as_slice(),
-        called.national.bytes(),
-        b"\n".as_slice(),
-    ]);
+    line.put(b"CONNECTED ");
+    line.put(code_figures(plan, called.code));
+    line.put(b" ");
+    line.put(called.national.bytes());
+    line.put(b"\n");
 }
 
 /// Puts the two calls of a head-on collision.
@@ -111,17 +109,13 @@ fn put_head_on(a: u32, a_stands: bool, b: u32, b_stands: bool, line: &mut LineRo
     requires { line.old ≡ [] }
     ensures { line.new ≡ codes "HEADON " ++ (decimal a ++ (stands_text a_stands ++ (codes " " ++ (decimal b ++ (stands_text b_stands ++ codes "\n"))))) }
 {
-    let mut first = Buffer::new();
-    let mut second = Buffer::new();
-    line.put_parts(&[
-        b"HEADON ".as_slice(),
-        first.format(a).as_bytes(),
-        stands_word(a_stands),
-        b" ".as_slice(),
-        second.format(b).as_bytes(),
-        stands_word(b_stands),
-        b"\n".as_slice(),
-    ]);
+    line.put(b"HEADON ");
+    line.put_number(u64::from(a));
+    line.put(stands_word(a_stands));
+    line.put(b" ");
+    line.put_number(u64::from(b));
+    line.put(stands_word(b_stands));
+    line.put(b"\n");
 }
 
 /// Writes a first word, given with its space, and a circuit, as `SEIZED G1.12`, with its LF.

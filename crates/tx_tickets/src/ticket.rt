@@ -8,7 +8,6 @@ ghost use Rattle.tx_tickets.specs.Texts.{hop_text, caller_text, events_text, why
 use crate::line_room::{LineRoom, ROOM};
 use crate::names::{code_figures, exchange_name, group_name};
 use crate::words::cause_word;
-use itoa::Buffer;
 use std::alloc::Allocator;
 use tx_plan::Plan;
 use tx_state::{Hop, Ticket};
@@ -46,51 +45,42 @@ fn put_caller<A: Allocator, B: Allocator>(
 )
     requires { line.old ≡ [] }
     ensures text { line.new ≡ caller_text plan.now ticket.now }
-    ensures width { length line.new ≤ 51 }
+    ensures width { length line.new ≤ 61 }
 {
-    let mut number = Buffer::new();
-    line.put_parts(&[
-        b"T ".as_slice(),
-        number.format(ticket.number).as_bytes(),
-        b" FROM ".as_slice(),
-        code_figures(plan, ticket.line.code),
-        b" ".as_slice(),
-        ticket.line.national.bytes(),
-        b" TO ".as_slice(),
-        ticket.keyed.bytes(),
-        b" EV ".as_slice(),
-    ]);
+    line.put(b"T ");
+    line.put_number(u64::from(ticket.number));
+    line.put(b" FROM ");
+    line.put(code_figures(plan, ticket.line.code));
+    line.put(b" ");
+    line.put(ticket.line.national.bytes());
+    line.put(b" TO ");
+    line.put(ticket.keyed.bytes());
+    line.put(b" EV ");
 }
 
 /// Puts the events of the call's start and its end.
 #[inline(always)]
 fn put_events<A: Allocator>(ticket: &Ticket<A>, line: &mut LineRoom<'_>)
-    requires { length line.old ≤ 51 }
+    requires { length line.old ≤ 61 }
     ensures text { line.new ≡ line.old ++ events_text ticket.now }
-    ensures width { length line.new ≤ 96 }
+    ensures width { length line.new ≤ 106 }
 {
-    let mut keyed_at = Buffer::new();
-    let mut ended_at = Buffer::new();
-    line.put_parts(&[
-        keyed_at.format(ticket.keyed_at).as_bytes(),
-        b" ".as_slice(),
-        ended_at.format(ticket.ended_at).as_bytes(),
-        b" BY ".as_slice(),
-    ]);
+    line.put_number(ticket.keyed_at);
+    line.put(b" ");
+    line.put_number(ticket.ended_at);
+    line.put(b" BY ");
 }
 
 /// Puts why the call ended, and where it started.
 #[inline(always)]
 fn put_why<A: Allocator, B: Allocator>(ticket: &Ticket<A>, plan: &Plan<B>, line: &mut LineRoom<'_>)
-    requires { length line.old ≤ 96 }
+    requires { length line.old ≤ 106 }
     ensures text { line.new ≡ line.old ++ why_text plan.now ticket.now }
-    ensures width { length line.new ≤ 113 }
+    ensures width { length line.new ≤ 123 }
 {
-    line.put_parts(&[
-        cause_word(ticket.cause),
-        b" VIA ".as_slice(),
-        exchange_name(plan, ticket.start),
-    ]);
+    line.put(cause_word(ticket.cause));
+    line.put(b" VIA ");
+    line.put(exchange_name(plan, ticket.start));
 }
 
 /// Writes a line that has begun, with each hop behind it and an LF. Where the next hop may have no room, what stands there goes out before it.
@@ -101,7 +91,7 @@ fn write_path<A: Allocator, W: Sink>(
     line: LineRoom<'_>,
     sink: &mut W,
 ) -> Result<(), WriteFault>
-    requires { length line ≤ 113 }
+    requires { length line ≤ 123 }
     ensures ok { OnOk result (W.taken sink.new ≡ append_known (W.taken sink.old) (line.entry ++ (flat_map (hop_text plan.now) hops.now ++ codes "\n"))) }
     ensures err { OnErr result (StopsIn (W.taken sink.old) (W.taken sink.new) (line.entry ++ (flat_map (hop_text plan.now) hops.now ++ codes "\n"))) }
     ensures mark { OnErr result (W.failed sink.new ≡ true) }
@@ -127,13 +117,10 @@ fn put_hop<A: Allocator>(hop: &Hop, plan: &Plan<A>, line: &mut LineRoom<'_>)
     ensures text { line.new ≡ line.old ++ hop_text plan.now hop.now }
     ensures width { length line.new ≤ 191 }
 {
-    let mut number = Buffer::new();
-    line.put_parts(&[
-        b" ".as_slice(),
-        group_name(plan, hop.circuit.group),
-        b".".as_slice(),
-        number.format(hop.circuit.number).as_bytes(),
-        b" ".as_slice(),
-        exchange_name(plan, hop.far),
-    ]);
+    line.put(b" ");
+    line.put(group_name(plan, hop.circuit.group));
+    line.put(b".");
+    line.put_number(u64::from(hop.circuit.number));
+    line.put(b" ");
+    line.put(exchange_name(plan, hop.far));
 }

@@ -1,7 +1,7 @@
-use Rattle.std.proofs.Common.{◌≡◌, ℕ, ◌+◌, ◌<◌, List, [], ◌∷◌, ◌++◌, codes, length, get_or, take, drop, refl, sym, ap, subst, ◌∙◌, append_assoc, append-nil, take-append-drop, rules, arith}
+use Rattle.std.proofs.Common.{◌≡◌, ℕ, ◌+◌, ◌<◌, List, [], ◌∷◌, ◌++◌, codes, length, get_or, take, drop, sym, ap, subst, ◌∙◌, append_assoc, append-nil, take-append-drop, rules, arith}
 use Rattle.std.proofs.Math.Seq.{take-length}
 use Rattle.std.specs.List.{flat_map}
-use Rattle.std.proofs.lemmas.List.{drop_more, take_more}
+use Rattle.std.proofs.lemmas.List.{take_more}
 use Rattle.std.proofs.lemmas.List.Concat.{flat_map-append}
 use Rattle.std.specs.Io.KnownBytes.{append_known}
 use Rattle.tx_text.specs.Ends.{StopsIn}
