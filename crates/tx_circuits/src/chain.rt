@@ -9,6 +9,7 @@ use crate::slot::Slot;
 use crate::state::State;
 
 // The links of a circuit in the list of an end.
+#[inline(always)]
 fn links(slots: &[Slot], end: End, place: usize) -> Links
     requires { place < length slots.now }
     ensures { (way : WayValue) → ahead way result ≡ link_at end way slots.now place }
@@ -17,6 +18,7 @@ fn links(slots: &[Slot], end: End, place: usize) -> Links
 }
 
 // What follows a place in the list of an end, or begins the list.
+#[inline(always)]
 fn follow(slots: &[Slot], list: FreeList, end: End, way: Way, from: Option<u8>) -> Option<u8>
     requires { IfSome from (λ k. k < length slots.now) }
     ensures { result ≡ chain end way slots.now list from }
@@ -30,6 +32,7 @@ fn follow(slots: &[Slot], list: FreeList, end: End, way: Way, from: Option<u8>) 
     }
 }
 
+#[inline(always)]
 fn set_link(slots: &mut [Slot], end: End, way: Way, place: usize, to: Option<u8>)
     requires place { place < length slots.old }
     requires fits { IfSome to (λ k. k < 255) }
@@ -43,6 +46,7 @@ fn set_link(slots: &mut [Slot], end: End, way: Way, place: usize, to: Option<u8>
 }
 
 // After `from`, or at the list's begin, now comes `to`.
+#[inline(always)]
 fn lead(
     slots: &mut [Slot],
     list: FreeList,
@@ -93,6 +97,7 @@ fn last_before(slots: &[Slot], list: FreeList, end: End, way: Way, place: usize)
 }
 
 // The neighbours that a circuit would have in the list of an end: looked for from the end of the list that is nearer.
+#[inline(always)]
 fn neighbours(slots: &[Slot], list: FreeList, end: End, place: usize) -> Links
     requires short { length slots.now ≤ 240 }
     requires listed { IsListed (free_at end slots.now) end slots.now list }
@@ -115,6 +120,7 @@ fn neighbours(slots: &[Slot], list: FreeList, end: End, place: usize) -> Links
     }
 }
 
+#[inline(always)]
 fn set_links(slots: &mut [Slot], end: End, place: usize, links: Links)
     requires place { place < length slots.old }
     requires above { IfSome links.above (λ k. k < 255) }
@@ -128,6 +134,7 @@ fn set_links(slots: &mut [Slot], end: End, place: usize, links: Links)
 }
 
 /// The circuit now stands between two neighbours; all other links are as before.
+#[inline(always)]
 pub fn insert(slots: &mut [Slot], list: FreeList, end: End, place: usize, links: Links) -> FreeList
     requires short { length slots.old ≤ 240 }
     requires place { place < length slots.old }
@@ -146,6 +153,7 @@ pub fn insert(slots: &mut [Slot], list: FreeList, end: End, place: usize, links:
 }
 
 // Puts a circuit on the list of an end, and gives the list. Walks the list.
+#[inline(never)]
 fn put(slots: &mut [Slot], list: FreeList, end: End, place: usize) -> FreeList
     requires short { length slots.old ≤ 240 }
     requires listed { IsListed (free_at end slots.old) end slots.old list }
@@ -160,6 +168,7 @@ fn put(slots: &mut [Slot], list: FreeList, end: End, place: usize) -> FreeList
 }
 
 // Takes a circuit off the list of an end, and gives the list.
+#[inline(always)]
 fn take(slots: &mut [Slot], list: FreeList, end: End, place: usize) -> FreeList
     requires short { length slots.old ≤ 240 }
     requires listed { IsListed (free_at end slots.old) end slots.old list }
@@ -175,6 +184,7 @@ fn take(slots: &mut [Slot], list: FreeList, end: End, place: usize) -> FreeList
 }
 
 /// Puts a circuit on the list of an end, takes it off, or leaves the list, as its new state asks; gives the list.
+#[inline(always)]
 pub fn relink(slots: &mut [Slot], list: FreeList, end: End, place: usize, to: State) -> FreeList
     requires short { length slots.old ≤ 240 }
     requires listed { IsListed (free_at end slots.old) end slots.old list }

@@ -23,6 +23,7 @@ pub enum Way {
 
 impl Way {
     /// Where a place comes in this way.
+    #[inline(always)]
     pub fn rank(self, place: usize) -> usize
         requires { place < 256 }
         ensures { result ≡ rank_of self place }
@@ -43,6 +44,7 @@ pub struct Links {
 
 impl Links {
     /// The neighbour in a way.
+    #[inline(always)]
     pub fn ahead(self, way: Way) -> Option<u8>
         ensures { result ≡ ahead way self }
     {
@@ -53,6 +55,7 @@ impl Links {
     }
 
     /// The links with another neighbour in a way.
+    #[inline(always)]
     pub fn with(self, way: Way, to: Option<u8>) -> Links
         ensures here { ahead way result ≡ to }
         ensures turned { ahead (back way) result ≡ ahead (back way) self }
@@ -90,6 +93,7 @@ impl FreeList {
     }
 
     /// Where the list begins in a way.
+    #[inline(always)]
     pub fn begins(self, way: Way) -> Option<u8>
         ensures { result ≡ begins way self }
     {

@@ -9,6 +9,7 @@ use crate::slot::Slot;
 use crate::state::State;
 
 /// Gives a circuit a state, and gives the lists. Walks a list only where the circuit comes back to it.
+#[inline(always)]
 pub fn set_state(slots: &mut [Slot], lists: FreeLists, place: usize, to: State) -> FreeLists
     requires sound { IsSound slots.old lists }
     requires place { place < length slots.old }
@@ -22,6 +23,7 @@ pub fn set_state(slots: &mut [Slot], lists: FreeLists, place: usize, to: State) 
 }
 
 // Puts a circuit behind all others on the list of an end, if it is free there, and gives the list.
+#[inline(always)]
 fn append(slots: &mut [Slot], list: FreeList, end: End, place: usize) -> FreeList
     requires short { length slots.old ≤ 240 }
     requires place { place < length slots.old }

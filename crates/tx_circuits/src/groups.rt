@@ -68,6 +68,7 @@ impl<A: Allocator> Groups<A> {
     }
 
     /// A group beside its circuits, if there is such a one.
+    #[inline(always)]
     pub fn head(&self, group: GroupId) -> Option<GroupHead>
         ensures { result ≡ option_map (λ t. t.head) (slice_get self.now group) }
     {
@@ -78,6 +79,7 @@ impl<A: Allocator> Groups<A> {
     }
 
     /// The state of a circuit, if there is such a one.
+    #[inline(always)]
     pub fn state(&self, circuit: &Circuit) -> Option<State>
         ensures { result ≡ state_at self.now circuit.now }
     {
@@ -92,6 +94,7 @@ impl<A: Allocator> Groups<A> {
     }
 
     /// The end at which an exchange seizes circuits of a group, if it may.
+    #[inline(always)]
     pub fn end(&self, group: GroupId, exchange: ExchangeId) -> Option<End>
         ensures { result ≡ end_at self.now group exchange }
     {
@@ -102,6 +105,7 @@ impl<A: Allocator> Groups<A> {
     }
 
     /// The state of a circuit that there is.
+    #[inline(always)]
     pub fn known_state(&self, circuit: &Circuit) -> State
         requires { is_some (state_at self.now circuit.now) ≡ true }
         ensures { state_at self.now circuit.now ≡ Some result }
@@ -110,6 +114,7 @@ impl<A: Allocator> Groups<A> {
     }
 
     /// The end at which an exchange seizes, where it may.
+    #[inline(always)]
     pub fn known_end(&self, group: GroupId, exchange: ExchangeId) -> End
         requires { is_some (end_at self.now group exchange) ≡ true }
         ensures { end_at self.now group exchange ≡ Some result }
@@ -118,6 +123,7 @@ impl<A: Allocator> Groups<A> {
     }
 
     /// Whether an end has seized a circuit.
+    #[inline(always)]
     pub fn has_seized(&self, circuit: &Circuit, end: End) -> bool
         ensures { result ≡ holds (has_seized end) self.now circuit.now }
     {
@@ -128,6 +134,7 @@ impl<A: Allocator> Groups<A> {
     }
 
     /// Whether an exchange has seized a circuit of a group that is in this state.
+    #[inline(always)]
     pub fn seizes_in(&self, state: State, group: GroupId, exchange: ExchangeId) -> bool
         ensures { result ≡ option_map_or (λ end. has_seized end state) (end_at self.now group exchange) false }
     {
@@ -138,6 +145,7 @@ impl<A: Allocator> Groups<A> {
     }
 
     /// The place of the circuit that an end takes next, read from the head of its list.
+    #[inline(always)]
     pub fn first_place(&self, group: GroupId, end: End) -> Option<u8>
         requires { group < length self.now }
         ensures { IfSome (slice_get self.now group) (λ t. result ≡ first_place t end) }
@@ -150,6 +158,7 @@ impl<A: Allocator> Groups<A> {
     }
 
     /// Gives a circuit another state.
+    #[inline(always)]
     pub fn set_state(&mut self, circuit: &Circuit, to: State)
         requires { is_some (state_at self.old circuit.now) ≡ true }
         ensures { self.new ≡ change_at (with_state circuit.now to) circuit.now.group self.old }

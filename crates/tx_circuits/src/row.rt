@@ -19,6 +19,7 @@ pub struct Row {
 
 impl Row {
     /// Gives a circuit another state, and gives the row with its lists.
+    #[inline(always)]
     pub fn set_state(self, slots: &mut [Slot], place: usize, to: State) -> Row
         requires listed { AreListed slots.old self }
         requires place { place < length slots.old }

@@ -52,6 +52,7 @@ impl Model for Slot {
 
 // The bits of a state.
 #[tactic(auto, using(crate::proofs::Bytes::bits_back))]
+#[inline(always)]
 fn bits(state: State) -> u8
     ensures bits { result ≡ bits_of state }
     ensures back { bits_of (state_in result) ≡ result }
@@ -64,6 +65,7 @@ fn bits(state: State) -> u8
 }
 
 // The number of the circuit at a place; 0 for none.
+#[inline(always)]
 fn number(place: Option<u8>) -> u8
     requires { IfSome place (λ k. k < 255) }
     ensures { result ≡ number_of place }
@@ -75,6 +77,7 @@ fn number(place: Option<u8>) -> u8
 }
 
 // The place of the circuit of a number.
+#[inline(always)]
 fn place(number: u8) -> Option<u8>
     ensures { result ≡ place_of number }
 {
@@ -86,6 +89,7 @@ fn place(number: u8) -> Option<u8>
 
 impl Slot {
     /// The slot of a circuit that no call holds, on no list.
+    #[inline(always)]
     pub fn idle() -> Slot
         ensures { result.state ≡ idle }
     {
@@ -99,6 +103,7 @@ impl Slot {
     }
 
     /// What holds the circuit.
+    #[inline(always)]
     pub fn state(self) -> State
         ensures { result ≡ self.state }
     {
@@ -112,6 +117,7 @@ impl Slot {
     }
 
     /// Whether the circuit is free at the end.
+    #[inline(always)]
     pub fn is_free(self, end: End) -> bool
         ensures { result ≡ is_free end self.state }
     {
@@ -119,6 +125,7 @@ impl Slot {
     }
 
     /// The slot with another state.
+    #[inline(always)]
     pub fn with_state(mut self, to: State) -> Slot
         ensures { result ≡ record self { state = to } }
     {
@@ -127,6 +134,7 @@ impl Slot {
     }
 
     /// The slot of the circuit once no call holds it.
+    #[inline(always)]
     pub fn cleared(self) -> Slot
         ensures { result ≡ record self { state = cleared self.state } }
     {
@@ -135,6 +143,7 @@ impl Slot {
     }
 
     /// The links in the list of an end.
+    #[inline(always)]
     pub fn links(self, end: End) -> Links
         ensures { result ≡ links_of end self }
     {
@@ -151,6 +160,7 @@ impl Slot {
     }
 
     /// The slot with another link in the list of an end.
+    #[inline(always)]
     pub fn with_link(mut self, end: End, way: Way, to: Option<u8>) -> Slot
         requires { IfSome to (λ k. k < 255) }
         ensures here { ahead way (links_of end result) ≡ to }
@@ -169,6 +179,7 @@ impl Slot {
     }
 
     /// The slot with other links in the list of an end.
+    #[inline(always)]
     pub fn with_links(self, end: End, links: Links) -> Slot
         requires above { IfSome links.above (λ k. k < 255) }
         requires below { IfSome links.below (λ k. k < 255) }

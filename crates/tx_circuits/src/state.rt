@@ -16,6 +16,7 @@ pub struct State {
 
 impl State {
     /// Whether the end has seized the circuit.
+    #[inline(always)]
     pub fn has_seized(self, end: End) -> bool
         ensures { result ≡ has_seized end self }
     {
@@ -26,6 +27,7 @@ impl State {
     }
 
     /// Whether the circuit is free at the end.
+    #[inline(always)]
     pub fn is_free(self, end: End) -> bool
         ensures { result ≡ is_free end self }
     {
@@ -33,6 +35,7 @@ impl State {
     }
 
     /// The state where no call holds the circuit.
+    #[inline(always)]
     pub fn cleared(self) -> State
         ensures { result ≡ cleared self }
     {
@@ -46,6 +49,7 @@ impl State {
     }
 
     /// The state where the circuit is releasing, and no call carries it.
+    #[inline(always)]
     pub fn in_release(mut self) -> State
         ensures { result ≡ record self { carried = false; releasing = true } }
     {
@@ -55,6 +59,7 @@ impl State {
     }
 
     /// The state where the end has, or has not, seized the circuit.
+    #[inline(always)]
     pub fn with_seized(self, end: End, to: bool) -> State
         ensures { result ≡ with_seized end to self }
     {

@@ -82,6 +82,7 @@ impl<A: Allocator> LineBook<A> {
     }
 
     /// Makes room for one more line with a status. Want of memory changes no status.
+    #[inline(always)]
     pub fn reserve_one(&mut self) -> Result<(), NoMemory>
         ensures ok { OnOk result (0 < self.new.room) }
         ensures room { self.old.room ≤ self.new.room }

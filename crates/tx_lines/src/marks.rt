@@ -31,6 +31,7 @@ impl Model for Marks {
 impl Marks {
     /// The marks of a status.
     #[tactic(auto, using(crate::proofs::Bits::bits_back, crate::proofs::Bits::status_back))]
+    #[inline(always)]
     pub fn of(status: Status) -> Marks
         ensures { result ≡ status }
     {
@@ -42,6 +43,7 @@ impl Marks {
     }
 
     /// What is known of the line.
+    #[inline(always)]
     pub fn status(self) -> Status
         ensures { result ≡ self }
     {

@@ -26,6 +26,7 @@ pub const UNMARKED: Status = Status {
 };
 
 /// Whether the status has the mark.
+#[inline(always)]
 pub fn has(status: Status, mark: Mark) -> bool
     ensures { result ≡ has mark status }
 {
@@ -37,6 +38,7 @@ pub fn has(status: Status, mark: Mark) -> bool
 }
 
 /// The status with the mark set or taken away.
+#[inline(always)]
 pub fn with_mark(status: Status, mark: Mark, on: bool) -> Status
     ensures { result ≡ with_mark mark on status }
 {
@@ -54,6 +56,7 @@ pub fn with_mark(status: Status, mark: Mark, on: bool) -> Status
 }
 
 /// Whether the status has no mark.
+#[inline(always)]
 pub fn is_unmarked(status: Status) -> bool
     ensures { result ≡ is_unmarked status }
 {

@@ -51,6 +51,7 @@ impl<A: Allocator + Copy> Statuses<A> {
 
 impl<A: Allocator> Statuses<A> {
     /// Makes room for one more line with a mark.
+    #[inline(always)]
     pub fn reserve_one(&mut self) -> Result<(), NoMemory>
         ensures ok { OnOk result (0 < self.new.room) }
         ensures room { self.old.room ≤ self.new.room }
@@ -74,6 +75,7 @@ impl<A: Allocator> Statuses<A> {
     }
 
     /// Sets a mark of a line. Its first mark takes room.
+    #[inline(always)]
     pub fn mark(&mut self, line: &Line, mark: Mark)
         requires { is_marked self.old line.now ≡ false → 0 < self.old.room }
         ensures lines { self.new ≡ with_marked mark (set.insert (marked mark self.old) line.now) self.new.room self.old }
@@ -83,6 +85,7 @@ impl<A: Allocator> Statuses<A> {
     }
 
     /// Takes a mark of a line away, and with its last mark the line.
+    #[inline(always)]
     pub fn unmark(&mut self, line: &Line, mark: Mark)
         ensures lines { self.new ≡ with_marked mark (set.remove (marked mark self.old) line.now) self.new.room self.old }
         ensures room { self.old.room ≤ self.new.room }
@@ -96,6 +99,7 @@ impl<A: Allocator> Statuses<A> {
 
 /// Sets a mark of a line.
 #[tactic(auto, using(crate::proofs::Entries::write_room))]
+#[inline(always)]
 fn set_mark<A: Allocator>(
     entries: &mut IndexMap<Line, Marks, BuildHasherDefault<FoldHasher>, A>,
     line: &Line,
@@ -110,6 +114,7 @@ fn set_mark<A: Allocator>(
 }
 
 /// Writes the status of the line at a place, or takes the line out where it has no mark.
+#[inline(always)]
 fn rewrite<A: Allocator>(
     entries: &mut IndexMap<Line, Marks, BuildHasherDefault<FoldHasher>, A>,
     place: usize,

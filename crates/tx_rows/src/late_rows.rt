@@ -37,6 +37,7 @@ impl<H: Copy, T: Copy, A: Allocator + Copy> LateRows<H, T, A> {
 }
 
 // An item of a row, if it has so many.
+#[inline(always)]
 fn item<H: Copy, T: Copy>(items: &[T], row: RowAt<H>, idle: T, place: usize) -> Option<T>
     requires { (start : ℕ) → row.start ≡ Some start → start + row.count ≤ length items.now }
     ensures { result ≡ slice_get (items_at items.now idle row.start row.count) place }
@@ -81,6 +82,7 @@ impl<H: Copy, T: Copy, A: Allocator> LateRows<H, T, A> {
     }
 
     /// What stands beside a row, if there is such a one.
+    #[inline(always)]
     pub fn head(&self, row: usize) -> Option<H>
         ensures { result ≡ option_map (λ r. r.head) (slice_get (rows_in self.now) row) }
     {
@@ -91,6 +93,7 @@ impl<H: Copy, T: Copy, A: Allocator> LateRows<H, T, A> {
     }
 
     /// Another head stands beside a row.
+    #[inline(always)]
     pub fn set_head(&mut self, row: usize, head: H)
         requires kept { AreRowsKept self.old }
         requires row { row < length (rows_in self.old) }
@@ -102,6 +105,7 @@ impl<H: Copy, T: Copy, A: Allocator> LateRows<H, T, A> {
     }
 
     /// An item, if there is such a one.
+    #[inline(always)]
     pub fn get(&self, row: usize, place: usize) -> Option<T>
         requires { AreRowsKept self.now }
         ensures { result ≡ item_at (rows_in self.now) row place }
@@ -136,6 +140,7 @@ impl<H: Copy, T: Copy, A: Allocator> LateRows<H, T, A> {
     }
 
     /// Where the items of a row begin and end. They are written, if they were not.
+    #[inline(always)]
     pub fn written(&mut self, row: usize) -> (usize, usize)
         requires kept { AreRowsKept self.old }
         requires row { row < length (rows_in self.old) }
@@ -152,6 +157,7 @@ impl<H: Copy, T: Copy, A: Allocator> LateRows<H, T, A> {
     }
 
     /// An item changes.
+    #[inline(always)]
     pub fn set(&mut self, row: usize, place: usize, item: T)
         requires kept { AreRowsKept self.old }
         requires there { (r : Row H T) × (slice_get (rows_in self.old) row ≡ Some r) × (place < length r.items) }
