@@ -3,3 +3,4 @@ pub mod Sets
 pub mod Order
 pub mod Arranged
 pub mod Bits
+pub mod ByCode

@@ -44,7 +44,7 @@ at_or_after {R} o x y h = ap is_le (o.antisymm x y) ∙ by (R y x) h
     by Greater h = refl
 
 -- at most in the first part, and where that ties in the rest
-first_part : (a b : ℕ) (o : Ordering) → is_le (ordering_then (nat_cmp a b) o) ≡ true → (a ≤ b) × (a ≡ b → is_le o ≡ true)
+pub first_part : (a b : ℕ) (o : Ordering) → is_le (ordering_then (nat_cmp a b) o) ≡ true → (a ≤ b) × (a ≡ b → is_le o ≡ true)
 first_part a b o h =
     elim (nat_lt a b) as (λ t. nat_lt a b ≡ t → is_le (ordering_then (cond t Less (cond (a == b) Equal Greater)) o) ≡ true → (a ≤ b) × (a ≡ b → is_le o ≡ true)) [
       | true ↦ λ e k. let l : a < b = grind (arith, nat_tests) in (omega arith, λ s. absurd (omega (arith, s)))
@@ -94,7 +94,7 @@ module _ (ranges : List LineRange) (ordered : IsInOrder ranges) (code : ℕ) (nu
   matches r = (r.code == code) && in_range number r
 
   -- a later range starts no earlier
-  rises : (i j : ℕ) (d : LineRange) → i ≤ j → j < length ranges → is_le (place_cmp (start_of (get_or ranges i d)) (start_of (get_or ranges j d))) ≡ true
+  pub rises : (i j : ℕ) (d : LineRange) → i ≤ j → j < length ranges → is_le (place_cmp (start_of (get_or ranges i d)) (start_of (get_or ranges j d))) ≡ true
   rises i j d l h = at_or_after places_total (start_of (get_or ranges i d)) (start_of (get_or ranges j d)) (sorted_far (λ r q. is_lt (place_cmp (start_of r) (start_of q))) (ranks_by places_total start_of) ranges ordered.sorted i j d l h)
 
   pub partitioned : IsPartitionedBy starts_by ranges

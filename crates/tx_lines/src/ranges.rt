@@ -1,9 +1,9 @@
 // The ranges of a plan, in order.
-ghost use Rattle.std.specs.Prelude.{◌≡◌, ◌&&◌, ◌==◌, IfOk, IsPermutation, length};
-ghost use Rattle.std.specs.List.{list_any};
+ghost use Rattle.std.specs.Prelude.{◌≡◌, ◌≤◌, ◌<◌, ◌&&◌, ◌==◌, IfOk, IsPermutation, length, ◌^◌};
+ghost use Rattle.std.specs.List.{list_any, AllWithin};
 ghost use Rattle.std.specs.Ordering.{is_le};
 ghost use Rattle.tx_plan.specs.Lines.{at_most, in_range};
-ghost use Rattle.tx_lines.specs.inner.Ordered.{place_cmp, start_of};
+ghost use Rattle.tx_lines.specs.inner.Ordered.{place_cmp, start_of, IsInOrder, AreFirsts};
 
 use std::alloc::{Allocator, Global};
 use std::cmp::Ordering;
@@ -11,25 +11,26 @@ use std::marker::Model;
 use tx_plan::{CodeId, LineRange, Plan};
 use tx_text::NoMemory;
 
-/// Ranges in order of code, width and low end, no two of which share a number.
+/// Ranges in order of code, width and low end, no two of which share a number; and for each code where its own begin.
 #[derive(Drop)]
 pub struct Ranges<A: Allocator = Global> {
     ranges: Vec<LineRange, A>,
+    firsts: Vec<usize, A>,
 }
 
 impl<A: Allocator> Model for Ranges<A> {
     ghost use Rattle.std.specs.Prelude.{List};
     ghost use Rattle.tx_entries.specs.declared.range.LineRange.{LineRange};
-    ghost use Rattle.tx_lines.specs.inner.Ordered.{IsInOrder};
+    ghost use Rattle.tx_lines.specs.inner.Ordered.{IsInOrder, AreFirsts};
 
     ghost Value = { List LineRange };
 
     ghost view = { λ t. t.ranges.items };
 
-    ghost invariant = { λ t. IsInOrder t.ranges.items };
+    ghost invariant = { λ t. IsInOrder t.ranges.items × AreFirsts t.ranges.items t.firsts.items };
 }
 
-impl<A: Allocator> Ranges<A> {
+impl<A: Allocator + Copy> Ranges<A> {
     /// The ranges of a plan.
     pub fn build(alloc: A, plan: &Plan<A>) -> Result<Self, NoMemory>
         ensures { IfOk result (λ r. IsPermutation plan.now.ranges r) }
@@ -40,23 +41,59 @@ impl<A: Allocator> Ranges<A> {
             ranges.push_reserved(plan.range_at(place).unwrap());
         }
         ranges.sort_unstable_by(|a, b| compare_starts(a, b));
-        Ok(Ranges { ranges })
+        let firsts = firsts_of(alloc, &ranges, plan.codes())?;
+        Ok(Ranges { ranges, firsts })
     }
+}
 
+impl<A: Allocator> Ranges<A> {
     /// Whether a number lies in a range of the code.
     #[inline(always)]
     pub fn has(&self, code: CodeId, number: &[u8]) -> bool
         ensures { result ≡ list_any (λ r. (r.code == code) && in_range number.now r) self.now }
     {
-        let after = self
-            .ranges
-            .partition_point(|range| starts_by(range, code, number));
+        let (first, end) = self.places(code);
+        let own = &self.ranges[first..end];
+        let after = first + own.partition_point(|range| starts_by(range, code, number));
         if after == 0 {
             return false;
         }
         let range = &self.ranges[after - 1];
         reaches(range, code, number)
     }
+
+    /// From which place and up to which the ranges of the code stand; all places for a code that the plan has not.
+    #[inline(always)]
+    fn places(&self, code: CodeId) -> (usize, usize)
+        ensures order { result.0 ≤ result.1 }
+        ensures within { result.1 ≤ length self.now }
+        ensures before { AllWithin (λ r. r.code < code) self.now 0 result.0 }
+        ensures behind { AllWithin (λ r. code < r.code) self.now result.1 (length self.now) }
+    {
+        let place = code.index();
+        if place + 1 < self.firsts.len() {
+            (self.firsts[place], self.firsts[place + 1])
+        } else {
+            (0, self.ranges.len())
+        }
+    }
+}
+
+/// For each of so many codes, and for the next number, how many ranges are of codes before it.
+fn firsts_of<A: Allocator>(
+    alloc: A,
+    ranges: &[LineRange],
+    codes: usize,
+) -> Result<Vec<usize, A>, NoMemory>
+    requires order { IsInOrder ranges.now }
+    requires few { codes < 2 ^ 16 }
+    ensures { IfOk result (λ firsts. AreFirsts ranges.now firsts.items) }
+{
+    let mut firsts = Vec::with_capacity(alloc, codes + 1)?;
+    for code in 0..codes + 1 {
+        firsts.push_reserved(ranges.partition_point(|range| range.code.index() < code));
+    }
+    Ok(firsts)
 }
 
 #[inline(always)]

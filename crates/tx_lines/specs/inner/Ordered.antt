@@ -1,9 +1,9 @@
 -- Ranges in order of code, width and low end.
-use Rattle.std.specs.Prelude.{◌≡◌, ℕ, true, List, Some, length, slice_get}
+use Rattle.std.specs.Prelude.{◌≡◌, ℕ, ◌<◌, ◌≤◌, true, List, Some, length, slice_get, get_or}
 use Rattle.std.specs.Ordering.{ordering_then, is_lt, nat_cmp}
 use Rattle.std.specs.declared.cmp.Ordering.{Ordering}
 use Rattle.std.specs.Cmp.Lexicographic.{slice_cmp}
-use Rattle.std.specs.List.Sorted.{IsSortedBy}
+use Rattle.std.specs.List.Sorted.{IsSortedBy, IsPartitionPoint}
 use Rattle.tx_plan.specs.Lines.{at_most}
 use Rattle.tx_entries.specs.declared.range.LineRange.{LineRange}
 
@@ -23,3 +23,12 @@ pub record IsInOrder (ranges : List LineRange) : Type 0 where
   pub sorted : IsSortedBy (λ r q. is_lt (place_cmp (start_of r) (start_of q))) ranges
   pub upward : (i : ℕ) (r : LineRange) → slice_get ranges i ≡ Some r → at_most r.low r.high ≡ true
   pub apart : (i j : ℕ) (r q : LineRange) → slice_get ranges i ≡ Some r → slice_get ranges j ≡ Some q → r.code ≡ q.code → length r.low ≡ length q.low → at_most q.low r.high ≡ true → at_most r.low q.high ≡ true → i ≡ j
+
+-- so many of the first ranges are of codes before this one, and no other is
+pub record IsFirst (ranges : List LineRange) (code first : ℕ) : Type 0 where
+  pub within : first ≤ length ranges
+  pub point : IsPartitionPoint (λ r. r.code < code) (λ r. code ≤ r.code) ranges first
+
+-- for each code how many ranges are of codes before it
+abbrev pub AreFirsts : List LineRange → List ℕ → Type 0
+AreFirsts ranges firsts = (code : ℕ) → code < length firsts → IsFirst ranges code (get_or firsts code 0)

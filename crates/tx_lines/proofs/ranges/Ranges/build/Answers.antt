@@ -4,7 +4,7 @@ use Rattle.std.proofs.lemmas.List.Sorted.{ranks_by}
 use Rattle.std.proofs.lemmas.Option.{get_or_from_slice_get}
 use Rattle.std.specs.Prelude.{IsPermutation}
 use Rattle.tx_entries.specs.declared.range.LineRange.{LineRange}
-use Rattle.tx_lines.specs.inner.Ordered.{place_cmp, start_of}
+use Rattle.tx_lines.specs.inner.Ordered.{place_cmp, start_of, IsInOrder, AreFirsts}
 use Rattle.tx_lines.proofs.Order.{places_total}
 use Rattle.tx_lines.proofs.Arranged.{arranged, sorted_from_clause}
 use Rattle.tx_lines.proofs.ranges.Ranges.build.Goals as goal
@@ -26,6 +26,17 @@ invariant_of-result g c =
     let ranges = c.args.plan.now.ranges in
     let past : length ranges ≤ c.loop-place.place = (let e = c.ranges-place-end.ensures in omega arith) in
     let all : c.loop-place.ranges.items ≡ ranges = c.loop-place.invariant.items ∙ take_all c.loop-place.place ranges past in
+    let P : List LineRange → Type 0 = λ l. IsPermutation l c.sort_unstable_by.new.self.items in (
+      arranged c.args.plan.now c.rules.ensures c.sort_unstable_by.new.self.items (subst P all c.sort_unstable_by.ensures.permutation)
+          (sorted_from_clause (λ r q. place_cmp (start_of r) (start_of q)) c.sort_unstable_by.new.self.items (ranks_by places_total start_of) c.sort_unstable_by.ensures.sorted (λ a r q k. search rules)),
+      subst (λ l. AreFirsts l c.in_ok-firsts.firsts.items) c.deref.ensures.value c.in_ok-firsts.ensures,
+    )
+
+pub firsts_of-requires-clause-order : goal.firsts_of-requires-clause-order
+firsts_of-requires-clause-order g c =
+    let ranges = c.args.plan.now.ranges in
+    let past : length ranges ≤ c.loop-place.place = (let e = c.ranges-place-end.ensures in omega arith) in
+    let all : c.loop-place.ranges.items ≡ ranges = c.loop-place.invariant.items ∙ take_all c.loop-place.place ranges past in
     let P : List LineRange → Type 0 = λ l. IsPermutation l c.sort_unstable_by.new.self.items in
-    arranged c.args.plan.now c.rules.ensures c.sort_unstable_by.new.self.items (subst P all c.sort_unstable_by.ensures.permutation)
-    (sorted_from_clause (λ r q. place_cmp (start_of r) (start_of q)) c.sort_unstable_by.new.self.items (ranks_by places_total start_of) c.sort_unstable_by.ensures.sorted (λ a r q k. search rules))
+    subst IsInOrder (sym c.deref.ensures.value) (arranged c.args.plan.now c.rules.ensures c.sort_unstable_by.new.self.items (subst P all c.sort_unstable_by.ensures.permutation)
+    (sorted_from_clause (λ r q. place_cmp (start_of r) (start_of q)) c.sort_unstable_by.new.self.items (ranks_by places_total start_of) c.sort_unstable_by.ensures.sorted (λ a r q k. search rules)))

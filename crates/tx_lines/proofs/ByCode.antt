@@ -1,0 +1,119 @@
+-- The ranges of one code stand together.
+use Rattle.std.proofs.Common.{◌≡◌, ℕ, refl, ◌++◌, ◌+◌, ◌-◌, ◌<◌, ◌≤◌, ◌==◌, Bool, true, false, List, [], ◌∷◌, length, get_or, take, drop, cond, nat_lt, ap, sym, ◌∙◌, subst, length-append, arith}
+use Rattle.std.proofs.lemmas.Bool.{false≢true}
+use Rattle.std.proofs.lemmas.Bool.Decides.{nat_tests}
+use Rattle.std.proofs.lemmas.List.{get_or-drop, get_or-take, length-drop, length-take}
+use Rattle.std.proofs.lemmas.Grind.{common_steps}
+use Rattle.std.specs.List.{AllWithin}
+use Rattle.std.specs.List.Sorted.{IsPartitionedBy, IsPartitionPoint}
+use Rattle.std.specs.Ordering.{ordering_then, is_le, nat_cmp}
+use Rattle.std.specs.declared.cmp.Ordering.{Ordering}
+use Rattle.std.specs.declared.cmp.Ordering.TheVariants.{Less, Equal, Greater}
+use Rattle.tx_entries.specs.declared.range.LineRange.{LineRange}
+use Rattle.tx_lines.specs.inner.Ordered.{place_cmp, start_of, IsInOrder, IsFirst, AreFirsts}
+use Rattle.tx_lines.proofs.Order.{partitioned, rises, first_part}
+
+-- an order by the first part alone
+below_first : (a b : ℕ) (o : Ordering) → a < b → is_le (ordering_then (nat_cmp a b) o) ≡ true
+below_first a b o l = ap (λ t. is_le (ordering_then (cond t Less (cond (a == b) Equal Greater)) o)) (let q : nat_lt a b ≡ true = grind (arith, nat_tests) in q)
+
+above_first : (a b : ℕ) (o : Ordering) → b < a → is_le (ordering_then (nat_cmp a b) o) ≡ false
+above_first a b o l =
+    ap (λ t. is_le (ordering_then (cond t Less (cond (a == b) Equal Greater)) o)) (let q : nat_lt a b ≡ false = grind (arith, nat_tests) in q)
+    ∙ ap (λ t. is_le (ordering_then (cond t Equal Greater) o)) (let q : (a == b) ≡ false = grind (arith, nat_tests) in q)
+
+-- the codes of ranges in order rise
+pub codes_rise : (ranges : List LineRange) → IsInOrder ranges → (code : ℕ) → IsPartitionedBy (λ (r : LineRange). nat_lt r.code code) ranges
+codes_rise ranges ordered code i j d l h p =
+    let x = get_or ranges i d in
+    let y = get_or ranges j d in
+    let up = first_part x.code y.code _ (rises ranges ordered code [] i j d l h) in
+    let k = up.0 in
+    let m : y.code < code = grind (arith, nat_tests) in
+    (let q : nat_lt x.code code ≡ true = grind (arith, nat_tests) in q)
+
+-- how many ranges are of codes before one rises with it
+pub firsts_rise : (ranges : List LineRange) (code first end : ℕ) → IsFirst ranges code first → IsFirst ranges (code + 1) end → first ≤ end
+firsts_rise ranges code first end f e =
+    elim (nat_lt end first) as (λ b. nat_lt end first ≡ b → first ≤ end) [
+      | false ↦ λ q. grind (arith, nat_tests)
+      | true ↦ λ q.
+          let d : LineRange = record { code = 0; low = []; high = [] } in
+          let l : end < first = grind (arith, nat_tests) in
+          let w = f.within in
+          let a : (get_or ranges end d).code < code = f.point.0 end d (omega arith) l in
+          let b : code + 1 ≤ (get_or ranges end d).code = e.point.1 end d (omega arith) (omega arith) in
+          absurd (omega arith)
+    ] refl
+
+module _ (ranges : List LineRange) (code : ℕ) (number : List ℕ) (first end : ℕ) where
+  abbrev own : List LineRange
+  own = take (end - first) (drop first ranges)
+
+  abbrev starts : LineRange → Bool
+  starts r = is_le (place_cmp (start_of r) (code, number))
+
+  -- of the ranges of a code, one by its place among all
+  own_at : (i : ℕ) (d : LineRange) → i < end - first → get_or own i d ≡ get_or ranges (first + i) d
+  own_at i d l = get_or-take (end - first) (drop first ranges) i d l ∙ get_or-drop first ranges i d
+
+  -- those of the code that start by the number stand before those that do not
+  pub own_partitioned : IsInOrder ranges → end ≤ length ranges → IsPartitionedBy starts own
+  own_partitioned ordered within i j d l h p =
+      let n : length own ≡ end - first = simp (length-take, length-drop) (omega arith) in
+      let a = own_at i d (omega arith) in
+      let b = own_at j d (omega arith) in
+      ap starts a ∙ partitioned ranges ordered code number (first + i) (first + j) d (omega arith) (omega arith) (ap starts (sym b) ∙ p)
+
+  module _ (k : ℕ) (order : first ≤ end) (within : end ≤ length ranges) (before : AllWithin (λ r. r.code < code) ranges 0 first) (behind : AllWithin (λ r. code < r.code) ranges end (length ranges)) where
+    -- and so do those among all, where each code before stands before and each behind it behind
+    pub point_of_all : IsPartitionPoint (λ y. starts y ≡ true) (λ y. starts y ≡ false) own k → k ≤ end - first
+        → IsPartitionPoint (λ y. starts y ≡ true) (λ y. starts y ≡ false) ranges (first + k)
+    point_of_all point few = (yes, no)
+      where
+        n : length own ≡ end - first
+        n = simp (length-take, length-drop) (omega arith)
+
+        yes : AllWithin (λ y. starts y ≡ true) ranges 0 (first + k)
+        yes j d l h = elim (nat_lt j first) as (λ b. nat_lt j first ≡ b → starts (get_or ranges j d) ≡ true) [
+          | true ↦ λ e. below_first _ code _ (before j d l (grind (arith, nat_tests)))
+          | false ↦ λ e.
+              let m : first ≤ j = grind (arith, nat_tests) in
+              let q : first + (j - first) ≡ j = omega arith in
+              let a = own_at (j - first) d (omega arith) ∙ ap (λ i. get_or ranges i d) q in
+              ap starts (sym a) ∙ point.0 (j - first) d (omega arith) (omega arith)
+        ] refl
+
+        no : AllWithin (λ y. starts y ≡ false) ranges (first + k) (length ranges)
+        no j d l h = elim (nat_lt j end) as (λ b. nat_lt j end ≡ b → starts (get_or ranges j d) ≡ false) [
+          | true ↦ λ e.
+              let m : j < end = grind (arith, nat_tests) in
+              let w : length own ≡ end - first = n in
+              let q : first + (j - first) ≡ j = omega arith in
+              let a = own_at (j - first) d (omega arith) ∙ ap (λ i. get_or ranges i d) q in
+              ap starts (sym a) ∙ point.1 (j - first) d (omega arith) (omega arith)
+          | false ↦ λ e. above_first _ code _ (behind j d (grind (arith, nat_tests)) h)
+        ] refl
+
+-- from the tests of a search
+pub first_from : (ranges : List LineRange) (code first : ℕ) → first ≤ length ranges → IsPartitionPoint (λ y. nat_lt y.code code ≡ true) (λ y. nat_lt y.code code ≡ false) ranges first → IsFirst ranges code first
+first_from ranges code first within point = record {
+  within = within;
+  point = (λ j d l h. (let p = point.0 j d l h in grind (arith, nat_tests)), λ j d l h. (let p = point.1 j d l h in grind (arith, nat_tests)));
+}
+
+-- one code more
+pub firsts_more : (ranges : List LineRange) (firsts : List ℕ) (first : ℕ) → AreFirsts ranges firsts → IsFirst ranges (length firsts) first → AreFirsts ranges (firsts ++ first ∷ [])
+firsts_more ranges firsts first all one code h =
+    let n = length-append firsts (first ∷ []) in
+    elim (nat_lt code (length firsts)) as (λ b. nat_lt code (length firsts) ≡ b → IsFirst ranges code (get_or (firsts ++ first ∷ []) code 0)) [
+      | true ↦ λ e.
+          let l : code < length firsts = grind (arith, nat_tests) in
+          let g : get_or (firsts ++ first ∷ []) code 0 ≡ get_or firsts code 0 = grind (arith, common_steps) in
+          subst (λ x. IsFirst ranges code x) (sym g) (all code l)
+      | false ↦ λ e.
+          let l : length firsts ≤ code = grind (arith, nat_tests) in
+          let m : length firsts ≡ code = omega arith in
+          let g : get_or (firsts ++ first ∷ []) (length firsts) 0 ≡ first = grind (arith, common_steps) in
+          subst (λ c. IsFirst ranges c (get_or (firsts ++ first ∷ []) c 0)) m (subst (λ x. IsFirst ranges (length firsts) x) (sym g) one)
+    ] refl
