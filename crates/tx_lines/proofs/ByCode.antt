@@ -1,6 +1,5 @@
 -- The ranges of one code stand together.
 use Rattle.std.proofs.Common.{◌≡◌, ℕ, refl, ◌++◌, ◌+◌, ◌-◌, ◌<◌, ◌≤◌, ◌==◌, Bool, true, false, List, [], ◌∷◌, length, get_or, take, drop, cond, nat_lt, ap, sym, ◌∙◌, subst, length-append, arith}
-use Rattle.std.proofs.lemmas.Bool.{false≢true}
 use Rattle.std.proofs.lemmas.Bool.Decides.{nat_tests}
 use Rattle.std.proofs.lemmas.List.{get_or-drop, get_or-take, length-drop, length-take}
 use Rattle.std.proofs.lemmas.Grind.{common_steps}
