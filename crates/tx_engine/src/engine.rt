@@ -74,7 +74,7 @@ impl<'p, A: Allocator + Copy> Engine<'p, A> {
         }
     }
 
-    /// One event that no refusal meets. A match names each event, so the four that `apply` answers itself stand here too.
+    /// One event that no refusal meets. A match names each event, so the five that `apply` answers itself stand here too.
     fn accept(&mut self, event: &Event) -> Result<Reply, NoMemory>
         requires open { refusal self.old.plan self.old.state event.now ≡ None }
         ensures plan { self.new.plan ≡ self.old.plan }
@@ -109,12 +109,14 @@ impl<'p, A: Allocator + Copy> Network for Engine<'p, A> {
 
     ghost state = { λ n. n.state };
 
+    #[inline(always)]
     fn apply(&mut self, event: Event) -> Result<Reply, NoMemory> {
         match event {
             Event::Key { line, keyed } => self.parts.key(line, keyed),
             Event::Route(number) => self.parts.route(number),
             Event::Confirm(number) => Ok(self.parts.confirm(number)),
             Event::Clear { call, party } => Ok(self.parts.clear(call, party)),
+            Event::Released(circuit) => Ok(self.released(&circuit)),
             other => self.apply_other(&other),
         }
     }

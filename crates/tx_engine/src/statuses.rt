@@ -1,13 +1,14 @@
 // Events that change the status of one line, circuit or group.
 ghost use Rattle.std.specs.Prelude.{◌≡◌, IfOk, OnErr, None};
-ghost use Rattle.tx_state.specs.Step.{accepted, counted};
+ghost use Rattle.tx_state.specs.Step.{step, accepted, counted};
 ghost use Rattle.tx_state.specs.Refusals.{refusal};
 ghost use Rattle.tx_state.specs.declared.event.Event.TheVariants.{LineFault, LineAway, LineMend, LineBack, Released, CircuitOut, CircuitIn, Block, Unblock, Restore};
 
 use crate::engine::Engine;
 use std::alloc::Allocator;
+use tx_network::Facts;
 use tx_plan::{Circuit, GroupId, Line};
-use tx_state::Reply;
+use tx_state::{Refusal, Reply};
 use tx_text::NoMemory;
 
 impl<'p, A: Allocator + Copy> Engine<'p, A> {
@@ -20,6 +21,32 @@ impl<'p, A: Allocator + Copy> Engine<'p, A> {
         self.parts.circuits.released(circuit);
         self.parts.events += 1;
         Reply::Done
+    }
+
+    /// A circuit is released, unless that is refused. Its state is read once.
+    pub(crate) fn released(&mut self, circuit: &Circuit) -> Reply
+        ensures step { step self.old.plan self.old.state (Released circuit.now) ≡ (result, self.new.state) }
+        ensures plan { self.new.plan ≡ self.old.plan }
+    {
+        match self.released_refusal(circuit) {
+            Some(refusal) => Reply::Refused(refusal),
+            None => self.release(circuit),
+        }
+    }
+
+    /// Why a circuit may not be released, if so.
+    fn released_refusal(&self, circuit: &Circuit) -> Option<Refusal>
+        ensures { result ≡ refusal self.now.plan self.now.state (Released circuit.now) }
+    {
+        if !self.has_circuit(circuit) {
+            Some(Refusal::UnknownCircuit)
+        } else if !self.is_releasing(circuit) {
+            Some(Refusal::NotReleasing)
+        } else if self.parts.events == u64::MAX {
+            Some(Refusal::Exhausted)
+        } else {
+            None
+        }
     }
 
     /// A group is restored.
