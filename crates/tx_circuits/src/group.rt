@@ -23,7 +23,6 @@ pub fn set_state(slots: &mut [Slot], lists: FreeLists, place: usize, to: State) 
 }
 
 // Puts a circuit behind all others on the list of an end, if it is free there, and gives the list.
-#[inline(always)]
 fn append(slots: &mut [Slot], list: FreeList, end: End, place: usize) -> FreeList
     requires short { length slots.old ≤ 240 }
     requires place { place < length slots.old }

@@ -16,6 +16,7 @@ use tx_state::{Hop, Reply};
 
 impl<'p, A: Allocator + Copy> Parts<'p, A> {
     /// A call is confirmed.
+    #[inline(always)]
     pub(crate) fn confirm(&mut self, number: u32) -> Reply
         requires { IsSound self.old }
         ensures sound { IsSound self.new }

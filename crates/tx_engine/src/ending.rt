@@ -18,6 +18,7 @@ use tx_state::{Cause, Hop, Party, Path, Phase, Reply, Ticket};
 
 impl<'p, A: Allocator + Copy> Parts<'p, A> {
     /// A call is cleared.
+    #[inline(always)]
     pub(crate) fn clear(&mut self, number: u32, party: Party) -> Reply
         requires { IsSound self.old }
         ensures sound { IsSound self.new }

@@ -15,6 +15,7 @@ use tx_text::{Figures, NoMemory};
 
 impl<'p, A: Allocator + Copy> Parts<'p, A> {
     /// A line calls.
+    #[inline(always)]
     pub(crate) fn key(&mut self, line: Line, keyed: Figures) -> Result<Reply, NoMemory>
         requires { IsSound self.old }
         ensures sound { IsSound self.new }

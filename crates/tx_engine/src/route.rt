@@ -17,6 +17,7 @@ use tx_text::NoMemory;
 
 impl<'p, A: Allocator + Copy> Parts<'p, A> {
     /// A call is routed from where it stands.
+    #[inline(always)]
     pub(crate) fn route(&mut self, number: u32) -> Result<Reply, NoMemory>
         requires { IsSound self.old }
         ensures sound { IsSound self.new }
