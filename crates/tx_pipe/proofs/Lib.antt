@@ -1,4 +1,5 @@
 mod Parting
+mod Passing
 mod Giving
 pub mod Kept
 pub mod InputCount

@@ -1,5 +1,5 @@
 // The words of a line, and what a word spells.
-ghost use Rattle.std.specs.Prelude.{◌≡◌, ◌≤◌, ◌∷◌, [], not, map, length, MatchOption};
+ghost use Rattle.std.specs.Prelude.{◌≡◌, ◌≤◌, ◌∷◌, [], not, true, map, length, MatchOption};
 ghost use Rattle.std.specs.List.{prefix_len};
 ghost use Rattle.std.specs.Iterator.{YieldsFirstBy, item_count};
 ghost use Rattle.std.specs.Simd.Lanes.{mask_l};
@@ -15,12 +15,26 @@ pub(crate) fn is_blank(byte: u8) -> bool
     byte == b' ' || byte == b'\t'
 }
 
-/// How many blanks stand at the front.
+/// Whether one space stands at the front, and no blank behind it.
+#[inline(always)]
+fn begins_one_space(text: &[u8]) -> bool
+    ensures { result ≡ true → (1 ≤ length text.now) × (prefix_len is_blank text.now ≡ 1) }
+{
+    match text {
+        [first, second, ..] => *first == b' ' && *second > b' ',
+        _ => false,
+    }
+}
+
+/// How many blanks stand at the front: one before most words.
 #[inline(always)]
 fn count_blanks(text: &[u8]) -> usize
     ensures within { result ≤ length text.now }
     ensures count { result ≡ prefix_len is_blank text.now }
 {
+    if begins_one_space(text) {
+        return 1;
+    }
     for (i, byte) in text.iter().enumerate() {
         if !is_blank(*byte) {
             return i;
