@@ -57,3 +57,13 @@ pub fn next_number(words: &mut Words<'_>, most: u32) -> u32 {
         None => 0,
     }
 }
+
+/// What a table has for a word, if the word stands there.
+pub fn named<T: Copy>(table: &[(&'static str, T)], word: &[u8]) -> Option<T> {
+    for (name, it) in table {
+        if word == name.as_bytes() {
+            return Some(*it);
+        }
+    }
+    None
+}

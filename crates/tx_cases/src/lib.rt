@@ -6,7 +6,7 @@ mod judge;
 mod spelled;
 mod told;
 
-pub use case::{Case, next_case, next_line, next_number, two_texts};
+pub use case::{Case, named, next_case, next_line, next_number, two_texts};
 pub use judge::Judge;
 pub use spelled::spell;
 pub use told::{Stop, write_broken, write_count};

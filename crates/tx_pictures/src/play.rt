@@ -18,7 +18,11 @@ const ROOM: usize = 20_000;
 pub(crate) fn play<W: Sink>(alloc: Global, case: Case<'_>, out: &mut W) -> Result<(), Stop> {
     write_parts(&[b"=== ", case.head, b"\n"], out)?;
     match read_plan(alloc, case.texts) {
-        Ok(plan) => play_plan(alloc, &plan, case.head, out),
+        Ok(plan) => {
+            let played = play_plan(alloc, &plan, case.head, out);
+            drop(plan);
+            played
+        }
         Err(_) => Ok(write_bytes(b"no plan\n", out)?),
     }
 }

@@ -1,31 +1,46 @@
 // What a line book answers.
 use std::alloc::Allocator;
-use tx_cases::{Stop, next_line, next_number};
+use tx_cases::{Stop, named, next_line, next_number};
 use tx_lines::{LineAnswer, LineBook};
 use tx_plan::{CodeId, Line};
 use tx_text::{NoMemory, Sink, WriteFault, words, write_bytes, write_parts};
+
+/// What happens to a line.
+#[derive(Clone, Copy)]
+enum Happens {
+    Fault,
+    Repair,
+    Away,
+    Back,
+    Engage,
+    Free,
+}
+
+static HAPPENS: [(&str, Happens); 6] = [
+    ("fault", Happens::Fault),
+    ("repair", Happens::Repair),
+    ("away", Happens::Away),
+    ("back", Happens::Back),
+    ("engage", Happens::Engage),
+    ("free", Happens::Free),
+];
 
 /// Lets a thing happen to a line. Only a new mark takes room.
 fn happen<A: Allocator>(
     book: &mut LineBook<A>,
     line: &Line,
-    happens: &[u8],
+    happens: Happens,
 ) -> Result<(), NoMemory> {
-    if happens == b"fault".as_slice() {
+    if let Happens::Fault | Happens::Away | Happens::Engage = happens {
         book.reserve_one()?;
-        book.set_fault(line, true);
-    } else if happens == b"repair".as_slice() {
-        book.set_fault(line, false);
-    } else if happens == b"away".as_slice() {
-        book.reserve_one()?;
-        book.set_away(line, true);
-    } else if happens == b"back".as_slice() {
-        book.set_away(line, false);
-    } else if happens == b"engage".as_slice() {
-        book.reserve_one()?;
-        book.engage(line);
-    } else if happens == b"free".as_slice() {
-        book.free(line);
+    }
+    match happens {
+        Happens::Fault => book.set_fault(line, true),
+        Happens::Repair => book.set_fault(line, false),
+        Happens::Away => book.set_away(line, true),
+        Happens::Back => book.set_away(line, false),
+        Happens::Engage => book.engage(line),
+        Happens::Free => book.free(line),
     }
     Ok(())
 }
@@ -72,7 +87,9 @@ fn tell_line<A: Allocator, W: Sink>(
     happens: &[u8],
     out: &mut W,
 ) -> Result<(), Stop> {
-    happen(book, line, happens)?;
+    if let Some(happens) = named(&HAPPENS, happens) {
+        happen(book, line, happens)?;
+    }
     write_bytes(b": found", out)?;
     Ok(tell_marks(book, line, out)?)
 }

@@ -2,10 +2,10 @@
 pub(crate) mod calls;
 mod model;
 
-use calls::{ALFA, BETA, apply, call_of, named, next};
+use calls::{ALFA, BETA, Call, WHATS, apply, call_of, next};
 use model::Model;
 use std::alloc::Allocator;
-use tx_cases::{Stop, next_line, next_number, write_broken, write_count};
+use tx_cases::{Stop, named, next_line, next_number, write_broken, write_count};
 use tx_circuits::CircuitTable;
 use tx_plan::Plan;
 use tx_text::{NoMemory, Sink, WriteFault, words, write_bytes};
@@ -22,14 +22,21 @@ fn end_of(word: Option<&[u8]>) -> u16 {
 /// Makes the call that a line says, where it may be made, and tells whether.
 fn apply_line<A: Allocator>(table: &mut CircuitTable<A>, line: &[u8]) -> bool {
     let mut rest = words(line);
-    let name = rest.next().unwrap_or(b"".as_slice());
+    let Some(what) = named(&WHATS, rest.next().unwrap_or(b"".as_slice())) else {
+        return false;
+    };
     let number = next_number(&mut rest, 240);
     let end = end_of(rest.next());
     let far = end_of(rest.next());
-    match named(name, number, end, far) {
-        Some(call) => apply(table, &call),
-        None => false,
-    }
+    apply(
+        table,
+        Call {
+            what,
+            number,
+            end,
+            far,
+        },
+    )
 }
 
 /// Makes the call of each line, and tells which number ALFA and BETA take next then, or 0 for none.
@@ -61,8 +68,8 @@ fn agree_along<A: Allocator>(table: &mut CircuitTable<A>, sequence: u32) -> bool
     for _ in 0..3u8 {
         let call = call_of(rest % 43);
         rest /= 43;
-        let made = apply(table, &call);
-        if made != model.apply(&call) || made && !model.agrees(table) {
+        let made = apply(table, call);
+        if made != model.apply(call) || made && !model.agrees(table) {
             return false;
         }
         if !made {

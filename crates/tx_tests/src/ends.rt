@@ -31,7 +31,7 @@ pub(crate) fn tell_sources<W: Sink>(
     text: &[u8],
     piece: usize,
     out: &mut W,
-) -> Result<(), WriteFault> {
+) -> Result<(), Stop> {
     for fails_at in 1..=8u64 {
         let mut source = MemorySource::new(text, piece.max(1), Some(fails_at));
         tell_reads(&mut source, 8, 4, out)?;
@@ -40,8 +40,8 @@ pub(crate) fn tell_sources<W: Sink>(
 }
 
 /// Calls of a slice.
-pub(crate) fn tell_slice<W: Sink>(text: &[u8], out: &mut W) -> Result<(), WriteFault> {
-    tell_reads(&mut SliceSource::new(text), 3, 8, out)
+pub(crate) fn tell_slice<W: Sink>(text: &[u8], out: &mut W) -> Result<(), Stop> {
+    Ok(tell_reads(&mut SliceSource::new(text), 3, 8, out)?)
 }
 
 /// Calls before and behind the end of the plan of an input.
@@ -62,10 +62,10 @@ pub(crate) fn tell_two_texts<W: Sink>(
     fails: u64,
     room: usize,
     out: &mut W,
-) -> Result<(), WriteFault> {
+) -> Result<(), Stop> {
     let fails_at = if fails > 0 { Some(fails) } else { None };
     let source = MemorySource::new(text, piece.max(1), fails_at);
-    tell_both(&mut TwoTexts::new(source), room, out)
+    Ok(tell_both(&mut TwoTexts::new(source), room, out)?)
 }
 
 /// Tells what a sink took, and whether it took all that it was given.
@@ -150,8 +150,8 @@ fn tell_counted<R: Read + Drop, W: Sink>(
 }
 
 /// Calls of std's readers and writers that fail.
-pub(crate) fn tell_ends<W: Sink>(out: &mut W) -> Result<(), WriteFault> {
+pub(crate) fn tell_ends<W: Sink>(out: &mut W) -> Result<(), Stop> {
     tell_counted(&mut FromRead::new(Flaky { calls: 0 }), out)?;
     tell_writes(&mut ToWrite::new(Flaky { calls: 0 }), out)?;
-    tell_writes(&mut ToWrite::new(Full), out)
+    Ok(tell_writes(&mut ToWrite::new(Full), out)?)
 }

@@ -1,12 +1,12 @@
 // Framed texts from sources in pieces, and from slices.
-ghost use Rattle.std.specs.Prelude.{◌≡◌, None};
+ghost use Rattle.std.specs.Prelude.{◌≡◌, IsSome, None};
 
 use crate::lines::fault_name;
 use crate::spelling::tell_words;
 use std::alloc::Allocator;
 use tx_cases::{Judge, Stop, write_broken, write_count};
 use tx_text::{
-    FormFault, FrameFault, FrameReader, FrameStep, LineFault, MemorySink, MemorySource, Sink,
+    FormFault, FrameFault, FrameReader, FrameStep, FrameStop, LineFault, MemorySink, MemorySource, Sink,
     SliceSource, Source, WriteFault, write_bytes, write_parts,
 };
 
@@ -26,6 +26,32 @@ fn frame_name(fault: FrameFault) -> &'static [u8] {
     }
 }
 
+/// Tells a header, an end, or a fault.
+fn tell_step<W: Sink>(step: Result<FrameStep, FrameStop>, out: &mut W) -> Result<(), WriteFault> {
+    match step {
+        Ok(FrameStep::Header(version)) => {
+            write_count(b"header ", u64::from(version), b"\n", out)
+        }
+        Ok(FrameStep::Line) => Ok(()),
+        Ok(FrameStep::End) => write_bytes(b"end\n", out),
+        Err(stop) => {
+            write_count(b"line ", stop.line, b": ", out)?;
+            write_parts(&[frame_name(stop.fault), b"\n"], out)
+        }
+    }
+}
+
+/// Tells the line that stands.
+fn tell_line<A: Allocator, W: Sink>(
+    reader: &FrameReader<'_, A>,
+    out: &mut W,
+) -> Result<(), WriteFault>
+    requires { IsSome reader.now.reader.feed.line }
+{
+    write_count(b"line ", reader.number(), b", ", out)?;
+    tell_words(&reader.words(), out)
+}
+
 /// Tells the header, the lines and the end of a text, or the fault that stops it.
 fn tell_frame<A: Allocator, R: Source, W: Sink>(
     reader: &mut FrameReader<'_, A>,
@@ -35,19 +61,13 @@ fn tell_frame<A: Allocator, R: Source, W: Sink>(
     requires { reader.old.reader.feed.fault ≡ None }
 {
     for _ in 0..99u8 {
-        match reader.advance(source) {
-            Ok(FrameStep::Header(version)) => {
-                write_count(b"header ", u64::from(version), b"\n", out)?;
-            }
-            Ok(FrameStep::Line) => {
-                write_count(b"line ", reader.number(), b", ", out)?;
-                tell_words(&reader.words(), out)?;
-            }
-            Ok(FrameStep::End) => return write_bytes(b"end\n", out),
-            Err(stop) => {
-                write_count(b"line ", stop.line, b": ", out)?;
-                return write_parts(&[frame_name(stop.fault), b"\n"], out);
-            }
+        let step = reader.advance(source);
+        match step {
+            Ok(FrameStep::Line) => tell_line(reader, out)?,
+            _ => tell_step(step, out)?,
+        }
+        if let Ok(FrameStep::End) | Err(_) = step {
+            break;
         }
     }
     Ok(())

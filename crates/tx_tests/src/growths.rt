@@ -22,23 +22,13 @@ pub(crate) enum Made {
     Table,
 }
 
-impl Made {
-    pub(crate) fn of(name: &[u8]) -> Option<Made> {
-        if name == b"feeder".as_slice() {
-            Some(Made::Feeder)
-        } else if name == b"sink".as_slice() {
-            Some(Made::Sink)
-        } else if name == b"trie".as_slice() {
-            Some(Made::Trie)
-        } else if name == b"book".as_slice() {
-            Some(Made::Book)
-        } else if name == b"table".as_slice() {
-            Some(Made::Table)
-        } else {
-            None
-        }
-    }
-}
+pub(crate) static MADE: [(&str, Made); 5] = [
+    ("feeder", Made::Feeder),
+    ("sink", Made::Sink),
+    ("trie", Made::Trie),
+    ("book", Made::Book),
+    ("table", Made::Table),
+];
 
 /// What came of it.
 #[derive(Clone, Copy, PartialEq, Eq)]
@@ -173,10 +163,13 @@ fn make<A: Allocator + Copy>(alloc: A, made: Made, plan: &[u8]) -> Came {
 /// Refuses each request for memory in turn, until none is refused, and tells how many are not the plan's.
 pub(crate) fn play_growths<A: Allocator + Copy, W: Sink>(
     alloc: A,
-    made: Made,
+    made: Option<Made>,
     plan: &[u8],
     out: &mut W,
 ) -> Result<(), Stop> {
+    let Some(made) = made else {
+        return Ok(write_broken(b"no such type", 0, out)?);
+    };
     let mut wanting = 0u64;
     for request in 1..1000u64 {
         let refusing = Refusing::new(alloc, request);

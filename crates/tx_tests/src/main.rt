@@ -3,8 +3,7 @@
 //!
 //! A case begins with a line `=== NAME KIND` and has its text behind it, which may have the marks of `spell`. A plan stands before a line `---`.
 //!
-//! - `words`, `name`, `figures LEAST MOST` and `number MOST` tell what each line of the text is. `command` tells the command that the words of each line
-//!   ask for, or the exit status where they give none.
+//! - `words`, `name`, `figures LEAST MOST` and `number MOST` tell what each line of the text is.
 //! - `lines` tells the lines of the text. A short one is then fed in all three pieces into which it can be cut, which has to make no difference. `feed FIRST
 //!   SECOND` tells each call of the feeder, with cuts behind so many bytes, and the calls behind a fault.
 //! - `frame` tells the header, the lines and the end of a text of plans, as a slice, and then from sources of 1, 2, 7 and 4,096 bytes a call, which has to make
@@ -21,7 +20,6 @@
 
 mod book;
 mod circuits;
-mod commands;
 mod ends;
 mod flaky;
 mod frames;

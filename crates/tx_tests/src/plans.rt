@@ -11,6 +11,16 @@ use tx_plantext::read_plan;
 use tx_text::{NoMemory, Sink};
 use tx_trie::CodeTrie;
 
+/// What is made over a plan, and called.
+#[derive(Clone, Copy)]
+pub(crate) enum Over {
+    Trie,
+    Book,
+    Circuits,
+    /// Circuits, beside a plain model of them.
+    Sequences,
+}
+
 /// Makes a trie, and tells what it reads.
 fn over_trie<A: Allocator + Copy, W: Sink>(
     alloc: A,
@@ -65,35 +75,30 @@ fn over_table<A: Allocator + Copy, W: Sink>(
 /// Plays the kinds that make a structure over a plan, and call it.
 fn over_plan<A: Allocator + Copy, W: Sink>(
     alloc: A,
-    kind: &[u8],
+    over: Over,
     plan: &Plan<A>,
     calls: &[u8],
     out: &mut W,
 ) -> Result<(), Stop> {
-    if kind == b"trie".as_slice() {
-        over_trie(alloc, plan, calls, out)
-    } else if kind == b"book".as_slice() {
-        over_book(alloc, plan, calls, out)
-    } else if kind == b"circuits".as_slice() {
-        over_table(alloc, plan, calls, out)
-    } else if kind == b"sequences".as_slice() {
-        try_sequences(alloc, plan, out)
-    } else {
-        Ok(write_broken(b"no such kind of case", 0, out)?)
+    match over {
+        Over::Trie => over_trie(alloc, plan, calls, out),
+        Over::Book => over_book(alloc, plan, calls, out),
+        Over::Circuits => over_table(alloc, plan, calls, out),
+        Over::Sequences => try_sequences(alloc, plan, out),
     }
 }
 
 /// Reads a plan, and plays a kind that has one.
 pub(crate) fn with_plan<A: Allocator + Copy, W: Sink>(
     alloc: A,
-    kind: &[u8],
+    over: Over,
     plan: &[u8],
     calls: &[u8],
     out: &mut W,
 ) -> Result<(), Stop> {
     match read_plan(alloc, plan) {
         Ok(plan) => {
-            let played = over_plan(alloc, kind, &plan, calls, out);
+            let played = over_plan(alloc, over, &plan, calls, out);
             drop(plan);
             played
         }

@@ -1,6 +1,5 @@
 // What lines are read as: words, names, figures and numbers.
-use crate::play::Head;
-use tx_cases::{next_line, write_count};
+use tx_cases::{Stop, next_line, write_count};
 use tx_text::{
     Figures, Name, Sink, Words, WriteFault, are_figures, is_name, number, words, write_bytes,
     write_parts,
@@ -11,27 +10,10 @@ use tx_text::{
 pub(crate) enum Spelling {
     Words,
     Name,
-    /// Figures, of which there are at least and at most so many.
-    Figures(usize, usize),
-    /// A number up to this one.
-    Number(u32),
-}
-
-impl Spelling {
-    /// The spelling that a kind of cases tells.
-    pub(crate) fn of(head: Head<'_>) -> Option<Spelling> {
-        if head.kind == b"words".as_slice() {
-            Some(Spelling::Words)
-        } else if head.kind == b"name".as_slice() {
-            Some(Spelling::Name)
-        } else if head.kind == b"figures".as_slice() {
-            Some(Spelling::Figures(head.first as usize, head.second as usize))
-        } else if head.kind == b"number".as_slice() {
-            Some(Spelling::Number(head.first))
-        } else {
-            None
-        }
-    }
+    /// Figures, of which there are at least and at most as many as two numbers say.
+    Figures,
+    /// A number up to the first one.
+    Number,
 }
 
 /// Tells words, and how many the same once more are.
@@ -76,35 +58,43 @@ fn tell_figures<W: Sink>(
     }
 }
 
-fn tell_number<W: Sink>(line: &[u8], most: u32, out: &mut W) -> Result<(), WriteFault> {
-    match number(line, most) {
+fn tell_number<W: Sink>(line: &[u8], most: usize, out: &mut W) -> Result<(), WriteFault> {
+    match number(line, most.min(u32::MAX as usize) as u32) {
         Some(number) => write_count(b"", u64::from(number), b"\n", out),
         None => write_bytes(b"none\n", out),
     }
 }
 
-fn tell<W: Sink>(spelling: Spelling, line: &[u8], out: &mut W) -> Result<(), WriteFault> {
+fn tell<W: Sink>(
+    spelling: Spelling,
+    first: usize,
+    second: usize,
+    line: &[u8],
+    out: &mut W,
+) -> Result<(), WriteFault> {
     match spelling {
         Spelling::Words => tell_words(&words(line), out),
         Spelling::Name => tell_name(line, out),
-        Spelling::Figures(least, most) => tell_figures(line, least, most, out),
-        Spelling::Number(most) => tell_number(line, most, out),
+        Spelling::Figures => tell_figures(line, first, second, out),
+        Spelling::Number => tell_number(line, first, out),
     }
 }
 
 /// Tells what each line of a text is.
 pub(crate) fn tell_spellings<W: Sink>(
     spelling: Spelling,
+    first: usize,
+    second: usize,
     text: &[u8],
     out: &mut W,
-) -> Result<(), WriteFault> {
+) -> Result<(), Stop> {
     let mut rest = text;
     for _ in 0..text.len() {
         let Some((line, behind)) = next_line(rest) else {
             break;
         };
         write_parts(&[b"[", line, b"]: "], out)?;
-        tell(spelling, line, out)?;
+        tell(spelling, first, second, line, out)?;
         rest = behind;
     }
     Ok(())

@@ -8,33 +8,45 @@ pub const ALFA: u16 = 0;
 
 pub const BETA: u16 = 1;
 
-/// A call of a circuit by its number, at an end where it asks for one and with a far end where it asks for that too, or of the group.
+/// What a call does: to a circuit, at an end where it asks for one and with a far end where it asks for that too, or to the group.
 #[derive(Clone, Copy)]
-pub enum Call {
-    Seize(u32, u16),
-    Withdraw(u32, u16),
-    GiveUp(u32, u16, u16),
-    Hold(u32),
-    Release(u32),
-    Released(u32),
-    PutOut(u32),
-    PutIn(u32),
+pub enum What {
+    Seize,
+    Withdraw,
+    GiveUp,
+    Hold,
+    Release,
+    Released,
+    PutOut,
+    PutIn,
     Fail,
     Restore,
     Block,
     Unblock,
 }
 
-impl Call {
-    /// The circuit's number; 0 for a call of the group.
-    pub fn number(&self) -> u32 {
-        match *self {
-            Call::Seize(n, _) | Call::Withdraw(n, _) | Call::GiveUp(n, _, _) => n,
-            Call::Hold(n) | Call::Release(n) | Call::Released(n) => n,
-            Call::PutOut(n) | Call::PutIn(n) => n,
-            _ => 0,
-        }
-    }
+pub static WHATS: [(&str, What); 12] = [
+    ("seize", What::Seize),
+    ("withdraw", What::Withdraw),
+    ("give-up", What::GiveUp),
+    ("hold", What::Hold),
+    ("release", What::Release),
+    ("released", What::Released),
+    ("put-out", What::PutOut),
+    ("put-in", What::PutIn),
+    ("fail", What::Fail),
+    ("restore", What::Restore),
+    ("block", What::Block),
+    ("unblock", What::Unblock),
+];
+
+/// A call, with the number of its circuit, or 0 for a call of the group.
+#[derive(Clone, Copy)]
+pub struct Call {
+    pub what: What,
+    pub number: u32,
+    pub end: u16,
+    pub far: u16,
 }
 
 /// A circuit of the group.
@@ -57,83 +69,60 @@ pub fn next<A: Allocator>(table: &CircuitTable<A>, exchange: u16) -> u32 {
     }
 }
 
-/// One of the 43 calls on three circuits.
+/// The calls on a circuit, and then those of the group.
+static CALLS: [(What, u16, u16); 17] = [
+    (What::Seize, ALFA, ALFA),
+    (What::Seize, BETA, ALFA),
+    (What::Withdraw, ALFA, ALFA),
+    (What::Withdraw, BETA, ALFA),
+    (What::Hold, ALFA, ALFA),
+    (What::Release, ALFA, ALFA),
+    (What::Released, ALFA, ALFA),
+    (What::PutOut, ALFA, ALFA),
+    (What::PutIn, ALFA, ALFA),
+    (What::GiveUp, ALFA, ALFA),
+    (What::GiveUp, ALFA, BETA),
+    (What::GiveUp, BETA, ALFA),
+    (What::GiveUp, BETA, BETA),
+    (What::Fail, ALFA, ALFA),
+    (What::Restore, ALFA, ALFA),
+    (What::Block, ALFA, ALFA),
+    (What::Unblock, ALFA, ALFA),
+];
+
+/// One of the 43 calls on three circuits: 13 on each, and 4 of the group.
 pub fn call_of(k: u32) -> Call {
-    let number = k % 3 + 1;
-    match k / 3 {
-        0 => Call::Seize(number, ALFA),
-        1 => Call::Seize(number, BETA),
-        2 => Call::Withdraw(number, ALFA),
-        3 => Call::Withdraw(number, BETA),
-        4 => Call::Hold(number),
-        5 => Call::Release(number),
-        6 => Call::Released(number),
-        7 => Call::PutOut(number),
-        8 => Call::PutIn(number),
-        9 => Call::GiveUp(number, ALFA, ALFA),
-        10 => Call::GiveUp(number, ALFA, BETA),
-        11 => Call::GiveUp(number, BETA, ALFA),
-        12 => Call::GiveUp(number, BETA, BETA),
-        _ => match k {
-            39 => Call::Fail,
-            40 => Call::Restore,
-            41 => Call::Block,
-            _ => Call::Unblock,
-        },
-    }
-}
-
-/// The call of a name, on a circuit, at an end and with a far one.
-pub fn named(name: &[u8], number: u32, end: u16, far: u16) -> Option<Call> {
-    if name == b"seize".as_slice() {
-        Some(Call::Seize(number, end))
-    } else if name == b"withdraw".as_slice() {
-        Some(Call::Withdraw(number, end))
-    } else if name == b"give-up".as_slice() {
-        Some(Call::GiveUp(number, end, far))
-    } else if name == b"hold".as_slice() {
-        Some(Call::Hold(number))
-    } else if name == b"release".as_slice() {
-        Some(Call::Release(number))
-    } else if name == b"released".as_slice() {
-        Some(Call::Released(number))
+    let (row, number) = if k < 39 {
+        (k / 3, k % 3 + 1)
     } else {
-        named_of_group(name)
-    }
-}
-
-/// The call of the group of a name.
-fn named_of_group(name: &[u8]) -> Option<Call> {
-    if name == b"fail".as_slice() {
-        Some(Call::Fail)
-    } else if name == b"restore".as_slice() {
-        Some(Call::Restore)
-    } else if name == b"block".as_slice() {
-        Some(Call::Block)
-    } else if name == b"unblock".as_slice() {
-        Some(Call::Unblock)
-    } else {
-        None
+        (k.saturating_sub(26).min(16), 0)
+    };
+    let (what, end, far) = CALLS[row as usize];
+    Call {
+        what,
+        number,
+        end,
+        far,
     }
 }
 
 /// Makes a call where the table may be asked for it, and tells whether.
-pub fn apply<A: Allocator>(table: &mut CircuitTable<A>, call: &Call) -> bool {
-    match *call {
-        Call::Seize(n, x) => seize(table, &circuit(n), ExchangeId::at(x)),
-        Call::Withdraw(n, x) => withdraw(table, &circuit(n), ExchangeId::at(x)),
-        Call::GiveUp(n, x, far) => {
-            give_up(table, &circuit(n), ExchangeId::at(x), ExchangeId::at(far))
-        }
-        Call::Hold(n) => hold(table, &circuit(n)),
-        Call::Release(n) => release(table, &circuit(n)),
-        Call::Released(n) => released(table, &circuit(n)),
-        Call::PutOut(n) => put_out(table, &circuit(n)),
-        Call::PutIn(n) => put_in(table, &circuit(n)),
-        Call::Fail => fail(table, GroupId::at(0)),
-        Call::Restore => restore(table, GroupId::at(0)),
-        Call::Block => block(table, GroupId::at(0)),
-        Call::Unblock => unblock(table, GroupId::at(0)),
+pub fn apply<A: Allocator>(table: &mut CircuitTable<A>, call: Call) -> bool {
+    let x = circuit(call.number);
+    let at = ExchangeId::at(call.end);
+    match call.what {
+        What::Seize => seize(table, &x, at),
+        What::Withdraw => withdraw(table, &x, at),
+        What::GiveUp => give_up(table, &x, at, ExchangeId::at(call.far)),
+        What::Hold => hold(table, &x),
+        What::Release => release(table, &x),
+        What::Released => released(table, &x),
+        What::PutOut => put_out(table, &x),
+        What::PutIn => put_in(table, &x),
+        What::Fail => fail(table, x.group),
+        What::Restore => restore(table, x.group),
+        What::Block => block(table, x.group),
+        What::Unblock => unblock(table, x.group),
     }
 }
 

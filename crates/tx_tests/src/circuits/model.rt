@@ -1,7 +1,7 @@
 // A group of three circuits that is scanned each time.
 ghost use Rattle.std.specs.Prelude.{◌<◌};
 
-use super::calls::{ALFA, BETA, Call, circuit, next};
+use super::calls::{ALFA, BETA, Call, What, circuit, next};
 use std::alloc::Allocator;
 use tx_circuits::CircuitTable;
 use tx_plan::{ExchangeId, GroupId};
@@ -81,41 +81,43 @@ impl Held {
     }
 
     // Whether a call may be made.
-    fn allows(self, call: &Call) -> bool {
-        match *call {
-            Call::Seize(_, x) => self.is_free(x),
-            Call::Withdraw(_, x) | Call::GiveUp(_, x, _) => self.by(x),
-            Call::Hold(_) => self.by_alfa != self.by_beta,
-            Call::Release(_) => !self.by_alfa && !self.by_beta && !self.releasing,
-            Call::Released(_) => self.releasing,
-            Call::PutOut(_) => !self.out,
-            Call::PutIn(_) => self.out,
+    fn allows(self, call: Call) -> bool {
+        match call.what {
+            What::Seize => self.is_free(call.end),
+            What::Withdraw | What::GiveUp => self.by(call.end),
+            What::Hold => self.by_alfa != self.by_beta,
+            What::Release => !self.by_alfa && !self.by_beta && !self.releasing,
+            What::Released => self.releasing,
+            What::PutOut => !self.out,
+            What::PutIn => self.out,
             _ => false,
         }
     }
 
     // What holds it after a call.
-    fn after(self, call: &Call) -> Held {
-        match *call {
-            Call::Seize(_, x) => self.with_seized(x, true),
-            Call::Withdraw(_, x) => self.with_seized(x, false),
-            Call::GiveUp(_, x, far) => self.with_seized(x, false).released_unless(far),
-            Call::Hold(_) => Held {
+    fn after(self, call: Call) -> Held {
+        match call.what {
+            What::Seize => self.with_seized(call.end, true),
+            What::Withdraw => self.with_seized(call.end, false),
+            What::GiveUp => self
+                .with_seized(call.end, false)
+                .released_unless(call.far),
+            What::Hold => Held {
                 carried: true,
                 out: self.out,
                 ..IDLE
             },
-            Call::Release(_) => Held {
+            What::Release => Held {
                 carried: false,
                 releasing: true,
                 ..self
             },
-            Call::Released(_) => Held {
+            What::Released => Held {
                 releasing: false,
                 ..self
             },
-            Call::PutOut(_) => Held { out: true, ..self },
-            Call::PutIn(_) => Held { out: false, ..self },
+            What::PutOut => Held { out: true, ..self },
+            What::PutIn => Held { out: false, ..self },
             _ => self,
         }
     }
@@ -131,16 +133,16 @@ impl Model {
     }
 
     /// Makes a call, and tells whether it may be made.
-    pub fn apply(&mut self, call: &Call) -> bool {
-        let number = call.number();
+    pub fn apply(&mut self, call: Call) -> bool {
+        let number = call.number;
         if 0 < number && number < 4 {
             return self.apply_to((number - 1) as usize, call);
         }
         let (failed, blocked) = (self.failed, self.blocked);
-        match *call {
-            Call::Fail => self.fail(),
-            Call::Restore => self.failed = false,
-            Call::Block => self.blocked = true,
+        match call.what {
+            What::Fail => self.fail(),
+            What::Restore => self.failed = false,
+            What::Block => self.blocked = true,
             _ => self.blocked = false,
         }
         self.failed != failed || self.blocked != blocked
@@ -156,7 +158,7 @@ impl Model {
         self.failed = true;
     }
 
-    fn apply_to(&mut self, place: usize, call: &Call) -> bool
+    fn apply_to(&mut self, place: usize, call: Call) -> bool
         requires { place < 3 }
     {
         let held = self.circuits[place];
