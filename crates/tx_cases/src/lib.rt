@@ -9,4 +9,4 @@ mod told;
 pub use case::{Case, named, next_case, next_line, next_number, two_texts};
 pub use judge::Judge;
 pub use spelled::spell;
-pub use told::{Stop, write_broken, write_count};
+pub use told::{Stop, tell, tell_broken, tell_count, tell_parts, write_broken, write_count};

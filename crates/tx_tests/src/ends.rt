@@ -27,11 +27,7 @@ fn tell_reads<R: Source, W: Sink>(
 }
 
 /// Calls of a source, of which each fails in turn.
-pub(crate) fn tell_sources<W: Sink>(
-    text: &[u8],
-    piece: usize,
-    out: &mut W,
-) -> Result<(), Stop> {
+pub(crate) fn tell_sources<W: Sink>(text: &[u8], piece: usize, out: &mut W) -> Result<(), Stop> {
     for fails_at in 1..=8u64 {
         let mut source = MemorySource::new(text, piece.max(1), Some(fails_at));
         tell_reads(&mut source, 8, 4, out)?;

@@ -6,8 +6,8 @@ use crate::spelling::tell_words;
 use std::alloc::Allocator;
 use tx_cases::{Judge, Stop, write_broken, write_count};
 use tx_text::{
-    FormFault, FrameFault, FrameReader, FrameStep, FrameStop, LineFault, MemorySink, MemorySource, Sink,
-    SliceSource, Source, WriteFault, write_bytes, write_parts,
+    FormFault, FrameFault, FrameReader, FrameStep, FrameStop, LineFault, MemorySink, MemorySource,
+    Sink, SliceSource, Source, WriteFault, write_bytes, write_parts,
 };
 
 fn form_name(fault: FormFault) -> &'static [u8] {

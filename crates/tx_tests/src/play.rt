@@ -93,7 +93,11 @@ fn play_text<W: Sink>(alloc: Global, head: Head<'_>, text: &[u8], out: &mut W) -
     let Some(kind) = head.kind else {
         return Ok(write_broken(b"no such kind of case", 0, out)?);
     };
-    let (first, second, third) = (head.first as usize, head.second as usize, head.third as usize);
+    let (first, second, third) = (
+        head.first as usize,
+        head.second as usize,
+        head.third as usize,
+    );
     match kind {
         Kind::Spelled(spelling) => tell_spellings(spelling, first, second, text, out),
         Kind::Lines => play_lines(alloc, text, out),

@@ -1,17 +1,14 @@
 -- A line of which some went out, and some stands in its room.
-use Rattle.std.proofs.Common.{◌≡◌, ℕ, List, [], ◌++◌, Option, refl, sym, ap, ◌∙◌, append_assoc, append-nil}
+use Rattle.std.proofs.Common.{◌≡◌, ℕ, List, [], ◌++◌, Option, sym, ap, ◌∙◌, append_assoc, append-nil}
 use Rattle.std.specs.Io.KnownBytes.{append_known}
 use Rattle.tx_text.specs.Ends.{StopsIn}
-use Rattle.tx_text.proofs.Writing.{append_known-nil, append_known_twice, stops_first, stops_later}
+use Rattle.tx_text.proofs.Writing.{append_known_twice, stops_first, stops_later}
 
 -- a text, of which what does not stand on the line was taken
 pub record IsBegun (old new : Option (List ℕ)) (line text : List ℕ) : Type 0 where
   pub gone : List ℕ
   pub whole : text ≡ gone ++ line
   pub taken : new ≡ append_known old gone
-
-pub begun_start : (a : Option (List ℕ)) (line : List ℕ) → IsBegun a a line line
-begun_start a line = record { gone = []; whole = refl; taken = append_known-nil a }
 
 module _ {a b : Option (List ℕ)} {line text : List ℕ} (s : IsBegun a b line text) where
   -- more was put on the line

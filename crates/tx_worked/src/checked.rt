@@ -2,7 +2,7 @@
 use crate::driven::try_drives;
 use crate::runs::Over;
 use std::alloc::Allocator;
-use tx_cases::{Stop, next_line, two_texts, write_broken, write_count};
+use tx_cases::{next_line, tell, tell_broken, tell_count, two_texts};
 use tx_cert::read_cert;
 use tx_check::{Verdict, check};
 use tx_engine::{Played, play};
@@ -11,7 +11,7 @@ use tx_plan::Plan;
 use tx_plantext::read_plan;
 use tx_script::read_event;
 use tx_state::{Event, Network, Reply, drive};
-use tx_text::{NoMemory, Sink, WriteFault, words, write_bytes};
+use tx_text::{NoMemory, Sink, words};
 use tx_tickets::{write_reply, write_ticket};
 
 /// Whether a line of a script says no event: it has no words, or is the header or END.
@@ -28,16 +28,16 @@ fn put_event<A: Allocator, B: Allocator, W: Sink>(
     line: &[u8],
     events: &mut Vec<Event, B>,
     out: &mut W,
-) -> Result<(), Stop> {
+) {
     if says_no_event(line) {
-        return Ok(());
+        return;
     }
-    match read_event(line, plan) {
-        Ok(event) => match events.push(event) {
-            Ok(()) => Ok(()),
-            Err(_) => Err(Stop::NoMemory),
-        },
-        Err(_) => Ok(write_broken(line, 0, out)?),
+    let is_put = match read_event(line, plan) {
+        Ok(event) => events.push(event).is_ok(),
+        Err(_) => false,
+    };
+    if !is_put {
+        tell_broken(line, 0, out);
     }
 }
 
@@ -47,16 +47,15 @@ fn put_events<A: Allocator, B: Allocator, W: Sink>(
     script: &[u8],
     events: &mut Vec<Event, B>,
     out: &mut W,
-) -> Result<(), Stop> {
+) {
     let mut rest = script;
     for _ in 0..script.len() {
         let Some((line, behind)) = next_line(rest) else {
             break;
         };
-        put_event(plan, line, events, out)?;
+        put_event(plan, line, events, out);
         rest = behind;
     }
-    Ok(())
 }
 
 /// Writes the replies, then the tickets, and then how many events were accepted and calls are open.
@@ -65,18 +64,18 @@ fn tell_driven<A: Allocator, N: Network, W: Sink>(
     net: &mut N,
     replies: &[Reply],
     out: &mut W,
-) -> Result<(), WriteFault> {
+) {
     for reply in replies {
-        write_reply(reply, plan, out)?;
+        let _ = write_reply(reply, plan, out);
     }
     for _ in 0..=replies.len() {
         let Some(ticket) = net.next_ticket() else {
             break;
         };
-        write_ticket(&ticket, plan, out)?;
+        let _ = write_ticket(&ticket, plan, out);
     }
-    write_count(b"END EVENTS ", net.events(), b"", out)?;
-    write_count(b" OPEN ", net.open_calls(), b"\n", out)
+    tell_count(b"END EVENTS ", net.events(), b"", out);
+    tell_count(b" OPEN ", net.open_calls(), b"\n", out);
 }
 
 /// Drives the events through a network, and tells what comes of it.
@@ -86,10 +85,10 @@ fn drive_events<A: Allocator, N: Network, B: Allocator, W: Sink>(
     events: &[Event],
     replies: &mut Vec<Reply, B>,
     out: &mut W,
-) -> Result<(), Stop> {
+) {
     match drive(net, events, replies) {
-        Ok(()) => Ok(tell_driven(plan, net, replies.as_slice(), out)?),
-        Err(NoMemory) => Err(Stop::NoMemory),
+        Ok(()) => tell_driven(plan, net, replies.as_slice(), out),
+        Err(NoMemory) => tell_broken(b"no memory", 0, out),
     }
 }
 
@@ -99,21 +98,21 @@ fn tell_played<A: Allocator + Copy, B: Allocator, W: Sink>(
     played: &Played<'_, A>,
     replies: &mut Vec<Reply, B>,
     out: &mut W,
-) -> Result<(), Stop> {
+) {
     if replies
         .extend_from_slice(played.replies.as_slice())
         .is_err()
     {
-        return Err(Stop::NoMemory);
+        tell_broken(b"no memory", 0, out);
     }
     for reply in played.replies.as_slice() {
-        write_reply(reply, plan, out)?;
+        let _ = write_reply(reply, plan, out);
     }
     for ticket in played.tickets.as_slice() {
-        write_ticket(ticket, plan, out)?;
+        let _ = write_ticket(ticket, plan, out);
     }
-    write_count(b"END EVENTS ", played.network.events(), b"", out)?;
-    Ok(write_count(b" OPEN ", played.network.open_calls(), b"\n", out)?)
+    tell_count(b"END EVENTS ", played.network.events(), b"", out);
+    tell_count(b" OPEN ", played.network.open_calls(), b"\n", out);
 }
 
 /// The same through a new network of the plan.
@@ -124,23 +123,21 @@ fn drive_over<A: Allocator + Copy, W: Sink>(
     events: &[Event],
     replies: &mut Vec<Reply, A>,
     out: &mut W,
-) -> Result<(), Stop> {
+) {
     match over {
         Over::Plain => match Plain::new(alloc, plan) {
             Ok(mut net) => {
-                let driven = drive_events(plan, &mut net, events, replies, out);
+                drive_events(plan, &mut net, events, replies, out);
                 drop(net);
-                driven
             }
-            Err(NoMemory) => Err(Stop::NoMemory),
+            Err(NoMemory) => tell_broken(b"no memory", 0, out),
         },
         Over::Engine => match play(alloc, plan, 0, 0, events) {
             Ok(played) => {
-                let told = tell_played(plan, &played, replies, out);
+                tell_played(plan, &played, replies, out);
                 drop(played);
-                told
             }
-            Err(NoMemory) => Err(Stop::NoMemory),
+            Err(NoMemory) => tell_broken(b"no memory", 0, out),
         },
     }
 }
@@ -179,14 +176,11 @@ fn drive_all<A: Allocator + Copy, W: Sink>(
     text: &[u8],
     events: &[Event],
     out: &mut W,
-) -> Result<(), Stop> {
+) {
     let mut replies = Vec::new(alloc);
-    let driven = match drive_over(alloc, over, plan, events, &mut replies, out) {
-        Ok(()) => try_drives(alloc, over, text, events, replies.as_slice(), out),
-        Err(stop) => Err(stop),
-    };
+    drive_over(alloc, over, plan, events, &mut replies, out);
+    try_drives(alloc, over, text, events, replies.as_slice(), out);
     drop(replies);
-    driven
 }
 
 /// Drives the events of the script.
@@ -196,14 +190,11 @@ fn drive_script<A: Allocator + Copy, W: Sink>(
     plan: &Plan<A>,
     texts: Texts<'_>,
     out: &mut W,
-) -> Result<(), Stop> {
+) {
     let mut events = Vec::new(alloc);
-    let driven = match put_events(plan, texts.script, &mut events, out) {
-        Ok(()) => drive_all(alloc, over, plan, texts.plan, events.as_slice(), out),
-        Err(stop) => Err(stop),
-    };
+    put_events(plan, texts.script, &mut events, out);
+    drive_all(alloc, over, plan, texts.plan, events.as_slice(), out);
     drop(events);
-    driven
 }
 
 fn drive_certified<A: Allocator + Copy, W: Sink>(
@@ -213,12 +204,12 @@ fn drive_certified<A: Allocator + Copy, W: Sink>(
     texts: Texts<'_>,
     numbers: (u8, u8),
     out: &mut W,
-) -> Result<(), Stop> {
+) {
     if !is_certified(alloc, plan, texts.cert, numbers.0, numbers.1) {
-        return Ok(write_bytes(b"NO\n", out)?);
+        return tell(b"NO\n", out);
     }
-    write_bytes(b"YES\n", out)?;
-    drive_script(alloc, over, plan, texts, out)
+    tell(b"YES\n", out);
+    drive_script(alloc, over, plan, texts, out);
 }
 
 /// Checks a certificate of a plan, with a limit and a spare number, and after a Yes drives the events of the script behind it.
@@ -229,15 +220,14 @@ pub(crate) fn play_certified<A: Allocator + Copy, W: Sink>(
     plan: &[u8],
     rest: &[u8],
     out: &mut W,
-) -> Result<(), Stop> {
+) {
     let (cert, script) = two_texts(rest);
     let texts = Texts { plan, cert, script };
     match read_plan(alloc, plan) {
         Ok(plan) => {
-            let played = drive_certified(alloc, over, &plan, texts, numbers, out);
+            drive_certified(alloc, over, &plan, texts, numbers, out);
             drop(plan);
-            played
         }
-        Err(_) => Ok(write_broken(b"no plan", 0, out)?),
+        Err(_) => tell_broken(b"no plan", 0, out),
     }
 }

@@ -2,7 +2,7 @@
 use crate::runs::Over;
 use refusing::Refusing;
 use std::alloc::Allocator;
-use tx_cases::{Stop, write_broken};
+use tx_cases::tell_broken;
 use tx_engine::Engine;
 use tx_machine::Plain;
 use tx_plan::Plan;
@@ -106,7 +106,7 @@ pub(crate) fn try_drives<A: Allocator + Copy, W: Sink>(
     events: &[Event],
     whole: &[Reply],
     out: &mut W,
-) -> Result<(), Stop> {
+) {
     for request in 1..1_000_000u64 {
         let refusing = Refusing::new(alloc, request);
         let did = reads_and_drives_on(&refusing, over, plan, events, whole);
@@ -116,11 +116,10 @@ pub(crate) fn try_drives<A: Allocator + Copy, W: Sink>(
             Err(NoMemory) => came,
         };
         if !keeps {
-            write_broken(b"driven, refused request", request, out)?;
+            tell_broken(b"driven, refused request", request, out);
         }
         if !came || !keeps {
             break;
         }
     }
-    Ok(())
 }

@@ -3,10 +3,10 @@ use crate::job::{Ends, Job, ROOM, Task, Whole, done};
 use crate::runs::{Ran, Script, WholeRun, run_beside, run_text, told_cause};
 use crate::stretches::{Happens, Stretches};
 use std::alloc::Allocator;
-use tx_cases::{Stop, write_broken, write_count};
+use tx_cases::{tell, tell_broken, tell_count};
 use tx_jobs::write_fault;
 use tx_script::{RunFault, Summary};
-use tx_text::{MemorySink, MemorySource, Sink, Source, WriteFault, write_bytes};
+use tx_text::{MemorySink, MemorySource, Sink, Source};
 
 /// More than any case has of anything.
 const MANY: u64 = 1_000_000;
@@ -33,16 +33,16 @@ pub(crate) fn list_rooms<A: Allocator + Copy, W: Sink>(
     text: Script<'_>,
     whole: &[u8],
     out: &mut W,
-) -> Result<(), Stop> {
+) {
     let mut stretches = Stretches::new();
     for room in 0..=whole.len() {
         let ran = run_beside(alloc, text, 7, None, whole, room);
         if ran.written != room || !ran.is_front {
-            write_broken(b"not the front of the output in room", room as u64, out)?;
+            tell_broken(b"not the front of the output in room", room as u64, out);
         }
-        stretches.put(room as u64, happens(&ran, None), out)?;
+        stretches.put(room as u64, happens(&ran, None), out);
     }
-    stretches.end(out)
+    stretches.end(out);
 }
 
 /// What a run does where each call of its source fails in turn, until none fails.
@@ -52,19 +52,19 @@ pub(crate) fn list_calls<A: Allocator + Copy, W: Sink>(
     piece: usize,
     whole: WholeRun<'_>,
     out: &mut W,
-) -> Result<(), Stop> {
+) {
     let mut stretches = Stretches::new();
     for call in 1..MANY {
         let ran = run_beside(alloc, text, piece, Some(call), whole.text, ROOM);
         if !ran.is_front {
-            write_broken(b"not a front of the output at call", call, out)?;
+            tell_broken(b"not a front of the output at call", call, out);
         }
-        stretches.put(call, happens(&ran, Some(ran.written as u64)), out)?;
+        stretches.put(call, happens(&ran, Some(ran.written as u64)), out);
         if ran.end == whole.end {
             break;
         }
     }
-    stretches.end(out)
+    stretches.end(out);
 }
 
 /// How many of the first thousand calls of a source are left, where the next one fails.
@@ -80,18 +80,13 @@ fn calls_left<R: Source>(source: &mut R) -> u64 {
 }
 
 /// Tells what was written, where the run stopped, and how many calls were made.
-fn tell_calls<W: Sink>(
-    written: &[u8],
-    end: Result<Summary, RunFault>,
-    left: u64,
-    out: &mut W,
-) -> Result<(), WriteFault> {
-    write_bytes(written, out)?;
+fn tell_calls<W: Sink>(written: &[u8], end: Result<Summary, RunFault>, left: u64, out: &mut W) {
+    tell(written, out);
     if let Err(fault) = end {
-        write_count(b"\nevent ", fault.event, b": ", out)?;
-        write_fault(&told_cause(fault.cause), out)?;
+        tell_count(b"\nevent ", fault.event, b": ", out);
+        let _ = write_fault(&told_cause(fault.cause), out);
     }
-    write_count(b"", 1000u64.saturating_sub(left), b" reads\n", out)
+    tell_count(b"", 1000u64.saturating_sub(left), b" reads\n", out);
 }
 
 /// How many calls of the script's source a run makes, at one byte a call, where the writer takes so many bytes.
@@ -100,13 +95,14 @@ pub(crate) fn count_calls<A: Allocator + Copy, W: Sink>(
     text: Script<'_>,
     room: usize,
     out: &mut W,
-) -> Result<(), Stop> {
+) {
     let mut source = MemorySource::new(text.script, 1, Some(1001));
-    let mut written = MemorySink::new(alloc, room)?;
+    let Ok(mut written) = MemorySink::new(alloc, room) else {
+        return tell_broken(b"no memory", 0, out);
+    };
     let end = run_text(alloc, text, &mut source, &mut written);
-    let told = tell_calls(written.taken(), end, calls_left(&mut source), out);
+    tell_calls(written.taken(), end, calls_left(&mut source), out);
     drop(written);
-    Ok(told?)
 }
 
 fn front(text: &[u8], length: usize) -> &[u8] {
@@ -157,7 +153,7 @@ pub(crate) fn list_prefixes<A: Allocator + Copy, W: Sink>(
     task: Task<'_>,
     whole: Whole<'_>,
     out: &mut W,
-) -> Result<(), Stop> {
+) {
     let mut stretches = Stretches::new();
     for length in 0..=last_text(task).len() {
         let did = done(
@@ -168,14 +164,14 @@ pub(crate) fn list_prefixes<A: Allocator + Copy, W: Sink>(
             ROOM,
         );
         if !did.is_front {
-            write_broken(b"not a front of the output, prefix", length as u64, out)?;
+            tell_broken(b"not a front of the output, prefix", length as u64, out);
         }
         let happens = Happens {
             event: None,
             bytes: Some(did.written as u64),
             fault: did.answer.err(),
         };
-        stretches.put(length as u64, happens, out)?;
+        stretches.put(length as u64, happens, out);
     }
-    stretches.end(out)
+    stretches.end(out);
 }

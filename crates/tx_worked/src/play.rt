@@ -4,37 +4,27 @@ use crate::head::{Head, Mode, head_of, job_of, limit_and_spare, long_number, num
 use crate::job::{Ends, Job, ROOM, Task, Whole, do_task};
 use crate::listings::{count_calls, list_prefixes};
 use crate::runs::{Over, Script, run_beside};
-use crate::trials::{tell, try_ends, try_pieces, try_refusals};
+use crate::trials::{tell_whole, try_ends, try_pieces, try_refusals};
 use crate::whole_runs::{Told, play_run};
 use crate::written::{play_cert, play_plan};
 use memchr::memmem;
 use std::alloc::Allocator;
-use tx_cases::{Case, Judge, Stop, spell, two_texts, write_broken};
-use tx_text::{MemorySink, Sink, write_bytes, write_parts};
+use tx_cases::{Case, Judge, spell, tell, tell_broken, tell_parts, two_texts};
+use tx_text::{MemorySink, Sink};
 
 /// Plays a case, and writes its line, and what its kind tells.
-pub(crate) fn play<A: Allocator + Copy, W: Sink>(
-    alloc: A,
-    case: Case<'_>,
-    out: &mut W,
-) -> Result<(), Stop> {
-    write_parts(&[b"=== ", case.head, b"\n"], out)?;
+pub(crate) fn play<A: Allocator + Copy, W: Sink>(alloc: A, case: Case<'_>, out: &mut W) {
+    tell_parts(&[b"=== ", case.head, b"\n"], out);
     let mut texts = Vec::new(alloc);
-    let played = match spell(case.texts, &mut texts) {
+    match spell(case.texts, &mut texts) {
         Ok(()) => play_texts(alloc, head_of(case.head), texts.as_slice(), out),
-        Err(_) => Err(Stop::NoMemory),
-    };
+        Err(_) => tell_broken(b"no memory", 0, out),
+    }
     drop(texts);
-    played
 }
 
 /// Plays the kinds that are jobs.
-fn play_texts<A: Allocator + Copy, W: Sink>(
-    alloc: A,
-    head: Head<'_>,
-    texts: &[u8],
-    out: &mut W,
-) -> Result<(), Stop> {
+fn play_texts<A: Allocator + Copy, W: Sink>(alloc: A, head: Head<'_>, texts: &[u8], out: &mut W) {
     if head.kind == b"both".as_slice() {
         return play_both(alloc, head, texts, out);
     }
@@ -46,12 +36,7 @@ fn play_texts<A: Allocator + Copy, W: Sink>(
 }
 
 /// Plays the kinds that write and read back.
-fn play_other<A: Allocator + Copy, W: Sink>(
-    alloc: A,
-    head: Head<'_>,
-    texts: &[u8],
-    out: &mut W,
-) -> Result<(), Stop> {
+fn play_other<A: Allocator + Copy, W: Sink>(alloc: A, head: Head<'_>, texts: &[u8], out: &mut W) {
     let (first, second) = two_texts(texts);
     if head.kind == b"plan".as_slice() {
         play_plan(alloc, texts, out)
@@ -69,14 +54,13 @@ fn play_over_both<A: Allocator + Copy, W: Sink>(
     plan: &[u8],
     rest: &[u8],
     out: &mut W,
-) -> Result<(), Stop> {
-    let mut told = MemorySink::new(alloc, ROOM)?;
-    let played = match play_over(alloc, Over::Plain, head, plan, rest, &mut told) {
-        Ok(()) => play_again(alloc, head, plan, rest, told.taken(), out),
-        Err(stop) => Err(stop),
+) {
+    let Ok(mut told) = MemorySink::new(alloc, ROOM) else {
+        return tell_broken(b"no memory", 0, out);
     };
+    play_over(alloc, Over::Plain, head, plan, rest, &mut told);
+    play_again(alloc, head, plan, rest, told.taken(), out);
     drop(told);
-    played
 }
 
 /// Writes what was told over the plain network, and plays over the engine.
@@ -87,18 +71,17 @@ fn play_again<A: Allocator + Copy, W: Sink>(
     rest: &[u8],
     told: &[u8],
     out: &mut W,
-) -> Result<(), Stop> {
-    write_bytes(told, out)?;
+) {
+    tell(told, out);
     let mut judge = Judge::new(told, ROOM);
-    play_over(alloc, Over::Engine, head, plan, rest, &mut judge)?;
+    play_over(alloc, Over::Engine, head, plan, rest, &mut judge);
     if !judge.is_whole() {
-        write_broken(
+        tell_broken(
             b"not the same over the engine, bytes",
             judge.taken() as u64,
             out,
-        )?;
+        );
     }
-    Ok(())
 }
 
 fn play_over<A: Allocator + Copy, W: Sink>(
@@ -108,7 +91,7 @@ fn play_over<A: Allocator + Copy, W: Sink>(
     plan: &[u8],
     rest: &[u8],
     out: &mut W,
-) -> Result<(), Stop> {
+) {
     if head.kind == b"certified".as_slice() {
         play_certified(alloc, over, limit_and_spare(head), plan, rest, out)
     } else {
@@ -122,7 +105,7 @@ fn play_script<A: Allocator + Copy, W: Sink>(
     head: Head<'_>,
     text: Script<'_>,
     out: &mut W,
-) -> Result<(), Stop> {
+) {
     if head.kind == b"both".as_slice() {
         play_run(alloc, Told::Laws, text, out)
     } else if head.kind == b"rooms".as_slice() {
@@ -140,7 +123,7 @@ fn play_script<A: Allocator + Copy, W: Sink>(
         };
         play_run(alloc, Told::Whole, text, out)
     } else {
-        Ok(write_broken(b"no such kind of case", 0, out)?)
+        tell_broken(b"no such kind of case", 0, out)
     }
 }
 
@@ -170,22 +153,16 @@ fn task_of<'a>(job: Job, first: &'a [u8], rest: &'a [u8]) -> Task<'a> {
 }
 
 /// Tries that a script writes over the plain network what the job writes, which runs it over the engine.
-fn try_plain<A: Allocator + Copy, W: Sink>(
-    alloc: A,
-    run: Task<'_>,
-    job: &[u8],
-    out: &mut W,
-) -> Result<(), Stop> {
+fn try_plain<A: Allocator + Copy, W: Sink>(alloc: A, run: Task<'_>, job: &[u8], out: &mut W) {
     let text = opening(Over::Plain, run.first, run.second);
     let ran = run_beside(alloc, text, 4096, None, job, ROOM);
     if !ran.is_front || ran.written != job.len() {
-        write_broken(
+        tell_broken(
             b"not the same over the plain network, bytes",
             ran.written as u64,
             out,
-        )?;
+        );
     }
-    Ok(())
 }
 
 /// Tells a task that was done whole, and tries its laws, or plays each front of its last text.
@@ -195,41 +172,37 @@ fn play_whole<A: Allocator + Copy, W: Sink>(
     whole: Whole<'_>,
     mode: Mode,
     out: &mut W,
-) -> Result<(), Stop> {
+) {
     if matches!(task.job, Job::Run) {
-        try_plain(alloc, task, whole.text, out)?;
+        try_plain(alloc, task, whole.text, out);
     }
     match mode {
         Mode::Prefixes => list_prefixes(alloc, task, whole, out),
         Mode::Plain => {
-            tell(whole, out)?;
-            try_pieces(alloc, task, whole, out)
+            tell_whole(whole, out);
+            try_pieces(alloc, task, whole, out);
         }
         Mode::EachEnd => {
-            tell(whole, out)?;
-            try_pieces(alloc, task, whole, out)?;
-            try_refusals(alloc, task, whole, out)?;
-            try_ends(alloc, task, whole, out)
+            tell_whole(whole, out);
+            try_pieces(alloc, task, whole, out);
+            try_refusals(alloc, task, whole, out);
+            try_ends(alloc, task, whole, out);
         }
     }
 }
 
 /// Does a task whole, and plays it.
-fn play_task<A: Allocator + Copy, W: Sink>(
-    alloc: A,
-    task: Task<'_>,
-    mode: Mode,
-    out: &mut W,
-) -> Result<(), Stop> {
-    let mut written = MemorySink::new(alloc, ROOM)?;
+fn play_task<A: Allocator + Copy, W: Sink>(alloc: A, task: Task<'_>, mode: Mode, out: &mut W) {
+    let Ok(mut written) = MemorySink::new(alloc, ROOM) else {
+        return tell_broken(b"no memory", 0, out);
+    };
     let answer = do_task(alloc, task, Ends::pieces(7), &mut written);
     let whole = Whole {
         answer,
         text: written.taken(),
     };
-    let played = play_whole(alloc, task, whole, mode, out);
+    play_whole(alloc, task, whole, mode, out);
     drop(written);
-    played
 }
 
 /// The plan that an input begins with, up to and with its first line END, and what stands behind it.
@@ -248,38 +221,34 @@ fn try_both<A: Allocator + Copy, W: Sink>(
     whole: Whole<'_>,
     head: Head<'_>,
     out: &mut W,
-) -> Result<(), Stop> {
-    try_plain(alloc, run, whole.text, out)?;
-    try_pieces(alloc, run, whole, out)?;
-    try_pieces(alloc, pipe, whole, out)?;
+) {
+    try_plain(alloc, run, whole.text, out);
+    try_pieces(alloc, run, whole, out);
+    try_pieces(alloc, pipe, whole, out);
     match head.mode {
         Mode::EachEnd => {
-            try_refusals(alloc, run, whole, out)?;
-            try_ends(alloc, run, whole, out)?;
-            play_over_both(alloc, head, run.first, run.second, out)
+            try_refusals(alloc, run, whole, out);
+            try_ends(alloc, run, whole, out);
+            play_over_both(alloc, head, run.first, run.second, out);
         }
-        Mode::Plain | Mode::Prefixes => Ok(()),
+        Mode::Plain | Mode::Prefixes => {}
     }
 }
 
 /// Plays an input as a pipe, and as a plan and a script, which have to do the same.
-fn play_both<A: Allocator + Copy, W: Sink>(
-    alloc: A,
-    head: Head<'_>,
-    input: &[u8],
-    out: &mut W,
-) -> Result<(), Stop> {
+fn play_both<A: Allocator + Copy, W: Sink>(alloc: A, head: Head<'_>, input: &[u8], out: &mut W) {
     let (first, second) = plan_and_script(input);
     let pipe = task_of(Job::Pipe, input, b"");
     let run = task_of(Job::Run, first, second);
-    play_task(alloc, pipe, head.mode, out)?;
-    let mut written = MemorySink::new(alloc, ROOM)?;
+    play_task(alloc, pipe, head.mode, out);
+    let Ok(mut written) = MemorySink::new(alloc, ROOM) else {
+        return tell_broken(b"no memory", 0, out);
+    };
     let answer = do_task(alloc, run, Ends::pieces(7), &mut written);
     let whole = Whole {
         answer,
         text: written.taken(),
     };
-    let tried = try_both(alloc, run, pipe, whole, head, out);
+    try_both(alloc, run, pipe, whole, head, out);
     drop(written);
-    tried
 }

@@ -3,10 +3,10 @@ use crate::job::ROOM;
 use crate::outputs::{event_word, takes_memory, written_after};
 use crate::runs::{Ran, Script, WholeRun, run_beside, run_without, told_cause};
 use std::alloc::Allocator;
-use tx_cases::{Stop, write_broken, write_count};
+use tx_cases::{tell, tell_broken, tell_count};
 use tx_jobs::JobFault;
 use tx_script::{RunCause, RunFault, Summary};
-use tx_text::{Sink, WriteFault, write_bytes};
+use tx_text::Sink;
 
 /// More than any case has of anything.
 const MANY: u64 = 1_000_000;
@@ -43,17 +43,16 @@ fn try_reads<A: Allocator + Copy, W: Sink>(
     text: Script<'_>,
     whole: WholeRun<'_>,
     out: &mut W,
-) -> Result<(), WriteFault> {
+) {
     for call in 1..MANY {
         let ran = run_beside(alloc, text, 1, Some(call), whole.text, ROOM);
         if !stopped(&ran, JobFault::Read, whole.text) {
             if !ran.is_as(whole) {
-                write_broken(b"run, failing call", call, out)?;
+                tell_broken(b"run, failing call", call, out);
             }
             break;
         }
     }
-    Ok(())
 }
 
 /// Gives the run each room that is too small.
@@ -62,15 +61,14 @@ fn try_rooms<A: Allocator + Copy, W: Sink>(
     text: Script<'_>,
     whole: WholeRun<'_>,
     out: &mut W,
-) -> Result<(), WriteFault> {
+) {
     for room in 0..whole.text.len() {
         let ran = run_beside(alloc, text, 4096, None, whole.text, room);
         if ran.written != room || !stopped(&ran, JobFault::Write, whole.text) {
-            write_broken(b"run, room", room as u64, out)?;
+            tell_broken(b"run, room", room as u64, out);
             break;
         }
     }
-    Ok(())
 }
 
 /// Whether memory may be wanted where the run stopped: in an event that takes memory, or, for the network or the reader, before the first.
@@ -96,7 +94,7 @@ fn try_refusals<A: Allocator + Copy, W: Sink>(
     text: Script<'_>,
     whole: WholeRun<'_>,
     out: &mut W,
-) -> Result<(), WriteFault> {
+) {
     for request in 1..MANY {
         let (ran, came) = run_without(alloc, text, request, whole.text);
         let keeps = if came {
@@ -105,21 +103,20 @@ fn try_refusals<A: Allocator + Copy, W: Sink>(
             ran.is_as(whole)
         };
         if !keeps {
-            write_broken(b"run, refused request", request, out)?;
+            tell_broken(b"run, refused request", request, out);
         }
         if !came || !keeps {
             break;
         }
     }
-    Ok(())
 }
 
-/// Writes what was counted of a run.
-pub(crate) fn write_summary<W: Sink>(summary: &Summary, out: &mut W) -> Result<(), WriteFault> {
-    write_count(b"-- ", summary.events, b" events, ", out)?;
-    write_count(b"", summary.refused, b" refused, ", out)?;
-    write_count(b"", summary.tickets, b" tickets, ", out)?;
-    write_count(b"", summary.open_calls, b" open\n", out)
+/// Tells what was counted of a run.
+pub(crate) fn tell_summary<W: Sink>(summary: &Summary, out: &mut W) {
+    tell_count(b"-- ", summary.events, b" events, ", out);
+    tell_count(b"", summary.refused, b" refused, ", out);
+    tell_count(b"", summary.tickets, b" tickets, ", out);
+    tell_count(b"", summary.open_calls, b" open\n", out);
 }
 
 /// Tries the laws of a run, and tells what it counted or where it stopped.
@@ -128,13 +125,13 @@ pub(crate) fn try_run_laws<A: Allocator + Copy, W: Sink>(
     text: Script<'_>,
     whole: WholeRun<'_>,
     out: &mut W,
-) -> Result<(), Stop> {
-    try_reads(alloc, text, whole, out)?;
-    try_rooms(alloc, text, whole, out)?;
-    try_refusals(alloc, text, whole, out)?;
+) {
+    try_reads(alloc, text, whole, out);
+    try_rooms(alloc, text, whole, out);
+    try_refusals(alloc, text, whole, out);
     match whole.end {
-        Ok(summary) => Ok(write_summary(&summary, out)?),
-        Err(RunFault { event: 0, cause: _ }) => Ok(write_bytes(b"-- no plan\n", out)?),
-        Err(fault) => Ok(write_count(b"-- stopped at event ", fault.event, b"\n", out)?),
+        Ok(summary) => tell_summary(&summary, out),
+        Err(RunFault { event: 0, cause: _ }) => tell(b"-- no plan\n", out),
+        Err(fault) => tell_count(b"-- stopped at event ", fault.event, b"\n", out),
     }
 }

@@ -1,7 +1,7 @@
 // Lists of what happens at each number, told by stretches of numbers at which the same happens.
-use tx_cases::{Stop, write_count};
+use tx_cases::{tell, tell_count};
 use tx_jobs::{JobFault, write_fault};
-use tx_text::{Sink, WriteFault, write_bytes};
+use tx_text::Sink;
 
 /// What happens at a number: the event and the bytes, where they are told, and the fault.
 #[derive(Clone, Copy, PartialEq, Eq)]
@@ -20,25 +20,27 @@ struct Stretch {
 }
 
 impl Stretch {
-    /// Writes the stretch as a line.
-    fn write<W: Sink>(&self, out: &mut W) -> Result<(), WriteFault> {
-        write_count(b"", self.from, b"", out)?;
-        write_count(b" to ", self.to, b": ", out)?;
-        self.happens.write(out)
+    /// Tells the stretch as a line.
+    fn tell<W: Sink>(&self, out: &mut W) {
+        tell_count(b"", self.from, b"", out);
+        tell_count(b" to ", self.to, b": ", out);
+        self.happens.tell(out);
     }
 }
 
 impl Happens {
-    fn write<W: Sink>(&self, out: &mut W) -> Result<(), WriteFault> {
+    fn tell<W: Sink>(&self, out: &mut W) {
         if let Some(event) = self.event {
-            write_count(b"event ", event, b", ", out)?;
+            tell_count(b"event ", event, b", ", out);
         }
         if let Some(bytes) = self.bytes {
-            write_count(b"", bytes, b" bytes, ", out)?;
+            tell_count(b"", bytes, b" bytes, ", out);
         }
         match self.fault {
-            Some(fault) => write_fault(&fault, out),
-            None => write_bytes(b"done\n", out),
+            Some(fault) => {
+                let _ = write_fault(&fault, out);
+            }
+            None => tell(b"done\n", out),
         }
     }
 }
@@ -54,19 +56,14 @@ impl Stretches {
         Stretches { open: None }
     }
 
-    /// Takes the next number. Where something else happens there than before, the stretch is written and a new one begins.
-    pub(crate) fn put<W: Sink>(
-        &mut self,
-        number: u64,
-        happens: Happens,
-        out: &mut W,
-    ) -> Result<(), Stop> {
+    /// Takes the next number. Where something else happens there than before, the stretch is told and a new one begins.
+    pub(crate) fn put<W: Sink>(&mut self, number: u64, happens: Happens, out: &mut W) {
         let mut from = number;
         if let Some(open) = self.open {
             if open.happens == happens {
                 from = open.from;
             } else {
-                open.write(out)?;
+                open.tell(out);
             }
         }
         self.open = Some(Stretch {
@@ -74,14 +71,12 @@ impl Stretches {
             to: number,
             happens,
         });
-        Ok(())
     }
 
-    /// Writes the last stretch.
-    pub(crate) fn end<W: Sink>(&self, out: &mut W) -> Result<(), Stop> {
-        match self.open {
-            Some(open) => Ok(open.write(out)?),
-            None => Ok(()),
+    /// Tells the last stretch.
+    pub(crate) fn end<W: Sink>(&self, out: &mut W) {
+        if let Some(open) = self.open {
+            open.tell(out);
         }
     }
 }

@@ -1,20 +1,19 @@
 // The laws of a job: however its sources cut the text, wherever an end fails, and whichever request for memory is refused.
 use crate::job::{Did, End, Ends, Job, ROOM, Task, Whole, do_task, done, done_without};
 use std::alloc::Allocator;
-use tx_cases::{Stop, write_broken, write_count};
+use tx_cases::{tell, tell_broken, tell_count, tell_parts};
 use tx_jobs::{JobFault, write_fault};
-use tx_text::{Sink, write_bytes, write_parts};
+use tx_text::Sink;
 
 /// More than any case has of anything.
 const MANY: u64 = 1_000_000;
 
 /// Tells what a job does: what it writes and its fault.
-pub(crate) fn tell<W: Sink>(whole: Whole<'_>, out: &mut W) -> Result<(), Stop> {
-    write_bytes(whole.text, out)?;
+pub(crate) fn tell_whole<W: Sink>(whole: Whole<'_>, out: &mut W) {
+    tell(whole.text, out);
     if let Err(fault) = whole.answer {
-        write_fault(&fault, out)?;
+        let _ = write_fault(&fault, out);
     }
-    Ok(())
 }
 
 /// Plays a task by sources of 1, 2, 7 and 4,096 bytes a call, which has to make no difference.
@@ -23,14 +22,13 @@ pub(crate) fn try_pieces<A: Allocator + Copy, W: Sink>(
     task: Task<'_>,
     whole: Whole<'_>,
     out: &mut W,
-) -> Result<(), Stop> {
+) {
     for piece in [1usize, 2, 7, 4096] {
         if !done(alloc, task, Ends::pieces(piece), whole.text, ROOM).is_as(whole) {
-            write_broken(b"not the same in pieces of", piece as u64, out)?;
+            tell_broken(b"not the same in pieces of", piece as u64, out);
             let _ = do_task(alloc, task, Ends::pieces(piece), out);
         }
     }
-    Ok(())
 }
 
 /// How many calls of a source a task makes, at one byte a call. Each of them, where it fails, has to make it a read fault.
@@ -40,18 +38,18 @@ fn reads<A: Allocator + Copy, W: Sink>(
     end: End,
     whole: Whole<'_>,
     out: &mut W,
-) -> Result<u64, Stop> {
+) -> u64 {
     for made in 0..MANY {
         let ends = Ends::failing(end, made.saturating_add(1));
         let did = done(alloc, task, ends, whole.text, ROOM);
         if !did.stopped(JobFault::Read) {
             if !did.is_as(whole) {
-                write_broken(b"calls of a source before it fails:", made, out)?;
+                tell_broken(b"calls of a source before it fails:", made, out);
             }
-            return Ok(made);
+            return made;
         }
     }
-    Ok(MANY)
+    MANY
 }
 
 /// Whether a task in a room does what it has to: a write fault behind so many bytes, where the room is too small.
@@ -69,15 +67,14 @@ fn try_rooms<A: Allocator + Copy, W: Sink>(
     task: Task<'_>,
     whole: Whole<'_>,
     out: &mut W,
-) -> Result<(), Stop> {
+) {
     for room in 0..=whole.text.len() {
         let did = done(alloc, task, Ends::pieces(4096), whole.text, room);
         if !keeps_to_room(&did, room, whole) {
-            write_broken(b"room", room as u64, out)?;
+            tell_broken(b"room", room as u64, out);
             break;
         }
     }
-    Ok(())
 }
 
 /// Refuses each request for memory in turn, which has to make the task want memory, until none is refused.
@@ -86,7 +83,7 @@ pub(crate) fn try_refusals<A: Allocator + Copy, W: Sink>(
     task: Task<'_>,
     whole: Whole<'_>,
     out: &mut W,
-) -> Result<(), Stop> {
+) {
     for request in 1..MANY {
         let (did, came) = done_without(alloc, task, request, whole.text);
         let keeps = if came {
@@ -95,13 +92,12 @@ pub(crate) fn try_refusals<A: Allocator + Copy, W: Sink>(
             did.is_as(whole) && request > 1
         };
         if !keeps {
-            write_broken(b"refused request", request, out)?;
+            tell_broken(b"refused request", request, out);
         }
         if !came || !keeps {
             break;
         }
     }
-    Ok(())
 }
 
 /// The name of a job.
@@ -139,18 +135,17 @@ fn tell_reads<A: Allocator + Copy, W: Sink>(
     task: Task<'_>,
     whole: Whole<'_>,
     out: &mut W,
-) -> Result<(), Stop> {
-    let first = reads(alloc, task, End::First, whole, out)?;
-    write_count(b", ", first, b"", out)?;
+) {
+    let first = reads(alloc, task, End::First, whole, out);
+    tell_count(b", ", first, b"", out);
     if sources(task.job) > 1 {
-        let second = reads(alloc, task, End::Second, whole, out)?;
-        write_count(b" and ", second, b"", out)?;
+        let second = reads(alloc, task, End::Second, whole, out);
+        tell_count(b" and ", second, b"", out);
     }
     if sources(task.job) > 2 {
-        let third = reads(alloc, task, End::Third, whole, out)?;
-        write_count(b" and ", third, b"", out)?;
+        let third = reads(alloc, task, End::Third, whole, out);
+        tell_count(b" and ", third, b"", out);
     }
-    Ok(())
 }
 
 /// Makes each end fail at each place. Tells a task's status, how many calls of its sources it makes and how many bytes it writes.
@@ -159,15 +154,15 @@ pub(crate) fn try_ends<A: Allocator + Copy, W: Sink>(
     task: Task<'_>,
     whole: Whole<'_>,
     out: &mut W,
-) -> Result<(), Stop> {
-    try_rooms(alloc, task, whole, out)?;
+) {
+    try_rooms(alloc, task, whole, out);
     let status = match whole.answer {
         Ok(status) => status,
         Err(fault) => fault.status(),
     };
-    write_parts(&[b"-- ", name(task.job)], out)?;
-    write_count(b": status ", u64::from(status), b"", out)?;
-    tell_reads(alloc, task, whole, out)?;
+    tell_parts(&[b"-- ", name(task.job)], out);
+    tell_count(b": status ", u64::from(status), b"", out);
+    tell_reads(alloc, task, whole, out);
     let bytes = whole.text.len() as u64;
-    Ok(write_count(b" reads, ", bytes, b" bytes\n", out)?)
+    tell_count(b" reads, ", bytes, b" bytes\n", out);
 }

@@ -1,12 +1,12 @@
 // Cases that run a script whole, and what is told beside that.
 use crate::job::ROOM;
 use crate::listings::{list_calls, list_rooms};
-use crate::run_laws::{try_run_laws, write_summary};
+use crate::run_laws::{tell_summary, try_run_laws};
 use crate::runs::{Script, WholeRun, run_pieces, told_cause};
 use std::alloc::Allocator;
-use tx_cases::{Stop, write_count};
+use tx_cases::{tell, tell_broken, tell_count};
 use tx_jobs::write_fault;
-use tx_text::{MemorySink, Sink, write_bytes};
+use tx_text::{MemorySink, Sink};
 
 /// What is told of a run.
 #[derive(Clone, Copy)]
@@ -22,24 +22,24 @@ pub(crate) enum Told {
 }
 
 /// Tells what a run writes, and what it counts or the event and the cause that stop it.
-fn tell_run<W: Sink>(whole: WholeRun<'_>, out: &mut W) -> Result<(), Stop> {
-    write_bytes(whole.text, out)?;
+fn tell_run<W: Sink>(whole: WholeRun<'_>, out: &mut W) {
+    tell(whole.text, out);
     match whole.end {
-        Ok(summary) => Ok(write_summary(&summary, out)?),
+        Ok(summary) => tell_summary(&summary, out),
         Err(fault) => {
-            write_count(b"event ", fault.event, b": ", out)?;
-            Ok(write_fault(&told_cause(fault.cause), out)?)
+            tell_count(b"event ", fault.event, b": ", out);
+            let _ = write_fault(&told_cause(fault.cause), out);
         }
     }
 }
 
-fn tell<A: Allocator + Copy, W: Sink>(
+fn tell_of<A: Allocator + Copy, W: Sink>(
     alloc: A,
     told: Told,
     text: Script<'_>,
     whole: WholeRun<'_>,
     out: &mut W,
-) -> Result<(), Stop> {
+) {
     match told {
         Told::Whole => tell_run(whole, out),
         Told::Laws => try_run_laws(alloc, text, whole, out),
@@ -54,14 +54,15 @@ pub(crate) fn play_run<A: Allocator + Copy, W: Sink>(
     told: Told,
     text: Script<'_>,
     out: &mut W,
-) -> Result<(), Stop> {
-    let mut written = MemorySink::new(alloc, ROOM)?;
+) {
+    let Ok(mut written) = MemorySink::new(alloc, ROOM) else {
+        return tell_broken(b"no memory", 0, out);
+    };
     let end = run_pieces(alloc, text, 7, None, &mut written);
     let whole = WholeRun {
         end,
         text: written.taken(),
     };
-    let told = tell(alloc, told, text, whole, out);
+    tell_of(alloc, told, text, whole, out);
     drop(written);
-    told
 }

@@ -2,11 +2,11 @@
 use crate::job::ROOM;
 use refusing::Refusing;
 use std::alloc::Allocator;
-use tx_cases::{Judge, Stop, write_broken};
+use tx_cases::{Judge, tell, tell_broken};
 use tx_cert::{Cert, CertFault, CertWord, read_cert, write_cert};
 use tx_plan::{CodeId, ExchangeId, Plan};
 use tx_plantext::{read_plan, write_plan};
-use tx_text::{FaultKind, FrameFault, LineFault, MemorySink, Sink, TextFault, write_bytes};
+use tx_text::{FaultKind, FrameFault, LineFault, MemorySink, Sink, TextFault};
 
 /// Whether two certificates of the plan give the same ranks.
 fn same_ranks<A: Allocator>(plan: &Plan<A>, one: &Cert<A>, other: &Cert<A>) -> bool {
@@ -42,12 +42,11 @@ fn read_back<A: Allocator + Copy, W: Sink>(
     cert: &Cert<A>,
     text: &[u8],
     out: &mut W,
-) -> Result<(), Stop> {
-    write_bytes(text, out)?;
+) {
+    tell(text, out);
     if !reads_as(alloc, plan, cert, text) {
-        write_broken(b"not read back", 0, out)?;
+        tell_broken(b"not read back", 0, out);
     }
-    Ok(())
 }
 
 /// Writes a certificate, and reads what was written.
@@ -56,14 +55,13 @@ fn write_and_read<A: Allocator + Copy, W: Sink>(
     plan: &Plan<A>,
     cert: &Cert<A>,
     out: &mut W,
-) -> Result<(), Stop> {
-    let mut written = MemorySink::new(alloc, ROOM)?;
-    let told = match write_cert(cert, plan, &mut written) {
-        Ok(()) => read_back(alloc, plan, cert, written.taken(), out),
-        Err(_) => Err(Stop::Write),
+) {
+    let Ok(mut written) = MemorySink::new(alloc, ROOM) else {
+        return tell_broken(b"no memory", 0, out);
     };
+    let _ = write_cert(cert, plan, &mut written);
+    read_back(alloc, plan, cert, written.taken(), out);
     drop(written);
-    told
 }
 
 fn write_back_cert<A: Allocator + Copy, W: Sink>(
@@ -71,14 +69,13 @@ fn write_back_cert<A: Allocator + Copy, W: Sink>(
     plan: &Plan<A>,
     cert: &[u8],
     out: &mut W,
-) -> Result<(), Stop> {
+) {
     match read_cert(alloc, cert, plan) {
         Ok(cert) => {
-            let told = write_and_read(alloc, plan, &cert, out);
+            write_and_read(alloc, plan, &cert, out);
             drop(cert);
-            told
         }
-        Err(_) => Ok(write_broken(b"no certificate", 0, out)?),
+        Err(_) => tell_broken(b"no certificate", 0, out),
     }
 }
 
@@ -116,23 +113,17 @@ fn wants<A: Allocator + Copy>(alloc: A, plan: &[u8], cert: &[u8]) -> bool {
 }
 
 /// Refuses each request for memory in turn.
-fn try_refusals<A: Allocator + Copy, W: Sink>(
-    alloc: A,
-    plan: &[u8],
-    cert: &[u8],
-    out: &mut W,
-) -> Result<(), Stop> {
+fn try_refusals<A: Allocator + Copy, W: Sink>(alloc: A, plan: &[u8], cert: &[u8], out: &mut W) {
     for request in 1..1_000_000u64 {
         let refusing = Refusing::new(alloc, request);
         let wants = wants(&refusing, plan, cert);
         if wants != refusing.has_refused() {
-            write_broken(b"certificate, refused request", request, out)?;
+            tell_broken(b"certificate, refused request", request, out);
         }
         if !wants {
             break;
         }
     }
-    Ok(())
 }
 
 /// Reads a certificate of a plan and writes it, reads back what was written, and refuses each request for memory.
@@ -141,69 +132,45 @@ pub(crate) fn play_cert<A: Allocator + Copy, W: Sink>(
     plan: &[u8],
     cert: &[u8],
     out: &mut W,
-) -> Result<(), Stop> {
-    write_back(alloc, plan, cert, out)?;
-    try_refusals(alloc, plan, cert, out)
+) {
+    write_back(alloc, plan, cert, out);
+    try_refusals(alloc, plan, cert, out);
 }
 
-fn write_back<A: Allocator + Copy, W: Sink>(
-    alloc: A,
-    plan: &[u8],
-    cert: &[u8],
-    out: &mut W,
-) -> Result<(), Stop> {
+fn write_back<A: Allocator + Copy, W: Sink>(alloc: A, plan: &[u8], cert: &[u8], out: &mut W) {
     match read_plan(alloc, plan) {
         Ok(plan) => {
-            let told = write_back_cert(alloc, &plan, cert, out);
+            write_back_cert(alloc, &plan, cert, out);
             drop(plan);
-            told
         }
-        Err(_) => Ok(write_broken(b"no plan", 0, out)?),
+        Err(_) => tell_broken(b"no plan", 0, out),
     }
 }
 
 /// Reads a plan and writes it: nothing where it is refused.
-fn write_again<A: Allocator + Copy, W: Sink>(
-    alloc: A,
-    plan: &[u8],
-    out: &mut W,
-) -> Result<(), Stop> {
-    match read_plan(alloc, plan) {
-        Ok(plan) => {
-            let written = write_plan(&plan, out);
-            drop(plan);
-            Ok(written?)
-        }
-        Err(_) => Ok(()),
+fn write_again<A: Allocator + Copy, W: Sink>(alloc: A, plan: &[u8], out: &mut W) {
+    if let Ok(plan) = read_plan(alloc, plan) {
+        let _ = write_plan(&plan, out);
+        drop(plan);
     }
 }
 
 /// Writes what was written for a plan, which is written the same again.
-fn tell_again<A: Allocator + Copy, W: Sink>(
-    alloc: A,
-    written: &[u8],
-    out: &mut W,
-) -> Result<(), Stop> {
-    write_bytes(written, out)?;
+fn tell_again<A: Allocator + Copy, W: Sink>(alloc: A, written: &[u8], out: &mut W) {
+    tell(written, out);
     let mut judge = Judge::new(written, ROOM);
-    write_again(alloc, written, &mut judge)?;
+    write_again(alloc, written, &mut judge);
     if !judge.is_whole() {
-        write_broken(b"not written the same again", 0, out)?;
+        tell_broken(b"not written the same again", 0, out);
     }
-    Ok(())
 }
 
 /// Reads a plan and writes it. What was written reads back, and is written the same.
-pub(crate) fn play_plan<A: Allocator + Copy, W: Sink>(
-    alloc: A,
-    plan: &[u8],
-    out: &mut W,
-) -> Result<(), Stop> {
-    let mut written = MemorySink::new(alloc, ROOM)?;
-    let told = match write_again(alloc, plan, &mut written) {
-        Ok(()) => tell_again(alloc, written.taken(), out),
-        Err(stop) => Err(stop),
+pub(crate) fn play_plan<A: Allocator + Copy, W: Sink>(alloc: A, plan: &[u8], out: &mut W) {
+    let Ok(mut written) = MemorySink::new(alloc, ROOM) else {
+        return tell_broken(b"no memory", 0, out);
     };
+    write_again(alloc, plan, &mut written);
+    tell_again(alloc, written.taken(), out);
     drop(written);
-    told
 }

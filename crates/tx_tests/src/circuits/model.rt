@@ -99,9 +99,7 @@ impl Held {
         match call.what {
             What::Seize => self.with_seized(call.end, true),
             What::Withdraw => self.with_seized(call.end, false),
-            What::GiveUp => self
-                .with_seized(call.end, false)
-                .released_unless(call.far),
+            What::GiveUp => self.with_seized(call.end, false).released_unless(call.far),
             What::Hold => Held {
                 carried: true,
                 out: self.out,
