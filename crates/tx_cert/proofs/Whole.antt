@@ -1,9 +1,9 @@
 -- A certificate keeps a place for each pair, and no rank above 65,535.
-use Rattle.std.proofs.Common.{◌≡◌, ℕ, ◌*◌, ◌≤◌, List, length, replicate, Option, Some, None, sym, ap, ◌∙◌, subst}
-use Rattle.std.specs.List.{slice_set, All}
+use Rattle.std.proofs.Common.{ℕ, ◌≤◌, Some, ◌∙◌}
+use Rattle.std.specs.List.{slice_set}
 use Rattle.std.specs.Option.{IfSome}
-use Rattle.std.proofs.lemmas.List.{length-set, length-replicate}
-use Rattle.std.proofs.lemmas.List.Elements.{All-set, All-replicate}
+use Rattle.std.proofs.lemmas.List.{length-set}
+use Rattle.std.proofs.lemmas.List.Elements.{All-set}
 use Rattle.tx_cert.specs.Certificate.{Certificate, IsWhole}
 
 pub whole_set : (t : Certificate) (i r : ℕ) → IsWhole t → r ≤ 65535 → IsWhole (record t { ranks = slice_set t.ranks i (Some r) })

@@ -1,26 +1,19 @@
 -- A free circuit is put behind all others of a list that holds those below it.
-use Rattle.std.proofs.Common.{◌≡◌, ◌≢◌, ◌∙◌, ℕ, ◌+◌, ◌-◌, ◌<◌, ◌≤◌, ◌⊎◌, inl, inr, Bool, true, false, Option, Some, None, refl, sym, ap, subst, arith, eqb}
+use Rattle.std.proofs.Common.{◌≡◌, ◌≢◌, ◌∙◌, ℕ, ◌+◌, ◌-◌, ◌<◌, ◌≤◌, ◌⊎◌, inl, inr, Bool, true, false, Option, Some, None, refl, sym, ap, arith}
 use Rattle.std.specs.Prelude.{nat_lt, ◌&&◌, unwrap_or}
-use Rattle.std.proofs.lemmas.Bool.{and_parts, and_from}
+use Rattle.std.proofs.lemmas.Bool.{and_parts, and_from, and_right}
 use Rattle.std.proofs.lemmas.Bool.Decides.{eqb_tells, nat_tests}
-use Rattle.tx_circuits.specs.declared.free_lists.Way.{Way}
+use Rattle.tx_entries.proofs.Lists.{below}
 use Rattle.tx_circuits.specs.declared.free_lists.Way.TheVariants.{Up, Down}
 use Rattle.tx_circuits.specs.inner.Linked.{IsFirst, IsLast}
 use Rattle.tx_circuits.specs.inner.Slots.{until, rank_of}
 use Rattle.tx_circuits.proofs.Linked.{le_or}
 
-lt_true : (k n : ℕ) → k < n → nat_lt k n ≡ true
-lt_true k n h = grind (arith, nat_tests)
-
 lt_false : (k n : ℕ) → n ≤ k → nat_lt k n ≡ false
 lt_false k n h = grind (arith, nat_tests)
 
 ltb_tells : (k n : ℕ) → ((nat_lt k n ≡ true) × (k < n)) ⊎ ((nat_lt k n ≡ false) × (n ≤ k))
-ltb_tells k n = elim (le_or n k) [ inl y ↦ inr (lt_false k n y, y) | inr y ↦ inl (lt_true k n y, y) ]
-
-and_false : (a b : Bool) → b ≡ false → (a && b) ≡ false
-and_false true b e = e
-and_false false b e = refl
+ltb_tells k n = elim (le_or n k) [ inl y ↦ inr (lt_false k n y, y) | inr y ↦ inl (below k n y, y) ]
 
 module _ (free : ℕ → Bool) where
   pub until_is : (n k : ℕ) → until n free k ≡ true → (k < n) × (free k ≡ true)
@@ -44,12 +37,12 @@ module _ (free : ℕ → Bool) where
     -- the next place alone may come new
     pub until_other : (k : ℕ) → k ≢ i → until (i + 1) free k ≡ until i free k
     until_other k ne = elim (ltb_tells k i) [
-      | inl a ↦ ap (λ b. b && free k) (lt_true k (i + 1) (let c : k < i = a.1 in omega arith) ∙ sym a.0)
+      | inl a ↦ ap (λ b. b && free k) (below k (i + 1) (let c : k < i = a.1 in omega arith) ∙ sym a.0)
       | inr b ↦ ap (λ x. x && free k) (lt_false k (i + 1) (let c : i ≤ k = b.1 in omega arith) ∙ sym b.0)
     ]
 
     pub until_now : free i ≡ true → until (i + 1) free i ≡ true
-    until_now f = and_from (nat_lt i (i + 1)) (free i) (lt_true i (i + 1) (omega arith)) f
+    until_now f = and_from (nat_lt i (i + 1)) (free i) (below i (i + 1) (omega arith)) f
 
     pub until_before : until i free i ≡ false
     until_before = ap (λ b. b && free i) (lt_false i i (omega arith))
@@ -57,7 +50,7 @@ module _ (free : ℕ → Bool) where
     -- where the next place is not free, there is no new one
     pub until_skips : free i ≡ false → (k : ℕ) → until i free k ≡ until (i + 1) free k
     until_skips f k = elim (eqb_tells k i) [
-      | inl e ↦ (let none : free k ≡ false = ap free e.1 ∙ f in and_false (nat_lt k i) (free k) none ∙ sym (and_false (nat_lt k (i + 1)) (free k) none))
+      | inl e ↦ (let none : free k ≡ false = ap free e.1 ∙ f in and_right (nat_lt k i) (free k) none ∙ sym (and_right (nat_lt k (i + 1)) (free k) none))
       | inr d ↦ sym (until_other k d.1)
     ]
 

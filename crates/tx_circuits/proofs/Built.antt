@@ -1,9 +1,8 @@
 -- A table as it is built.
-use Rattle.std.proofs.Common.{◌≡◌, ◌∙◌, ℕ, zero, suc, ◌+◌, ◌<◌, Bool, true, false, List, [], ◌∷◌, ◌++◌, length, map, take, Option, Some, None, refl, sym, ap, arith}
+use Rattle.std.proofs.Common.{◌≡◌, ◌∙◌, ℕ, zero, suc, ◌+◌, Bool, false, List, [], ◌∷◌, ◌++◌, length, map, take, Option, Some, None, refl, ap}
 use Rattle.std.specs.Prelude.{slice_get, option_and_then, replicate}
 use Rattle.std.specs.Option.{option_map, option_map_or}
 use Rattle.std.specs.Cmp.{nat_cmp_total}
-use Rattle.std.specs.Ordering.{nat_cmp}
 use Rattle.std.proofs.lemmas.Option.{slice_get-map}
 use Rattle.std.proofs.lemmas.List.{length-replicate}
 use Rattle.std.proofs.lemmas.Map.Lookups.{exact_unsigned}
@@ -17,8 +16,8 @@ use Rattle.tx_circuits.specs.declared.free_lists.End.TheVariants.{First, Other}
 use Rattle.tx_circuits.specs.declared.state.State.{State}
 use Rattle.tx_circuits.specs.declared.group_head.GroupHead.{GroupHead}
 use Rattle.tx_circuits.specs.inner.Slots.{has_seized, rising}
-use Rattle.tx_circuits.specs.inner.Groups.{GroupState, state_at, numbered, end_at, idle}
-use Rattle.tx_circuits.specs.Table.{Seat, Table, all_free, unnamed}
+use Rattle.tx_circuits.specs.inner.Groups.{GroupState, numbered, end_at, idle}
+use Rattle.tx_circuits.specs.Table.{Seat, all_free, unnamed}
 use Rattle.tx_circuits.specs.inner.Seen.{group_of, circuits_of, seats_of, gathered, is_marked, holds, sits, table_of}
 use Rattle.tx_circuits.proofs.Seats.{seats_total, exact_seats}
 use Rattle.tx_circuits.proofs.Those.{those_none}
@@ -83,12 +82,6 @@ fresh_push (g ∷ gs) zero r e = ap (λ (o : Option Group). fresh (or_g o) ∷ [
     or_g None = g
     or_g (Some w) = w
 fresh_push (g ∷ gs) (suc k) r e = ap (λ (l : List GroupState). fresh g ∷ l) (fresh_push gs k r e)
-
--- a list has an entry at each place
-pub entry : {A : Type 0} (xs : List A) (k : ℕ) → k < length xs → (x : A) × (slice_get xs k ≡ Some x)
-entry [] k h = absurd (omega arith)
-entry (x ∷ xs) zero h = (x, refl)
-entry (x ∷ xs) (suc k) h = entry xs k (omega arith)
 
 -- a group as the plan's readers tell it
 pub fresh_is : (p : Plan) (k : ℕ) (r : Group) → slice_get p.groups k ≡ Some r

@@ -1,14 +1,13 @@
 -- What the sets are after one circuit has got another state.
-use Rattle.std.proofs.Common.{◌≡◌, ◌≢◌, ◌∙◌, ℕ, zero, suc, ◌+◌, ◌<◌, ◌⊎◌, inl, inr, Bool, true, false, ◌==◌, List, [], ◌∷◌, length, map, Option, Some, None, refl, sym, ap, subst, slice_set, arith, length-set}
-use Rattle.std.specs.Prelude.{slice_get, is_some, option_and_then, not, ◌&&◌}
+use Rattle.std.proofs.Common.{◌≡◌, ◌≢◌, ◌∙◌, ℕ, zero, suc, ◌<◌, ◌⊎◌, inl, inr, Bool, true, false, List, [], ◌∷◌, length, map, Option, Some, None, refl, sym, ap, subst, arith, length-set}
+use Rattle.std.specs.Prelude.{slice_get, option_and_then, not, ◌&&◌}
 use Rattle.std.specs.Option.{option_map, option_map_or}
-use Rattle.std.specs.FinSet.{FinSet, insert, remove, retain}
+use Rattle.std.specs.FinSet.{insert, remove, retain}
 use Rattle.std.specs.Cmp.{nat_cmp_total}
 use Rattle.std.specs.Ordering.{nat_cmp}
 use Rattle.std.proofs.lemmas.Bool.Decides.{eqb_tells}
-use Rattle.std.proofs.lemmas.Option.{slice_get-map}
 use Rattle.std.proofs.lemmas.Map.Lookups.{exact_unsigned}
-use Rattle.tx_plan.specs.Plan.{Group}
+use Rattle.std.proofs.Math.Bool.{and-true, and-false}
 use Rattle.tx_plan.specs.Orders.{same_circuit, circuit_cmp}
 use Rattle.tx_entries.specs.declared.circuit.Circuit.{Circuit}
 use Rattle.tx_entries.proofs.Named.{circuits_total, exact_circuits, same_circuit-is, same_circuit-itself}
@@ -19,9 +18,9 @@ use Rattle.tx_circuits.specs.declared.group_head.GroupHead.{GroupHead}
 use Rattle.tx_circuits.specs.inner.Slots.{has_seized, opposite, rising}
 use Rattle.tx_rows.specs.Rows.{change_at}
 use Rattle.tx_circuits.specs.inner.Groups.{GroupState, state_at, numbered, set_numbered, seizing_end, end_at, with_state}
-use Rattle.tx_circuits.specs.Table.{Seat, seat_cmp, Table}
-use Rattle.tx_circuits.specs.inner.Seen.{those, group_of, circuits_of, seats_of, gathered, is_marked, holds, sits, table_of}
-use Rattle.tx_rows.proofs.Lists.{get-change_here, get-change_there, get-set_here, get-set_there, length-change}
+use Rattle.tx_circuits.specs.Table.{Seat, seat_cmp}
+use Rattle.tx_circuits.specs.inner.Seen.{those, group_of, circuits_of, seats_of, gathered, is_marked, holds, sits}
+use Rattle.tx_rows.proofs.Lists.{get-change_here, get-change_there, get-set_here, get-set_there}
 use Rattle.tx_circuits.proofs.Members.{Known, holds_in, sits_in, marked_in, end_is}
 use Rattle.tx_circuits.proofs.Seats.{seats_total, exact_seats}
 use Rattle.tx_circuits.proofs.Those.{those_stay, those_inserted, those_removed, those_retained}
@@ -195,20 +194,12 @@ module _ (ts : List GroupState) (c : Circuit) (known : Known ts c) (s to : State
       those_retained seats_total exact_seats (sits ts) (sits after) (gathered seats_of 0 ts) (gathered seats_of 0 after) (sits_in ts) (sits_in after) (λ q. not (same_circuit q.0 c))
       (λ q. elim (same_circuit q.0 c) as (λ b. same_circuit q.0 c ≡ b → sits after q ≡ (sits ts q && not b)) [
         | true ↦ λ e. seat_as q (same_circuit-is q.0 c e) (end_at ts c.group q.1) refl (λ a b. a ≡ (b && false)) (each (end_at ts c.group q.1))
-        | false ↦ λ e. seats_there q (λ x. let bad : true ≡ false = sym (ap (λ z. same_circuit z c) x ∙ same_circuit-itself c) ∙ e in absurd cc) ∙ and_true (sits ts q)
+        | false ↦ λ e. seats_there q (λ x. let bad : true ≡ false = sym (ap (λ z. same_circuit z c) x ∙ same_circuit-itself c) ∙ e in absurd cc) ∙ sym (and-true (sits ts q))
       ] refl)
     where
-      and_true : (b : Bool) → b ≡ (b && true)
-      and_true true = refl
-      and_true false = refl
-
-      and_none : (b : Bool) → false ≡ (b && false)
-      and_none true = refl
-      and_none false = refl
-
       each : (o : Option End) → option_map_or (λ end. has_seized end to) o false ≡ (option_map_or (λ end. has_seized end s) o false && false)
       each None = refl
-      each (Some end) = none end ∙ and_none (has_seized end s)
+      each (Some end) = none end ∙ sym (and-false (has_seized end s))
 
   -- one end has changed
   module _ (x : ℕ) (end : End) (at : end_at ts c.group x ≡ Some end) (far : has_seized (opposite end) to ≡ has_seized (opposite end) s) where

@@ -1,5 +1,5 @@
 -- The head of a free list is the first free place, as the end looks.
-use Rattle.std.proofs.Common.{◌≡◌, ◌∙◌, ℕ, Bool, true, false, cond, List, [], ◌∷◌, length, map, Option, Some, None, refl, sym, ap}
+use Rattle.std.proofs.Common.{◌≡◌, ◌∙◌, ℕ, Bool, true, false, cond, List, [], ◌∷◌, length, map, Option, Some, None, sym, ap}
 use Rattle.std.specs.Prelude.{filter, find}
 use Rattle.std.proofs.lemmas.List.{length-map}
 use Rattle.tx_circuits.specs.declared.free_lists.End.{End}

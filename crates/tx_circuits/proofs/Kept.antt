@@ -1,17 +1,17 @@
 -- The groups stand in rows: one changes, and the others stay.
-use Rattle.std.proofs.Common.{◌≡◌, ◌≢◌, ◌∙◌, ℕ, zero, suc, ◌-◌, ◌<◌, ◌≤◌, ◌⊎◌, inl, inr, Bool, true, false, List, [], ◌∷◌, ◌++◌, length, map, find, Option, Some, None, slice_set, refl, sym, ap, subst, arith}
+use Rattle.std.proofs.Common.{◌≡◌, ◌∙◌, ℕ, zero, suc, ◌-◌, ◌<◌, ◌≤◌, inl, inr, Bool, true, false, List, [], ◌∷◌, ◌++◌, length, map, find, Option, Some, None, slice_set, refl, sym, ap, subst, arith}
 use Rattle.std.specs.Prelude.{slice_get, is_some, option_and_then, replicate, cond}
 use Rattle.std.specs.Option.{option_map, option_or}
 use Rattle.std.specs.List.{between}
 use Rattle.std.proofs.lemmas.Bool.Decides.{eqb_tells}
-use Rattle.std.proofs.lemmas.List.{length-map, length-replicate}
+use Rattle.std.proofs.lemmas.List.{length-map, length-replicate, map_push}
 use Rattle.std.proofs.lemmas.List.Folds.{find-append}
 use Rattle.std.proofs.lemmas.Option.{slice_get-map}
 use Rattle.tx_entries.specs.declared.circuit.Circuit.{Circuit}
 use Rattle.tx_rows.specs.declared.late_rows.LateRows.{LateRows}
 use Rattle.tx_rows.specs.Rows.{Row as RowOf, change_at, item_at}
 use Rattle.tx_rows.specs.inner.Kept.{rows_in, AreRowsKept, IsAt}
-use Rattle.tx_rows.proofs.Lists.{get_within, get-change_here, get-change_there, pushed_is, some_is, map-push, change_twice}
+use Rattle.tx_rows.proofs.Lists.{get-change_here, get-change_there, pushed_is, some_is, change_twice}
 use Rattle.tx_rows.proofs.Parts.{part_is, with_part, part_rows}
 use Rattle.tx_circuits.specs.declared.slot.Slot.{Slot}
 use Rattle.tx_circuits.specs.declared.state.State.{State}
@@ -20,8 +20,8 @@ use Rattle.tx_circuits.specs.declared.group_head.GroupHead.{GroupHead}
 use Rattle.tx_circuits.specs.declared.free_lists.End.{End}
 use Rattle.tx_circuits.specs.declared.free_lists.FreeLists.{FreeLists}
 use Rattle.tx_circuits.specs.declared.free_lists.End.TheVariants.{First, Other}
-use Rattle.tx_circuits.specs.inner.Slots.{state_of, is_free, free_in, rising, falling, in_order, chain, list_of, IsSound}
-use Rattle.tx_circuits.specs.inner.Groups.{GroupState, group_state, state_at, numbered, set_numbered, first_place, way_of, idle, whole_list, whole_lists, AreListed, AreGroupsKept}
+use Rattle.tx_circuits.specs.inner.Slots.{state_of, free_in, rising, falling, in_order, chain, list_of, IsSound}
+use Rattle.tx_circuits.specs.inner.Groups.{GroupState, group_state, state_at, numbered, set_numbered, first_place, way_of, idle, whole_lists, AreListed, AreGroupsKept}
 use Rattle.tx_circuits.proofs.Heads.{first_place_is}
 
 pub number_in : {A : Type 0} (xs : List A) (n : ℕ) → is_some (numbered xs n) ≡ true → (m : ℕ) × (n ≡ suc m) × (m < length xs)
@@ -131,7 +131,7 @@ module _ {A : Type 0} (l l' : LateRows Row Slot A) (kept : AreGroupsKept l) (row
 
     pub view_added : (now : List GroupState) → map group_state (rows_in l) ≡ now → map group_state (rows_in l') ≡ now ++ record { head = head; states = replicate count idle } ∷ []
     view_added now view =
-        ap (map group_state) is ∙ map-push group_state (rows_in l) (record { head = record { head = head; lists = lists; linked = false }; items = replicate count l.idle })
+        ap (map group_state) is ∙ map_push group_state (rows_in l) (record { head = record { head = head; lists = lists; linked = false }; items = replicate count l.idle })
         ∙ (λ i. view i ++ record { head = head; states = states i } ∷ [])
 
 -- its head

@@ -1,8 +1,9 @@
 -- What the groups hold is among all their circuits and ends.
-use Rattle.std.proofs.Common.{◌≡◌, ◌≢◌, ◌∙◌, ℕ, zero, suc, ◌+◌, ◌<◌, ◌≤◌, ◌⊎◌, inl, inr, Bool, true, false, ◌==◌, List, [], ◌∷◌, ◌++◌, length, map, Option, Some, None, refl, sym, ap, subst, arith, eqb-true}
+use Rattle.std.proofs.Common.{◌≡◌, ◌∙◌, ℕ, zero, suc, ◌+◌, ◌<◌, ◌⊎◌, inl, inr, Bool, true, false, ◌==◌, List, [], ◌∷◌, length, map, Option, Some, None, refl, sym, ap, subst, arith, eqb-true}
 use Rattle.std.specs.Prelude.{slice_get, is_some, option_and_then, if◌then◌else◌, ◌&&◌}
-use Rattle.std.specs.Option.{option_map, option_map_or}
+use Rattle.std.specs.Option.{option_map_or}
 use Rattle.std.proofs.lemmas.Bool.{and_parts}
+use Rattle.std.proofs.lemmas.Option.{slice_get_within}
 use Rattle.tx_plan.specs.Circuits.{upward, is_both}
 use Rattle.tx_entries.specs.declared.circuit.Circuit.{Circuit}
 use Rattle.tx_circuits.specs.declared.free_lists.End.{End}
@@ -16,7 +17,6 @@ use Rattle.tx_circuits.specs.Table.{Seat}
 use Rattle.tx_circuits.specs.inner.Seen.{circuits_of, seats_of, gathered, is_marked, holds, sits}
 use Rattle.tx_circuits.proofs.Ordered.{In, from_left, from_right, member}
 use Rattle.tx_circuits.proofs.Linked.{le_or}
-use Rattle.tx_rows.proofs.Lists.{get_within}
 use Rattle.tx_circuits.proofs.Kept.{number_in}
 
 -- where a circuit is among the groups
@@ -108,9 +108,12 @@ sits_in ts s h = by_end (end_at ts s.0.group s.1) refl h
         let seizes : seizing_end k.group.head s.1 ≡ Some end = ap (option_and_then (λ t. seizing_end t.head s.1)) (sym k.at) ∙ e in
         in_gathered seats_of ts 0 s.0.group s.0.group k.group s (omega arith) k.at (seat k k.group.head end refl (end_is k.group.head s.1 end seizes))
 
-pub marked_in : (test : GroupHead → Bool) (ts : List GroupState) (g : ℕ) → is_marked test ts g ≡ true → In (rising (length ts)) g
-marked_in test ts g h = member Up (length ts) g (inside (slice_get ts g) refl (some_from (λ t. test t.head) (slice_get ts g) h))
+pub marked_within : (test : GroupHead → Bool) (ts : List GroupState) (g : ℕ) → is_marked test ts g ≡ true → g < length ts
+marked_within test ts g h = inside (slice_get ts g) refl (some_from (λ t. test t.head) (slice_get ts g) h)
   where
     inside : (o : Option GroupState) → slice_get ts g ≡ o → is_some o ≡ true → g < length ts
     inside None e k = absurd cc
-    inside (Some t) e k = get_within ts g t e
+    inside (Some t) e k = slice_get_within ts g t e
+
+pub marked_in : (test : GroupHead → Bool) (ts : List GroupState) (g : ℕ) → is_marked test ts g ≡ true → In (rising (length ts)) g
+marked_in test ts g h = member Up (length ts) g (marked_within test ts g h)

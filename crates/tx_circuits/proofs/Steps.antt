@@ -4,21 +4,21 @@ use Rattle.std.specs.Prelude.{slice_get, is_some, option_and_then, IfSome}
 use Rattle.std.specs.Option.{option_map, option_map_or}
 use Rattle.std.specs.FinSet.{contains}
 use Rattle.std.proofs.lemmas.List.{length-map}
+use Rattle.std.proofs.lemmas.Bool.{false_from_ne_true}
+use Rattle.std.proofs.lemmas.Option.{slice_get_within}
 use Rattle.tx_plan.specs.Circuits.{is_circuit, may_seize}
 use Rattle.tx_entries.specs.declared.circuit.Circuit.{Circuit}
 use Rattle.tx_circuits.specs.declared.free_lists.End.{End}
-use Rattle.tx_circuits.specs.declared.state.State.{State}
 use Rattle.tx_circuits.specs.declared.group_head.GroupHead.{GroupHead}
 use Rattle.tx_circuits.specs.inner.Slots.{has_seized}
 use Rattle.tx_circuits.specs.inner.Groups.{GroupState, state_at, end_at, seizing_end, first_place}
 use Rattle.tx_circuits.specs.Table.{Table, plan_of, IsSeizedBy}
 use Rattle.tx_circuits.specs.inner.Seen.{group_of, is_marked, holds, sits, table_of}
-use Rattle.tx_rows.proofs.Lists.{get_within}
-use Rattle.tx_circuits.proofs.Members.{Known, known, some_from, end_is}
+use Rattle.tx_circuits.proofs.Members.{known, some_from, end_is, marked_within}
 use Rattle.tx_circuits.proofs.Reading.{contains_circuits, contains_seats, contains_marks, circuit_known, end_known}
 
 pub state_in : (ts : List GroupState) (c : Circuit) → is_some (state_at ts c) ≡ true → c.group < length ts
-state_in ts c h = (let k = known ts c h in get_within ts c.group k.group k.at)
+state_in ts c h = (let k = known ts c h in slice_get_within ts c.group k.group k.at)
 
 -- a test of a group's head
 pub head_read : (test : GroupHead → Bool) (o : Option GroupState) → option_map_or (λ t. test t.head) o false ≡ option_map_or test (option_map (λ t. t.head) o) false
@@ -45,13 +45,6 @@ module _ (ts : List GroupState) (now : Table) (view : table_of ts ≡ now) where
   pub group_in : (g : ℕ) → g < length now.groups → g < length ts
   group_in g h = (let a : length (map group_of ts) ≡ length now.groups = ap (λ (t : Table). length t.groups) view in let b : length (map group_of ts) ≡ length ts = length-map ts group_of in omega arith)
 
-  inside : (test : GroupHead → Bool) (g : ℕ) → is_marked test ts g ≡ true → g < length ts
-  inside test g h = by_group (slice_get ts g) refl (some_from (λ t. test t.head) (slice_get ts g) h)
-    where
-      by_group : (o : Option GroupState) → slice_get ts g ≡ o → is_some o ≡ true → g < length ts
-      by_group None e k = absurd cc
-      by_group (Some t) e k = get_within ts g t e
-
   pub failed_is_marked : (g : ℕ) → contains now.failed g ≡ is_marked (λ t. t.failed) ts g
   failed_is_marked g = ap (λ (t : Table). contains t.failed g) (sym view) ∙ contains_marks (λ t. t.failed) ts g
 
@@ -71,10 +64,10 @@ module _ (ts : List GroupState) (now : Table) (view : table_of ts ≡ now) where
   seized_sits c x = ap (λ (t : Table). contains t.seized (c, x)) (sym view) ∙ contains_seats ts (c, x)
 
   pub failed_in : (g : ℕ) → contains now.failed g ≡ true → g < length ts
-  failed_in g h = inside (λ t. t.failed) g (sym (failed_is_marked g) ∙ h)
+  failed_in g h = marked_within (λ t. t.failed) ts g (sym (failed_is_marked g) ∙ h)
 
   pub blocked_in : (g : ℕ) → contains now.blocked g ≡ true → g < length ts
-  blocked_in g h = inside (λ t. t.blocked) g (sym (blocked_is_marked g) ∙ h)
+  blocked_in g h = marked_within (λ t. t.blocked) ts g (sym (blocked_is_marked g) ∙ h)
 
   pub circuit_is : (c : Circuit) → is_circuit (plan_of now) c ≡ is_some (state_at ts c)
   circuit_is c = ap (λ (t : Table). is_circuit (plan_of t) c) (sym view) ∙ circuit_known ts c
@@ -117,14 +110,10 @@ module _ (ts : List GroupState) (now : Table) (view : table_of ts ≡ now) where
       by_group None f = refl
       by_group (Some t) f = absurd cc
 
-not_yet : (b : Bool) → (b ≡ true → ⊥) → b ≡ false
-not_yet true h = absurd (h refl)
-not_yet false h = refl
-
 -- where neither of two exchanges has it, and no other may, nobody has
 pub unseized : (now : Table) (c : Circuit) (a b : ℕ) → ((x : ℕ) → contains now.seized (c, x) ≡ true → (x ≡ a) ⊎ (x ≡ b)) → contains now.seized (c, a) ≡ false → contains now.seized (c, b) ≡ false
     → (x : ℕ) → contains now.seized (c, x) ≡ false
-unseized now c a b ends f g x = not_yet (contains now.seized (c, x)) (λ h. elim (ends x h) [
+unseized now c a b ends f g x = false_from_ne_true (contains now.seized (c, x)) (λ h. elim (ends x h) [
   | inl e ↦ (let bad : true ≡ false = sym h ∙ ap (λ y. contains now.seized (c, y)) e ∙ f in absurd cc)
   | inr e ↦ (let bad : true ≡ false = sym h ∙ ap (λ y. contains now.seized (c, y)) e ∙ g in absurd cc)
 ])

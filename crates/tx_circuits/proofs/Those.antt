@@ -1,13 +1,14 @@
 -- The members of a list that pass a test, as a set: what it contains, and what becomes of it where the test changes.
-use Rattle.std.specs.Prelude.{◌≡◌, ◌≢◌, ℕ, Bool, true, false, not, ◌&&◌, ◌||◌, List, [], ◌∷◌, filter, ◌⊎◌}
+use Rattle.std.specs.Prelude.{◌≡◌, ◌≢◌, Bool, true, false, not, ◌&&◌, ◌||◌, List, [], ◌∷◌, filter, ◌⊎◌}
 use Rattle.std.specs.Ordering.{eq_by_cmp, is_eq}
 use Rattle.std.specs.declared.cmp.Ordering.{Ordering}
 use Rattle.std.specs.declared.cmp.Ordering.TheVariants.{Equal}
 use Rattle.std.specs.Cmp.{IsTotalOrder, Equal-is}
 use Rattle.std.specs.List.{list_any}
-use Rattle.std.specs.FinSet.{FinSet, empty, contains, insert, remove, retain, from_list, same_set, contains-empty, contains-insert, contains-remove, contains-retain, contains-from_list}
-use Rattle.std.proofs.Common.{refl, sym, ap, subst, ◌∙◌, inl, inr, cond}
+use Rattle.std.specs.FinSet.{empty, contains, insert, remove, retain, same_set, contains-empty, contains-insert, contains-remove, contains-retain, contains-from_list}
+use Rattle.std.proofs.Common.{refl, sym, ap, ◌∙◌, inl, inr, cond}
 use Rattle.std.proofs.lemmas.Cmp.{tied_itself}
+use Rattle.std.proofs.Math.Bool.{or-true, and-false}
 use Rattle.tx_circuits.specs.inner.Seen.{those}
 use Rattle.tx_circuits.proofs.Ordered.{In}
 
@@ -28,20 +29,12 @@ module _ {K : Type 0} {R : K → K → Ordering} (o : IsTotalOrder R) (exact : (
   any_of : (q : K) (xs : List K) → In xs q → list_any (eq_by_cmp R q) xs ≡ true
   any_of q [] i = absurd i
   any_of q (x ∷ xs) (inl e) = ap (λ b. b || list_any (eq_by_cmp R q) xs) (tied q x (sym e))
-  any_of q (x ∷ xs) (inr i) = ap (λ b. eq_by_cmp R q x || b) (any_of q xs i) ∙ or_true (eq_by_cmp R q x)
-    where
-      or_true : (b : Bool) → (b || true) ≡ true
-      or_true true = refl
-      or_true false = refl
+  any_of q (x ∷ xs) (inr i) = ap (λ b. eq_by_cmp R q x || b) (any_of q xs i) ∙ or-true (eq_by_cmp R q x)
 
   module _ (p : K → Bool) where
     -- in the list of those that pass, and in the list, and passing
     any_filter : (q : K) (xs : List K) → list_any (eq_by_cmp R q) (filter p xs) ≡ (p q && list_any (eq_by_cmp R q) xs)
-    any_filter q [] = none (p q)
-      where
-        none : (b : Bool) → false ≡ (b && false)
-        none true = refl
-        none false = refl
+    any_filter q [] = sym (and-false (p q))
     any_filter q (x ∷ xs) = step q x xs (any_filter q xs) (tells q x)
       where
         skip : (q x : K) (xs : List K) (ih : list_any (eq_by_cmp R q) (filter p xs) ≡ (p q && list_any (eq_by_cmp R q) xs)) (b : Bool) → p x ≡ b → eq_by_cmp R q x ≡ false

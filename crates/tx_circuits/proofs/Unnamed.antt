@@ -1,10 +1,10 @@
 -- A plan and its groups without their names have the same circuits, and the same ends may seize them.
-use Rattle.std.proofs.Common.{◌≡◌, ◌∙◌, ℕ, Bool, false, List, [], map, Option, Some, None, refl, ap}
-use Rattle.std.specs.Prelude.{slice_get, option_and_then, ◌&&◌, nat_le}
+use Rattle.std.proofs.Common.{◌≡◌, ◌∙◌, ℕ, false, List, [], map, Option, Some, None, refl, ap}
+use Rattle.std.specs.Prelude.{slice_get, ◌&&◌, nat_le}
 use Rattle.std.specs.Option.{option_map, option_map_or}
 use Rattle.std.proofs.lemmas.Option.{slice_get-map}
 use Rattle.tx_plan.specs.Plan.{Plan, Group}
-use Rattle.tx_plan.specs.Circuits.{is_circuit, may_seize, may_seize_row, other_end, far_end, circuits_at, order_at}
+use Rattle.tx_plan.specs.Circuits.{is_circuit, may_seize, may_seize_row, circuits_at, order_at}
 use Rattle.tx_entries.specs.declared.circuit.Circuit.{Circuit}
 use Rattle.tx_circuits.specs.Table.{Table, plan_of, unnamed}
 

@@ -1,5 +1,5 @@
 -- Each change of the groups is one change of the sets.
-use Rattle.std.proofs.Common.{◌≡◌, ◌≢◌, ◌∙◌, ℕ, zero, suc, ◌<◌, ◌⊎◌, inl, inr, Bool, true, false, ◌==◌, List, [], ◌∷◌, length, map, Option, Some, None, refl, sym, ap, subst, arith}
+use Rattle.std.proofs.Common.{◌≡◌, ◌≢◌, ◌∙◌, ℕ, zero, suc, ◌<◌, inl, inr, Bool, true, false, ◌==◌, List, [], ◌∷◌, length, map, Option, Some, None, refl, sym, ap, subst, arith}
 use Rattle.std.specs.Prelude.{slice_get, is_some, option_and_then, not, ◌&&◌}
 use Rattle.std.specs.Option.{option_map, option_map_or}
 use Rattle.std.specs.FinSet.{FinSet, insert, remove, retain}
@@ -7,7 +7,7 @@ use Rattle.std.specs.Cmp.{nat_cmp_total}
 use Rattle.std.specs.Ordering.{nat_cmp}
 use Rattle.std.proofs.lemmas.Bool.Decides.{eqb_tells}
 use Rattle.std.proofs.lemmas.Map.Lookups.{exact_unsigned}
-use Rattle.tx_plan.specs.Orders.{same_circuit, circuit_cmp}
+use Rattle.tx_plan.specs.Orders.{circuit_cmp}
 use Rattle.tx_entries.specs.declared.circuit.Circuit.{Circuit}
 use Rattle.tx_entries.proofs.Named.{circuits_total, exact_circuits}
 use Rattle.tx_circuits.specs.declared.free_lists.End.{End}
@@ -21,11 +21,12 @@ use Rattle.tx_circuits.specs.Table.{Seat, seat_cmp, Table, with_held, with_relea
 use Rattle.tx_circuits.specs.inner.Seen.{those, group_of, circuits_of, seats_of, gathered, is_marked, holds, sits, table_of}
 use Rattle.std.proofs.lemmas.Option.{slice_get-map}
 use Rattle.std.proofs.lemmas.List.{length-map}
+use Rattle.std.proofs.Math.Bool.{and-true, and-false}
 use Rattle.tx_rows.proofs.Lists.{get-change_here, get-change_there, length-change}
 use Rattle.tx_circuits.proofs.Members.{Known, known, holds_in, sits_in, marked_in}
 use Rattle.tx_circuits.proofs.Those.{those_stay, those_inserted, those_removed, those_retained}
 use Rattle.tx_circuits.proofs.Seats.{seats_total, exact_seats}
-use Rattle.tx_circuits.proofs.Changes.{map_same, test_same, part_same, marked_stay, ends_same, groups_same, heads_stay, circuits_stay, circuits_inserted, circuits_removed, seats_stay, seats_cleared, seats_inserted, seats_removed}
+use Rattle.tx_circuits.proofs.Changes.{map_same, part_same, marked_stay, ends_same, groups_same, heads_stay, circuits_stay, circuits_inserted, circuits_removed, seats_stay, seats_cleared, seats_inserted, seats_removed}
 
 -- A CIRCUIT GETS ANOTHER STATE
 
@@ -222,20 +223,12 @@ module _ (ts : List GroupState) (g : ℕ) where
       through None = refl
       through (Some t) = numbered_cleared t.states c.number
 
-  and_true : (b : Bool) → b ≡ (b && true)
-  and_true true = refl
-  and_true false = refl
-
-  and_none : (b : Bool) → false ≡ (b && false)
-  and_none true = refl
-  and_none false = refl
-
   module _ (test : State → Bool) where
     -- what a cleared circuit is not
     holds_off : ((s : State) → test (cleared s) ≡ false) → (c : Circuit) → holds test after c ≡ (holds test ts c && not (c.group == g))
     holds_off off c = elim (eqb_tells c.group g) [
-      | inl e ↦ ap (λ o. option_map_or test o false) (states_here c e.1) ∙ none (state_at ts c) ∙ and_none (holds test ts c) ∙ sym (ap (λ b. holds test ts c && not b) e.0)
-      | inr e ↦ ap (λ o. option_map_or test o false) (states_there c e.1) ∙ and_true (holds test ts c) ∙ sym (ap (λ b. holds test ts c && not b) e.0)
+      | inl e ↦ ap (λ o. option_map_or test o false) (states_here c e.1) ∙ none (state_at ts c) ∙ sym (and-false (holds test ts c)) ∙ sym (ap (λ b. holds test ts c && not b) e.0)
+      | inr e ↦ ap (λ o. option_map_or test o false) (states_there c e.1) ∙ sym (and-true (holds test ts c)) ∙ sym (ap (λ b. holds test ts c && not b) e.0)
     ]
       where
         none : (o : Option State) → option_map_or test (option_map cleared o) false ≡ false

@@ -1,5 +1,5 @@
 -- How the values that contracts see are stored.
-use Rattle.std.specs.Prelude.{◌≡◌, ℕ, Bool, true, false, if◌then◌else◌, List, refl}
+use Rattle.std.specs.Prelude.{◌≡◌, ℕ, Bool, if◌then◌else◌, List, refl}
 use Rattle.std.specs.Coded.{Coded, code_by, coded×, coded_bool, coded_ℕ, coded_list}
 use Rattle.tx_plan.specs.Circuits.{is_both}
 use Rattle.tx_entries.specs.declared.direction.Direction.{Direction}

@@ -1,11 +1,11 @@
 -- What contracts see of the states of all circuits: sets.
-use Rattle.std.specs.Prelude.{◌≡◌, ℕ, Bool, true, false, not, ◌&&◌, ◌||◌, ◌==◌, if◌then◌else◌, List, [], map, find, Option, Some, None, refl}
+use Rattle.std.specs.Prelude.{◌≡◌, ℕ, Bool, true, not, ◌&&◌, ◌||◌, ◌==◌, if◌then◌else◌, List, [], map, find, Option, None, refl}
 use Rattle.std.specs.Ordering.{ordering_then, nat_cmp}
 use Rattle.std.specs.declared.cmp.Ordering.{Ordering}
 use Rattle.std.specs.Coded.{Coded, code_by, coded×, coded_ℕ, coded_list}
 use Rattle.std.specs.FinSet as set
 use Rattle.tx_plan.specs.Plan.{Plan, Group, no_plan}
-use Rattle.tx_plan.specs.Circuits.{circuits_at, is_circuit}
+use Rattle.tx_plan.specs.Circuits.{circuits_at}
 use Rattle.tx_plan.specs.Orders.{same_circuit, circuit_cmp, coded_circuit}
 use Rattle.tx_entries.specs.declared.circuit.Circuit.{Circuit}
 use Rattle.tx_circuits.specs.Codes.{group_code}

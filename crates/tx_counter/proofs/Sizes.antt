@@ -1,8 +1,8 @@
 -- How many events a walk without repetitions takes.
-use Rattle.std.proofs.Common.{◌≡◌, ◌≢◌, ℕ, suc, ◌*◌, ◌<◌, ◌≤◌, true, false, List, [], ◌∷◌, inl, inr, length, refl, sym, ap, subst, eqb, eqb-true, arith, length-append}
-use Rattle.std.proofs.lemmas.Bool.{ne_eqb}
+use Rattle.std.proofs.Common.{◌≡◌, ℕ, suc, ◌*◌, ◌<◌, ◌≤◌, true, List, [], ◌∷◌, inl, inr, length, refl, sym, ap, subst, eqb, eqb-true, arith, length-append}
 use Rattle.std.proofs.lemmas.Map.Steps.{length-le_from_distinct_below}
-use Rattle.std.specs.List.{IsDistinct, list_any, AllByRecursion}
+use Rattle.std.specs.List.{list_any}
+use Rattle.tx_rank.proofs.Unmended.{all_distinct}
 use Rattle.tx_plan.specs.Plan.{Plan}
 use Rattle.tx_plan.specs.Rules.{IsPlan}
 use Rattle.tx_plan.specs.Routes.{route_list}
@@ -18,15 +18,6 @@ use Rattle.tx_counter.proofs.Walking.{step_count}
 before_count : (x : ℕ) (steps : List (ℕ × ℕ)) → length (before_end x steps) ≡ length steps
 before_count x [] = refl
 before_count x (s ∷ steps) = ap suc (before_count s.1 steps)
-
-all_distinct : (xs : List ℕ) → AllDiffer xs → IsDistinct eqb xs
-unfolding IsDistinct
-all_distinct [] d = tt
-all_distinct (x ∷ xs) d = (each x xs d.0, all_distinct xs d.1)
-  where
-    each : (x : ℕ) (ys : List ℕ) → AllByRecursion (λ y. x ≢ y) ys → AllByRecursion (λ y. eqb x y ≡ false) ys
-    each x [] h = tt
-    each x (y ∷ ys) h = (ne_eqb x y h.0, each x ys h.1)
 
 module _ (p : Plan) (ok : IsPlan p) (c : ℕ) (within : c < length p.codes) where
   net : IsNet (net_of p c)

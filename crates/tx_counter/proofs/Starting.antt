@@ -1,13 +1,14 @@
 -- The line that calls, and the code that it keys.
-use Rattle.std.proofs.Common.{◌≡◌, ℕ, zero, suc, ◌+◌, ◌<◌, ◌≤◌, ◌==◌, true, ◌&&◌, List, [], ◌∷◌, ◌++◌, inl, inr, length, Option, Some, None, refl, sym, ap, ◌∙◌, subst, eqb-true, eq-eqb, arith, length-append, append-nil}
+use Rattle.std.proofs.Common.{◌≡◌, ℕ, zero, suc, ◌+◌, ◌<◌, ◌≤◌, ◌==◌, true, ◌&&◌, List, [], ◌∷◌, inl, inr, length, Option, Some, None, refl, sym, ap, ◌∙◌, subst, eqb-true, eq-eqb, arith}
 use Rattle.std.proofs.lemmas.Bool.{false≢true, and_parts, and_from, cases_lt, lt-ltb, le-ltb}
-use Rattle.std.proofs.lemmas.List.{nil_from_length}
-use Rattle.std.specs.Prelude.{is_some, unwrap_or, option_and_then}
+use Rattle.std.specs.Prelude.{is_some, option_and_then}
 use Rattle.std.specs.List.{range_with_len, enumerate_from}
 use Rattle.std.specs.Option.{option_map, option_map_or}
 use Rattle.std.specs.Ordering.{is_le}
 use Rattle.std.specs.Cmp.Lexicographic.{nat_list_cmp_total}
 use Rattle.std.proofs.lemmas.Cmp.{tied_itself}
+use Rattle.tx_plan.proofs.Longest.{longest_among}
+use Rattle.tx_rank.proofs.Certifying.{prefix_whole}
 use Rattle.tx_text.specs.Words.{are_figures}
 use Rattle.tx_plan.specs.Plan.{Plan, Code, home_of, figures_of}
 use Rattle.tx_plan.specs.Rules.{IsPlan, IsRange}
@@ -20,7 +21,7 @@ use Rattle.tx_plan.proofs.Among.{among_places, among_filter, filter_among}
 use Rattle.tx_plan.proofs.ByPlace.{entry_at}
 use Rattle.tx_plan.specs.Among.{Among}
 use Rattle.tx_state.proofs.Lists.{any_mem, mem_any, find_mem, places_differ}
-use Rattle.tx_state.proofs.Steps.{all_mem, prefix-is, longest-mem, enumerated}
+use Rattle.tx_state.proofs.Steps.{all_mem, enumerated}
 use Rattle.tx_counter.specs.Counter.{first_range, calls_from, first_code, low_line, first_line}
 use Rattle.tx_counter.proofs.Choices.{find_some}
 
@@ -29,15 +30,6 @@ use Rattle.tx_counter.proofs.Choices.{find_some}
 after_itself : (xs : List ℕ) → after xs xs ≡ Some []
 after_itself [] = refl
 after_itself (x ∷ xs) = let e = eq-eqb x x refl in rw e (after_itself xs)
-
--- a prefix that is not shorter is the whole
-prefix_whole : (front text : List ℕ) → is_prefix front text ≡ true → length text ≤ length front → front ≡ text
-prefix_whole front text h long =
-    let whole = prefix-is front text h in
-    let l = length-append front (unwrap_or (after front text) []) in
-    let t = ap (λ (xs : List ℕ). length xs) whole in
-    let none = nil_from_length (unwrap_or (after front text) []) (omega arith) in
-    sym (append-nil front) ∙ ap (λ (rest : List ℕ). front ++ rest) (sym none) ∙ whole
 
 record IsLongest (es : List (ℕ × Code)) (e : ℕ × Code) : Type 0 where
   pub found : ℕ × Code
@@ -73,7 +65,7 @@ code_itself p ok c within =
     let among = among_filter (λ (e : ℕ × Code). is_prefix e.1.figures keyed) (0 + c, row.0) (enumerate_from 0 p.codes) (among_places 0 c row.0 p.codes row.1) starts in
     let most = longest_most (codes_before p keyed) (0 + c, row.0) among in
     let d = most.found in
-    let m = filter_among (λ (e : ℕ × Code). is_prefix e.1.figures keyed) d (enumerate_from 0 p.codes) (longest-mem (codes_before p keyed) d most.longest') in
+    let m = filter_among (λ (e : ℕ × Code). is_prefix e.1.figures keyed) d (enumerate_from 0 p.codes) (longest_among (codes_before p keyed) d most.longest') in
     let same = prefix_whole d.1.figures keyed m.1 most.long in
     let place = enumerated 0 p.codes d m.0 in
     let one = places_differ (λ (a b : Code). a.figures ≡ b.figures) (λ a b e. sym e) p.codes ok.codes_differ place.0 c d.1 row.0 place.2 row.1 same in

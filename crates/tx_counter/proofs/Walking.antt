@@ -1,7 +1,7 @@
 -- The call goes along a walk.
 use Rattle.std.proofs.Common.{◌≡◌, ◌≢◌, ℕ, ◌+◌, ◌-◌, ◌^◌, ◌≤◌, true, false, List, [], ◌∷◌, ◌++◌, ◌⊎◌, inl, inr, map, length, Option, Some, None, refl, sym, ap, ◌∙◌, subst, arith, length-append, append_assoc, append-nil}
 use Rattle.std.proofs.lemmas.Bool.{false≢true, cases_eq, eq-eqb}
-use Rattle.std.proofs.lemmas.List.{length-map}
+use Rattle.std.proofs.lemmas.List.{length-map, map_push}
 use Rattle.tx_plan.specs.Plan.{Plan, home_of}
 use Rattle.tx_plan.specs.Rules.{IsPlan}
 use Rattle.tx_plan.specs.Routes.{route_list}
@@ -17,7 +17,7 @@ use Rattle.tx_state.specs.declared.hop.Hop.{Hop}
 use Rattle.tx_state.specs.declared.phase.Phase.TheVariants.{Standing, Calling}
 use Rattle.tx_state.specs.declared.reply.Reply.TheVariants.{Seized, At}
 use Rattle.tx_state.specs.Refusals.{is_group}
-use Rattle.tx_state.proofs.Uses.{two_ends, map_push}
+use Rattle.tx_state.proofs.Uses.{two_ends}
 use Rattle.tx_state.proofs.Playing.{Groups, AllUp, Plays, plays_none, plays_first, plays_one, plays_then, shut, opened, shut_out, shut_among, all_up_again}
 use Rattle.tx_state.proofs.OneCall.{alone, on_way, IsPlaced, routed_there, placed_next, route_step, confirm_step, blocks, unblocks}
 use Rattle.tx_counter.specs.Counter.{listed_before, step_events, walk_events, is_single, turns_on_one}

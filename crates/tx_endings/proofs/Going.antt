@@ -4,6 +4,8 @@ use Rattle.std.proofs.lemmas.Bool.{and_parts, and_from, both_ways, ne_eqb, false
 use Rattle.std.specs.Prelude.{if◌then◌else◌, unwrap_or}
 use Rattle.std.specs.List.{list_any}
 use Rattle.std.specs.FinSet as set
+use Rattle.std.proofs.lemmas.List.Folds.{list_any-append}
+use Rattle.std.proofs.Math.Bool.{or-false, or_comm, and-false, and-true}
 use Rattle.tx_plan.specs.Orders.{circuit_cmp, same_circuit, same_line}
 use Rattle.tx_entries.proofs.Named.{circuits_total, circuit_tie, lines_total, line_tie, same_circuit-is, same_circuit-itself}
 use Rattle.tx_entries.proofs.Tables.{list_any-map}
@@ -32,14 +34,7 @@ use Rattle.tx_circuits.specs.Table.{Table, Seat, IsSeizedBy, with_held, is_free_
 use Rattle.tx_circuits.proofs.Seats.{seats_total, exact_seats, seat_tie}
 use Rattle.tx_endings.specs.inner.Seen.{state_seen, AreTogether}
 use Rattle.tx_endings.proofs.Filters.{any_alike}
-use Rattle.tx_endings.proofs.Given.{any_append, or_none}
 use Rattle.tx_endings.proofs.After.{any_before, any_rest, rest, rest_mem, seizing_from, seizes_at}
-
-or_turn : (a b : Bool) → (a || b) ≡ (b || a)
-or_turn true true = refl
-or_turn true false = refl
-or_turn false true = refl
-or_turn false false = refl
 
 module _ (p : Plan) (cs : List Call) (rel : set.FinSet circuit_cmp) (numbers : ℕ) (inv : Inv p cs rel numbers) (c : Call) (m : Among c cs) where
   -- a test of all calls, where one changes
@@ -63,11 +58,11 @@ module _ (p : Plan) (cs : List Call) (t : Table) (b : Book) (numbers : ℕ) (k :
       → AreTogether p (cs ++ keyed_call (numbers + 1) line keyed event ∷ []) t (record b { engaged = set.insert b.engaged line; room = room }) (numbers + 1)
   keyed_together line keyed event room known free =
       let c = keyed_call (numbers + 1) line keyed event in
-      let after : (f : Call → Bool) → list_any f (cs ++ c ∷ []) ≡ (f c || list_any f cs) = λ f. any_append f cs (c ∷ []) ∙ ap (λ z. list_any f cs || z) (or_none (f c)) ∙ or_turn (list_any f cs) (f c) in
+      let after : (f : Call → Bool) → list_any f (cs ++ c ∷ []) ≡ (f c || list_any f cs) = λ f. list_any-append f cs (c ∷ []) ∙ ap (λ z. list_any f cs || z) (or-false (f c)) ∙ or_comm (list_any f cs) (f c) in
       record {
         inv = key_keeps p (state_seen cs t b numbers 0 []) k.inv line keyed event known (sym (k.engaged line) ∙ free);
         used = record { groups = k.used.groups; carried = λ x. k.used.carried x ∙ sym (after (λ d. carries d x)); seized = λ x e. k.used.seized x e ∙ sym (after (λ d. seizes_from p d x e)) };
-        engaged = λ l. set.contains-insert lines_total b.engaged line l ∙ (λ i. line_tie l line i || k.engaged l i) ∙ ap (λ z. z || list_any (λ d. takes_part d l) cs) (sym (or_none (same_line line l))) ∙ sym (after (λ d. takes_part d l));
+        engaged = λ l. set.contains-insert lines_total b.engaged line l ∙ (λ i. line_tie l line i || k.engaged l i) ∙ ap (λ z. z || list_any (λ d. takes_part d l) cs) (sym (or-false (same_line line l))) ∙ sym (after (λ d. takes_part d l));
       }
 
   module _ (c : Call) (m : Among c cs) where
@@ -159,7 +154,7 @@ module _ (p : Plan) (cs : List Call) (t : Table) (b : Book) (numbers : ℕ) (k :
                   ∙ (λ i. circuit_tie x y i || k.used.carried y i)
                   ∙ ap (λ z. same_circuit x y || z) (any_before p cs t.releasing numbers k.inv c m (λ d. carries d y))
                   ∙ pushed (same_circuit x y) (carries c y) (list_any (λ d. carries d y) others)
-                  ∙ ap (λ z. z || list_any (λ d. carries d y) others) (sym (any_append (λ (h : Hop). same_circuit h.circuit y) c.hops (record { circuit = x; far = far } ∷ [])))
+                  ∙ ap (λ z. z || list_any (λ d. carries d y) others) (sym (list_any-append (λ (h : Hop). same_circuit h.circuit y) c.hops (record { circuit = x; far = far } ∷ [])))
                   ∙ sym (any_set p cs t.releasing numbers k.inv c m f (λ d. carries d y));
               seized = λ y e.
                   set.contains-retain t.seized (λ s. not (same_circuit s.0 x)) (y, e) (λ z q. ap (λ (w : Seat). not (same_circuit w.0 x)) (sym (exact_seats (y, e) z q)))
@@ -177,17 +172,9 @@ module _ (p : Plan) (cs : List Call) (t : Table) (b : Book) (numbers : ℕ) (k :
           pushed false false r = refl
 
           let_go : (y : Circuit) (e : ℕ) (z : Bool) → same_circuit y x ≡ z → ((seizes_from p c y e || list_any (λ d. seizes_from p d y e) (rest p cs t.releasing numbers k.inv c m)) && not z) ≡ list_any (λ d. seizes_from p d y e) (rest p cs t.releasing numbers k.inv c m)
-          let_go y e true q = none _ ∙ sym (ap (λ w. list_any (λ d. seizes_from p d w e) (rest p cs t.releasing numbers k.inv c m)) (same_circuit-is y x q) ∙ unseized_rest e)
-            where
-              none : (a : Bool) → (a && false) ≡ false
-              none true = refl
-              none false = refl
-          let_go y e false q = all _ ∙ ap (λ z. z || list_any (λ d. seizes_from p d y e) (rest p cs t.releasing numbers k.inv c m)) (false_from_ne_true (seizes_from p c y e) (λ s.
+          let_go y e true q = and-false _ ∙ sym (ap (λ w. list_any (λ d. seizes_from p d w e) (rest p cs t.releasing numbers k.inv c m)) (same_circuit-is y x q) ∙ unseized_rest e)
+          let_go y e false q = and-true _ ∙ ap (λ z. z || list_any (λ d. seizes_from p d y e) (rest p cs t.releasing numbers k.inv c m)) (false_from_ne_true (seizes_from p c y e) (λ s.
               let g = seizing_from p c y e s in
               let here : Calling y ≡ Calling x = sym g.0 ∙ calls in
               let one : y ≡ x = cc in
               both_ways (same_circuit y x) q (ap (same_circuit y) (sym one) ∙ same_circuit-itself y)))
-            where
-              all : (a : Bool) → (a && true) ≡ a
-              all true = refl
-              all false = refl

@@ -1,5 +1,5 @@
 -- The numbers of the calls that use a group, circuit by circuit.
-use Rattle.std.proofs.Common.{suc, ◌≡◌, ◌≢◌, ℕ, ◌+◌, ◌≤◌, ◌==◌, Bool, true, false, not, ◌&&◌, ◌||◌, cond, List, [], ◌∷◌, ◌++◌, ◌⊎◌, inl, inr, Option, Some, None, refl, sym, ap, ◌∙◌, subst, eqb-true, arith, eq-eqb}
+use Rattle.std.proofs.Common.{◌≡◌, ◌≢◌, ℕ, ◌+◌, ◌≤◌, ◌==◌, Bool, true, false, not, ◌&&◌, ◌||◌, cond, List, [], ◌∷◌, ◌++◌, ◌⊎◌, inl, inr, Option, Some, None, refl, sym, ap, ◌∙◌, subst, eqb-true, arith, eq-eqb}
 use Rattle.std.proofs.lemmas.Bool.{false≢true, and_parts, and_from, and_left, both_ways, or_cases, or_left, or_right, cases_eq, false_from_ne_true, not-true}
 use Rattle.std.proofs.lemmas.Bool.Decides.{leb_tells, eqb_tells}
 use Rattle.std.specs.Prelude.{filter, length, find, nat_le, slice_get, option_and_then}
@@ -12,6 +12,7 @@ use Rattle.tx_plan.specs.Plan.{Plan, Group}
 use Rattle.tx_plan.specs.Circuits.{is_circuit, other_end, far_end, count_of, ends_of}
 use Rattle.tx_plan.specs.Among.{Among}
 use Rattle.tx_entries.specs.declared.circuit.Circuit.{Circuit}
+use Rattle.tx_entries.proofs.Lists.{at_least}
 use Rattle.tx_plan.proofs.Among.{among_left, among_right, filter_among}
 use Rattle.tx_state.specs.Call.{Call, place_of, is_numbered, call_of}
 use Rattle.tx_state.specs.InUse.{circuits_used, carries, seizes, seizes_from, uses_group}
@@ -111,10 +112,7 @@ numbered p x e = at (slice_get p.groups x.group) e
     at None e = absurd (false≢true e)
     at (Some r) e =
         let f = and_parts (nat_le 1 x.number) (nat_le x.number r.count) e in
-        (below 1 x.number f.0, below x.number r.count f.1)
-      where
-        below : (m n : ℕ) → nat_le m n ≡ true → m ≤ n
-        below m n e = elim (leb_tells m n) [ inl l ↦ l.1 | inr l ↦ absurd (both_ways (nat_le m n) l.0 e) ]
+        (at_least 1 x.number f.0, at_least x.number r.count f.1)
 
 module _ (p : Plan) (cs : List Call) (rel : set.FinSet circuit_cmp) (numbers : ℕ) (inv : Inv p cs rel numbers) (g : ℕ) where
   used_numbered : (c : Call) → Among c cs → (x : Circuit) → Among x (circuits_used c) → (1 ≤ x.number) × (x.number ≤ count_of p x.group)

@@ -3,6 +3,8 @@ use Rattle.std.proofs.Common.{◌≡◌, ◌≢◌, inl, inr, ℕ, ◌+◌, ◌<
 use Rattle.std.specs.Prelude.{if◌then◌else◌, unwrap_or}
 use Rattle.std.specs.Option.{option_map}
 use Rattle.std.specs.FinSet as set
+use Rattle.std.proofs.lemmas.Bool.{false_from_ne_true}
+use Rattle.std.proofs.lemmas.List.{map_push}
 use Rattle.tx_plan.specs.Orders.{same_circuit}
 use Rattle.tx_entries.proofs.Named.{same_circuit-is}
 use Rattle.tx_plan.specs.Plan.{Plan}
@@ -19,7 +21,6 @@ use Rattle.tx_state.specs.InUse.{circuits_carried}
 use Rattle.tx_state.specs.Confirming.{far_of, carried_on, rival, confirmed, confirmed_by}
 use Rattle.tx_state.specs.Routing.{set_call}
 use Rattle.tx_state.specs.Step.{accepted, counted, with_call}
-use Rattle.tx_state.proofs.Uses.{map_push}
 use Rattle.tx_circuits.specs.Table.{Table, IsSeizedBy, with_held}
 use Rattle.tx_calls.specs.Calls.{Kept, Calls, kept_at, Changes, calls_in}
 use Rattle.tx_calls.specs.inner.Keys.{HasKeys, keys_at, keys_of, pick}
@@ -30,7 +31,7 @@ use Rattle.tx_endings.proofs.HeadOn.{told_alone}
 use Rattle.tx_endings.proofs.Going.{may_hold, carried_together, nobody_else}
 use Rattle.tx_engine.specs.declared.parts.Parts.{Parts}
 use Rattle.tx_engine.specs.inner.Sound.{AreSound, IsSound, IsUnder, is_first_end, state_of}
-use Rattle.tx_engine.proofs.Keyed.{not_so, keys_stay, keys_here, keys_else}
+use Rattle.tx_engine.proofs.Keyed.{keys_stay, keys_here, keys_else}
 use Rattle.tx_engine.proofs.Changing.{sound_after}
 
 module _ {A : Type 0} (n : Parts A) (sound : IsSound n) (number key : ℕ) (x : Circuit) (k : Kept) (at : IsUnder n.calls number key k) (calling : k.call.phase ≡ Calling x) where
@@ -73,7 +74,7 @@ module _ {A : Type 0} (n : Parts A) (sound : IsSound n) (number key : ℕ) (x : 
       key_x g = ap (pick g) (keys_here n.keys ks x (λ _. record { first = key; other = key }) has_keys keys) ∙ both g
 
       key_else : (y : Circuit) (g : Bool) → (same_circuit y x ≡ true → ⊥) → pick g (keys_of ks y) ≡ pick g (keys_of n.keys y)
-      key_else y g ne = ap (pick g) (keys_else n.keys ks x (λ _. record { first = key; other = key }) has_keys keys y (not_so (same_circuit y x) ne))
+      key_else y g ne = ap (pick g) (keys_else n.keys ks x (λ _. record { first = key; other = key }) has_keys keys y (false_from_ne_true (same_circuit y x) ne))
 
       -- what it carried has its key
       key_kept : (y : Circuit) → Among y (circuits_carried k.call) → (g : Bool) → pick g (keys_of ks y) ≡ key

@@ -18,10 +18,6 @@ use Rattle.tx_calls.specs.inner.Keys.{HasKeys, keys_at, keys_of, pick, with_key,
 use Rattle.tx_calls.specs.declared.end_keys.EndKeys.{EndKeys}
 use Rattle.tx_engine.specs.inner.Sound.{AreKeyed, HasHopRoom, is_first_end}
 
-pub not_so : (r : Bool) → (r ≡ true → ⊥) → r ≡ false
-not_so true h = absurd (h refl)
-not_so false h = refl
-
 -- KEYS BY CIRCUIT, AFTER THOSE OF ONE WERE WRITTEN
 module _ (ks ks' : List (List EndKeys)) (x : Circuit) (w : EndKeys → EndKeys) (there : HasKeys ks x)
     (is : (y : Circuit) → keys_at ks' y ≡ (if same_circuit y x then option_map w (keys_at ks y) else keys_at ks y)) where

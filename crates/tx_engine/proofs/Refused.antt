@@ -1,17 +1,14 @@
 -- What events that are not refused leave room for.
-use Rattle.std.proofs.Common.{◌≡◌, ℕ, ◌-◌, ◌^◌, ◌<◌, ◌∷◌, [], ◌++◌, None, Some, arith, false, true}
+use Rattle.std.proofs.Common.{◌≡◌, ◌-◌, ◌^◌, ◌<◌, ◌∷◌, [], ◌++◌, None, arith, false, true}
 use Rattle.std.proofs.lemmas.Bool.Decides.{nat_tests}
 use Rattle.std.proofs.lemmas.Bool.{not-false}
-use Rattle.std.proofs.lemmas.Option.{slice_get_within}
-use Rattle.std.specs.Prelude.{slice_get, length, is_some, Option}
-use Rattle.std.proofs.Common.{refl}
-use Rattle.tx_plan.specs.Plan.{Plan, Group}
+use Rattle.tx_plan.specs.Plan.{Plan}
 use Rattle.tx_plan.specs.Lines.{is_line}
 use Rattle.tx_entries.specs.declared.line.Line.{Line}
 use Rattle.tx_state.specs.Lines.{is_engaged}
-use Rattle.tx_state.specs.declared.event.Event.TheVariants.{Key, Fail}
+use Rattle.tx_state.specs.declared.event.Event.TheVariants.{Key}
 use Rattle.tx_state.specs.State.{State}
-use Rattle.tx_state.specs.Refusals.{refusal, refusals, is_group}
+use Rattle.tx_state.specs.Refusals.{refusal, refusals}
 use Rattle.tx_state.proofs.Steps.{tests_false}
 
 pub key_fits : (p : Plan) (s : State) (line : Line) (keyed : _) → refusal p s (Key line keyed) ≡ None → (s.numbers < 2 ^ 32 - 1) × (s.events < 2 ^ 64 - 1)

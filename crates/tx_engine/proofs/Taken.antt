@@ -5,6 +5,7 @@ use Rattle.tx_plan.specs.Plan.{Plan}
 use Rattle.tx_state.specs.Ended.{Ended}
 use Rattle.tx_state.specs.State.{Net, State, ticket_taken}
 use Rattle.tx_state.specs.Drained.{drained}
+use Rattle.tx_state.proofs.Lists.{first_of, none_in}
 
 -- these tickets were taken out of the first network, and the second is left
 pub record IsTaken (n m : Net) (taken : List Ended) : Type 0 where
@@ -15,14 +16,6 @@ pub taken_none : (n : Net) → IsTaken n n []
 taken_none n = record { whole = refl; same = refl }
 
 module _ (n m : Net) (taken : List Ended) (t : IsTaken n m taken) (k : Net) (plan : k.plan ≡ m.plan) (state : k.state ≡ ticket_taken m.state) where
-  first_of : (l : List Ended) (x : Ended) → slice_get l 0 ≡ Some x → l ≡ x ∷ drop 1 l
-  first_of [] x h = cc
-  first_of (y ∷ ys) x h = cc
-
-  none_in : (l : List Ended) → slice_get l 0 ≡ None → l ≡ []
-  none_in [] h = refl
-  none_in (x ∷ xs) h = cc
-
   left : k.state.tickets ≡ drop 1 m.state.tickets
   left = ap (λ (s : State). s.tickets) state
 

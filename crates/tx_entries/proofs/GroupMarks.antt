@@ -2,10 +2,10 @@
 use Rattle.std.proofs.Common.{◌≡◌, ℕ, zero, suc, ◌+◌, ◌<◌, ◌≤◌, ◌%◌, Bool, true, false, not, ◌||◌, ◌==◌, List, [], ◌∷◌, length, get_or, drop, refl, sym, ap, subst, ◌∙◌, eqb-true, arith, inl, inr}
 use Rattle.std.specs.Prelude.{slice_set}
 use Rattle.std.specs.List.{list_any, AllByRecursion}
-use Rattle.std.proofs.lemmas.Bool.{cases_eq, and_from, false_from_ne_true}
+use Rattle.std.proofs.lemmas.Bool.{cases_eq, and_from, false_from_ne_true, and_parts, not-true}
 use Rattle.std.proofs.lemmas.List.{get_or-set_same, get_or-set_other, drop_more}
 use Rattle.tx_entries.specs.inner.Distinct.{differ}
-use Rattle.tx_entries.proofs.Lists.{all_map, both, opposed}
+use Rattle.tx_entries.proofs.Lists.{all_map, opposed}
 
 -- the mark of a place is set
 abbrev pub IsMarked : List Bool → ℕ → Type 0
@@ -42,14 +42,10 @@ one_more marks xs i n e room table none once all =
       subst (AllByRecursion (IsMarked (slice_set marks (g % 251) true))) (sym cut) (with_mark marks g (drop n xs) table all),
     )
 
-unset : (b : Bool) → not b ≡ true → b ≡ false
-unset true h = absurd (cc)
-unset false h = refl
-
 alone : (xs : List ℕ) (i : ℕ) → i < length xs → differ xs ≡ true → list_any (λ y. y == get_or xs i 0) (drop (suc i) xs) ≡ false
 alone [] i room h = absurd (omega arith)
-alone (x ∷ xs) zero room h = unset (list_any (λ y. y == x) xs) (both (not (list_any (λ y. y == x) xs)) (differ xs) h).0
-alone (x ∷ xs) (suc i) room h = alone xs i (omega arith) (both (not (list_any (λ y. y == x) xs)) (differ xs) h).1
+alone (x ∷ xs) zero room h = not-true (list_any (λ y. y == x) xs) (and_parts (not (list_any (λ y. y == x) xs)) (differ xs) h).0
+alone (x ∷ xs) (suc i) room h = alone xs i (omega arith) (and_parts (not (list_any (λ y. y == x) xs)) (differ xs) h).1
 
 -- where a group stands among those behind it, some group stands twice
 pub twice : (xs : List ℕ) (i n : ℕ) → n ≡ i + 1 → n ≤ length xs → list_any (λ y. y == get_or xs i 0) (drop n xs) ≡ true → differ xs ≡ false

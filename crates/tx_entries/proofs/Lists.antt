@@ -1,30 +1,14 @@
 -- Facts of all members of a list, as it grows by one.
-use Rattle.std.proofs.Common.{◌≡◌, ◌≢◌, ℕ, zero, suc, ◌+◌, ◌≤◌, ◌<◌, ◌⊎◌, Bool, true, false, not, cond, ◌&&◌, ◌||◌, nat_lt, nat_le, List, [], ◌∷◌, ◌++◌, length, length-append, get_or, map, is_some, unwrap_or, Some, None, refl, sym, ap, ◌∙◌, inl, inr, arith}
+use Rattle.std.proofs.Common.{◌≡◌, ◌≢◌, ℕ, zero, suc, ◌+◌, ◌≤◌, ◌<◌, Bool, true, false, not, cond, ◌||◌, nat_lt, nat_le, List, [], ◌∷◌, ◌++◌, length, length-append, get_or, map, is_some, unwrap_or, Some, None, refl, sym, ap, ◌∙◌, arith}
 use Rattle.std.specs.Prelude.{slice_get, position}
 use Rattle.std.specs.List.{list_any, position_or_len, AllByRecursion}
 use Rattle.std.specs.Str.{bytes_eq}
-use Rattle.std.proofs.lemmas.Bool.{leb-false}
+use Rattle.std.proofs.lemmas.Bool.{leb-false, or_parts, and_parts}
 use Rattle.std.proofs.lemmas.Bool.Decides.{nat_tests, same_from_decides}
 use Rattle.std.proofs.lemmas.List.Quantifiers.{position-Some}
 use Rattle.std.proofs.lemmas.Slice.Eq.{bytes_eq-Decides}
 
 -- TESTS
-
-pub neither : (a b : Bool) → (a || b) ≡ false → (a ≡ false) × (b ≡ false)
-neither true b h = absurd (cc)
-neither false b h = (refl, h)
-
-pub not_both : (a b : Bool) → (a && b) ≡ false → (a ≡ false) ⊎ (b ≡ false)
-not_both true b h = inr h
-not_both false b h = inl refl
-
-pub both : (a b : Bool) → (a && b) ≡ true → (a ≡ true) × (b ≡ true)
-both true b h = (refl, h)
-both false b h = absurd (cc)
-
-pub not_not : (b : Bool) → not b ≡ false → b ≡ true
-not_not true h = refl
-not_not false h = absurd (cc)
 
 pub same_tests : (a b : Bool) → (a ≡ true → b ≡ true) → (b ≡ true → a ≡ true) → a ≡ b
 same_tests a b f g = same_from_decides {P = b ≡ true} a b (f, g) (λ e. e, λ e. e)
@@ -50,7 +34,7 @@ all_put P (x ∷ xs) y h k = (h.0, all_put P xs y h.1 k)
 
 pub none_passes : {A : Type 0} (t : A → Bool) (xs : List A) → list_any t xs ≡ false → AllByRecursion (λ x. t x ≡ false) xs
 none_passes t [] h = tt
-none_passes t (x ∷ xs) h = let n = neither (t x) (list_any t xs) h in (n.0, none_passes t xs n.1)
+none_passes t (x ∷ xs) h = let n = or_parts (t x) (list_any t xs) h in (n.0, none_passes t xs n.1)
 
 pub apart : {A : Type 0} (t : A → Bool) (P : A → Type 0) (xs : List A) → ((x : A) → t x ≡ false → P x) → list_any t xs ≡ false → AllByRecursion P xs
 apart t P xs f h = all_map xs f (none_passes t xs h)
@@ -104,7 +88,7 @@ placed_word word d w xs h =
     let found = position-Some (λ x. bytes_eq w (word x)) xs (unwrap_or (position (λ x. bytes_eq w (word x)) xs) 0) d (placed (λ x. bytes_eq w (word x)) xs h) in
     (bytes_eq-Decides w (word (get_or xs (unwrap_or (position (λ x. bytes_eq w (word x)) xs) 0) d))).0 found.1
 
--- two words that both stand in a list at one place are one
+-- two words that and_parts stand in a list at one place are one
 pub one_word : {A : Type 0} (word : A → List ℕ) (d : A) (v w : List ℕ) (xs : List A) → list_any (λ x. bytes_eq v (word x)) xs ≡ true → list_any (λ x. bytes_eq w (word x)) xs ≡ true
     → unwrap_or (position (λ x. bytes_eq v (word x)) xs) 0 ≡ unwrap_or (position (λ x. bytes_eq w (word x)) xs) 0 → v ≡ w
 one_word word d v w xs h k e = placed_word word d v xs h ∙ ap (λ i. word (get_or xs i d)) e ∙ sym (placed_word word d w xs k)

@@ -3,7 +3,7 @@ use Rattle.std.proofs.Common.{◌≡◌, ◌≢◌, ℕ, suc, ◌+◌, ◌<◌, 
 use Rattle.std.specs.Prelude.{find, position, slice_get, slice_set}
 use Rattle.std.specs.List.{list_any, position_from, position_or_len}
 use Rattle.std.specs.Option.{option_map}
-use Rattle.std.proofs.lemmas.Bool.{and_from}
+use Rattle.std.proofs.lemmas.Bool.{and_from, or_parts, and_parts}
 use Rattle.std.proofs.lemmas.Bool.Decides.{nat_tests}
 use Rattle.std.proofs.lemmas.Iterator.Adapters.{position_from-zero}
 use Rattle.std.proofs.lemmas.List.{get_or-set_same, get_or-set_other, length-map}
@@ -11,7 +11,7 @@ use Rattle.std.proofs.lemmas.List.Folds.{find_at}
 use Rattle.std.proofs.lemmas.Option.{cond_some, none-some, slice_get-map, slice_get-get_or, slice_get_past}
 use Rattle.tx_entries.specs.Entries.{Route}
 use Rattle.tx_entries.specs.inner.Places.{no_place, named_by, cell_of, place_at, IsIndex}
-use Rattle.tx_entries.proofs.Lists.{below, both, neither, opposed}
+use Rattle.tx_entries.proofs.Lists.{below, opposed}
 
 -- CELLS
 
@@ -47,7 +47,7 @@ from_kept t n (x ∷ xs) y h = ap (cond (t x) (Some n)) (from_kept t (n + 1) xs 
 from_new : {A : Type 0} (t : A → Bool) (n : ℕ) (xs : List A) (y : A) → list_any t xs ≡ false → t y ≡ true → position_from t n (xs ++ y ∷ []) ≡ Some (n + length xs)
 from_new t n [] y h k = rw k (ap Some (let e : n ≡ n + 0 = omega arith in e))
 from_new t n (x ∷ xs) y h k =
-    let o = neither (t x) (list_any t xs) h in
+    let o = or_parts (t x) (list_any t xs) h in
     let e : (n + 1) + length xs ≡ n + suc (length xs) = omega arith in
     rw o.0 (from_new t (n + 1) xs y o.1 k ∙ ap Some e)
 
@@ -78,7 +78,7 @@ index_put rs r cells few k room h m = λ x c. by_test x c ((r.exchange == x) && 
     by_test : (x c : ℕ) (b : Bool) → (r.exchange == x) && (r.code == c) ≡ b → place_at now x c ≡ position (λ q. (q.exchange == x) && (q.code == c)) (rs ++ r ∷ [])
     by_test x c false e = other_cell cells (length rs) x c r.exchange r.code k e ∙ m x c ∙ sym (position_kept (λ q. (q.exchange == x) && (q.code == c)) rs r e)
     by_test x c true e =
-        let p = both (r.exchange == x) (r.code == c) e in
+        let p = and_parts (r.exchange == x) (r.code == c) e in
         rw (← eqb-true r.exchange x p.0, ← eqb-true r.code c p.1) here
 
 -- the route at the place that was found

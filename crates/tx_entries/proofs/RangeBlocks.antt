@@ -4,10 +4,10 @@ use Rattle.std.specs.List.{list_any}
 use Rattle.std.proofs.Math.Seq.{take-add}
 use Rattle.std.proofs.lemmas.List.{take-map, drop-map}
 use Rattle.std.proofs.lemmas.List.Folds.{list_any-append}
+use Rattle.std.proofs.lemmas.Bool.{or_parts}
 use Rattle.tx_entries.specs.Numbers.{shares}
 use Rattle.tx_entries.specs.inner.Tables.{codes_of_ranges}
 use Rattle.tx_entries.specs.declared.range.LineRange.{LineRange}
-use Rattle.tx_entries.proofs.Lists.{neither}
 
 -- the codes of a part of the ranges
 pub codes_of_part : (codes : List ℕ) (ranges : List LineRange) (n i : ℕ) → codes ≡ codes_of_ranges ranges → take n (drop i codes) ≡ codes_of_ranges (take n (drop i ranges))
@@ -21,7 +21,7 @@ failing false b c h = refl
 pub none_of_code : (code : ℕ) (low high : List ℕ) (ranges : List LineRange) → list_any (λ c. c == code) (codes_of_ranges ranges) ≡ false → list_any (shares code low high) ranges ≡ false
 none_of_code code low high [] h = refl
 none_of_code code low high (r ∷ rs) h =
-    let n = neither (r.code == code) (list_any (λ c. c == code) (codes_of_ranges rs)) h in
+    let n = or_parts (r.code == code) (list_any (λ c. c == code) (codes_of_ranges rs)) h in
     failing (r.code == code) _ (list_any (shares code low high) rs) n.0 ∙ none_of_code code low high rs n.1
 
 module _ {X : Type 0} (p : X → Bool) where

@@ -1,5 +1,5 @@
 -- The last range that starts by a number is the one that may have it.
-use Rattle.std.proofs.Common.{◌≡◌, ℕ, zero, suc, ◌+◌, ◌<◌, ◌≤◌, ◌==◌, Bool, true, false, ◌&&◌, ◌||◌, List, [], ◌∷◌, length, get_or, cond, nat_lt, Some, refl, ap, sym, ◌∙◌, inl, inr, eqb-true, eq-eqb, arith}
+use Rattle.std.proofs.Common.{◌≡◌, ℕ, suc, ◌+◌, ◌<◌, ◌≤◌, ◌==◌, Bool, true, false, ◌&&◌, List, [], ◌∷◌, length, get_or, cond, nat_lt, Some, refl, ap, sym, ◌∙◌, inl, inr, eqb-true, eq-eqb, arith}
 use Rattle.std.proofs.lemmas.Bool.{and_parts, or_cases, false≢true}
 use Rattle.std.proofs.lemmas.Bool.Decides.{nat_tests}
 use Rattle.std.proofs.lemmas.Cmp.{on_total, then_total, upto, nat_cmp_total, nat_list_cmp_total}
@@ -13,6 +13,7 @@ use Rattle.std.specs.Ordering.{ordering_then, ordering_reverse, is_lt, is_le, is
 use Rattle.std.specs.declared.cmp.Ordering.{Ordering}
 use Rattle.std.specs.declared.cmp.Ordering.TheVariants.{Less, Equal, Greater}
 use Rattle.std.specs.Cmp.Lexicographic.{slice_cmp}
+use Rattle.std.proofs.lemmas.Map.Keys.{any_passes_from_place}
 use Rattle.tx_plan.specs.Lines.{at_most, in_range}
 use Rattle.tx_entries.specs.declared.range.LineRange.{LineRange}
 use Rattle.tx_entries.proofs.Lists.{same_tests}
@@ -74,13 +75,6 @@ any_at t (x ∷ xs) h =
       | inl p ↦ (0, x, refl, p)
       | inr q ↦ (let r = any_at t xs q in (suc r.0, r.1, r.2, r.3))
     ]
-
-at_any : {A : Type 0} (t : A → Bool) (xs : List A) (i : ℕ) (x : A) → slice_get xs i ≡ Some x → t x ≡ true → list_any t xs ≡ true
-at_any t [] i x h p = let bad : ⊥ = cc in absurd bad
-at_any t (y ∷ xs) zero x h p = let e : y ≡ x = cc in ap (λ b. b || list_any t xs) (ap t e ∙ p)
-at_any t (y ∷ xs) (suc i) x h p =
-    let rest = at_any t xs i x h p in
-    elim (t y) as (λ b. (b || list_any t xs) ≡ true) [ true ↦ refl | false ↦ rest ]
 
 none_true : (b : Bool) → (b ≡ true → ⊥) → false ≡ b
 none_true true f = absurd (f refl)
@@ -152,7 +146,7 @@ module _ (ranges : List LineRange) (ordered : IsInOrder ranges) (code : ℕ) (nu
     none_starts z = none_true (list_any matches ranges) (λ t. let a = any_at matches ranges t in let l = before a.0 a.1 a.2 (has a.1 a.3) in omega arith)
 
     pub last_start : (m : ℕ) → n ≡ m + 1 → (r : LineRange) → slice_get ranges m ≡ Some r → ((r.code == code) && ((length number == length r.low) && at_most number r.high)) ≡ list_any matches ranges
-    last_start m e r at = low_told r down ∙ same_tests (matches r) (list_any matches ranges) (at_any matches ranges m r at) back
+    last_start m e r at = low_told r down ∙ same_tests (matches r) (list_any matches ranges) (any_passes_from_place matches ranges m r at) back
       where
         down : starts_by r ≡ true
         down = ap starts_by (sym (get_or_from_slice_get ranges m r r at)) ∙ point.0 m r (omega arith) (let last = slice_get_within ranges m r at in omega arith)

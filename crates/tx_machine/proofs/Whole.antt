@@ -1,17 +1,19 @@
 -- What the fields keep, as they change.
-use Rattle.std.proofs.Common.{◌≡◌, ℕ, zero, suc, ◌+◌, ◌<◌, ◌≤◌, ◌==◌, true, false, not, ◌&&◌, ◌||◌, List, [], ◌∷◌, ◌++◌, inl, inr, map, length, refl, ap, sym, ◌∙◌, subst, arith, eqb-true, vec_len, vec_capacity, Some, None, Option, Result, Ok, Err}
+use Rattle.std.proofs.Common.{◌≡◌, ℕ, ◌+◌, ◌≤◌, ◌==◌, true, false, not, ◌&&◌, ◌||◌, List, [], ◌∷◌, ◌++◌, inl, inr, map, length, refl, ap, sym, ◌∙◌, subst, arith, eqb-true, vec_len, vec_capacity, Some, None, Option, Result, Ok, Err}
 use Rattle.std.specs.Prelude.{filter, Vec, OnErr, nat_le, slice_get, if◌then◌else◌}
 use Rattle.std.specs.Vec.{with_items}
 use Rattle.std.specs.Option.{option_map_or}
 use Rattle.std.specs.List.{flat_map}
-use Rattle.std.proofs.lemmas.List.{with_items_is}
+use Rattle.std.proofs.lemmas.List.{with_items_is, map_push}
 use Rattle.std.proofs.lemmas.Bool.{false≢true, and_parts}
+use Rattle.std.proofs.lemmas.Option.{slice_get_within}
 use Rattle.tx_plan.specs.Plan.{Plan, Group}
 use Rattle.tx_plan.specs.Rules.{IsPlan, IsGroup}
 use Rattle.tx_plan.specs.Circuits.{is_circuit}
 use Rattle.tx_plan.specs.Among.{Among}
 use Rattle.tx_entries.specs.declared.circuit.Circuit.{Circuit}
 use Rattle.tx_entries.specs.declared.line.Line.{Line}
+use Rattle.tx_entries.proofs.Lists.{at_least}
 use Rattle.tx_plan.proofs.Among.{among_cases, among_left, among_right, filter_among}
 use Rattle.tx_state.specs.declared.phase.Phase.{Phase}
 use Rattle.tx_state.specs.declared.phase.Phase.TheVariants.{Standing, Calling, Connected}
@@ -24,7 +26,6 @@ use Rattle.tx_state.specs.InUse.{circuits_used, circuits_carried, seizes}
 use Rattle.tx_state.specs.Routing.{set_call}
 use Rattle.tx_state.specs.Ending.{given_up}
 use Rattle.tx_state.proofs.Lists.{find_mem, at_place}
-use Rattle.tx_state.proofs.Uses.{map_push}
 use Rattle.tx_plain_parts.specs.inner.Marks.{Circuits, Groups, HasMark}
 use Rattle.tx_network.specs.Seen.{call_seen}
 use Rattle.tx_plain_parts.specs.inner.Seen.{changed, thrown_at, HasRoom, IsReady}
@@ -40,21 +41,13 @@ use Rattle.tx_machine.proofs.Holding.{held_filter, held_set, held_more, held_map
 pub circuit_marked : (p : Plan) → IsPlan p → (x : Circuit) → is_circuit p x ≡ true → HasMark (length p.groups) x
 circuit_marked p ok x h = at (slice_get p.groups x.group) refl h
   where
-    within : {A : Type 0} (xs : List A) (i : ℕ) (y : A) → slice_get xs i ≡ Some y → i < length xs
-    within [] i y e = let bad : ⊥ = cc in absurd bad
-    within (z ∷ zs) zero y e = omega arith
-    within (z ∷ zs) (suc i) y e = let r = within zs i y e in omega arith
-
-    le : {a b : ℕ} → nat_le a b ≡ true → a ≤ b
-    le {a} {b} e = grind arith
-
     at : (o : Option Group) → slice_get p.groups x.group ≡ o → option_map_or (λ r. nat_le 1 x.number && nat_le x.number r.count) o false ≡ true → HasMark (length p.groups) x
     at None e h = absurd (false≢true h)
     at (Some r) e h =
         let t = and_parts (nat_le 1 x.number) (nat_le x.number r.count) h in
         let few = (at_place (IsGroup p) p.groups ok.groups x.group r e).few in
-        let last = le t.1 in
-        record { group = within p.groups x.group r e; first = le t.0; last = omega arith }
+        let last = at_least x.number r.count t.1 in
+        record { group = slice_get_within p.groups x.group r e; first = at_least 1 x.number t.0; last = omega arith }
 
 changed_number : (change : Change) (c : Call) → (changed change c).number ≡ c.number
 changed_number (To phase) c = refl

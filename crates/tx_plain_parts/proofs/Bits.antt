@@ -13,6 +13,7 @@ use Rattle.tx_plan.specs.Orders.{circuit_cmp}
 use Rattle.tx_entries.proofs.Named.{circuits_total, exact_circuits, by_cmp-is}
 use Rattle.tx_entries.proofs.Tables.{list_any-map}
 use Rattle.tx_entries.specs.declared.circuit.Circuit.{Circuit}
+use Rattle.tx_entries.proofs.Lists.{at_least}
 use Rattle.std.proofs.lemmas.List.{get_or-set_other}
 use Rattle.std.proofs.lemmas.Grind.{get_or-set_at}
 use Rattle.tx_plain_parts.specs.inner.Marks.{places, circuit_at, index_of, circuits_of, groups_of, HasMark, IsCleared}
@@ -101,10 +102,7 @@ abbrev pub well : Circuit → Bool
 well x = nat_le 1 x.number && nat_le x.number 240
 
 well-is : (x : Circuit) → well x ≡ true → (1 ≤ x.number) × (x.number ≤ 240)
-well-is x h = let r = and_parts (nat_le 1 x.number) (nat_le x.number 240) h in (nat_le-is r.0, nat_le-is r.1)
-  where
-    nat_le-is : {a b : ℕ} → nat_le a b ≡ true → a ≤ b
-    nat_le-is {a} {b} e = grind arith
+well-is x h = let r = and_parts (nat_le 1 x.number) (nat_le x.number 240) h in (at_least 1 x.number r.0, at_least x.number 240 r.1)
 
 index_back : (k : ℕ) → index_of (circuit_at k) ≡ k
 index_back k = omega arith

@@ -1,45 +1,34 @@
 -- Circuits that calls give up.
-use Rattle.std.proofs.Common.{append_assoc, ◌≡◌, ℕ, zero, suc, ◌+◌, ◌<◌, Bool, true, false, ◌||◌, cond, List, [], ◌∷◌, ◌++◌, map, take, length, get_or, refl, ap, sym, ◌∙◌, arith}
+use Rattle.std.proofs.Common.{append_assoc, ◌≡◌, ℕ, zero, suc, ◌+◌, ◌<◌, Bool, true, false, ◌||◌, cond, List, [], ◌∷◌, ◌++◌, take, length, get_or, refl, ap, sym, ◌∙◌, arith}
 use Rattle.std.specs.Prelude.{filter, if◌then◌else◌}
 use Rattle.tx_state.specs.Call.{Call}
 use Rattle.tx_state.specs.InUse.{circuits_used}
 use Rattle.std.specs.List.{list_any, flat_map}
 use Rattle.std.specs.Ordering.{eq_by_cmp}
 use Rattle.std.specs.FinSet as set
+use Rattle.std.proofs.Math.Bool.{or-false, or_comm}
+use Rattle.std.proofs.lemmas.List.Folds.{list_any-append}
+use Rattle.std.proofs.lemmas.List.Elements.{filter-append}
 use Rattle.tx_plan.specs.Orders.{circuit_cmp}
 use Rattle.tx_entries.proofs.Named.{circuits_total, exact_circuits}
 use Rattle.tx_entries.specs.declared.circuit.Circuit.{Circuit}
 use Rattle.tx_plain_parts.specs.inner.Marks.{Circuits}
 use Rattle.tx_plain_parts.specs.inner.GivenUp.{with_more}
 
-pub any_append : {A : Type 0} (t : A → Bool) (xs ys : List A) → list_any t (xs ++ ys) ≡ (list_any t xs || list_any t ys)
-any_append t [] ys = refl
-any_append t (x ∷ xs) ys = elim (t x) as (λ b. (b || list_any t (xs ++ ys)) ≡ ((b || list_any t xs) || list_any t ys)) [ true ↦ refl | false ↦ any_append t xs ys ]
-
 or_assoc : (a b c : Bool) → ((a || b) || c) ≡ (a || (b || c))
 or_assoc true b c = refl
 or_assoc false b c = refl
-
-or_turn : (a b : Bool) → (a || b) ≡ (b || a)
-or_turn true true = refl
-or_turn true false = refl
-or_turn false true = refl
-or_turn false false = refl
-
-or_false : (b : Bool) → (b || false) ≡ b
-or_false true = refl
-or_false false = refl
 
 in_more : (s : set.FinSet circuit_cmp) (xs : List Circuit) (y : Circuit) → set.contains (set.union s (set.from_list xs)) y ≡ (set.contains s y || list_any (eq_by_cmp circuit_cmp y) xs)
 in_more s xs y = set.contains-union circuits_total s (set.from_list xs) y ∙ ap (λ b. set.contains s y || b) (set.contains-from_list circuits_total xs y)
 
 pub more_none : (v : Circuits) → with_more v [] ≡ v
-more_none v = λ i. record { marked = set.same_set circuits_total exact_circuits (set.union v.marked (set.from_list [])) v.marked (λ y. in_more v.marked [] y ∙ or_false (set.contains v.marked y)) i; groups = v.groups }
+more_none v = λ i. record { marked = set.same_set circuits_total exact_circuits (set.union v.marked (set.from_list [])) v.marked (λ y. in_more v.marked [] y ∙ or-false (set.contains v.marked y)) i; groups = v.groups }
 
 pub more_one : (v : Circuits) (x : Circuit) → with_more v (x ∷ []) ≡ record { marked = set.insert v.marked x; groups = v.groups }
 more_one v x = λ i. record {
   marked = set.same_set circuits_total exact_circuits (set.union v.marked (set.from_list (x ∷ []))) (set.insert v.marked x) (λ y.
-      in_more v.marked (x ∷ []) y ∙ ap (λ b. set.contains v.marked y || b) (or_false (eq_by_cmp circuit_cmp y x)) ∙ or_turn (set.contains v.marked y) (eq_by_cmp circuit_cmp y x) ∙ sym (set.contains-insert circuits_total v.marked x y)) i;
+      in_more v.marked (x ∷ []) y ∙ ap (λ b. set.contains v.marked y || b) (or-false (eq_by_cmp circuit_cmp y x)) ∙ or_comm (set.contains v.marked y) (eq_by_cmp circuit_cmp y x) ∙ sym (set.contains-insert circuits_total v.marked x y)) i;
   groups = v.groups;
 }
 
@@ -48,21 +37,13 @@ more_twice v xs ys = λ i. record {
   marked = set.same_set circuits_total exact_circuits (set.union (set.union v.marked (set.from_list xs)) (set.from_list ys)) (set.union v.marked (set.from_list (xs ++ ys))) (λ y.
       in_more (set.union v.marked (set.from_list xs)) ys y ∙ ap (λ b. b || list_any (eq_by_cmp circuit_cmp y) ys) (in_more v.marked xs y)
       ∙ or_assoc (set.contains v.marked y) (list_any (eq_by_cmp circuit_cmp y) xs) (list_any (eq_by_cmp circuit_cmp y) ys)
-      ∙ ap (λ b. set.contains v.marked y || b) (sym (any_append (eq_by_cmp circuit_cmp y) xs ys)) ∙ sym (in_more v.marked (xs ++ ys) y)) i;
+      ∙ ap (λ b. set.contains v.marked y || b) (sym (list_any-append (eq_by_cmp circuit_cmp y) xs ys)) ∙ sym (in_more v.marked (xs ++ ys) y)) i;
   groups = v.groups;
 }
 
-pub filter_append : {A : Type 0} (t : A → Bool) (xs ys : List A) → filter t (xs ++ ys) ≡ filter t xs ++ filter t ys
-filter_append t [] ys = refl
-filter_append t (x ∷ xs) ys = elim (t x) as (λ b. cond b (x ∷ filter t (xs ++ ys)) (filter t (xs ++ ys)) ≡ cond b (x ∷ filter t xs) (filter t xs) ++ filter t ys) [ true ↦ ap (λ l. x ∷ l) (filter_append t xs ys) | false ↦ filter_append t xs ys ]
-
 -- the circuits so far, and one list more
 pub more_given : (t : Circuit → Bool) (v now new : Circuits) (xs ys : List Circuit) → now ≡ with_more v (filter t xs) → new ≡ with_more now (filter t ys) → new ≡ with_more v (filter t (xs ++ ys))
-more_given t v now new xs ys a b = b ∙ ap (λ w. with_more w (filter t ys)) a ∙ more_twice v (filter t xs) (filter t ys) ∙ ap (with_more v) (sym (filter_append t xs ys))
-
-pub map_more : {A B : Type 0} (f : A → B) (xs : List A) (x : A) → map f (xs ++ x ∷ []) ≡ map f xs ++ f x ∷ []
-map_more f [] x = refl
-map_more f (y ∷ xs) x = ap (λ l. f y ∷ l) (map_more f xs x)
+more_given t v now new xs ys a b = b ∙ ap (λ w. with_more w (filter t ys)) a ∙ more_twice v (filter t xs) (filter t ys) ∙ ap (with_more v) (sym (filter-append t xs ys))
 
 pub take_more : {A : Type 0} (xs : List A) (i : ℕ) (x : A) → i < length xs → x ≡ get_or xs i x → take (i + 1) xs ≡ take i xs ++ x ∷ []
 take_more xs i x h e = ap (λ n. take n xs) (let q : i + 1 ≡ suc i = omega arith in q) ∙ more xs i x h e

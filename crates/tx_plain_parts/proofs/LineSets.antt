@@ -3,16 +3,13 @@ use Rattle.std.proofs.Common.{◌≡◌, Bool, true, false, not, ◌&&◌, ◌||
 use Rattle.std.specs.Prelude.{filter}
 use Rattle.std.specs.List.{list_any}
 use Rattle.std.specs.FinSet as set
+use Rattle.std.proofs.Math.Bool.{and-false}
 use Rattle.tx_plan.specs.Orders.{line_cmp, same_line, same_line-is, same_line_equiv}
 use Rattle.tx_entries.proofs.Named.{lines_total, exact_lines, line_tie, in_lines}
 use Rattle.tx_entries.specs.declared.line.Line.{Line}
 
 rest_any : (l q : Line) (ls : List Line) → list_any (λ m. same_line m q) (filter (λ m. not (same_line m l)) ls) ≡ (not (same_line q l) && list_any (λ m. same_line m q) ls)
-rest_any l q [] = and_no (not (same_line q l))
-  where
-    and_no : (b : Bool) → false ≡ (b && false)
-    and_no true = refl
-    and_no false = refl
+rest_any l q [] = sym (and-false (not (same_line q l)))
 rest_any l q (m ∷ ls) =
     elim (same_line m l) as (λ b. same_line m l ≡ b → list_any (λ m. same_line m q) (cond (not b) (m ∷ filter (λ m. not (same_line m l)) ls) (filter (λ m. not (same_line m l)) ls)) ≡ (not (same_line q l) && (same_line m q || list_any (λ m. same_line m q) ls))) [
       | true ↦ λ t. rest_any l q ls ∙ drop_one (same_line q l) (same_line m q) (list_any (λ m. same_line m q) ls) (λ e. ap (λ z. same_line z l) (sym (same_line-is m q e)) ∙ t)

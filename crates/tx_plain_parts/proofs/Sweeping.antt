@@ -2,13 +2,14 @@
 use Rattle.std.proofs.Common.{◌≡◌, ℕ, zero, suc, [], ◌∷◌, ◌+◌, ◌<◌, ◌≤◌, List, ◌++◌, inl, inr, map, take, drop, length, get_or, ap, sym, ◌∙◌, arith, subst, add-one}
 use Rattle.std.specs.Prelude.{slice_set}
 use Rattle.std.proofs.lemmas.List.{length-set, take_all}
+use Rattle.tx_plan.proofs.Among.{among_at}
 use Rattle.tx_state.specs.Call.{Call}
 use Rattle.tx_plan.specs.Among.{Among}
 use Rattle.tx_network.specs.Seen.{call_seen}
 use Rattle.tx_plain_parts.specs.inner.Seen.{changed, change_at, HasRoom, IsReady}
 use Rattle.tx_network.specs.declared.open_call.OpenCall.{OpenCall}
 use Rattle.tx_plain_parts.specs.declared.change.Change.{Change}
-use Rattle.tx_plain_parts.proofs.Sweeps.{step_seen, mem_set, mem_take_set, mem_get}
+use Rattle.tx_plain_parts.proofs.Sweeps.{step_seen, mem_set, mem_take_set}
 
 abbrev pub same : Call → Call
 same c = c
@@ -40,7 +41,7 @@ module _ {A : Type 0} (n : ℕ) (old : List (OpenCall A)) (at : ℕ) (now : List
     reserved_seen = map_set_seen call_seen now at x y h is seen' ∙ inv.seen
 
     pub reserved_room : ((c : OpenCall A) → Among c old → HasRoom c) → (c : OpenCall A) → Among c (slice_set now at y) → HasRoom c
-    reserved_room r c m = elim (mem_set now at y c m) [ inl e ↦ subst HasRoom e (room' (inv.room r x (mem_get now at x h is))) | inr o ↦ inv.room r c o ]
+    reserved_room r c m = elim (mem_set now at y c m) [ inl e ↦ subst HasRoom e (room' (inv.room r x (among_at now at x h is))) | inr o ↦ inv.room r c o ]
 
     pub reserved_step : IsReady n y → IsReserving n old (at + 1) (slice_set now at y)
     reserved_step ready' = record {
@@ -64,7 +65,7 @@ module _ {A : Type 0} (n : ℕ) (old : List (OpenCall A)) (at : ℕ) (now : List
     changed_step seen' room' = record {
       seen = subst (λ k. map call_seen (take k (slice_set now at y)) ++ map (change_at n (changed change)) (map call_seen (drop k (slice_set now at y))) ≡ map (change_at n (changed change)) (map call_seen old)) (sym (add-one at)) (step_seen call_seen (change_at n (changed change)) now at x y h is seen' ∙ inv.seen);
       len = length-set now at y ∙ inv.len;
-      room = λ r c m. elim (mem_set now at y c m) [ inl e ↦ subst HasRoom e (room' (inv.room r x (mem_get now at x h is))) | inr o ↦ inv.room r c o ];
+      room = λ r c m. elim (mem_set now at y c m) [ inl e ↦ subst HasRoom e (room' (inv.room r x (among_at now at x h is))) | inr o ↦ inv.room r c o ];
       ready = λ c m. inv.ready c (mem_later now at y c (subst (λ k. Among c (drop k (slice_set now at y))) (add-one at) m));
       within = subst (λ k. at + 1 ≤ k) (sym (length-set now at y)) (omega arith);
     }
@@ -88,6 +89,6 @@ pub swept_step : {A : Type 0} (F : Call → Call) (old : List (OpenCall A)) (at 
 swept_step F old at now x y h is inv seen' room' = record {
   seen = subst (λ k. map call_seen (take k (slice_set now at y)) ++ map F (map call_seen (drop k (slice_set now at y))) ≡ map F (map call_seen old)) (sym (add-one at)) (step_seen call_seen F now at x y h is seen' ∙ inv.seen);
   len = length-set now at y ∙ inv.len;
-  room = λ r c m. elim (mem_set now at y c m) [ inl e ↦ subst HasRoom e (room' (inv.room r x (mem_get now at x h is))) | inr o ↦ inv.room r c o ];
+  room = λ r c m. elim (mem_set now at y c m) [ inl e ↦ subst HasRoom e (room' (inv.room r x (among_at now at x h is))) | inr o ↦ inv.room r c o ];
   within = subst (λ k. at + 1 ≤ k) (sym (length-set now at y)) (omega arith);
 }

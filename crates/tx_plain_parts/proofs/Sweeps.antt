@@ -1,5 +1,5 @@
 -- A pass over a list that changes each member in place.
-use Rattle.std.proofs.Common.{◌≡◌, ℕ, zero, suc, ◌<◌, List, [], ◌∷◌, ◌++◌, ◌⊎◌, inl, inr, map, take, drop, length, get_or, ap, sym, ◌∙◌, arith}
+use Rattle.std.proofs.Common.{◌≡◌, ℕ, zero, suc, ◌<◌, List, [], ◌∷◌, ◌++◌, ◌⊎◌, inl, inr, map, take, drop, length, get_or, ap, ◌∙◌, arith}
 use Rattle.std.specs.Prelude.{slice_set}
 use Rattle.tx_plan.specs.Among.{Among}
 
@@ -21,8 +21,3 @@ pub mem_take_set : {X : Type 0} (xs : List X) (i : ℕ) (y z : X) → Among z (t
 mem_take_set [] i y z m = elim m [ ]
 mem_take_set (x ∷ xs) zero y z m = elim m [ inl e ↦ inl e | inr r ↦ absurd r ]
 mem_take_set (x ∷ xs) (suc i) y z m = elim m [ inl e ↦ inr (inl e) | inr r ↦ elim (mem_take_set xs i y z r) [ inl e ↦ inl e | inr q ↦ inr (inr q) ] ]
-
-pub mem_get : {X : Type 0} (xs : List X) (i : ℕ) (x : X) → i < length xs → x ≡ get_or xs i x → Among x xs
-mem_get [] i x h e = absurd (omega arith)
-mem_get (y ∷ ys) zero x h e = inl (sym e)
-mem_get (y ∷ ys) (suc i) x h e = inr (mem_get ys i x (omega arith) e)

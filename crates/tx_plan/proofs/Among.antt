@@ -1,5 +1,5 @@
 -- What stands in a list that is made of another.
-use Rattle.std.proofs.Common.{◌≡◌, ℕ, zero, suc, ◌+◌, Bool, true, false, ◌⊎◌, List, [], ◌∷◌, ◌++◌, map, Some, cond, refl, ap, sym, ◌∙◌, subst, inl, inr, arith}
+use Rattle.std.proofs.Common.{◌≡◌, ℕ, zero, suc, ◌+◌, ◌<◌, Bool, true, false, ◌⊎◌, List, [], ◌∷◌, ◌++◌, map, length, get_or, Some, cond, refl, ap, sym, ◌∙◌, subst, inl, inr, arith}
 use Rattle.std.specs.Prelude.{filter, slice_get}
 use Rattle.std.specs.List.{enumerate_from, flat_map}
 use Rattle.tx_plan.specs.Among.{Among}
@@ -67,3 +67,8 @@ pub places_among : {A : Type 0} (n : ℕ) (e : ℕ × A) (xs : List A) → Among
 places_among n e [] h = absurd h
 places_among n e (y ∷ xs) (inl p) = (0, ap (λ w. Some w.1) p, ap (λ w. w.0) (sym p) ∙ (let z : n ≡ n + 0 = omega arith in z))
 places_among n e (y ∷ xs) (inr h) = let r = places_among (n + 1) e xs h in (suc r.0, r.1, r.2 ∙ (let z : (n + 1) + r.0 ≡ n + suc r.0 = omega arith in z))
+
+pub among_at : {A : Type 0} (xs : List A) (i : ℕ) (x : A) → i < length xs → x ≡ get_or xs i x → Among x xs
+among_at [] i x h e = absurd (omega arith)
+among_at (y ∷ xs) zero x h e = inl (sym e)
+among_at (y ∷ xs) (suc i) x h e = inr (among_at xs i x (omega arith) e)

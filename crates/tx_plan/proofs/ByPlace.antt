@@ -1,9 +1,9 @@
 -- What is known of the member of a list at a place, and that its key leads back to the place.
-use Rattle.std.proofs.Common.{◌≡◌, ◌≢◌, ℕ, zero, suc, ◌<◌, true, false, List, [], ◌∷◌, ◌++◌, length, Some, refl, sym, ap, subst, arith}
+use Rattle.std.proofs.Common.{◌≡◌, ◌≢◌, ℕ, zero, suc, ◌<◌, Bool, nat_lt, true, false, List, [], ◌∷◌, ◌++◌, length, Some, refl, sym, ap, subst, arith}
 use Rattle.std.specs.List.{AllByRecursion, list_any, slice_get, position, position_or_len}
 use Rattle.std.specs.Str.{bytes_eq}
-use Rattle.std.proofs.lemmas.Bool.{false_from_ne_true, lt-ltb}
-use Rattle.std.proofs.lemmas.Option.{slice_get_within}
+use Rattle.std.proofs.lemmas.Bool.{false_from_ne_true, lt-ltb, ltb-true}
+use Rattle.std.proofs.lemmas.Option.{slice_get_within, cond_some}
 use Rattle.std.proofs.lemmas.Slice.Eq.{bytes_eq-Decides}
 use Rattle.std.proofs.lemmas.Map.Keys.{any_passes_from_place}
 use Rattle.tx_plan.specs.Rules.{EachPair}
@@ -47,3 +47,10 @@ module _ {A : Type 0} where
 
     pub place_passes : (xs : List A) (i : ℕ) (x : A) → slice_get xs i ≡ Some x → list_any (λ a. bytes_eq (key x) (key a)) xs ≡ true
     place_passes xs i x e = any_passes_from_place (λ a. bytes_eq (key x) (key a)) xs i x e (bytes_same (key x) (key x) refl)
+
+-- the place that a search gives is one of the list
+pub place_within : {A : Type 0} (test : A → Bool) (xs : List A) (i : ℕ) → position test xs ≡ Some i → i < length xs
+place_within test xs i h =
+    let r = cond_some (nat_lt (position_or_len test xs) (length xs)) (position_or_len test xs) i h in
+    let l = ltb-true (position_or_len test xs) (length xs) r.0 in
+    omega (arith, r.1)

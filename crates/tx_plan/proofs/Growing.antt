@@ -8,6 +8,7 @@ use Rattle.std.proofs.lemmas.Bool.Decides.{nat_tests}
 use Rattle.std.proofs.lemmas.List.Quantifiers.{position-Some}
 use Rattle.std.proofs.lemmas.Option.{slice_get_within}
 use Rattle.std.proofs.lemmas.List.{length-map}
+use Rattle.std.proofs.lemmas.Bool.{or_parts, and_cases, not-false, and_parts, eqb-false, not-true}
 use Rattle.tx_text.specs.Words.{is_name}
 use Rattle.tx_plan.specs.Plan.{Plan, Code, Group, Route, exchange_named, code_named, group_named, home_of}
 use Rattle.tx_plan.specs.Lines.{at_most}
@@ -21,7 +22,7 @@ use Rattle.tx_entries.specs.declared.pair.Pair.{Pair}
 use Rattle.tx_entries.specs.declared.range.LineRange.{LineRange}
 use Rattle.tx_plan.specs.declared.refusal.PlanRefusal.{PlanRefusal}
 use Rattle.tx_plan.proofs.ByPlace.{pairs_put}
-use Rattle.tx_entries.proofs.Lists.{neither, not_both, both, not_not, opposed, unlike, at_least, all_map, all_put, none_passes, apart, one_more, longer_by, slice_get_left, placed, placed_within, one_word, all_mapped, all_with}
+use Rattle.tx_entries.proofs.Lists.{opposed, unlike, at_least, all_map, all_put, none_passes, apart, one_more, longer_by, slice_get_left, placed, placed_within, one_word, all_mapped, all_with}
 
 -- WHERE NOTHING REFUSES
 
@@ -99,7 +100,7 @@ kept_exchange p name h none =
     let t = passed (exchange_refusals p name) none in
     let g : Grows p (with_exchange p name) = record { exchanges = longer_by p.exchanges (name ∷ []); codes = omega arith; homes = λ c l. refl; seizes = λ g x s. s } in
     record {
-      exchanges = all_put (λ x. is_name x ≡ true) p.exchanges name h.exchanges (not_not (is_name name) t.0);
+      exchanges = all_put (λ x. is_name x ≡ true) p.exchanges name h.exchanges (not-false (is_name name) t.0);
       exchanges_differ = pairs_put (λ x y. x ≢ y) p.exchanges name h.exchanges_differ (apart (bytes_eq name) (λ x. x ≢ name) p.exchanges (λ x n e. unlike name x n (sym e)) t.1.0);
       few_exchanges = one_more p.exchanges name 256 t.1.1.0;
       codes = all_map p.codes (code_on g) h.codes;
@@ -133,7 +134,7 @@ kept_code p code home h none =
       exchanges = h.exchanges;
       exchanges_differ = h.exchanges_differ;
       few_exchanges = h.few_exchanges;
-      codes = all_put (IsCode (with_code p code home)) p.codes c (all_map p.codes (code_on g) h.codes) (record { figures = not_not (is_code code) t.1.0; home = exchange_within p home (not_not (has_exchange p home) t.1.1.1.0) });
+      codes = all_put (IsCode (with_code p code home)) p.codes c (all_map p.codes (code_on g) h.codes) (record { figures = not-false (is_code code) t.1.0; home = exchange_within p home (not-false (has_exchange p home) t.1.1.1.0) });
       codes_differ = pairs_put (λ c d. c.figures ≢ d.figures) p.codes c h.codes_differ (apart (λ d. bytes_eq code d.figures) (λ d. d.figures ≢ code) p.codes (λ d n e. unlike code d.figures n (sym e)) t.1.1.0);
       few_codes = one_more p.codes c 1100 t.1.1.1.1.0;
       ranges = all_map p.ranges (range_on g) h.ranges;
@@ -156,16 +157,16 @@ overlaps_at p o i low high e h = ap (λ q. overlaps p q low high) (sym e) ∙ h
 separate : (r q : LineRange) → shares q.code q.low q.high r ≡ false → AreSeparate r q
 separate r q h e w =
     let here : (at_most r.low q.high && at_most q.low r.high) ≡ false = ap (λ b. b && (at_most r.low q.high && at_most q.low r.high)) (sym (eq-eqb (length r.low) (length q.low) w)) ∙ ap (λ b. b && ((length r.low == length q.low) && (at_most r.low q.high && at_most q.low r.high))) (sym (eq-eqb r.code q.code e)) ∙ h in
-    elim (not_both (at_most r.low q.high) (at_most q.low r.high) here) [ inl a ↦ inr a | inr b ↦ inl b ]
+    elim (and_cases (at_most r.low q.high) (at_most q.low r.high) here) [ inl a ↦ inr a | inr b ↦ inl b ]
 
 pub kept_lines : (p : Plan) (code low high : List ℕ) → IsPlan p → first_true (lines_refusals p code low high) ≡ None → IsPlan (with_lines p code low high)
 kept_lines p code low high h none =
     let t = passed (lines_refusals p code low high) none in
     let r : LineRange = record { code = code_at p code; low = low; high = high } in
     let g : Grows p (with_lines p code low high) = record { exchanges = omega arith; codes = omega arith; homes = λ c l. refl; seizes = λ g x s. s } in
-    let numbers = neither (not (is_national low)) (not (is_national high)) t.1.0 in
-    let known = not_not (has_code p code) t.1.1.0 in
-    let ordered = both (length low == length high) (at_most low high) (not_not ((length low == length high) && at_most low high) t.1.1.1.0) in
+    let numbers = or_parts (not (is_national low)) (not (is_national high)) t.1.0 in
+    let known = not-false (has_code p code) t.1.1.0 in
+    let ordered = and_parts (length low == length high) (at_most low high) (not-false ((length low == length high) && at_most low high) t.1.1.1.0) in
     let alone = overlaps_at p (code_named p code) (code_at p code) low high (placed (λ c. bytes_eq code c.figures) p.codes known) t.1.1.1.1.0 in
     record {
       exchanges = h.exchanges;
@@ -176,8 +177,8 @@ kept_lines p code low high h none =
       few_codes = h.few_codes;
       ranges = all_put (IsRange (with_lines p code low high)) p.ranges r (all_map p.ranges (range_on g) h.ranges) (record {
         code = code_within p code known;
-        low = not_not (is_national low) numbers.0;
-        high = not_not (is_national high) numbers.1;
+        low = not-false (is_national low) numbers.0;
+        high = not-false (is_national high) numbers.1;
         width = eqb-true (length low) (length high) ordered.0;
         order = ordered.1;
       });
@@ -208,11 +209,11 @@ kept_group p name a b direction count h none =
       homes = λ c l. refl;
       seizes = λ i x s. let row = some_row (slice_get p.groups i) x s in ap (λ o. option_map_or (λ (r : Group). may_seize_row r x) o false) (slice_get_left p.groups (r ∷ []) i (slice_get_within p.groups i row.0 row.1)) ∙ s;
     } in
-    let named = (neither (not (is_name name)) (not (is_name a) || not (is_name b)) t.0).0 in
-    let counted = both (nat_le 1 count) (nat_le count 240) (not_not (nat_le 1 count && nat_le count 240) t.1.0) in
-    let known = neither (not (has_exchange p a)) (not (has_exchange p b)) t.1.1.1.0 in
-    let first = not_not (has_exchange p a) known.0 in
-    let second = not_not (has_exchange p b) known.1 in
+    let named = (or_parts (not (is_name name)) (not (is_name a) || not (is_name b)) t.0).0 in
+    let counted = and_parts (nat_le 1 count) (nat_le count 240) (not-false (nat_le 1 count && nat_le count 240) t.1.0) in
+    let known = or_parts (not (has_exchange p a)) (not (has_exchange p b)) t.1.1.1.0 in
+    let first = not-false (has_exchange p a) known.0 in
+    let second = not-false (has_exchange p b) known.1 in
     record {
       exchanges = h.exchanges;
       exchanges_differ = h.exchanges_differ;
@@ -224,7 +225,7 @@ kept_group p name a b direction count h none =
       ranges_apart = h.ranges_apart;
       few_ranges = h.few_ranges;
       groups = all_put (IsGroup (with_group p name a b direction count)) p.groups r (all_map p.groups (group_on g) h.groups) (record {
-        name = not_not (is_name name) named;
+        name = not-false (is_name name) named;
         first = exchange_within p a first;
         second = exchange_within p b second;
         ends_differ = λ e. unlike a b t.1.1.1.1.0 (one_word (λ x. x) [] a b p.exchanges first second e);
@@ -250,9 +251,6 @@ pair_holds : (o q : Option ℕ) (test : ℕ → ℕ → Bool) → is_none (pair_
 pair_holds None q test h = absurd (cc)
 pair_holds (Some x) None test h = absurd (cc)
 pair_holds (Some x) (Some c) test h = refl
-
-not_one : (m n : ℕ) → (m == n) ≡ false → m ≢ n
-not_one m n h e = opposed (m == n) (eq-eqb m n e) h
 
 not_pair : (a b x c : ℕ) → ((a == x) && (b == c)) ≡ false → a ≡ x → b ≢ c
 not_pair a b x c h e f = opposed ((a == x) && (b == c)) (ap (λ t. t && (b == c)) (eq-eqb a x e) ∙ eq-eqb b c f) h
@@ -294,7 +292,7 @@ kept_bar p exchange code h none =
       bars = all_put (IsBar (with_bar p exchange code)) p.bars b (all_map p.bars (bar_on g) h.bars) (record {
         exchange = start_within p exchange code known;
         code = goal_within p exchange code known;
-        away = not_one (home_of p b.code) b.exchange (fails p exchange code known (λ x c. home_of p c == x) t.1.1.1.1.0);
+        away = eqb-false (home_of p b.code) b.exchange (fails p exchange code known (λ x c. home_of p c == x) t.1.1.1.1.0);
       });
       bars_differ = pairs_put (λ b c. b.exchange ≡ c.exchange → b.code ≢ c.code) p.bars b h.bars_differ
           (apart (λ a. (a.exchange == b.exchange) && (a.code == b.code)) (λ a. a.exchange ≡ b.exchange → a.code ≢ b.code) p.bars (λ a. not_pair a.exchange a.code b.exchange b.code) (fails p exchange code known (is_barred p) t.1.1.0));
@@ -312,25 +310,21 @@ within n h = grind (arith, nat_tests)
 groups_differ_at : (p : Plan) (words : List (List ℕ)) → none_twice words ≡ true → AllByRecursion (λ w. has_group p w ≡ true) words → EachPair (λ g h. g ≢ h) (map (group_at p) words)
 groups_differ_at p [] h known = tt
 groups_differ_at p (w ∷ ws) h known =
-    let t = both (not (list_any (bytes_eq w) ws)) (none_twice ws) h in (
+    let t = and_parts (not (list_any (bytes_eq w) ws)) (none_twice ws) h in (
       all_mapped (group_at p) (λ i. group_at p w ≢ i) ws
-          (all_with ws (λ v n k e. unlike w v n (one_word (λ g. g.name) (record { name = []; a = 0; b = 0; direction = OneWay; count = 0 }) w v p.groups known.0 k e)) (none_passes (bytes_eq w) ws (not_true (list_any (bytes_eq w) ws) t.0)) known.1),
+          (all_with ws (λ v n k e. unlike w v n (one_word (λ g. g.name) (record { name = []; a = 0; b = 0; direction = OneWay; count = 0 }) w v p.groups known.0 k e)) (none_passes (bytes_eq w) ws (not-true (list_any (bytes_eq w) ws) t.0)) known.1),
       groups_differ_at p ws t.1 known.1,
     )
-  where
-    not_true : (b : Bool) → not b ≡ true → b ≡ false
-    not_true true h = absurd (cc)
-    not_true false h = refl
 
 seized_if : (p : Plan) (x : ℕ) (o : Option ℕ) (i : ℕ) → o ≡ Some i → option_map_or (λ i. not (may_seize p i x)) o false ≡ false → may_seize p i x ≡ true
-seized_if p x o i e h = not_not (may_seize p i x) (ap (λ q. option_map_or (λ i. not (may_seize p i x)) q false) (sym e) ∙ h)
+seized_if p x o i e h = not-false (may_seize p i x) (ap (λ q. option_map_or (λ i. not (may_seize p i x)) q false) (sym e) ∙ h)
 
 pub kept_route : (p : Plan) (exchange code : List ℕ) (groups : List (List ℕ)) → IsPlan p → first_true (route_refusals p exchange code groups) ≡ None → IsPlan (with_route p exchange code groups)
 kept_route p exchange code groups h none =
     let t = passed (route_refusals p exchange code groups) none in
-    let declared = neither (is_none (pair_named p exchange code)) (list_any (λ g. not (has_group p g)) groups) t.1.1.1.1.0 in
+    let declared = or_parts (is_none (pair_named p exchange code)) (list_any (λ g. not (has_group p g)) groups) t.1.1.1.1.0 in
     let known = declared.0 in
-    let named : AllByRecursion (λ g. has_group p g ≡ true) groups = all_map groups (λ g n. not_not (has_group p g) n) (none_passes (λ g. not (has_group p g)) groups declared.1) in
+    let named : AllByRecursion (λ g. has_group p g ≡ true) groups = all_map groups (λ g n. not-false (has_group p g) n) (none_passes (λ g. not (has_group p g)) groups declared.1) in
     let r : Route = record { exchange = exchange_at p exchange; code = code_at p code; groups = map (group_at p) groups } in
     let g : Grows p (with_route p exchange code groups) = record { exchanges = omega arith; codes = omega arith; homes = λ c l. refl; seizes = λ g x s. s } in
     let some = filled (length groups) t.0 in
@@ -351,13 +345,13 @@ kept_route p exchange code groups h none =
       routes = all_put (IsRoute (with_route p exchange code groups)) p.routes r (all_map p.routes (route_on g) h.routes) (record {
         exchange = start_within p exchange code known;
         code = goal_within p exchange code known;
-        away = not_one (home_of p r.code) r.exchange (fails p exchange code known (λ x c. home_of p c == x) t.1.1.1.1.1.1.1.0);
+        away = eqb-false (home_of p r.code) r.exchange (fails p exchange code known (λ x c. home_of p c == x) t.1.1.1.1.1.1.1.0);
         some = rw (length-map groups (group_at p)) some;
         few = rw (length-map groups (group_at p)) few;
         outgoing = all_mapped (group_at p) (λ i. may_seize p i r.exchange ≡ true) groups (all_with groups (λ w n k.
             seized_if p r.exchange (group_named p w) (group_at p w) (placed (λ g. bytes_eq w g.name) p.groups k) (fails p exchange code known (λ x c. option_map_or (λ i. not (may_seize p i x)) (group_named p w) false) n))
             (none_passes (is_not_outgoing p (pair_named p exchange code)) groups t.1.1.1.1.1.0) named);
-        differ = groups_differ_at p groups (not_not (none_twice groups) t.1.1.1.1.1.1.0) named;
+        differ = groups_differ_at p groups (not-false (none_twice groups) t.1.1.1.1.1.1.0) named;
       });
       routes_differ = pairs_put (λ r q. r.exchange ≡ q.exchange → r.code ≢ q.code) p.routes r h.routes_differ
           (apart (λ a. (a.exchange == r.exchange) && (a.code == r.code)) (λ a. a.exchange ≡ r.exchange → a.code ≢ r.code) p.routes (λ a. not_pair a.exchange a.code r.exchange r.code) (fails p exchange code known (has_route p) t.1.1.1.0));

@@ -1,10 +1,23 @@
 -- The longest code, from the last place down.
-use Rattle.std.proofs.Common.{◌≡◌, ℕ, zero, suc, ◌+◌, ◌-◌, ◌<◌, ◌≤◌, Bool, true, false, not, ◌&&◌, ◌||◌, List, [], ◌∷◌, drop, length, Option, Some, None, refl, ap, sym, ◌∙◌, subst, arith}
+use Rattle.std.proofs.Common.{◌≡◌, ℕ, zero, suc, ◌+◌, ◌-◌, ◌<◌, ◌≤◌, Bool, true, false, not, ◌&&◌, ◌||◌, List, [], ◌∷◌, drop, length, Option, Some, None, inl, inr, refl, ap, sym, ◌∙◌, subst, arith}
 use Rattle.std.specs.Prelude.{filter, if◌then◌else◌, is_some, is_none, nat_lt, slice_get}
 use Rattle.std.specs.List.{enumerate_from}
 use Rattle.std.specs.Option.{option_map, option_map_or}
 use Rattle.tx_plan.specs.Plan.{Plan, Code, figures_of}
 use Rattle.tx_plan.specs.Codes.{is_prefix, longer, longest}
+use Rattle.tx_plan.specs.Among.{Among}
+
+pub longest_among : (es : List (ℕ × Code)) (e : ℕ × Code) → longest es ≡ Some e → Among e es
+longest_among [] e h = let bad : ⊥ = cc in absurd bad
+longest_among (d ∷ es) e h = by (longest es) (longest_among es) h
+  where
+    by : (o : Option (ℕ × Code)) → ((f : ℕ × Code) → o ≡ Some f → Among f es) → longer d o ≡ Some e → Among e (d ∷ es)
+    by None k h = let s : d ≡ e = cc in inl s
+    by (Some f) k h =
+        elim (nat_lt (length f.1.figures) (length d.1.figures)) as (λ b. (if b then Some d else Some f) ≡ Some e → Among e (d ∷ es)) [
+          | true ↦ λ m. let s : d ≡ e = cc in inl s
+          | false ↦ λ m. let s : e ≡ f = cc in inr (subst (λ w. Among w es) (sym s) (k f refl))
+        ] h
 
 -- the codes from a place on that begin the figures
 abbrev pub codes_from : Plan → List ℕ → ℕ → List (ℕ × Code)

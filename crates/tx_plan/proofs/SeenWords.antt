@@ -1,6 +1,6 @@
 -- What is seen of a route's words.
 use Rattle.std.proofs.Common.{◌≡◌, ℕ, ◌<◌, ◌≤◌, nat_lt, Bool, true, false, not, ◌&&◌, ◌||◌, ◌==◌, List, [], ◌∷◌, ◌++◌, length, map, is_some, refl, sym, ap, ◌∙◌, eqb-true, eq-eqb, arith}
-use Rattle.std.proofs.lemmas.Bool.{le-ltb}
+use Rattle.std.proofs.lemmas.Bool.{le-ltb, or_parts, not-false}
 use Rattle.std.proofs.lemmas.List.{append-nil, length-map}
 use Rattle.std.specs.List.{list_any}
 use Rattle.std.specs.Str.{bytes_eq}
@@ -12,7 +12,7 @@ use Rattle.tx_plan.specs.Declaring.{has_group, group_at, none_twice}
 use Rattle.tx_entries.specs.inner.Distinct.{differ}
 use Rattle.tx_entries.specs.declared.direction.Direction.TheVariants.{OneWay}
 use Rattle.tx_plan.proofs.Absent.{unnamed}
-use Rattle.tx_entries.proofs.Lists.{opposed, neither, not_not, one_word, below, same_tests}
+use Rattle.tx_entries.proofs.Lists.{opposed, one_word, below, same_tests}
 
 -- a declared group's name is a name
 pub named_is_name : (p : Plan) (w : List ℕ) → IsPlan p → is_some (group_named p w) ≡ true → is_name w ≡ true
@@ -49,15 +49,15 @@ any_as_words : (p : Plan) (v : List ℕ) (ws : List (List ℕ)) → has_group p 
     → list_any (λ y. y == group_at p v) (map (group_at p) ws) ≡ list_any (bytes_eq v) ws
 any_as_words p v [] h k = refl
 any_as_words p v (w ∷ ws) h k =
-    let n = neither (not (has_group p w)) (list_any (λ g. not (has_group p g)) ws) k in
-    ap (λ b. b || list_any (λ y. y == group_at p v) (map (group_at p) ws)) (place_is_word p v w h (not_not (has_group p w) n.0)) ∙ ap (λ b. bytes_eq v w || b) (any_as_words p v ws h n.1)
+    let n = or_parts (not (has_group p w)) (list_any (λ g. not (has_group p g)) ws) k in
+    ap (λ b. b || list_any (λ y. y == group_at p v) (map (group_at p) ws)) (place_is_word p v w h (not-false (has_group p w) n.0)) ∙ ap (λ b. bytes_eq v w || b) (any_as_words p v ws h n.1)
 
 -- of declared groups no place stands there twice exactly where no word does
 pub differ_as_words : (p : Plan) (ws : List (List ℕ)) → list_any (λ g. not (has_group p g)) ws ≡ false → differ (map (group_at p) ws) ≡ none_twice ws
 differ_as_words p [] h = refl
 differ_as_words p (w ∷ ws) h =
-    let n = neither (not (has_group p w)) (list_any (λ g. not (has_group p g)) ws) h in
-    ap (λ b. not b && differ (map (group_at p) ws)) (any_as_words p w ws (not_not (has_group p w) n.0) n.1) ∙ ap (λ b. not (list_any (bytes_eq w) ws) && b) (differ_as_words p ws n.1)
+    let n = or_parts (not (has_group p w)) (list_any (λ g. not (has_group p g)) ws) h in
+    ap (λ b. not b && differ (map (group_at p) ws)) (any_as_words p w ws (not-false (has_group p w) n.0) n.1) ∙ ap (λ b. not (list_any (bytes_eq w) ws) && b) (differ_as_words p ws n.1)
 
 -- the groups of all words
 pub all_seen : (f : List ℕ → ℕ) (list : List ℕ) (words rest : List (List ℕ)) → rest ≡ [] → map f words ≡ list ++ map f rest → list ≡ map f words

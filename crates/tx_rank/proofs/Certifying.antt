@@ -23,7 +23,8 @@ below_rank : (o : Option ℕ) (r : ℕ) → IsBelow o r → (m : ℕ) × (o ≡ 
 below_rank None r h = absurd h
 below_rank (Some m) r h = (m, refl, h)
 
-prefix_whole : (front text : List ℕ) → is_prefix front text ≡ true → length text ≤ length front → front ≡ text
+-- a prefix that is not shorter is the whole
+pub prefix_whole : (front text : List ℕ) → is_prefix front text ≡ true → length text ≤ length front → front ≡ text
 prefix_whole front text h l = prefix_is_take front text h ∙ take_all (length front) text l
 
 -- no code begins another

@@ -1,14 +1,13 @@
 -- Links, as they are made.
-use Rattle.std.proofs.Common.{◌≡◌, ◌≢◌, ℕ, zero, suc, ◌+◌, ◌<◌, ◌≤◌, true, false, eqb, eqb-true, List, [], ◌∷◌, ◌++◌, length, take, get_or, replicate, ◌⊎◌, inl, inr, Option, Some, None, refl, sym, ap, subst, ◌∙◌, arith}
+use Rattle.std.proofs.Common.{◌≡◌, ◌≢◌, ℕ, ◌+◌, ◌<◌, true, false, eqb, eqb-true, List, [], ◌∷◌, ◌++◌, length, take, get_or, ◌⊎◌, inl, inr, Option, Some, None, refl, sym, ap, subst, ◌∙◌, arith}
 use Rattle.std.specs.Prelude.{slice_get}
 use Rattle.std.proofs.Math.ListN.{set, length-set}
 use Rattle.std.proofs.lemmas.Bool.{eqb-false}
 use Rattle.std.proofs.lemmas.Option.{slice_get-get_or}
-use Rattle.std.proofs.lemmas.List.{length-replicate, take_all}
 use Rattle.tx_plan.specs.Among.{Among}
 use Rattle.tx_plan.proofs.Among.{among_cases}
 use Rattle.tx_rank.specs.Walks.{Net, Goes, end_of}
-use Rattle.tx_rank.specs.inner.Links.{IsLink, AreLinks, LinksAll, StaysLinked, LinksBelow, IsLinked}
+use Rattle.tx_rank.specs.inner.Links.{IsLink, AreLinks, LinksAll, StaysLinked, LinksBelow}
 use Rattle.tx_rank.proofs.Looks.{among_at, take_next}
 use Rattle.tx_rank.proofs.Turns.{set_same, set_other}
 

@@ -1,9 +1,8 @@
 -- Whether calls may start at each exchange, one exchange after another.
-use Rattle.std.proofs.Common.{◌≡◌, ℕ, zero, suc, ◌+◌, Bool, List, [], ◌∷◌, ◌++◌, length, ◌⊎◌, inl, inr, Some, sym, ap, ◌∙◌, arith, length-append}
+use Rattle.std.proofs.Common.{◌≡◌, ℕ, zero, suc, ◌+◌, Bool, List, [], ◌∷◌, ◌++◌, length, ◌⊎◌, inl, inr, Some, ap}
 use Rattle.std.specs.Prelude.{slice_get}
 use Rattle.tx_plan.specs.Plan.{Plan}
 use Rattle.tx_plan.specs.Routes.{is_origin}
-use Rattle.tx_rank.specs.inner.Judged.{AreOrigins}
 
 pub record AreOriginsBelow (p : Plan) (i : ℕ) (origins : List Bool) : Type 0 where
   pub long : length origins ≡ i

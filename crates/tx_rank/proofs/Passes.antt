@@ -11,7 +11,7 @@ use Rattle.tx_rank.proofs.Turns.{set_same, set_other, cost_set}
 use Rattle.std.proofs.Math.ListN.{set, length-set}
 use Rattle.tx_rank.specs.Walks.{Net}
 use Rattle.tx_rank.specs.Nets.{IsNet}
-use Rattle.tx_rank.specs.inner.Marks.{rank_of, rank_in, cost, IsMarked, IsInHand, Grew, NoneOpen, IsStep, IsEnd, IsPassing, IsPassed}
+use Rattle.tx_rank.specs.inner.Marks.{rank_of, rank_in, cost, IsMarked, IsInHand, Grew, NoneOpen, IsStep, IsEnd, IsPassing}
 use Rattle.tx_rank.specs.declared.mark.Mark.{Mark}
 use Rattle.tx_rank.specs.declared.mark.Mark.TheVariants.{Unseen, Open, Ranked}
 

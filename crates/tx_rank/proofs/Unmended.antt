@@ -1,5 +1,5 @@
 -- The findings that no limit and no spare number mend.
-use Rattle.std.proofs.Common.{◌≡◌, ◌≢◌, ℕ, zero, suc, ◌+◌, ◌<◌, ◌≤◌, true, false, eqb, eqb-true, List, [], ◌∷◌, length, inl, inr, Option, Some, None, refl, sym, ap, subst, ◌∙◌, arith}
+use Rattle.std.proofs.Common.{◌≡◌, ◌≢◌, ℕ, zero, suc, ◌+◌, ◌<◌, ◌≤◌, true, false, eqb, eqb-true, List, [], ◌∷◌, length, inl, inr, Some, None, refl, sym, subst, arith}
 use Rattle.std.specs.List.{IsDistinct, list_any, AllByRecursion}
 use Rattle.std.proofs.lemmas.Bool.{ne_eqb, or_cases, false≢true}
 use Rattle.std.proofs.lemmas.Map.Steps.{length-le_from_distinct_below}
@@ -8,7 +8,7 @@ use Rattle.tx_plan.specs.Rules.{IsPlan}
 use Rattle.tx_plan.specs.Among.{Among}
 use Rattle.tx_rank.specs.declared.finding.Finding.{Finding}
 use Rattle.tx_rank.specs.declared.finding.Finding.TheVariants.{Ambiguous, Loop, Short, Long}
-use Rattle.tx_rank.specs.Walks.{Net, Walk, AllDiffer, Goes, net_of, passed, IsLong}
+use Rattle.tx_rank.specs.Walks.{Net, AllDiffer, Goes, net_of, passed, IsLong}
 use Rattle.tx_rank.specs.Nets.{IsNet}
 use Rattle.tx_rank.specs.Findings.{IsTrueOf, AreFindingsOfCode, AreFindingsBelow, AreFindings}
 use Rattle.tx_rank.specs.Findings.AreFindingsOfCode.{looped, straight}
@@ -22,7 +22,7 @@ passed_count : (x : ℕ) (steps : List (ℕ × ℕ)) → length (passed x steps)
 passed_count x [] = refl
 passed_count x (s ∷ steps) = let e = passed_count s.1 steps in omega arith
 
-all_distinct : (xs : List ℕ) → AllDiffer xs → IsDistinct eqb xs
+pub all_distinct : (xs : List ℕ) → AllDiffer xs → IsDistinct eqb xs
 unfolding IsDistinct
 all_distinct [] d = tt
 all_distinct (x ∷ xs) d = (each x xs d.0, all_distinct xs d.1)

@@ -3,13 +3,13 @@ use Rattle.std.proofs.Common.{◌≡◌, ◌≢◌, ℕ, ◌+◌, ◌<◌, ◌�
 use Rattle.std.specs.Prelude.{slice_get, slice_set, if◌then◌else◌}
 use Rattle.std.specs.Option.{option_and_then}
 use Rattle.std.proofs.lemmas.Bool.{eqb-false, lt-ltb, ltb-true, and_from, and_parts}
-use Rattle.std.proofs.lemmas.Option.{slice_get_past, slice_get-get_or}
+use Rattle.std.proofs.lemmas.Option.{slice_get_past}
 use Rattle.std.proofs.lemmas.Nat.{mul-add-lt, same_from_place}
 use borrow.Author.Tests.{ltb-false}
 use Rattle.tx_cert.specs.Certificate.{Certificate, IsWhole, rank_at, with_rank, has_pair, place_of}
 use Rattle.tx_rank.specs.inner.Marks.{rank_of, rank_in}
 use Rattle.tx_rank.specs.declared.mark.Mark.{Mark}
-use Rattle.tx_rank.proofs.Turns.{set_same, set_other}
+use Rattle.tx_rank.proofs.Turns.{set_other}
 
 -- ONE RANK
 

@@ -1,18 +1,17 @@
 -- Rows in one vector: one is added, written, or changed, and the others stay.
-use Rattle.std.proofs.Common.{◌≡◌, ◌≢◌, ◌∙◌, ℕ, zero, suc, ◌+◌, ◌-◌, ◌<◌, ◌≤◌, ◌^◌, ◌⊎◌, inl, inr, List, [], ◌∷◌, ◌++◌, length, map, take, drop, Option, Some, None, slice_set, refl, sym, ap, subst, arith, set}
+use Rattle.std.proofs.Common.{◌≡◌, ◌∙◌, ℕ, zero, suc, ◌+◌, ◌-◌, ◌<◌, ◌≤◌, ◌^◌, inl, inr, List, [], ◌∷◌, ◌++◌, length, map, take, drop, Option, Some, None, slice_set, refl, sym, ap, subst, arith, set}
 use Rattle.std.specs.Prelude.{slice_get, replicate, Result, Ok, Err, IsOk, is_ok, if◌then◌else◌}
 use Rattle.std.specs.List.{between}
-use Rattle.std.proofs.lemmas.List.{take_all, drop_at, take-append-le, length-append, length-replicate, length-set, length-map, drop-set-add, drop-set-lt, take-set-le}
+use Rattle.std.proofs.lemmas.List.{take_all, drop_at, take-append-le, length-append, length-replicate, length-set, drop-set-add, drop-set-lt, take-set-le}
 use Rattle.std.proofs.Math.Seq.{take-set-lt}
-use Rattle.std.proofs.lemmas.List.Edits.{length-between}
 use Rattle.std.proofs.lemmas.Option.{slice_get-map}
 use Rattle.std.specs.Option.{option_map}
 use Rattle.std.proofs.lemmas.Slice.{between_is, take-put_mid_below, drop-put_mid, between-put_mid}
 use borrow.Rule.Slice.PartMut.{put_mid}
 use Rattle.tx_rows.specs.declared.row_at.RowAt.{RowAt}
-use Rattle.tx_rows.specs.Rows.{Row, change_at}
+use Rattle.tx_rows.specs.Rows.{change_at}
 use Rattle.tx_rows.specs.inner.Kept.{AreKept, AreApart, items_at, row_seen, late_of, late_in}
-use Rattle.tx_rows.proofs.Lists.{get_within, set_entry, pushed_is, some_is, map-set_change, map_change, change_none}
+use Rattle.tx_rows.proofs.Lists.{set_entry, pushed_is, some_is, map-set_change, map_change, change_none}
 
 -- WHAT IS STILL TO BE WRITTEN
 

@@ -1,14 +1,10 @@
 -- Lists and their entries.
-use Rattle.std.proofs.Common.{◌≡◌, ◌≢◌, ◌∙◌, ℕ, zero, suc, ◌+◌, ◌<◌, ◌⊎◌, inl, inr, List, [], ◌∷◌, ◌++◌, length, map, Option, Some, None, slice_index_or, slice_set, refl, sym, ap, subst, arith}
+use Rattle.std.proofs.Common.{◌≡◌, ◌≢◌, ◌∙◌, ℕ, zero, suc, ◌+◌, ◌<◌, ◌⊎◌, inl, inr, List, [], ◌∷◌, ◌++◌, length, map, Option, Some, None, slice_index_or, slice_set, refl, sym, ap, arith}
 use Rattle.std.specs.Prelude.{slice_get}
 use Rattle.std.specs.Option.{option_map}
 use Rattle.std.proofs.lemmas.Bool.Decides.{eqb_tells}
+use Rattle.std.proofs.lemmas.Option.{slice_get_within}
 use Rattle.tx_rows.specs.Rows.{change_at}
-
-pub get_within : {A : Type 0} (xs : List A) (k : ℕ) (x : A) → slice_get xs k ≡ Some x → k < length xs
-get_within [] k x e = absurd cc
-get_within (y ∷ xs) zero x e = omega arith
-get_within (y ∷ xs) (suc k) x e = (let a : k < length xs = get_within xs k x e in omega arith)
 
 pub get_is : {A : Type 0} (xs : List A) (k : ℕ) (d : A) → k < length xs → slice_get xs k ≡ Some (slice_index_or xs k d)
 get_is [] k d h = absurd (omega arith)
@@ -76,7 +72,7 @@ set_itself (y ∷ xs) (suc k) x e = ap (λ l. y ∷ l) (set_itself xs k x e)
 pub set_entry : {A : Type 0} (xs : List A) (g : ℕ) (x y : A) → slice_get xs g ≡ Some x → (k : ℕ) (z : A) → slice_get (slice_set xs g y) k ≡ Some z
     → ((k ≡ g) × (y ≡ z)) ⊎ ((k ≢ g) × (slice_get xs k ≡ Some z))
 set_entry xs g x y at k z e = elim (eqb_tells k g) [
-  | inl h ↦ inl (h.1, some_is y z (sym (get-set_here xs g y (get_within xs g x at)) ∙ ap (slice_get (slice_set xs g y)) (sym h.1) ∙ e))
+  | inl h ↦ inl (h.1, some_is y z (sym (get-set_here xs g y (slice_get_within xs g x at)) ∙ ap (slice_get (slice_set xs g y)) (sym h.1) ∙ e))
   | inr h ↦ inr (h.1, sym (get-set_there xs g k y h.1) ∙ e)
 ]
 
@@ -86,10 +82,6 @@ pushed_is [] y zero z e = inr (refl, some_is y z e)
 pushed_is [] y (suc k) z e = absurd cc
 pushed_is (x ∷ xs) y zero z e = inl e
 pushed_is (x ∷ xs) y (suc k) z e = elim (pushed_is xs y k z e) [ inl a ↦ inl a | inr b ↦ inr (ap suc b.0, b.1) ]
-
-pub map-push : {A B : Type 0} (f : A → B) (xs : List A) (y : A) → map f (xs ++ y ∷ []) ≡ map f xs ++ f y ∷ []
-map-push f [] y = refl
-map-push f (x ∷ xs) y = ap (λ l. f x ∷ l) (map-push f xs y)
 
 -- a write of one entry, as a column sees it
 pub map-set_change : {A B : Type 0} (v v' : A → B) (f : B → B) (xs : List A) (g : ℕ) (x y : A) → slice_get xs g ≡ Some x → v' y ≡ f (v x)

@@ -1,5 +1,5 @@
 -- What a caller's write to the items of a written row leaves.
-use Rattle.std.proofs.Common.{◌≡◌, ◌∙◌, ℕ, ◌+◌, ◌-◌, ◌≤◌, List, length, Option, Some, refl, sym, ap, subst, arith}
+use Rattle.std.proofs.Common.{◌≡◌, ◌∙◌, ℕ, ◌+◌, ◌-◌, ◌≤◌, List, length, Some, refl, sym, ap, subst, arith}
 use Rattle.std.specs.Prelude.{slice_get}
 use Rattle.std.specs.List.{between}
 use Rattle.std.specs.Vec.{with_items}
@@ -7,8 +7,8 @@ use Rattle.std.proofs.lemmas.List.{with_items_is}
 use Rattle.std.proofs.lemmas.List.Edits.{length-between}
 use borrow.Rule.Slice.PartMut.{put_mid, same_len_mid}
 use Rattle.tx_rows.specs.declared.late_rows.LateRows.{LateRows}
-use Rattle.tx_rows.specs.Rows.{Row, change_at}
-use Rattle.tx_rows.specs.inner.Kept.{AreKept, AreRowsKept, IsAt, rows_in, row_seen, items_at}
+use Rattle.tx_rows.specs.Rows.{change_at}
+use Rattle.tx_rows.specs.inner.Kept.{AreRowsKept, IsAt, rows_in}
 use Rattle.tx_rows.proofs.Kept.{Rewrites, rewrites_part, kept_rewritten, seen_rewritten, items_there, seen_at}
 
 module _ {H T A : Type 0} (l : LateRows H T A) (kept : AreRowsKept l) (g a b : ℕ) (is : IsAt l g a b) where

@@ -10,6 +10,7 @@ use Rattle.tx_plan.specs.Plan.{Plan}
 use Rattle.tx_state.specs.Ended.{Ended}
 use Rattle.tx_state.specs.State.{State, ticket_taken}
 use Rattle.tx_state.specs.Drained.{drained}
+use Rattle.tx_state.proofs.Lists.{first_of, none_in}
 use Rattle.tx_tickets.specs.Texts.{ticket_text}
 use Rattle.tx_script.specs.Untold.{StopsAtTicket}
 
@@ -33,18 +34,10 @@ module _ (p : Plan) (s : State) (a : Option (List ℕ)) where
     left_is : t.tickets ≡ d.left
     left_is = ap (λ (u : State). u.tickets) d.state
 
-    none_left : (l : List Ended) → slice_get l 0 ≡ None → l ≡ []
-    none_left [] h = refl
-    none_left (x ∷ xs) h = cc
-
-    one_left : (l : List Ended) (x : Ended) → slice_get l 0 ≡ Some x → l ≡ x ∷ drop 1 l
-    one_left [] x h = cc
-    one_left (y ∷ ys) x h = cc
-
     -- no ticket is left
     pub drain_end : (u : State) → slice_get t.tickets 0 ≡ None → u ≡ ticket_taken t → (u ≡ drained s []) × (n ≡ length s.tickets) × (b ≡ append_known a (flat_map f s.tickets))
     drain_end u h e =
-        let none : d.left ≡ [] = sym left_is ∙ none_left t.tickets h in
+        let none : d.left ≡ [] = sym left_is ∙ none_in t.tickets h in
         let all : s.tickets ≡ d.done = d.whole ∙ ap (λ l. d.done ++ l) none ∙ append-nil d.done in (
           e ∙ ap (λ (v : State). record v { tickets = drop 1 v.tickets }) d.state ∙ ap (λ (l : List Ended). drained s (drop 1 l)) none,
           d.count ∙ ap length (sym all),
@@ -57,7 +50,7 @@ module _ (p : Plan) (s : State) (a : Option (List ℕ)) where
 
       split : d.left ≡ x ∷ rest
       unfolding rest
-      split = one_left d.left x (ap (λ l. slice_get l 0) (sym left_is) ∙ h)
+      split = first_of d.left x (ap (λ l. slice_get l 0) (sym left_is) ∙ h)
 
       parts : s.tickets ≡ d.done ++ x ∷ rest
       parts = d.whole ∙ ap (λ l. d.done ++ l) split

@@ -1,10 +1,11 @@
 -- An event that a line says can be written.
-use Rattle.std.proofs.Common.{◌≡◌, ℕ, ◌-◌, ◌^◌, ◌<◌, ◌≤◌, ◌==◌, Bool, true, false, cond, ◌&&◌, nat_le, nat_lt, List, [], ◌∷◌, length, Option, Some, None, Result, Ok, Err, refl, ap, subst, arith}
-use Rattle.std.specs.List.{position, position_or_len}
+use Rattle.std.proofs.Common.{◌≡◌, ℕ, ◌-◌, ◌^◌, ◌<◌, ◌≤◌, ◌==◌, Bool, true, false, cond, ◌&&◌, nat_le, List, [], ◌∷◌, length, Option, Some, None, Result, Ok, Err, refl, ap, subst, arith}
 use Rattle.std.specs.Str.{bytes_eq}
 use Rattle.std.specs.Str.Parse.{digits_value}
-use Rattle.std.proofs.lemmas.Bool.{and_parts, leb-true, ltb-true}
+use Rattle.std.proofs.lemmas.Bool.{and_parts, leb-true}
 use Rattle.std.proofs.lemmas.Bool.Decides.{nat_tests}
+use Rattle.std.proofs.lemmas.Option.{cond_some}
+use Rattle.tx_plan.proofs.ByPlace.{place_within}
 use Rattle.tx_text.specs.Words.{number_of, figures_of, are_figures, is_numeral}
 use Rattle.tx_plan.specs.Plan.{Plan, Code, Group, code_named, group_named}
 use Rattle.tx_plan.specs.Rules.{is_national}
@@ -52,16 +53,6 @@ said_ok make (Err k) e h = absurd (let z : ⊥ = cc in z)
 
 -- ---- what words spell
 
-cond_some : {A : Type 0} (b : Bool) (x y : A) → cond b (Some x) None ≡ Some y → (b ≡ true) × (x ≡ y)
-cond_some true x y h = (refl, cc)
-cond_some false x y h = absurd (let z : ⊥ = cc in z)
-
-within : {A : Type 0} (test : A → Bool) (xs : List A) (i : ℕ) → position test xs ≡ Some i → i < length xs
-within test xs i h =
-    let r = cond_some (nat_lt (position_or_len test xs) (length xs)) (position_or_len test xs) i h in
-    let l = ltb-true (position_or_len test xs) (length xs) r.0 in
-    omega (arith, r.1)
-
 at_most : (max : ℕ) (w : List ℕ) (n : ℕ) → number_of max w ≡ Some n → n ≤ max
 at_most max w n h =
     let r = cond_some (is_numeral w && nat_le (digits_value 10 w) max) (digits_value 10 w) n h in
@@ -94,7 +85,7 @@ module _ (p : Plan) where
       let c = named_ok (code_named p code) _ l n.said in
       let s : ◌≡◌ {A = Line} (record { code = c.value; national = n.value }) l = cc (c.said) in
       subst (λ (m : Line). (m.code < length p.codes) × (is_national m.national ≡ true)) s
-      (within (λ (r : Code). bytes_eq code r.figures) p.codes c.value c.is, passes is_national national n.value n.is)
+      (place_within (λ (r : Code). bytes_eq code r.figures) p.codes c.value c.is, passes is_national national n.value n.is)
 
   circuit_ok : (w : List ℕ) (x : Circuit) → circuit_of p w ≡ Ok x → IsWritableCircuit p x
   circuit_ok w x h =
@@ -103,7 +94,7 @@ module _ (p : Plan) where
       let g = named_ok (group_named p c.value.0) _ x n.said in
       let f = from_one_ok (number_of 240 c.value.1) n.value n.is in
       let s : ◌≡◌ {A = Circuit} (record { group = g.value; number = n.value }) x = cc (g.said) in
-      subst (IsWritableCircuit p) s (record { group = within (λ (r : Group). bytes_eq c.value.0 r.name) p.groups g.value g.is; some = f.1; few = at_most 240 c.value.1 n.value f.0 })
+      subst (IsWritableCircuit p) s (record { group = place_within (λ (r : Group). bytes_eq c.value.0 r.name) p.groups g.value g.is; some = f.1; few = at_most 240 c.value.1 n.value f.0 })
 
   abbrev Can : Event → Type 0
   Can e = CanBeWritten p e
@@ -128,7 +119,7 @@ module _ (p : Plan) where
       let w = counted_ok (one_word ws) _ m.value m.is in
       let g = named_ok (group_named p w.value) _ m.value w.said in
       let s : g.value ≡ m.value = cc (g.said) in
-      subst Can m.made (f m.value (omega (arith, s, within (λ (r : Group). bytes_eq w.value r.name) p.groups g.value g.is)))
+      subst Can m.made (f m.value (omega (arith, s, place_within (λ (r : Group). bytes_eq w.value r.name) p.groups g.value g.is)))
 
   line_can : (make : Line → Event) (ws : List (List ℕ)) (e : Event) → ((l : Line) → l.code < length p.codes → is_national l.national ≡ true → Can (make l)) → said_of make (line_in p ws) ≡ Ok e → Can e
   line_can make ws e f h =

@@ -1,5 +1,5 @@
 -- No reply depends on the tickets not yet taken, and a step only appends tickets.
-use Rattle.std.proofs.Common.{◌≡◌, ℕ, ◌+◌, ◌==◌, Bool, true, false, ◌&&◌, List, [], ◌∷◌, ◌++◌, map, Option, Some, None, refl, sym, ap}
+use Rattle.std.proofs.Common.{◌≡◌, ℕ, ◌+◌, ◌==◌, Bool, true, false, ◌&&◌, List, [], ◌++◌, map, Option, Some, None, refl, sym, ap, append-nil}
 use Rattle.std.specs.Prelude.{if◌then◌else◌, filter}
 use Rattle.tx_plan.specs.Plan.{Plan, home_of}
 use Rattle.tx_plan.specs.Codes.{code_of}
@@ -27,16 +27,12 @@ use Rattle.tx_state.specs.Confirming.{collide, second_time, confirmed_by, rival,
 use Rattle.tx_state.specs.Step.{with_call, counted, unless_refused, cause_by}
 use Rattle.tx_state.specs.Drained.{drained, IsAppending, AppendsTickets}
 
-nil_right : {A : Type 0} (xs : List A) → xs ++ [] ≡ xs
-nil_right [] = refl
-nil_right (x ∷ xs) = ap (λ l. x ∷ l) (nil_right xs)
-
 module _ (p : Plan) (s : State) (ts : List Ended) where
   kept : (reply : Reply) (t : State) → t.tickets ≡ s.tickets → IsAppending s ts (reply, t) (reply, drained t ts)
-  kept reply t e = record { reply = refl; made = []; tickets = subst_nil t.tickets s.tickets e; state = ap (drained t) (sym (nil_right ts)) }
+  kept reply t e = record { reply = refl; made = []; tickets = subst_nil t.tickets s.tickets e; state = ap (drained t) (sym (append-nil ts)) }
     where
       subst_nil : (a b : List Ended) → a ≡ b → a ≡ b ++ []
-      subst_nil a b e = cc (nil_right b)
+      subst_nil a b e = cc (append-nil b)
 
   ended : (reply : Reply) (cause : Cause) (ends : Call → Bool) → IsAppending s ts (reply, end_calls p cause ends s) (reply, end_calls p cause ends (drained s ts))
   ended reply cause ends = record { reply = refl; made = map (ticket_of p cause (s.events + 1)) (filter ends s.calls); tickets = refl; state = refl }

@@ -5,6 +5,7 @@ use Rattle.std.specs.Prelude.{if◌then◌else◌, filter, unwrap_or}
 use Rattle.std.specs.List.{list_any, flat_map}
 use Rattle.std.specs.Ordering.{eq_by_cmp}
 use Rattle.std.specs.FinSet as set
+use Rattle.std.proofs.lemmas.List.{map_push}
 use Rattle.tx_plan.specs.Orders.{circuit_cmp, same_circuit}
 use Rattle.tx_entries.proofs.Named.{same_circuit-is, same_circuit-itself, in_insert, in_remove, in_retain, in_union, by_cmp-is}
 use Rattle.tx_plan.specs.Plan.{Plan}
@@ -27,7 +28,7 @@ use Rattle.tx_state.specs.Confirming.{carried_on, thrown_back, collide, rival, f
 use Rattle.tx_state.specs.Step.{keyed_call, failed_at}
 use Rattle.tx_state.specs.Members.{NoneTwice}
 use Rattle.tx_state.proofs.Lists.{none_any, any_mem, find_none}
-use Rattle.tx_state.proofs.Uses.{not_seizing, not_taking, IsFree, joins_more, map_push, none_twice_push, no_third_end, two_ends}
+use Rattle.tx_state.proofs.Uses.{not_seizing, not_taking, IsFree, joins_more, none_twice_push, no_third_end, two_ends}
 use Rattle.tx_state.specs.Safe.{IsKeyedLine}
 use Rattle.tx_state.specs.Invariant.{IsKept, AreApart, IsUnused, Inv, Holds}
 use Rattle.tx_state.proofs.Invariant.{inv_releasing, inv_filter, inv_more, inv_set, swapped, rising_map}

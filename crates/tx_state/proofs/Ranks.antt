@@ -5,6 +5,7 @@ use Rattle.std.proofs.lemmas.Option.{slice_get_within}
 use Rattle.std.specs.Prelude.{filter, unwrap_or}
 use Rattle.std.specs.List.{enumerate_from, AllByRecursion}
 use Rattle.std.specs.Option.{option_map}
+use Rattle.tx_plan.proofs.Longest.{longest_among}
 use Rattle.tx_plan.specs.Plan.{Plan, Code, home_of}
 use Rattle.tx_entries.specs.declared.range.LineRange.{LineRange}
 use Rattle.tx_plan.specs.Certified.{Ranks, IsBelow, LeadsLower, IsCertified}
@@ -25,7 +26,7 @@ use Rattle.tx_state.specs.Step.{step}
 use Rattle.tx_state.specs.Members.{NoneTwice}
 use Rattle.tx_state.specs.Passed.{IsLower, Falls, passed, transits, is_transit, is_home_of}
 use Rattle.tx_state.proofs.Lists.{any_none, mem_any, any_mem}
-use Rattle.tx_state.proofs.Steps.{all_mem, longest-mem, enumerated}
+use Rattle.tx_state.proofs.Steps.{all_mem, enumerated}
 use Rattle.tx_state.specs.Invariant.{Holds, IsRanked}
 use Rattle.tx_state.proofs.Changes.{not_standing}
 use Rattle.tx_state.proofs.Moves.{Moves, stays, connects, seizes_one, goes_on, falls_back, IsNew, came}
@@ -73,7 +74,7 @@ code_within p keyed i h = at (longest (codes_before p keyed)) refl h
     at : (o : Option (ℕ × Code)) → longest (codes_before p keyed) ≡ o → option_map (λ e. e.0) o ≡ Some i → i < length p.codes
     at None e h = let bad : ⊥ = cc in absurd bad
     at (Some d) e h =
-        let m = filter_among (λ e. is_prefix e.1.figures keyed) d (enumerate_from 0 p.codes) (longest-mem (codes_before p keyed) d e) in
+        let m = filter_among (λ e. is_prefix e.1.figures keyed) d (enumerate_from 0 p.codes) (longest_among (codes_before p keyed) d e) in
         let r = enumerated 0 p.codes d m.0 in
         let same : d.0 ≡ i = cc in
         let place : r.0 ≡ i = (let f = r.1 in omega arith) in

@@ -1,16 +1,17 @@
 -- Each step keeps the invariant.
 use Rattle.std.proofs.Common.{◌≡◌, ℕ, suc, ◌+◌, ◌==◌, Bool, true, false, not, ◌&&◌, ◌||◌, List, [], ◌∷◌, ◌++◌, inl, inr, Option, Some, None, refl, sym, ap, ◌∙◌, subst, eqb-true, arith}
 use Rattle.std.proofs.lemmas.Bool.{false≢true, true≢false, and_parts, not-true, not-false, eqb-false}
-use Rattle.std.specs.Prelude.{if◌then◌else◌, find, slice_get, is_some, unwrap_or, option_and_then, nat_lt, length}
+use Rattle.std.specs.Prelude.{if◌then◌else◌, find, slice_get, is_some, unwrap_or, option_and_then}
 use Rattle.std.specs.List.{enumerate_from, AllByRecursion}
 use Rattle.std.specs.Option.{option_map, option_map_or}
 use Rattle.std.specs.FinSet as set
+use Rattle.tx_plan.proofs.Longest.{longest_among}
 use Rattle.tx_plan.specs.Plan.{Plan, Code, Group, Route as RouteRow, home_of, figures_of}
 use Rattle.tx_plan.specs.Rules.{IsPlan, IsRoute}
 use Rattle.tx_plan.specs.Lines.{is_line}
 use Rattle.tx_plan.specs.Declaring.{first_true}
 use Rattle.tx_plan.proofs.Fronts.{after-is}
-use Rattle.tx_plan.specs.Codes.{after, is_prefix, codes_before, longer, longest, code_of}
+use Rattle.tx_plan.specs.Codes.{after, is_prefix, codes_before, longest, code_of}
 use Rattle.tx_plan.specs.Routes.{route_list, is_barred}
 use Rattle.tx_plan.specs.Circuits.{far_end, other_end, may_seize, is_both}
 use Rattle.tx_plan.specs.Among.{Among}
@@ -61,18 +62,6 @@ prefix-is front text h = at (after front text) refl h
     at None e h = absurd (false≢true h)
     at (Some rest) e h = after-is front text rest e
 
-pub longest-mem : (es : List (ℕ × Code)) (e : ℕ × Code) → longest es ≡ Some e → Among e es
-longest-mem [] e h = let bad : ⊥ = cc in absurd bad
-longest-mem (d ∷ es) e h = at (longest es) h (longest-mem es e)
-  where
-    at : (o : Option (ℕ × Code)) → longer d o ≡ Some e → (o ≡ Some e → Among e es) → Among e (d ∷ es)
-    at None h rest = let same : d ≡ e = cc in inl same
-    at (Some f) h rest = pick (nat_lt (length f.1.figures) (length d.1.figures)) h
-      where
-        pick : (b : Bool) → (if b then Some d else Some f) ≡ Some e → Among e (d ∷ es)
-        pick true h = let same : d ≡ e = cc in inl same
-        pick false h = inr (rest h)
-
 pub enumerated : (n : ℕ) (cs : List Code) (e : ℕ × Code) → Among e (enumerate_from n cs) → (k : ℕ) × (e.0 ≡ n + k) × (slice_get cs k ≡ Some e.1)
 enumerated n [] e m = elim m [ ]
 enumerated n (c ∷ cs) e (inl q) = (0, (let f = ap (λ (z : ℕ × Code). z.0) q in omega arith), ap (λ (z : ℕ × Code). Some z.1) q)
@@ -85,7 +74,7 @@ code_begins p keyed i h = at (longest (codes_before p keyed)) refl h
     at : (o : Option (ℕ × Code)) → longest (codes_before p keyed) ≡ o → option_map (λ e. e.0) o ≡ Some i → is_prefix (figures_of p i) keyed ≡ true
     at None e h = let bad : ⊥ = cc in absurd bad
     at (Some d) e h =
-        let m = filter_among (λ e. is_prefix e.1.figures keyed) d (enumerate_from 0 p.codes) (longest-mem (codes_before p keyed) d e) in
+        let m = filter_among (λ e. is_prefix e.1.figures keyed) d (enumerate_from 0 p.codes) (longest_among (codes_before p keyed) d e) in
         let r = enumerated 0 p.codes d m.0 in
         let same : d.0 ≡ i = cc in
         let place : r.0 ≡ i = (let f = r.1 in omega arith) in

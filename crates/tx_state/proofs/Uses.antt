@@ -166,10 +166,6 @@ pub joins_more : (p : Plan) (x : ℕ) (hops : List Hop) (h : Hop) → Joins p x 
 joins_more p x [] h j c e = (c, e, tt)
 joins_more p x (k ∷ hops) h j c e = (j.0, j.1, joins_more p k.far hops h j.2 c e)
 
-pub map_push : {A B : Type 0} (f : A → B) (xs : List A) (x : A) → map f (xs ++ x ∷ []) ≡ map f xs ++ f x ∷ []
-map_push f [] x = refl
-map_push f (y ∷ xs) x = ap (λ l. f y ∷ l) (map_push f xs x)
-
 pub any_push : {A : Type 0} (t : A → Bool) (xs : List A) (x : A) → list_any t xs ≡ false → t x ≡ false → list_any t (xs ++ x ∷ []) ≡ false
 any_push t [] x n h = ap (λ c. c || false) h
 any_push t (y ∷ xs) x n h = let r = or_parts (t y) (list_any t xs) n in ap (λ b. b || list_any t (xs ++ x ∷ [])) r.0 ∙ any_push t xs x r.1 h

@@ -1,7 +1,7 @@
 -- Lines that declare something, one after another.
-use Rattle.std.proofs.Common.{◌≡◌, ℕ, ◌==◌, Bool, true, false, ◌||◌, List, [], ◌++◌, Option, Result, Ok, Err, refl, ap, ◌∙◌, append_assoc}
+use Rattle.std.proofs.Common.{◌≡◌, ℕ, ◌==◌, Bool, true, ◌||◌, List, [], ◌++◌, Option, Result, Ok, Err, refl, ap, ◌∙◌, append_assoc}
 use Rattle.std.specs.Result.{is_ok}
-use Rattle.std.proofs.lemmas.Bool.{eq-eqb}
+use Rattle.std.proofs.lemmas.Bool.{eq-eqb, or_right}
 use Rattle.tx_text.specs.Told.{Ending, Moves}
 use Rattle.tx_text.specs.Frame.{Framed, Headed, Has, ReadsOn}
 use Rattle.tx_text.specs.Said.{goes_on, declares_at}
@@ -24,10 +24,6 @@ finds_on a b c F G H U V p q h = record {
   finds = λ e more n i. ap (λ l. F e l n) (append_assoc p.read q.read more) ∙ p.finds e (q.read ++ more) n (h e more n q.read (q.gives e more) i);
 }
 
-or_later : (b c : Bool) → c ≡ true → (b || c) ≡ true
-or_later true c h = refl
-or_later false c h = h
-
 module _ {S W : Type 0} (declare : ℕ → S → List (List ℕ) → Result S W) where
   abbrev Lines : Type 0
   Lines = Ending → List ℕ → Framed
@@ -42,7 +38,7 @@ module _ {S W : Type 0} (declare : ℕ → S → List (List ℕ) → Result S W)
   finds_headed a b c F T U v w s p q = finds_on a b c F _ _ T _ p q (λ e more n read i j. rw i j)
 
   later : (n m : ℕ) (o : Result S W) (r : S) (k : S → Bool) → o ≡ Ok r → k r ≡ true → goes_on declare o (λ z. (m == n) || k z) ≡ true
-  later n m o r k h i = rw h (or_later (m == n) (k r) i)
+  later n m o r k h i = rw h (or_right (m == n) (k r) i)
 
   pub finds_declared : (a b c : Option (List ℕ)) (F : Ending → List ℕ → ℕ → Bool) (T U : Lines) (v : ℕ) (s r : S) (m : ℕ) (ws : List (List ℕ))
       → Finds a b F (finds_from v s T) → ReadsOn b c T (λ e more. Has m ws (U e more)) → declare v s ws ≡ Ok r → Finds a c F (finds_from v r U)

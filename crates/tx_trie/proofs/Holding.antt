@@ -1,6 +1,6 @@
 -- The codes that the nodes of a trie hold.
 use Rattle.std.proofs.Common.{◌≡◌, ◌≢◌, ℕ, zero, suc, ◌+◌, ◌-◌, ◌<◌, ◌≤◌, ◌==◌, Bool, true, false, ◌⊎◌, List, [], ◌∷◌, ◌++◌, length, length-append, length-set, map, Option, Some, None, refl, ap, sym, ◌∙◌, subst, inl, inr, eqb-true, arith}
-use Rattle.std.proofs.lemmas.Bool.{false≢true}
+use Rattle.std.proofs.lemmas.Bool.{false≢true, eqb-false}
 use Rattle.std.specs.Prelude.{option_and_then, slice_get, slice_set, if◌then◌else◌}
 use Rattle.std.specs.Option.{option_map}
 use Rattle.std.specs.Str.{bytes_eq}
@@ -15,7 +15,7 @@ use Rattle.tx_trie.specs.declared.node.Node.{Node}
 use Rattle.tx_trie.specs.declared.row.Row.{Row}
 use Rattle.tx_trie.specs.inner.Nodes.{IsTree, IsTrie, Grows, child, code_at, walk, look, empty_node, code_of_row}
 use Rattle.tx_trie.proofs.Growing.{coded_tree, look_there, look_elsewhere}
-use Rattle.tx_trie.proofs.Stepping.{set_same, set_other, slice_get_last, differ_at, from_node, nothing}
+use Rattle.tx_trie.proofs.Stepping.{set_same, set_other, slice_get_last, from_node, nothing}
 
 -- THE ROOT ALONE
 
@@ -64,14 +64,14 @@ module _ (nodes new : List Node) (place id : ℕ) (d : Node) (is_new : new ≡ s
     where
       by : (b : Bool) → (n == place) ≡ b → from_node (slice_get new n) x ≡ from_node (slice_get nodes n) x
       by true t = ap (λ q. from_node (slice_get new q) x) (eqb-true n place t) ∙ ap (λ o. from_node o x) new_here ∙ sym (ap (λ o. from_node o x) at) ∙ ap (λ q. from_node (slice_get nodes q) x) (sym (eqb-true n place t))
-      by false t = ap (λ o. from_node o x) (new_there n (differ_at n place t))
+      by false t = ap (λ o. from_node o x) (new_there n (eqb-false n place t))
 
   pub coded_codes : (n : ℕ) → code_at new n ≡ (if n == place then Some id else code_at nodes n)
   coded_codes n = by (n == place) refl
     where
       by : (b : Bool) → (n == place) ≡ b → code_at new n ≡ (if b then Some id else code_at nodes n)
       by true t = ap (code_at new) (eqb-true n place t) ∙ ap (option_and_then (λ (d : Node). d.code)) new_here
-      by false t = ap (option_and_then (λ (d : Node). d.code)) (new_there n (differ_at n place t))
+      by false t = ap (option_and_then (λ (d : Node). d.code)) (new_there n (eqb-false n place t))
 
 -- the place of a code among one more
 pub put_cases : (codes : List Code) (c : Code) (i : ℕ) (e : Code) → slice_get (codes ++ c ∷ []) i ≡ Some e → (slice_get codes i ≡ Some e) ⊎ ((i ≡ length codes) × (e ≡ c))

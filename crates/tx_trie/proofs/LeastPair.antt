@@ -9,6 +9,7 @@ use Rattle.std.specs.Ordering.{ordering_then, is_lt, nat_cmp}
 use Rattle.std.specs.declared.cmp.Ordering.{Ordering}
 use Rattle.std.specs.declared.cmp.Ordering.TheVariants.{Less, Equal, Greater}
 use Rattle.std.specs.Cmp.Lexicographic.{slice_cmp, nat_list_cmp_total}
+use Rattle.tx_entries.proofs.Lists.{below}
 use Rattle.tx_plan.specs.Plan.{Code}
 use Rattle.tx_plan.specs.Codes.{is_prefix}
 use Rattle.tx_plan.specs.Ambiguous.{pair_at, pair_cmp, ambiguous_of, IsAmbiguousAt}
@@ -55,9 +56,6 @@ not_before_itself a = ap is_lt (tied_itself nat_list_cmp_total a)
 less : (m n : ℕ) → nat_lt m n ≡ true → m < n
 less m n h = grind (arith, nat_tests)
 
-is_less : (m n : ℕ) → m < n → nat_lt m n ≡ true
-is_less m n h = grind (arith, nat_tests)
-
 module _ (codes : List Code) (nodes : List Node) (trie : IsTrie codes nodes) where
   -- a pair is a code of three figures and its first two
   pair_widths : (i j : ℕ) (c d : Code) → IsAmbiguousAt codes i j c d → (c.figures ≡ take 2 d.figures) × (length d.figures ≡ 3)
@@ -83,7 +81,7 @@ module _ (codes : List Code) (nodes : List Node) (trie : IsTrie codes nodes) whe
         record {
           first = f.1;
           second = at;
-          begins = and_from (is_prefix f.0.figures d.figures) (nat_lt (length f.0.figures) (length d.figures)) (ap (λ w. is_prefix w d.figures) f.2 ∙ take_is_prefix (length d.figures - 1) d.figures) (is_less _ _ short);
+          begins = and_from (is_prefix f.0.figures d.figures) (nat_lt (length f.0.figures) (length d.figures)) (ap (λ w. is_prefix w d.figures) f.2 ∙ take_is_prefix (length d.figures - 1) d.figures) (below _ _ short);
         },
       )
 

@@ -5,38 +5,25 @@ use Rattle.std.proofs.lemmas.Bool.Decides.{nat_tests}
 use Rattle.std.specs.Prelude.{filter, option_and_then, slice_get, if◌then◌else◌, nat_le}
 use Rattle.std.specs.List.{enumerate_from, list_all}
 use Rattle.std.specs.Option.{option_map, option_map_or}
+use Rattle.std.proofs.lemmas.Bool.{and_parts}
+use Rattle.tx_plan.proofs.Longest.{longest_among}
 use Rattle.tx_text.specs.Words.{is_figure}
 use Rattle.tx_plan.specs.Plan.{Code}
 use Rattle.tx_plan.specs.Codes.{is_prefix, codes_before, longer, longest, code_of}
 use Rattle.tx_plan.specs.Rules.{is_code}
 use Rattle.tx_plan.specs.Among.{Among}
 use Rattle.tx_plan.proofs.Among.{among_filter, filter_among, among_places, places_among}
-use Rattle.tx_entries.proofs.Lists.{both, at_least, same_tests}
+use Rattle.tx_entries.proofs.Lists.{at_least, same_tests, below}
 use Rattle.tx_trie.specs.Trie.{plan_of}
 use Rattle.tx_trie.specs.declared.node.Node.{Node}
 use Rattle.tx_trie.specs.inner.Nodes.{IsTrie, child, code_at, walk, look, newer, read_on}
 use Rattle.tx_trie.proofs.Prefixes.{prefix_itself, prefix_push, prefix_keeps, prefix_length, prefix_take}
 use Rattle.tx_trie.proofs.Ways.{walk-push, walk_on}
 
-less : (m n : ℕ) → m < n → nat_lt m n ≡ true
-less m n h = grind (arith, nat_tests)
-
 not_less : (m n : ℕ) → m < n → nat_lt n m ≡ false
 not_less m n h = grind (arith, nat_tests)
 
 -- THE LONGEST OF SOME CODES
-
-longest_among : (es : List (ℕ × Code)) (e : ℕ × Code) → longest es ≡ Some e → Among e es
-longest_among [] e h = let bad : ⊥ = cc in absurd bad
-longest_among (d ∷ es) e h = by (longest es) (longest_among es) h
-  where
-    by : (o : Option (ℕ × Code)) → ((f : ℕ × Code) → o ≡ Some f → Among f es) → longer d o ≡ Some e → Among e (d ∷ es)
-    by None k h = let s : d ≡ e = cc in inl s
-    by (Some f) k h =
-        elim (nat_lt (length f.1.figures) (length d.1.figures)) as (λ b. (if b then Some d else Some f) ≡ Some e → Among e (d ∷ es)) [
-          | true ↦ λ m. let s : d ≡ e = cc in inl s
-          | false ↦ λ m. let s : e ≡ f = cc in inr (subst (λ w. Among w es) (sym s) (k f refl))
-        ] h
 
 abbrev width : ℕ × Code → ℕ
 width e = length e.1.figures
@@ -50,7 +37,7 @@ longest_is (d ∷ es) e (inl is) low = ap (λ w. longer w (longest es)) is ∙ b
     by (Some f) k =
         elim (low f (inr (longest_among es f k))) [
           | inl s ↦ elim (nat_lt (width f) (width e)) as (λ b. (if b then Some e else Some f) ≡ Some e) [ true ↦ refl | false ↦ ap (λ w. Some w) s ]
-          | inr l ↦ ap (λ b. if b then Some e else Some f) (less (width f) (width e) l)
+          | inr l ↦ ap (λ b. if b then Some e else Some f) (below (width f) (width e) l)
         ]
 longest_is (d ∷ es) e (inr h) low =
     ap (longer d) (longest_is es e h (λ f k. low f (inr k)))
@@ -102,8 +89,8 @@ none_before n (c ∷ cs) s h =
 -- the widths of a code
 pub widths : (text : List ℕ) → is_code text ≡ true → (2 ≤ length text) × (length text ≤ 3)
 widths text h =
-    let a = both (nat_le 2 (length text) && nat_le (length text) 3) (list_all is_figure text) h in
-    let b = both (nat_le 2 (length text)) (nat_le (length text) 3) a.0 in
+    let a = and_parts (nat_le 2 (length text) && nat_le (length text) 3) (list_all is_figure text) h in
+    let b = and_parts (nat_le 2 (length text)) (nat_le (length text) 3) a.0 in
     (at_least 2 (length text) b.0, at_least (length text) 3 b.1)
 
 module _ (codes : List Code) (nodes : List Node) (trie : IsTrie codes nodes) where

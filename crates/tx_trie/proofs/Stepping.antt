@@ -1,11 +1,11 @@
 -- The list of nodes with one more, to which a figure leads; and with a code at one of them.
-use Rattle.std.proofs.Common.{◌≡◌, ◌≢◌, ℕ, zero, suc, ◌-◌, ◌<◌, ◌≤◌, ◌==◌, Bool, true, false, ◌&&◌, List, [], ◌∷◌, ◌++◌, length, length-append, length-set, Option, Some, None, refl, ap, sym, ◌∙◌, eqb-true, eq-eqb, arith}
+use Rattle.std.proofs.Common.{◌≡◌, ◌≢◌, ℕ, zero, suc, ◌-◌, ◌<◌, ◌≤◌, ◌==◌, Bool, true, false, ◌&&◌, List, [], ◌∷◌, ◌++◌, length, length-append, length-set, Option, Some, None, refl, ap, sym, ◌∙◌, eqb-true, arith}
 use Rattle.std.proofs.Math.ListN.{set}
-use Rattle.std.proofs.lemmas.Bool.{false≢true}
+use Rattle.std.proofs.lemmas.Bool.{false≢true, and_parts, eqb-false}
 use Rattle.std.proofs.lemmas.Option.{slice_get_past}
 use Rattle.std.specs.Prelude.{option_and_then, slice_get, slice_set, if◌then◌else◌, nat_le, replicate}
 use Rattle.tx_text.specs.Words.{is_figure}
-use Rattle.tx_entries.proofs.Lists.{both, at_least}
+use Rattle.tx_entries.proofs.Lists.{at_least}
 use Rattle.tx_trie.specs.declared.node.Node.{Node}
 use Rattle.tx_trie.specs.inner.Nodes.{IsTree, Grows, child, code_at, walk, empty_node}
 use Rattle.tx_trie.proofs.Ways.{walk-push, walk_on}
@@ -29,11 +29,8 @@ pub slice_get_last : {A : Type 0} (xs : List A) (y : A) → slice_get (xs ++ y �
 slice_get_last [] y = refl
 slice_get_last (x ∷ xs) y = slice_get_last xs y
 
-pub differ_at : (a b : ℕ) → (a == b) ≡ false → a ≢ b
-differ_at a b h e = false≢true (sym h ∙ eq-eqb a b e)
-
 figure_least : (x : ℕ) → is_figure x ≡ true → 48 ≤ x
-figure_least x h = at_least 48 x (both (nat_le 48 x) (nat_le x 57) h).0
+figure_least x h = at_least 48 x (and_parts (nat_le 48 x) (nat_le x 57) h).0
 
 -- WAYS FROM A NODE
 
@@ -83,7 +80,7 @@ module _ (old pushed new : List Node) (place figure m k : ℕ) (d : Node)
   next_at x f =
       elim (x == figure) as (λ b. (x == figure) ≡ b → from_node (Some changed) x ≡ (if b then Some m else from_node (slice_get old place) x)) [
         | true ↦ λ t. let e : x - 48 ≡ k = (let s = eqb-true x figure t in omega arith) in ap (option_and_then (λ m. m)) (ap (slice_get changed.next) e ∙ set_same d.next k (Some m) wide)
-        | false ↦ λ t. let ne = differ_at x figure t in
+        | false ↦ λ t. let ne = eqb-false x figure t in
             let e : x - 48 ≢ k = λ s. ne (let a = figure_least x f in let b = figure_least figure fig in omega arith) in
             ap (option_and_then (λ m. m)) (set_other d.next k (x - 48) (Some m) e) ∙ sym (ap (λ o. from_node o x) at) ∙ old_here place x
       ] refl
@@ -93,7 +90,7 @@ module _ (old pushed new : List Node) (place figure m k : ℕ) (d : Node)
     where
       by : (f : Bool) → is_figure x ≡ f → (b : Bool) → (n == place) ≡ b → (if f then from_node (slice_get new n) x else None) ≡ (if b && (x == figure) then Some m else (if f then from_node (slice_get old n) x else None))
       by true i true t = ap (λ o. from_node o x) (ap (slice_get new) (eqb-true n place t) ∙ new_here) ∙ next_at x i ∙ ap (λ q. if x == figure then Some m else from_node (slice_get old q) x) (sym (eqb-true n place t))
-      by true i false t = ap (λ o. from_node o x) (new_there n (differ_at n place t)) ∙ old_here n x
+      by true i false t = ap (λ o. from_node o x) (new_there n (eqb-false n place t)) ∙ old_here n x
       by false i true t =
           elim (x == figure) as (λ b. (x == figure) ≡ b → None ≡ (if b then Some m else None)) [
             | true ↦ λ e. absurd (false≢true (sym i ∙ ap is_figure (eqb-true x figure e) ∙ fig))
@@ -105,7 +102,7 @@ module _ (old pushed new : List Node) (place figure m k : ℕ) (d : Node)
   codes n =
       elim (n == place) as (λ b. (n == place) ≡ b → code_at new n ≡ code_at old n) [
         | true ↦ λ t. ap (λ q. code_at new q) (eqb-true n place t) ∙ ap (option_and_then (λ (d : Node). d.code)) new_here ∙ sym (ap (option_and_then (λ (d : Node). d.code)) at) ∙ old_code place ∙ ap (λ q. code_at old q) (sym (eqb-true n place t))
-        | false ↦ λ t. ap (option_and_then (λ (d : Node). d.code)) (new_there n (differ_at n place t)) ∙ old_code n
+        | false ↦ λ t. ap (option_and_then (λ (d : Node). d.code)) (new_there n (eqb-false n place t)) ∙ old_code n
       ] refl
     where
       old_code : (n : ℕ) → code_at pushed n ≡ code_at old n

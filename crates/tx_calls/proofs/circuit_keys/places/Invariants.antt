@@ -1,4 +1,4 @@
-use Rattle.std.proofs.Common.{ℕ, ◌*◌, ◌≤◌}
+use Rattle.std.proofs.Common.{◌*◌, ◌≤◌}
 use Rattle.tx_calls.proofs.circuit_keys.places.Given as goal
 
 -- at most 241 for each group

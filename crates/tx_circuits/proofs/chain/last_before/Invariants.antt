@@ -1,4 +1,4 @@
-use Rattle.std.proofs.Common.{◌≡◌, ◌≤◌, ◌<◌, ◌-◌, ◌+◌, ℕ, Option, Some, None, Bool, true, length}
+use Rattle.std.proofs.Common.{◌≤◌, ◌-◌, ℕ, Option, Some, None, Bool}
 use Rattle.tx_circuits.specs.inner.Linked.{IsFirst, IsLast}
 use Rattle.tx_circuits.specs.inner.Slots.{free_at, rank_of}
 use Rattle.tx_circuits.proofs.chain.last_before.Given as goal

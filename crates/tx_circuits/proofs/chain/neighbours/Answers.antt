@@ -1,8 +1,6 @@
-use Rattle.std.proofs.Common.{◌≡◌, ℕ, ◌<◌, ◌≤◌, length, arith}
-use Rattle.tx_circuits.specs.declared.free_lists.Way.{Way}
+use Rattle.std.proofs.Common.{◌<◌, length, arith}
 use Rattle.tx_circuits.specs.declared.free_lists.Way.TheVariants.{Up, Down}
-use Rattle.tx_circuits.specs.inner.Linked.{IsLast}
-use Rattle.tx_circuits.specs.inner.Slots.{free_at, chain, rank_of, ahead, back}
+use Rattle.tx_circuits.specs.inner.Slots.{free_at, chain}
 use Rattle.tx_circuits.proofs.Places.{free_below, beside, each_way}
 use Rattle.tx_circuits.proofs.chain.neighbours.Goals as goal
 

@@ -1,4 +1,4 @@
-use Rattle.std.proofs.Common.{◌≡◌, ◌≢◌, ◌∙◌, ℕ, ◌+◌, ◌<◌, true, false, Option, Some, length, sym, subst, arith}
+use Rattle.std.proofs.Common.{◌+◌, ◌<◌, true, length, sym, subst, arith}
 use Rattle.tx_circuits.specs.declared.free_lists.Way.{Way}
 use Rattle.tx_circuits.specs.declared.free_lists.Way.TheVariants.{Up, Down}
 use Rattle.tx_circuits.specs.inner.Linked.{IsFirst, IsLast, with}

@@ -1,5 +1,4 @@
 use Rattle.std.proofs.Common.{◌≡◌, ◌++◌, map, take, drop}
-use Rattle.tx_circuits.specs.inner.Slots.{state_of}
 use Rattle.tx_circuits.proofs.Sound.{with_cleared}
 use Rattle.tx_circuits.proofs.group.clear.Given as goal
 

@@ -1,10 +1,9 @@
-use Rattle.std.proofs.Common.{◌≡◌, ◌∙◌, ℕ, ◌+◌, ◌<◌, ◌≤◌, true, false, length, map, None, sym, ap, subst, arith}
+use Rattle.std.proofs.Common.{◌≡◌, ◌∙◌, ◌+◌, ◌<◌, ◌≤◌, false, length, map, sym, ap, arith}
 use Rattle.std.proofs.lemmas.List.{length-map}
-use Rattle.tx_circuits.specs.declared.free_lists.End.{End}
 use Rattle.tx_circuits.specs.declared.free_lists.End.TheVariants.{First, Other}
-use Rattle.tx_circuits.specs.inner.Slots.{free_at, link_at, state_of, until, list_of, IsListed}
+use Rattle.tx_circuits.specs.inner.Slots.{free_at, link_at, state_of, until, list_of}
 use Rattle.tx_circuits.proofs.Places.{each_end, free_within}
-use Rattle.tx_circuits.proofs.Sound.{are_sound, listed_along, free_alike, empty_listed, until_alike}
+use Rattle.tx_circuits.proofs.Sound.{are_sound, listed_along, empty_listed, until_alike}
 use Rattle.tx_circuits.proofs.Appending.{until_all}
 use Rattle.tx_circuits.proofs.group.relist.Goals as goal
 

@@ -1,4 +1,4 @@
-use Rattle.std.proofs.Common.{◌≡◌, ◌≤◌, ℕ, map, length}
+use Rattle.std.proofs.Common.{◌≡◌, map}
 use Rattle.tx_circuits.specs.declared.free_lists.End.{End}
 use Rattle.tx_circuits.specs.inner.Slots.{free_at, state_of, until, list_of, IsListed}
 use Rattle.tx_circuits.proofs.group.relist.Given as goal

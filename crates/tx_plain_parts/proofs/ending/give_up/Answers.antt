@@ -5,8 +5,9 @@ use Rattle.tx_plain_parts.specs.inner.Marks.{Circuits, HasMark}
 use Rattle.tx_state.specs.InUse.{circuits_used}
 use Rattle.std.specs.Prelude.{filter, if◌then◌else◌}
 use Rattle.std.specs.List.{flat_map}
-use Rattle.tx_plain_parts.proofs.Sweeps.{mem_get}
-use Rattle.tx_plain_parts.proofs.Giving.{more_none, more_given, map_more, take_more, used_more}
+use Rattle.std.proofs.lemmas.List.{map_push}
+use Rattle.tx_plan.proofs.Among.{among_at}
+use Rattle.tx_plain_parts.proofs.Giving.{more_none, more_given, take_more, used_more}
 use Rattle.tx_plain_parts.proofs.ending.give_up.Goals as goal
 
 pub loop-at-init : goal.loop-at-init
@@ -15,7 +16,7 @@ loop-at-init g c = (omega arith, sym (more_none c.args.releasing.now))
 pub give_if-requires : goal.give_if-requires
 give_if-requires g c =
     let d = c.index-calls-at.result in
-    let m = mem_get c.args.calls.now c.loop-at.at d c.loop-at-test.true c.index-calls-at.is in
+    let m = among_at c.args.calls.now c.loop-at.at d c.loop-at-test.true c.index-calls-at.is in
     λ x n. subst (λ k. HasMark k x) (sym (ap (λ (v : Circuits). v.groups) c.loop-at.invariant.1)) (c.requires d m x n)
 
 pub loop-at-preserved : goal.loop-at-preserved
@@ -27,5 +28,5 @@ loop-at-preserved g c =
     let more = take_more c.args.calls.now c.loop-at.at d c.loop-at-test.true c.index-calls-at.is in (
       omega arith,
       more_given t c.args.releasing.now c.loop-at.releasing c.give_if.new.releasing (flat_map circuits_used (filter ends (map call_seen before))) (if ends (call_seen d) then circuits_used (call_seen d) else []) c.loop-at.invariant.1 c.give_if.ensures
-          ∙ ap (λ xs. with_more c.args.releasing.now (filter t xs)) (sym (ap (λ cs. flat_map circuits_used (filter ends (map call_seen cs))) more ∙ ap (λ cs. flat_map circuits_used (filter ends cs)) (map_more call_seen before d) ∙ used_more ends (map call_seen before) (call_seen d))),
+          ∙ ap (λ xs. with_more c.args.releasing.now (filter t xs)) (sym (ap (λ cs. flat_map circuits_used (filter ends (map call_seen cs))) more ∙ ap (λ cs. flat_map circuits_used (filter ends cs)) (map_push call_seen before d) ∙ used_more ends (map call_seen before) (call_seen d))),
     )

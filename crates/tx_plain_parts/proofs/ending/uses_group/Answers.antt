@@ -1,10 +1,10 @@
 use Rattle.std.proofs.Common.{ap, ◌∙◌, sym, ◌||◌, ◌==◌, map}
 use Rattle.std.specs.List.{list_any}
+use Rattle.std.proofs.lemmas.List.Folds.{list_any-append}
 use Rattle.tx_entries.specs.declared.circuit.Circuit.{Circuit}
 use Rattle.tx_state.specs.declared.hop.Hop.{Hop}
 use Rattle.tx_state.specs.Call.{circuit_called}
 use Rattle.tx_plain_parts.proofs.Views.{any_map}
-use Rattle.tx_plain_parts.proofs.Giving.{any_append}
 use Rattle.tx_plain_parts.proofs.ending.uses_group.Goals as goal
 
 pub returns : goal.returns
@@ -13,4 +13,4 @@ returns g c =
     let group = c.args.group in
     c.either.ensures
     ∙ (λ i. (c.hops_use-carried.ensures ∙ ap (list_any (λ (h : Hop). h.circuit.group == group)) c.deref.ensures.value ∙ any_map (λ (x : Circuit). x.group == group) (λ (h : Hop). h.circuit) hops) i || c.phase_uses-called.ensures i)
-    ∙ sym (any_append (λ (x : Circuit). x.group == group) (map (λ (h : Hop). h.circuit) hops) (circuit_called c.args.call.now.phase))
+    ∙ sym (list_any-append (λ (x : Circuit). x.group == group) (map (λ (h : Hop). h.circuit) hops) (circuit_called c.args.call.now.phase))

@@ -1,4 +1,4 @@
-use Rattle.std.proofs.Common.{◌≡◌, ◌≢◌, ◌∙◌, ℕ, sym, ap, length, vec_len, [], arith, eqb-true}
+use Rattle.std.proofs.Common.{◌≢◌, ◌∙◌, sym, ap, length, vec_len, [], arith, eqb-true}
 use Rattle.std.proofs.lemmas.Bool.{eqb-false}
 use Rattle.tx_rank.proofs.Certifying.{none_true}
 use Rattle.tx_rank.proofs.Listing.{none_of, some_true}

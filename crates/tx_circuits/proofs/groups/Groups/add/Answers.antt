@@ -1,4 +1,3 @@
-use Rattle.std.proofs.Common.{◌≡◌, ◌∙◌}
 use Rattle.std.specs.Prelude.{Result, Ok, Err, OnOk, OnErr}
 use Rattle.tx_circuits.proofs.Kept.{kept_added, view_added, kept_same}
 use Rattle.tx_circuits.proofs.groups.Groups.add.Goals as goal

@@ -1,15 +1,10 @@
-use Rattle.std.proofs.Common.{◌≡◌, ◌∙◌, ℕ, suc, ◌-◌, ◌<◌, List, length, map, sym, ap, subst, slice_set, arith}
+use Rattle.std.proofs.Common.{◌∙◌, ◌-◌, List, length, map, sym, ap}
 use Rattle.std.specs.List.{between}
-use Rattle.std.proofs.lemmas.List.{length-map}
 use Rattle.std.proofs.lemmas.List.Edits.{length-between}
 use Rattle.tx_rows.proofs.Parts.{part_ends, part_kept}
 use Rattle.tx_circuits.specs.declared.slot.Slot.{Slot}
-use Rattle.tx_circuits.specs.declared.row.Row.{Row}
 use Rattle.tx_circuits.specs.inner.Slots.{state_of, cleared}
-use Rattle.tx_circuits.specs.inner.Groups.{AreListed, GroupState, with_state}
-use Rattle.tx_circuits.proofs.Kept.{part_listed, part_group, part_kept_after, part_view_after, set_numbered_at}
-use Rattle.tx_circuits.proofs.Members.{known}
-use Rattle.tx_circuits.proofs.Steps.{state_in}
+use Rattle.tx_circuits.proofs.Kept.{part_listed, part_kept_after, part_view_after}
 use Rattle.tx_circuits.proofs.groups.Groups.clear.Goals as goal
 
 pub clear-row-requires : goal.clear-row-requires

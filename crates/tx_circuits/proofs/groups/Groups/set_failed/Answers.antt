@@ -1,4 +1,4 @@
-use Rattle.std.proofs.Common.{◌≡◌, ◌∙◌, refl, sym, ap}
+use Rattle.std.proofs.Common.{◌∙◌, refl, sym, ap}
 use Rattle.tx_rows.specs.Rows.{change_at}
 use Rattle.tx_circuits.specs.inner.Groups.{with_failed}
 use Rattle.tx_circuits.proofs.Kept.{headed_kept, headed_view}

@@ -1,13 +1,12 @@
-use Rattle.std.proofs.Common.{◌≡◌, ◌∙◌, ℕ, suc, ◌-◌, ◌<◌, List, length, map, sym, ap, subst, slice_set, arith}
+use Rattle.std.proofs.Common.{◌≡◌, ◌∙◌, suc, ◌-◌, ◌<◌, List, length, map, sym, ap, slice_set, arith}
 use Rattle.std.specs.List.{between}
 use Rattle.std.proofs.lemmas.List.{length-map}
 use Rattle.std.proofs.lemmas.List.Edits.{length-between}
 use Rattle.tx_rows.proofs.Lists.{some_is}
 use Rattle.tx_rows.proofs.Parts.{part_ends, part_kept}
 use Rattle.tx_circuits.specs.declared.slot.Slot.{Slot}
-use Rattle.tx_circuits.specs.declared.row.Row.{Row}
-use Rattle.tx_circuits.specs.inner.Slots.{state_of, cleared}
-use Rattle.tx_circuits.specs.inner.Groups.{AreListed, GroupState, with_state}
+use Rattle.tx_circuits.specs.inner.Slots.{state_of}
+use Rattle.tx_circuits.specs.inner.Groups.{GroupState, with_state}
 use Rattle.tx_circuits.proofs.Kept.{part_listed, part_group, part_kept_after, part_view_after, set_numbered_at}
 use Rattle.tx_circuits.proofs.Members.{known}
 use Rattle.tx_circuits.proofs.Steps.{state_in}

@@ -1,4 +1,4 @@
-use Rattle.std.proofs.Common.{◌≡◌, ◌∙◌, ℕ, suc, ◌-◌, ◌<◌, Some, None, sym, ap, arith}
+use Rattle.std.proofs.Common.{◌≡◌, ◌∙◌, ℕ, suc, ◌-◌, Some, ap, arith}
 use Rattle.std.specs.Option.{option_map}
 use Rattle.tx_rows.specs.Rows.{item_at}
 use Rattle.tx_rows.specs.inner.Kept.{rows_in}

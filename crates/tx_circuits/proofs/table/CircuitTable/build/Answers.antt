@@ -1,9 +1,10 @@
-use Rattle.std.proofs.Common.{◌≡◌, ◌∙◌, ℕ, suc, ◌+◌, ◌<◌, ◌≤◌, List, [], ◌∷◌, ◌++◌, false, length, map, take, sym, ap, arith}
+use Rattle.std.proofs.Common.{◌≡◌, ◌∙◌, ℕ, suc, ◌+◌, ◌<◌, ◌≤◌, [], ◌∷◌, ◌++◌, false, length, map, take, sym, ap, arith}
 use Rattle.std.specs.Prelude.{replicate, slice_get}
 use Rattle.std.proofs.lemmas.List.{take_all}
-use Rattle.tx_circuits.specs.inner.Groups.{GroupState, idle}
+use Rattle.tx_plan.proofs.ByPlace.{entry_at}
+use Rattle.tx_circuits.specs.inner.Groups.{idle}
 use Rattle.tx_circuits.specs.inner.Seen.{table_of}
-use Rattle.tx_circuits.proofs.Built.{fresh, fresh_push, fresh_is, entry, built_is}
+use Rattle.tx_circuits.proofs.Built.{fresh, fresh_push, fresh_is, built_is}
 use Rattle.tx_circuits.proofs.table.CircuitTable.build.Goals as goal
 
 pub loop-place-preserved : goal.loop-place-preserved
@@ -12,7 +13,7 @@ loop-place-preserved g c =
     let k = c.loop-place.place in
     let test : k < c.groups-place-end.result = c.loop-place-test.true in
     let many : c.groups-place-end.result ≡ length plan.groups = c.groups-place-end.ensures in
-    let r = entry plan.groups k (omega arith) in
+    let r = entry_at plan.groups k (omega arith) in
     let same : c.at-group.result ≡ k = c.at-group.ensures in
     let told : record { head = record { a = c.ends-ends.result.0; b = c.ends-ends.result.1; direction = c.direction.result; failed = false; blocked = false }; states = replicate c.group_count.result idle } ≡ fresh r.0 =
     (λ i. record { head = record { a = (c.ends-ends.ensures i).0; b = (c.ends-ends.ensures i).1; direction = c.direction.ensures i; failed = false; blocked = false }; states = replicate (c.group_count.ensures.value i) idle })

@@ -1,4 +1,4 @@
-use Rattle.std.proofs.Common.{◌≡◌, ◌∙◌, ℕ, suc, ◌+◌, true, false, Option, Some, None, sym, ap, subst, arith}
+use Rattle.std.proofs.Common.{◌≡◌, ◌∙◌, ℕ, suc, ◌+◌, true, false, Some, None, sym, ap, subst, arith}
 use Rattle.std.specs.Option.{option_map}
 use Rattle.tx_plan.specs.Circuits.{is_circuit}
 use Rattle.tx_entries.specs.declared.circuit.Circuit.{Circuit}

@@ -1,4 +1,4 @@
-use Rattle.std.proofs.Common.{◌≡◌, ◌∙◌, false, sym, ap}
+use Rattle.std.proofs.Common.{◌∙◌, false, sym, ap}
 use Rattle.std.specs.Option.{option_map_or}
 use Rattle.tx_circuits.specs.inner.Slots.{has_seized}
 use Rattle.tx_circuits.specs.inner.Seen.{holds}

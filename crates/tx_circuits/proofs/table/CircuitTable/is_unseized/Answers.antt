@@ -1,11 +1,8 @@
-use Rattle.std.proofs.Common.{◌≡◌, ◌∙◌, ℕ, Bool, true, false, sym, ap, refl}
+use Rattle.std.proofs.Common.{◌∙◌, true, sym, ap, refl}
 use Rattle.std.specs.Prelude.{not}
+use Rattle.std.proofs.lemmas.Bool.{not-true}
 use Rattle.tx_circuits.proofs.Steps.{seized_ends, seized_none, unseized}
 use Rattle.tx_circuits.proofs.table.CircuitTable.is_unseized.Goals as goal
-
-off : (b : Bool) → not b ≡ true → b ≡ false
-off true h = absurd (cc)
-off false h = refl
 
 pub returns-then-not-is_seized : goal.returns-then-not-is_seized
 returns-then-not-is_seized g c =
@@ -13,7 +10,7 @@ returns-then-not-is_seized g c =
     let x = c.args.circuit.now in
     let t = c.in-Some.head in (
       λ r. unseized now x t.a t.b (λ y h. seized_ends c.self.inside.groups now c.self.view_is x y t c.in-Some.ensures h) (sym c.is_seized.ensures ∙ c.if-not-is_seized.true)
-          (sym c.is_seized-then-not-is_seized.ensures ∙ off c.is_seized-then-not-is_seized.result r),
+          (sym c.is_seized-then-not-is_seized.ensures ∙ not-true c.is_seized-then-not-is_seized.result r),
       λ h. ap not (c.is_seized-then-not-is_seized.ensures ∙ h t.b),
     )
 

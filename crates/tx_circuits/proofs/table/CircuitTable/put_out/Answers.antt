@@ -1,10 +1,6 @@
-use Rattle.std.proofs.Common.{◌≡◌, ◌∙◌, ℕ, ◌<◌, Bool, true, false, length, Option, Some, None, sym, ap, subst}
-use Rattle.std.specs.Prelude.{is_some}
-use Rattle.std.specs.FinSet.{insert, remove}
-use Rattle.tx_circuits.specs.inner.Slots.{with_seized}
-use Rattle.tx_rows.specs.Rows.{change_at}
-use Rattle.tx_circuits.specs.inner.Groups.{state_at, end_at, with_state}
-use Rattle.tx_circuits.specs.Table.{Table, with_held, with_released, with_failure}
+use Rattle.std.proofs.Common.{◌∙◌, sym, ap}
+use Rattle.std.specs.FinSet.{insert}
+use Rattle.tx_circuits.specs.Table.{Table}
 use Rattle.tx_circuits.specs.inner.Seen.{table_of}
 use Rattle.tx_circuits.proofs.Updates.{put_out_is}
 use Rattle.tx_circuits.proofs.Steps.{circuit_is}

@@ -1,13 +1,11 @@
-use Rattle.std.proofs.Common.{◌≡◌, ◌∙◌, ℕ, ◌<◌, Bool, true, false, length, Option, Some, None, sym, ap, subst}
-use Rattle.std.specs.Prelude.{is_some}
-use Rattle.std.specs.FinSet.{insert, remove}
-use Rattle.tx_circuits.specs.inner.Slots.{with_seized}
+use Rattle.std.proofs.Common.{◌∙◌, ap}
+use Rattle.std.specs.FinSet.{remove}
 use Rattle.tx_rows.specs.Rows.{change_at}
-use Rattle.tx_circuits.specs.inner.Groups.{state_at, end_at, with_state}
-use Rattle.tx_circuits.specs.Table.{Table, with_held, with_released, with_failure}
+use Rattle.tx_circuits.specs.inner.Groups.{with_state}
+use Rattle.tx_circuits.specs.Table.{Table}
 use Rattle.tx_circuits.specs.inner.Seen.{table_of}
 use Rattle.tx_circuits.proofs.Updates.{withdrawn_is}
-use Rattle.tx_circuits.proofs.Steps.{circuit_is, end_is_there, seat_in}
+use Rattle.tx_circuits.proofs.Steps.{seat_in}
 use Rattle.tx_circuits.proofs.table.CircuitTable.withdraw.Goals as goal
 
 pub known_end-end-requires : goal.known_end-end-requires

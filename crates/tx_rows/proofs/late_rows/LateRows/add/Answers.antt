@@ -1,4 +1,4 @@
-use Rattle.std.proofs.Common.{◌≡◌, ◌≤◌, ◌<◌, ◌^◌, ◌+◌, ℕ, length, refl, arith}
+use Rattle.std.proofs.Common.{refl, arith}
 use Rattle.tx_rows.proofs.Kept.{kept_roomier, kept_with}
 use Rattle.tx_rows.proofs.late_rows.LateRows.add.Goals as goal
 

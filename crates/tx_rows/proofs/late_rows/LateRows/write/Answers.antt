@@ -1,7 +1,5 @@
-use Rattle.std.proofs.Common.{◌≡◌, ◌∙◌, ◌≤◌, ◌+◌, ◌-◌, ℕ, List, length, slice_set, Option, Some, None, sym, subst, ap, arith, refl}
-use Rattle.std.specs.Prelude.{slice_get, IfSome, vec_capacity}
-use Rattle.tx_rows.specs.declared.row_at.RowAt.{RowAt}
-use Rattle.tx_rows.specs.inner.Kept.{AreKept, row_seen, IsAt}
+use Rattle.std.proofs.Common.{◌≡◌, ◌∙◌, ◌+◌, ◌-◌, length, Some, None, subst, ap, arith, refl}
+use Rattle.std.specs.Prelude.{IfSome}
 use Rattle.tx_rows.proofs.Lists.{entry_at, get-set_here}
 use Rattle.tx_rows.proofs.Kept.{kept_roomier, kept_written, seen_written, has_room, count_late, resized}
 use Rattle.tx_rows.proofs.late_rows.LateRows.write.Goals as goal

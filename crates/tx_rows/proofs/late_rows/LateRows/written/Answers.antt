@@ -1,4 +1,4 @@
-use Rattle.std.proofs.Common.{◌<◌, ℕ, length, refl, arith}
+use Rattle.std.proofs.Common.{◌<◌, length, refl, arith}
 use Rattle.std.proofs.lemmas.List.{length-map}
 use Rattle.tx_rows.specs.inner.Kept.{row_seen}
 use Rattle.tx_rows.proofs.Lists.{entry_at}
