@@ -3,10 +3,11 @@ ghost use Rattle.std.specs.Prelude.{◌≡◌, ◌-◌, ◌^◌, ◌∷◌, [], 
 ghost use Rattle.tx_plan.specs.Lines.{is_line};
 ghost use Rattle.tx_plan.specs.Circuits.{is_circuit};
 ghost use Rattle.tx_plan.specs.Declaring.{first_true};
-ghost use Rattle.tx_state.specs.declared.event.Event.TheVariants.{Key, Route, Confirm, Clear};
+ghost use Rattle.tx_state.specs.declared.event.Event.TheVariants.{Key, Route, Confirm, Clear, Released};
 ghost use Rattle.tx_state.specs.declared.party.Party.TheVariants.{Caller, Called};
 ghost use Rattle.tx_state.specs.declared.refusal.Refusal.TheVariants.{UnknownLine, UnknownCircuit, Exhausted};
 ghost use Rattle.tx_state.specs.Refusals.{refusal, is_group};
+ghost use Rattle.tx_network.specs.Facts.{is_idle, idle};
 
 use crate::facts::Facts;
 use tx_plan::{Circuit, GroupId, Line};
@@ -25,50 +26,17 @@ pub fn refusal<N: Facts>(network: &N, event: &Event) -> Option<Refusal>
             Party::Caller => of_clear_by_caller(network, *call),
             Party::Called => of_clear_by_called(network, *call),
         },
-        Event::Released(circuit) => {
-            let wrong = !network.is_releasing(circuit);
-            of_circuit(network, circuit, wrong, Refusal::NotReleasing)
-        }
-        Event::CircuitOut(circuit) => {
-            let wrong = network.is_out(circuit);
-            of_circuit(network, circuit, wrong, Refusal::AlreadySo)
-        }
-        Event::CircuitIn(circuit) => {
-            let wrong = !network.is_out(circuit);
-            of_circuit(network, circuit, wrong, Refusal::NotSo)
-        }
-        Event::Fail(group) => {
-            let wrong = network.is_failed(*group);
-            of_group(network, *group, wrong, Refusal::AlreadySo)
-        }
-        Event::Restore(group) => {
-            let wrong = !network.is_failed(*group);
-            of_group(network, *group, wrong, Refusal::NotSo)
-        }
-        Event::Block(group) => {
-            let wrong = network.is_blocked(*group);
-            of_group(network, *group, wrong, Refusal::AlreadySo)
-        }
-        Event::Unblock(group) => {
-            let wrong = !network.is_blocked(*group);
-            of_group(network, *group, wrong, Refusal::NotSo)
-        }
-        Event::LineFault(line) => {
-            let wrong = network.is_faulty(line);
-            of_line(network, line, wrong, Refusal::AlreadySo)
-        }
-        Event::LineMend(line) => {
-            let wrong = !network.is_faulty(line);
-            of_line(network, line, wrong, Refusal::NotSo)
-        }
-        Event::LineAway(line) => {
-            let wrong = network.is_away(line);
-            of_line(network, line, wrong, Refusal::AlreadySo)
-        }
-        Event::LineBack(line) => {
-            let wrong = !network.is_away(line);
-            of_line(network, line, wrong, Refusal::NotSo)
-        }
+        Event::Released(circuit) => of_released(network, circuit),
+        Event::CircuitOut(circuit) => of_circuit(network, circuit, network.is_out(circuit), true),
+        Event::CircuitIn(circuit) => of_circuit(network, circuit, network.is_out(circuit), false),
+        Event::Fail(group) => of_group(network, *group, network.is_failed(*group), true),
+        Event::Restore(group) => of_group(network, *group, network.is_failed(*group), false),
+        Event::Block(group) => of_group(network, *group, network.is_blocked(*group), true),
+        Event::Unblock(group) => of_group(network, *group, network.is_blocked(*group), false),
+        Event::LineFault(line) => of_line(network, line, network.is_faulty(line), true),
+        Event::LineMend(line) => of_line(network, line, network.is_faulty(line), false),
+        Event::LineAway(line) => of_line(network, line, network.is_away(line), true),
+        Event::LineBack(line) => of_line(network, line, network.is_away(line), false),
     }
 }
 
@@ -147,47 +115,60 @@ fn of_clear_by_called<N: Facts>(network: &N, number: u32) -> Option<Refusal>
     }
 }
 
-/// The refusal of an event on a circuit, which applies where the plan has the circuit and it is in the wrong state.
-fn of_circuit<N: Facts>(
-    network: &N,
-    circuit: &Circuit,
-    wrong: bool,
-    refusal: Refusal,
-) -> Option<Refusal>
-    ensures { result ≡ first_true ((is_circuit (N.plan network.now) circuit.now && wrong, refusal) ∷ (not (is_circuit (N.plan network.now) circuit.now), UnknownCircuit) ∷ (nat_le (2 ^ 64 - 1) (N.state network.now).events, Exhausted) ∷ []) }
+/// The refusal of a Released.
+fn of_released<N: Facts>(network: &N, circuit: &Circuit) -> Option<Refusal>
+    ensures { result ≡ refusal (N.plan network.now) (N.state network.now) (Released circuit.now) }
 {
     if !network.has_circuit(circuit) {
         Some(Refusal::UnknownCircuit)
-    } else if wrong {
-        Some(refusal)
+    } else if !network.is_releasing(circuit) {
+        Some(Refusal::NotReleasing)
     } else {
         exhausted(network)
     }
 }
 
-/// The refusal of an event on a group, which applies where the plan has the group and it is in the wrong state.
-fn of_group<N: Facts>(network: &N, group: GroupId, wrong: bool, refusal: Refusal) -> Option<Refusal>
-    ensures { result ≡ first_true ((is_group (N.plan network.now) group && wrong, refusal) ∷ (not (is_group (N.plan network.now) group), UnknownCircuit) ∷ (nat_le (2 ^ 64 - 1) (N.state network.now).events, Exhausted) ∷ []) }
+/// The refusal of an event that makes a fact of a circuit so, or no longer so, by whether it is.
+fn of_circuit<N: Facts>(network: &N, circuit: &Circuit, is: bool, will: bool) -> Option<Refusal>
+    ensures { result ≡ first_true ((is_circuit (N.plan network.now) circuit.now && is_idle is will, idle will) ∷ (not (is_circuit (N.plan network.now) circuit.now), UnknownCircuit) ∷ (nat_le (2 ^ 64 - 1) (N.state network.now).events, Exhausted) ∷ []) }
+{
+    if !network.has_circuit(circuit) {
+        Some(Refusal::UnknownCircuit)
+    } else {
+        of_fact(network, is, will)
+    }
+}
+
+/// The refusal of an event that makes a fact of a group so, or no longer so, by whether it is.
+fn of_group<N: Facts>(network: &N, group: GroupId, is: bool, will: bool) -> Option<Refusal>
+    ensures { result ≡ first_true ((is_group (N.plan network.now) group && is_idle is will, idle will) ∷ (not (is_group (N.plan network.now) group), UnknownCircuit) ∷ (nat_le (2 ^ 64 - 1) (N.state network.now).events, Exhausted) ∷ []) }
 {
     if !network.has_group(group) {
         Some(Refusal::UnknownCircuit)
-    } else if wrong {
-        Some(refusal)
     } else {
-        exhausted(network)
+        of_fact(network, is, will)
     }
 }
 
-/// The refusal of an event on a line, which applies where the plan has the line and it is in the wrong state.
-fn of_line<N: Facts>(network: &N, line: &Line, wrong: bool, refusal: Refusal) -> Option<Refusal>
-    ensures { result ≡ first_true ((not (is_line (N.plan network.now) line.now), UnknownLine) ∷ (wrong, refusal) ∷ (nat_le (2 ^ 64 - 1) (N.state network.now).events, Exhausted) ∷ []) }
+/// The refusal of an event that makes a fact of a line so, or no longer so, by whether it is.
+fn of_line<N: Facts>(network: &N, line: &Line, is: bool, will: bool) -> Option<Refusal>
+    ensures { result ≡ first_true ((not (is_line (N.plan network.now) line.now), UnknownLine) ∷ (is_idle is will, idle will) ∷ (nat_le (2 ^ 64 - 1) (N.state network.now).events, Exhausted) ∷ []) }
 {
     if !network.has_line(line) {
         Some(Refusal::UnknownLine)
-    } else if wrong {
-        Some(refusal)
     } else {
-        exhausted(network)
+        of_fact(network, is, will)
+    }
+}
+
+/// The refusal of an event that makes a fact so, or no longer so, of what the plan has.
+fn of_fact<N: Facts>(network: &N, is: bool, will: bool) -> Option<Refusal>
+    ensures { result ≡ first_true ((is_idle is will, idle will) ∷ (nat_le (2 ^ 64 - 1) (N.state network.now).events, Exhausted) ∷ []) }
+{
+    match (is, will) {
+        (true, true) => Some(Refusal::AlreadySo),
+        (false, false) => Some(Refusal::NotSo),
+        (true, false) | (false, true) => exhausted(network),
     }
 }
 
