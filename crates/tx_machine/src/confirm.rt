@@ -91,7 +91,7 @@ impl<'p, A: Allocator + Copy> Plain<'p, A> {
         ensures plan { self.new.plan ≡ self.old.plan }
     {
         self.carry(number, *hop);
-        self.count();
+        self.events += 1;
         Reply::At(hop.far)
     }
 
@@ -119,7 +119,7 @@ impl<'p, A: Allocator + Copy> Plain<'p, A> {
             },
             Cause::Service(Service::Nc),
         );
-        self.count();
+        self.events += 1;
         Reply::HeadOn {
             a: number,
             b: other,

@@ -26,7 +26,7 @@ impl<'p, A: Allocator + Copy> Plain<'p, A> {
             Party::Called => Cause::ClearedByCalled,
         };
         self.end(&Ends::Numbered(number), cause);
-        self.count();
+        self.events += 1;
         Reply::Cleared
     }
 
@@ -40,7 +40,7 @@ impl<'p, A: Allocator + Copy> Plain<'p, A> {
         let lost = self.count_on(group);
         self.end(&Ends::OnGroup(group), Cause::Lost);
         self.drop_group(group);
-        self.count();
+        self.events += 1;
         Reply::Lost(lost)
     }
 
@@ -74,13 +74,5 @@ impl<'p, A: Allocator + Copy> Plain<'p, A> {
             cause,
             self.events + 1,
         );
-    }
-
-    /// One more event.
-    pub(crate) fn count(&mut self)
-        requires { self.old.state.events < 2 ^ 64 - 1 }
-        ensures { self.new ≡ record self.old { state = record self.old.state { events = self.old.state.events + 1 } } }
-    {
-        self.events += 1;
     }
 }

@@ -126,7 +126,7 @@ impl<'p, A: Allocator + Copy> Plain<'p, A> {
         ensures plan { self.new.plan ≡ self.old.plan }
     {
         self.end(&Ends::Numbered(number), Cause::Service(service));
-        self.count();
+        self.events += 1;
         Reply::Answered(service)
     }
 
@@ -138,7 +138,7 @@ impl<'p, A: Allocator + Copy> Plain<'p, A> {
         ensures err { OnErr result (self.new ≡ self.old) }
     {
         self.to_phase(number, Phase::Connected(*line))?;
-        self.count();
+        self.events += 1;
         Ok(Reply::Connected(*line))
     }
 
@@ -151,7 +151,7 @@ impl<'p, A: Allocator + Copy> Plain<'p, A> {
         ensures err { OnErr result (self.new ≡ self.old) }
     {
         self.to_phase(number, Phase::Calling(*circuit))?;
-        self.count();
+        self.events += 1;
         Ok(Reply::Seized(*circuit))
     }
 

@@ -7,7 +7,7 @@ ghost use Rattle.tx_state.specs.declared.event.Event.TheVariants.{Key, Route, Co
 ghost use Rattle.tx_state.specs.declared.party.Party.TheVariants.{Caller, Called};
 ghost use Rattle.tx_state.specs.declared.refusal.Refusal.TheVariants.{UnknownLine, UnknownCircuit, Exhausted};
 ghost use Rattle.tx_state.specs.Refusals.{refusal, is_group};
-ghost use Rattle.tx_network.specs.Facts.{is_idle, idle};
+ghost use Rattle.tx_network.specs.inner.Facts.{is_idle, idle};
 
 use crate::facts::Facts;
 use tx_plan::{Circuit, GroupId, Line};
