@@ -35,10 +35,10 @@ use Rattle.tx_script.specs.declared.run_cause.RunCause.TheVariants.{Read, Write,
 use Rattle.tx_script.specs.declared.script_word.ScriptWord.{ScriptWord}
 use Rattle.tx_script.specs.declared.summary.Summary.{Summary}
 use Rattle.tx_script.specs.declared.tally.Tally.{Tally}
-use Rattle.tx_script.specs.Events.{event_of}
+use Rattle.tx_script.specs.Events.{Said, event_of}
 use Rattle.tx_script.specs.Script.{faulty, script_said, script_of}
 use Rattle.tx_script.specs.Output.{tickets_made, moment_text, events_text, end_text}
-use Rattle.tx_script.specs.Answered.{count_of, Halted}
+use Rattle.tx_script.specs.Answered.{count_of, IsAnswered, Halted, LineAnswers}
 use Rattle.tx_script.specs.Untold.{IsUntold}
 use Rattle.tx_script.specs.Answers.{IsFresh, Moved, settled, next, Ran, Begins, RunAnswers}
 use Rattle.tx_script.proofs.Scripts.{SaidSoFar, at_start, header_said, event_said, fault_said, whole_said, stop_said}
@@ -83,7 +83,7 @@ module _ (p : Plan) (a b : Option (List ℕ)) (s t : State) (u v : Option (List 
       let z = ap length fresh.no_calls in
       omega (arith, on.far.answered, on.bounded)
 
-  pub few_made : IsFresh s → (e : Event) (count : Answered) → count ≡ count_of (moment p t e) → tally.tickets + count.tickets < 2 ^ 64
+  few_made : IsFresh s → (e : Event) (count : Answered) → count ≡ count_of (moment p t e) → tally.tickets + count.tickets < 2 ^ 64
   few_made fresh e count k =
       let few = few_tickets p s (es ++ e ∷ []) in
       let m = (one_more p s es e).tickets in
@@ -91,6 +91,11 @@ module _ (p : Plan) (a b : Option (List ℕ)) (s t : State) (u v : Option (List 
       let z = ap length fresh.no_calls in
       let l = length-append es (e ∷ []) in
       omega (arith, on.far.answered, on.far.tickets, on.bounded)
+
+  -- a line was answered: there is room to count its tickets
+  pub few_told : IsFresh s → (n : ℕ) (said : Said) (r : State) (w : Option (List ℕ)) (count : Answered) → LineAnswers p n said t r v w (Ok count) → tally.tickets + count.tickets < 2 ^ 64
+  few_told fresh n (Ok e) r w count h = few_made fresh e count h.counted
+  few_told fresh n (Err k) r w count h = absurd h
 
   -- its tickets were taken
   pub none_left : t.tickets ≡ []
@@ -101,15 +106,20 @@ module _ (p : Plan) (a b : Option (List ℕ)) (s t : State) (u v : Option (List 
   header_runs c w U left q l = record { events = es; said = header_said p a b c es T on.said w U q; far = on.far; bounded = (let h = on.bounded in omega arith) }
 
   -- an event came, and was answered
-  pub event_runs : (c : Option (List ℕ)) (r : State) (w : Option (List ℕ)) (n : ℕ) (ws : List (List ℕ)) (U : Ending → List ℕ → Framed) (e : Event) (new : Tally) (count : Answered) (left : ℕ) → ReadsOn b c T (λ e more. Has n ws (U e more)) → event_of p ws ≡ Ok e
-      → count ≡ count_of (moment p t e) → w ≡ append_known v (moment_text p (moment p t e)) → r ≡ drained (moment p t e).after []
-      → new ≡ record { answered = tally.answered + 1; refused = tally.refused + cond count.refused 1 0; tickets = tally.tickets + count.tickets } → left < size → IsRunning p a c s r u w U new left
-  event_runs c r w n ws U e new count left q h k wrote state i l = record {
+  event_runs : (c : Option (List ℕ)) (r : State) (w : Option (List ℕ)) (n : ℕ) (ws : List (List ℕ)) (U : Ending → List ℕ → Framed) (e : Event) (new : Tally) (count : Answered) (left : ℕ) → ReadsOn b c T (λ e more. Has n ws (U e more)) → event_of p ws ≡ Ok e
+      → IsAnswered p e t r v w count → new ≡ record { answered = tally.answered + 1; refused = tally.refused + cond count.refused 1 0; tickets = tally.tickets + count.tickets } → left < size → IsRunning p a c s r u w U new left
+  event_runs c r w n ws U e new count left q h told i l = record {
     events = es ++ e ∷ [];
     said = event_said p a b c es T on.said n ws U e q h;
-    far = one_answered p s t r u v w es e tally new count on.far k wrote state i;
+    far = one_answered p s t r u v w es e tally new count on.far told.counted told.wrote told.network i;
     bounded = (let h = on.bounded in let j = ap (λ (z : Tally). z.answered) i in omega arith);
   }
+
+  -- a line came, and was answered
+  pub line_runs : (c : Option (List ℕ)) (r : State) (w : Option (List ℕ)) (n : ℕ) (ws : List (List ℕ)) (U : Ending → List ℕ → Framed) (new : Tally) (count : Answered) (left : ℕ) → ReadsOn b c T (λ e more. Has n ws (U e more)) → (said : Said) → event_of p ws ≡ said
+      → LineAnswers p n said t r v w (Ok count) → new ≡ record { answered = tally.answered + 1; refused = tally.refused + cond count.refused 1 0; tickets = tally.tickets + count.tickets } → left < size → IsRunning p a c s r u w U new left
+  line_runs c r w n ws U new count left q (Ok e) h told i l = event_runs c r w n ws U e new count left q h told i l
+  line_runs c r w n ws U new count left q (Err k) h told i l = absurd told
 
   -- THE ENDS
 
@@ -125,7 +135,7 @@ module _ (p : Plan) (a b : Option (List ℕ)) (s t : State) (u v : Option (List 
 
     module _ (broken untouched : Type 0) (f : RunFault) where
       -- a line says no event
-      pub word_answers : (n : ℕ) (ws : List (List ℕ)) (U : Ending → List ℕ → Framed) (k : ScriptWord) → ReadsOn b c T (λ e more. Has n ws (U e more)) → event_of p ws ≡ Err k
+      word_answers : (n : ℕ) (ws : List (List ℕ)) (U : Ending → List ℕ → Framed) (k : ScriptWord) → ReadsOn b c T (λ e more. Has n ws (U e more)) → event_of p ws ≡ Err k
           → f ≡ record { event = tally.answered + 1; cause = OfScript (record { line = n; kind = Word k }) } → RunAnswers p there broken untouched (Err f)
       word_answers n ws U k q h i =
           subst (λ (z : RunFault). RunAnswers p there broken untouched (Err z)) (sym i)
@@ -175,12 +185,19 @@ module _ (p : Plan) (a b : Option (List ℕ)) (s t : State) (u v : Option (List 
     halted_by e text NoMemory h = record { events = es; hand = e; place = refl; text = text; wrote = h.written; network = h.network; asks = h.asks; unrefused = ap (λ (z : State). refusal p z e) h.network ∙ h.unrefused }
 
     -- an event was not answered whole
-    pub halted_answers : (f : RunFault) (n : ℕ) (ws : List (List ℕ)) (U : Ending → List ℕ → Framed) (e : Event) (cause : RunCause) → ReadsOn b c T (λ e more. Has n ws (U e more)) → event_of p ws ≡ Ok e
+    halted_answers : (f : RunFault) (n : ℕ) (ws : List (List ℕ)) (U : Ending → List ℕ → Framed) (e : Event) (cause : RunCause) → ReadsOn b c T (λ e more. Has n ws (U e more)) → event_of p ws ≡ Ok e
         → Halted p e t r v w cause → f ≡ record { event = tally.answered + 1; cause = cause } → RunAnswers p after broken untouched (Err f)
     halted_answers f n ws U e cause q h halted i =
         let text : Begins p after (es ++ e ∷ []) = record { to_come = λ e more. script_said p (U e more); reads = event_said p a b c es T on.said n ws U e q h } in
         let here = subst (λ (z : Option (List ℕ)). Halted p e (settled p s es) r z w cause) on.far.wrote (subst (λ (z : State). Halted p e z r v w cause) on.far.network halted) in
         subst (λ (z : RunFault). RunAnswers p after broken untouched (Err z)) (sym (i ∙ ap (λ n. record { event = n + 1; cause = cause }) on.far.answered)) (halted_by e text cause here)
+
+    -- a line was not answered whole
+    pub line_answers : (f : RunFault) (n : ℕ) (ws : List (List ℕ)) (U : Ending → List ℕ → Framed) (cause : RunCause) → ReadsOn b c T (λ e more. Has n ws (U e more)) → (said : Said) → event_of p ws ≡ said
+        → LineAnswers p n said t r v w (Err cause) → f ≡ record { event = tally.answered + 1; cause = cause } → RunAnswers p after broken untouched (Err f)
+    line_answers f n ws U cause q (Ok e) h halted i = halted_answers f n ws U e cause q h halted i
+    line_answers f n ws U cause q (Err k) h none i =
+        rw (none.network, none.written) (word_answers c broken untouched f n ws U k q h (i ∙ ap (λ z. record { event = tally.answered + 1; cause = z }) none.fault))
 
   module _ (c : Option (List ℕ)) (w : Option (List ℕ)) (broken untouched : Type 0) where
     abbrev last : Moved

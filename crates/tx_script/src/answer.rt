@@ -1,15 +1,12 @@
 // The answer to one event: its reply and its tickets.
-ghost use Rattle.std.specs.Prelude.{◌≡◌, ◌+◌, ◌<◌, ◌^◌, [], true, OnOk, OnErr, IfOk, IfErr, length};
+ghost use Rattle.std.specs.Prelude.{◌≡◌, ◌+◌, ◌<◌, ◌^◌, [], true, OnOk, OnErr, IfOk, length};
 ghost use Rattle.std.specs.List.{flat_map};
 ghost use Rattle.std.specs.Io.KnownBytes.{append_known};
 ghost use Rattle.tx_state.specs.Drained.{drained};
-ghost use Rattle.tx_state.specs.Runs.{moment};
 ghost use Rattle.tx_state.specs.Sound.{is_refused};
 ghost use Rattle.tx_tickets.specs.Texts.{ticket_text};
-ghost use Rattle.tx_script.specs.Output.{moment_text};
 ghost use Rattle.tx_script.specs.Untold.{StopsAtTicket};
-ghost use Rattle.tx_script.specs.Answers.{mark_by};
-ghost use Rattle.tx_script.specs.Answered.{count_of, Halted};
+ghost use Rattle.tx_script.specs.Answered.{EventAnswers, mark_with};
 
 use crate::run_cause::RunCause;
 use std::alloc::Allocator;
@@ -37,12 +34,8 @@ pub(crate) fn answer<B: Allocator, N: Network, W: Sink>(
     requires taken { (N.state net.old).tickets ≡ [] }
     requires few { length (N.state net.old).calls < 2 ^ 63 }
     ensures plan { N.plan net.new ≡ plan.now }
-    ensures count { IfOk result (λ a. a ≡ count_of (moment plan.now (N.state net.old) event)) }
-    ensures wrote { OnOk result (W.taken sink.new ≡ append_known (W.taken sink.old) (moment_text plan.now (moment plan.now (N.state net.old) event))) }
-    ensures network { OnOk result (N.state net.new ≡ drained (moment plan.now (N.state net.old) event).after []) }
-    ensures unmarked { OnOk result (W.failed sink.new ≡ W.failed sink.old) }
-    ensures halted { IfErr result (Halted plan.now event (N.state net.old) (N.state net.new) (W.taken sink.old) (W.taken sink.new)) }
-    ensures mark { IfErr result (λ cause. W.failed sink.new ≡ mark_by (W.failed sink.old) cause) }
+    ensures answers { EventAnswers plan.now event (N.state net.old) (N.state net.new) (W.taken sink.old) (W.taken sink.new) result }
+    ensures mark { W.failed sink.new ≡ mark_with (W.failed sink.old) result }
 {
     let reply = net.apply(event)?;
     write_reply(&reply, plan, sink)?;

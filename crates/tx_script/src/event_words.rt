@@ -1,7 +1,8 @@
 // The event that the words of a line say.
 ghost use Rattle.std.specs.Prelude.{◌≡◌, ◌<◌, None, Some, MatchOption, IfSome, length};
 ghost use Rattle.std.specs.List.{position};
-ghost use Rattle.tx_script.specs.Events.{event_of, event_by, key_event, call_in, clear_event, circuit_in, circuit_of, circuit_number, is_dot, cut_at_dot, group_in, line_in, line_of, party_of, end_event, one_word, two_words, three_words};
+ghost use Rattle.tx_state.specs.declared.event.Event.TheVariants.{Route, Confirm, Released};
+ghost use Rattle.tx_script.specs.Events.{event_of, event_by, BeginsWith, said_of, key_event, call_in, clear_event, circuit_in, circuit_of, circuit_number, is_dot, cut_at_dot, group_in, line_in, line_of, party_of, end_event, one_word, two_words, three_words};
 
 use crate::script_word::ScriptWord;
 use crate::verb::Verb;
@@ -11,33 +12,29 @@ use tx_state::{Event, Party};
 use tx_text::{Figures, Words, number};
 
 /// The event of a line's words.
-#[tactic(auto, unfolding(crate::specs::Events::event_of))]
-#[inline(always)]
 pub(crate) fn event_of<A: Allocator>(words: Words<'_>, plan: &Plan<A>) -> Result<Event, ScriptWord>
     ensures { result ≡ event_of plan.now words.entry }
 {
     let mut words = words;
-    let first = words.next().ok_or(ScriptWord::UnknownWord)?;
-    let verb = Verb::read(first).ok_or(ScriptWord::UnknownWord)?;
-    event_by(verb, words, plan)
-}
-
-/// The event of a first word and the words that follow it. The events of calls are made in place, and the others in a call of their own.
-#[inline(always)]
-fn event_by<A: Allocator>(verb: Verb, words: Words<'_>, plan: &Plan<A>) -> Result<Event, ScriptWord>
-    ensures { result ≡ event_by plan.now verb words.entry }
-{
-    match verb {
-        Verb::Key => key_event(words, plan),
-        Verb::Route => Ok(Event::Route(call_in(words)?)),
-        Verb::Clear => clear_event(words),
-        other => other_event(other, words, plan),
+    match verb_in(&mut words) {
+        Some(verb) => event_by(verb, words, plan),
+        None => Err(ScriptWord::UnknownWord),
     }
 }
 
-/// The same for all first words.
+/// Takes the first word: what it says.
+#[tactic(auto, unfolding(crate::specs::Events::event_of))]
+#[inline(always)]
+pub(crate) fn verb_in(words: &mut Words<'_>) -> Option<Verb>
+    ensures { BeginsWith words.old result words.new }
+{
+    let first = words.next()?;
+    Verb::read(first)
+}
+
+/// The event of a first word and the words that follow it.
 #[inline(never)]
-fn other_event<A: Allocator>(
+pub(crate) fn event_by<A: Allocator>(
     verb: Verb,
     words: Words<'_>,
     plan: &Plan<A>,
@@ -46,10 +43,10 @@ fn other_event<A: Allocator>(
 {
     match verb {
         Verb::Key => key_event(words, plan),
-        Verb::Route => Ok(Event::Route(call_in(words)?)),
-        Verb::Confirm => Ok(Event::Confirm(call_in(words)?)),
+        Verb::Route => route_event(words),
+        Verb::Confirm => confirm_event(words),
         Verb::Clear => clear_event(words),
-        Verb::Released => Ok(Event::Released(circuit_in(words, plan)?)),
+        Verb::Released => released_event(words, plan),
         Verb::Fail => Ok(Event::Fail(group_in(words, plan)?)),
         Verb::Restore => Ok(Event::Restore(group_in(words, plan)?)),
         Verb::Block => Ok(Event::Block(group_in(words, plan)?)),
@@ -66,13 +63,29 @@ fn other_event<A: Allocator>(
 
 /// A code, a national number and the figures that were keyed.
 #[inline(always)]
-fn key_event<A: Allocator>(words: Words<'_>, plan: &Plan<A>) -> Result<Event, ScriptWord>
+pub(crate) fn key_event<A: Allocator>(words: Words<'_>, plan: &Plan<A>) -> Result<Event, ScriptWord>
     ensures { result ≡ key_event plan.now words.entry }
 {
     let (code, national, keyed) = three_words(words).ok_or(ScriptWord::WrongCount)?;
     let keyed = Figures::read(keyed).ok_or(ScriptWord::BadNumber)?;
     let line = line_of(code, national, plan)?;
     Ok(Event::Key { line, keyed })
+}
+
+/// A call that is routed.
+#[inline(always)]
+pub(crate) fn route_event(words: Words<'_>) -> Result<Event, ScriptWord>
+    ensures { result ≡ said_of Route (call_in words.entry) }
+{
+    Ok(Event::Route(call_in(words)?))
+}
+
+/// A call whose circuit is confirmed.
+#[inline(always)]
+pub(crate) fn confirm_event(words: Words<'_>) -> Result<Event, ScriptWord>
+    ensures { result ≡ said_of Confirm (call_in words.entry) }
+{
+    Ok(Event::Confirm(call_in(words)?))
 }
 
 /// A call's number.
@@ -86,7 +99,7 @@ fn call_in(words: Words<'_>) -> Result<u32, ScriptWord>
 
 /// A call's number, and CALLER or CALLED.
 #[inline(always)]
-fn clear_event(words: Words<'_>) -> Result<Event, ScriptWord>
+pub(crate) fn clear_event(words: Words<'_>) -> Result<Event, ScriptWord>
     ensures { result ≡ clear_event words.entry }
 {
     let (call, party) = two_words(words).ok_or(ScriptWord::WrongCount)?;
@@ -104,6 +117,17 @@ fn party_of(word: &[u8]) -> Option<Party>
         b"CALLED" => Some(Party::Called),
         _ => None,
     }
+}
+
+/// A circuit that is released.
+#[inline(always)]
+pub(crate) fn released_event<A: Allocator>(
+    words: Words<'_>,
+    plan: &Plan<A>,
+) -> Result<Event, ScriptWord>
+    ensures { result ≡ said_of Released (circuit_in plan.now words.entry) }
+{
+    Ok(Event::Released(circuit_in(words, plan)?))
 }
 
 /// A circuit.

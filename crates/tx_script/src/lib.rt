@@ -19,6 +19,7 @@
 #![tactic(auto)]
 
 mod answer;
+mod answer_line;
 mod event_line;
 mod event_text;
 mod event_words;

@@ -9,8 +9,7 @@ ghost use Rattle.tx_text.specs.Frame.{is_read};
 ghost use Rattle.tx_script.specs.Answers.{RunAnswers, IsFresh, mark_after};
 ghost use Rattle.tx_script.specs.Output.{end_line, end_text};
 
-use crate::answer::answer;
-use crate::event_words::event_of;
+use crate::answer_line::answer_line;
 use crate::run_cause::RunCause;
 use crate::run_fault::RunFault;
 use crate::script_word::ScriptKind;
@@ -89,20 +88,15 @@ fn run_lines<A: Allocator, B: Allocator, N: Network, R: Source, W: Sink>(
     'lines: loop {
         match frame.advance(source) {
             Ok(FrameStep::Header(_)) => {}
-            Ok(FrameStep::Line) => match event_of(frame.words(), plan) {
-                Ok(event) => match answer(event, plan, net, sink) {
+            Ok(FrameStep::Line) => {
+                match answer_line(frame.number(), frame.words(), plan, net, sink) {
                     Ok(answered) => tally.count(answered),
                     Err(cause) => {
                         drop(frame);
                         return Err(tally.stopped(cause));
                     }
-                },
-                Err(word) => {
-                    let cause = script_fault(frame.number(), FaultKind::Word(word));
-                    drop(frame);
-                    return Err(tally.stopped(cause));
                 }
-            },
+            }
             Ok(FrameStep::End) => {
                 drop(frame);
                 return finish(&tally, net, sink);

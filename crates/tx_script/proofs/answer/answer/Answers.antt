@@ -15,8 +15,8 @@ write_tickets-requires g c =
     let a = is_answer c.args.plan.now (g.N.Network.plan c.args.net.now) s c.args.event c.in_ok-reply.reply t c.requires.plan c.requires.taken c.in_ok-reply.ensures.step in
     record { few = omega (arith, c.requires.few, a.few) }
 
-pub returns-in_err-write_reply-clause-halted : goal.returns-in_err-write_reply-clause-halted
-returns-in_err-write_reply-clause-halted g c =
+pub returns-in_err-write_reply-clause-answers : goal.returns-in_err-write_reply-clause-answers
+returns-in_err-write_reply-clause-answers g c =
     let p = c.args.plan.now in
     let s = g.N.Network.state c.args.net.now in
     let t = g.N.Network.state c.apply.new.self in
@@ -25,8 +25,8 @@ returns-in_err-write_reply-clause-halted g c =
     let e = err_from_is_err_and c.from_residual-in_err-write_reply.result c.from_residual-in_err-write_reply.ensures.1 in
     rw (e.1, e.2) (untold_reply p s c.args.event reply t _ _ a c.in_err-write_reply.ensures.err)
 
-pub returns-in_err-tickets-clause-halted : goal.returns-in_err-tickets-clause-halted
-returns-in_err-tickets-clause-halted g c =
+pub returns-in_err-tickets-clause-answers : goal.returns-in_err-tickets-clause-answers
+returns-in_err-tickets-clause-answers g c =
     let p = c.args.plan.now in
     let s = g.N.Network.state c.args.net.now in
     let t = g.N.Network.state c.apply.new.self in
@@ -35,25 +35,15 @@ returns-in_err-tickets-clause-halted g c =
     let e = err_from_is_err_and c.from_residual-in_err-tickets.result c.from_residual-in_err-tickets.ensures.1 in
     rw (e.1, e.2) (untold_tickets p s c.args.event reply t _ _ _ _ a c.in_ok-write_reply.ensures.ok c.in_err-tickets.ensures.err)
 
-pub returns-clause-wrote : goal.returns-clause-wrote
-returns-clause-wrote g c =
+pub returns-clause-answers : goal.returns-clause-answers
+returns-clause-answers g c =
     let p = c.args.plan.now in
     let s = g.N.Network.state c.args.net.now in
     let t = g.N.Network.state c.apply.new.self in
     let reply = c.in_ok-reply.reply in
     let a = is_answer p (g.N.Network.plan c.args.net.now) s c.args.event reply t c.requires.plan c.requires.taken c.in_ok-reply.ensures.step in
-    then_took _ _ _ (reply_text p reply) _ c.in_ok-write_reply.ensures.ok c.in_ok-tickets.ensures.ok ∙ ap (append_known (g.W.Sink.taken c.args.sink.now)) (sym a.text)
-
-pub returns-clause-network : goal.returns-clause-network
-returns-clause-network g c =
-    let s = g.N.Network.state c.args.net.now in
-    let t = g.N.Network.state c.apply.new.self in
-    let a = is_answer c.args.plan.now (g.N.Network.plan c.args.net.now) s c.args.event c.in_ok-reply.reply t c.requires.plan c.requires.taken c.in_ok-reply.ensures.step in
-    c.in_ok-tickets.ensures.taken ∙ ap (λ (u : State). drained u []) (sym a.after)
-
-pub returns-clause-count : goal.returns-clause-count
-returns-clause-count g c =
-    let s = g.N.Network.state c.args.net.now in
-    let t = g.N.Network.state c.apply.new.self in
-    let a = is_answer c.args.plan.now (g.N.Network.plan c.args.net.now) s c.args.event c.in_ok-reply.reply t c.requires.plan c.requires.taken c.in_ok-reply.ensures.step in
-    counted_as c.args.plan.now s c.args.event c.in_ok-reply.reply t a _ _ c.is_refused.ensures c.in_ok-tickets.ensures.count
+    record {
+      counted = counted_as p s c.args.event reply t a _ _ c.is_refused.ensures c.in_ok-tickets.ensures.count;
+      wrote = then_took _ _ _ (reply_text p reply) _ c.in_ok-write_reply.ensures.ok c.in_ok-tickets.ensures.ok ∙ ap (append_known (g.W.Sink.taken c.args.sink.now)) (sym a.text);
+      network = c.in_ok-tickets.ensures.taken ∙ ap (λ (u : State). drained u []) (sym a.after);
+    }

@@ -9,7 +9,7 @@ use Rattle.tx_text.proofs.CallCounts.{went_none, went_on, went_past, went_same, 
 use Rattle.tx_script.specs.declared.run_cause.RunCause.{RunCause}
 use Rattle.tx_script.specs.declared.run_cause.RunCause.TheVariants.{Script}
 use Rattle.tx_script.specs.Events.{event_of}
-use Rattle.tx_script.proofs.Running.{start_runs, header_runs, event_runs, few_answered, few_refused, few_calls, few_made, none_left, word_answers, stop_answers, halted_answers, whole_answers}
+use Rattle.tx_script.proofs.Running.{start_runs, header_runs, line_runs, few_answered, few_refused, few_calls, few_told, none_left, line_answers, stop_answers, whole_answers}
 use Rattle.tx_script.proofs.runner.run_lines.Goals as goal
 
 pub lines-init : goal.lines-init
@@ -37,8 +37,8 @@ lines-preserved-in-Ok-Header g c =
       went = went_on g.R.Source.called _ _ _ _ _ _ v.went (went_past w (λ e. cc));
     }
 
-pub answer-requires : goal.answer-requires
-answer-requires g c =
+pub answer_line-requires : goal.answer_line-requires
+answer_line-requires g c =
     let v = c.lines.invariant in
     record { plan = v.plan; taken = none_left _ _ _ _ _ _ _ _ _ _ v.runs; few = few_calls _ _ _ _ _ _ _ _ _ _ v.runs c.requires.fresh }
 
@@ -48,7 +48,7 @@ count-requires g c =
     record {
       answered = few_answered _ _ _ _ _ _ _ _ _ _ v.runs;
       refused = few_refused _ _ _ _ _ _ _ _ _ _ v.runs;
-      tickets = few_made _ _ _ _ _ _ _ _ _ _ v.runs c.requires.fresh c.in-Ok.event _ c.in-Ok-answer.ensures.count;
+      tickets = few_told _ _ _ _ _ _ _ _ _ _ v.runs c.requires.fresh _ _ _ _ _ c.in-Ok.ensures.answers;
     }
 
 pub lines-preserved : goal.lines-preserved
@@ -60,12 +60,11 @@ lines-preserved g c =
     let q = rw c.in-Ok-Line.field-0-is at c.in-Ok-Line.ensures.gives in
     let w = rw c.in-Ok-Line.field-0-is at c.in-Ok-Line.ensures.went in
     let f = rw c.in-Ok-Line.field-0-is at c.in-Ok-Line.ensures.falls in
-    let said : event_of c.args.plan.now ws ≡ Ok c.in-Ok.event = ap (event_of c.args.plan.now) (sym c.words.ensures) ∙ sym c.in-Ok.ensures in
-    let a = c.in-Ok-answer.ensures in
+    let a = c.in-Ok.ensures in
     record {
       plan = a.plan;
-      runs = event_runs _ _ _ _ _ _ _ _ _ _ v.runs _ _ _ n ws (to_come frame) c.in-Ok.event c.count.new.self _ _ q said a.count a.wrote a.network c.count.ensures (went_past f (λ e. cc));
-      mark = a.unmarked ∙ v.mark;
+      runs = line_runs _ _ _ _ _ _ _ _ _ _ v.runs _ _ _ n ws (to_come frame) c.count.new.self _ _ q _ (ap (event_of c.args.plan.now) (sym c.words.ensures)) (rw c.number.ensures at a.answers) c.count.ensures (went_past f (λ e. cc));
+      mark = a.mark ∙ v.mark;
       sound = c.in-Ok-Line.ensures.fault;
       went = went_on g.R.Source.called _ _ _ _ _ _ v.went (went_past w (λ e. cc));
     }
@@ -76,24 +75,12 @@ finish-requires g c = few_answered _ _ _ _ _ _ _ _ _ _ c.lines.invariant.runs
 pub stopped-requires : goal.stopped-requires
 stopped-requires g c = few_answered _ _ _ _ _ _ _ _ _ _ c.lines.invariant.runs
 
-pub returns-in-Err-answer-clause-answers : goal.returns-in-Err-answer-clause-answers
-returns-in-Err-answer-clause-answers g c =
+pub returns-in-Err-answer_line-clause-answers : goal.returns-in-Err-answer_line-clause-answers
+returns-in-Err-answer_line-clause-answers g c =
     let frame = c.advance.new.self in
     let ws = words_of_line frame.reader.feed.line in
     let q = rw c.in-Ok-Line.field-0-is at c.in-Ok-Line.ensures.gives in
-    let said : event_of c.args.plan.now ws ≡ Ok c.in-Ok.event = ap (event_of c.args.plan.now) (sym c.words.ensures) ∙ sym c.in-Ok.ensures in
-    halted_answers _ _ _ _ _ _ _ _ _ _ c.lines.invariant.runs _ _ _ _ _ c.stopped.result (number_of_line frame.reader.feed.line) ws (to_come frame) c.in-Ok.event c.in-Err-answer.cause q said c.in-Err-answer.ensures.halted c.stopped.ensures
-
-pub returns-in-Err-event_of-clause-answers : goal.returns-in-Err-event_of-clause-answers
-returns-in-Err-event_of-clause-answers g c =
-    let frame = c.advance.new.self in
-    let n = number_of_line frame.reader.feed.line in
-    let ws = words_of_line frame.reader.feed.line in
-    let k = c.in-Err-event_of.word in
-    let q = rw c.in-Ok-Line.field-0-is at c.in-Ok-Line.ensures.gives in
-    let said : event_of c.args.plan.now ws ≡ Err k = ap (event_of c.args.plan.now) (sym c.words.ensures) ∙ sym c.in-Err-event_of.ensures in
-    let cause : c.script_fault-cause.result ≡ Script (record { line = n; kind = Word k }) = c.script_fault-cause.ensures ∙ ap (λ (m : ℕ). Script (record { line = m; kind = Word k })) c.number.ensures in
-    word_answers _ _ _ _ _ _ _ _ _ _ c.lines.invariant.runs _ _ _ c.stopped-in-Err-event_of.result n ws (to_come frame) k q said (c.stopped-in-Err-event_of.ensures ∙ ap (λ (z : RunCause). record { event = c.lines.tally.answered + 1; cause = z }) cause)
+    line_answers _ _ _ _ _ _ _ _ _ _ c.lines.invariant.runs _ _ _ _ _ c.stopped.result (number_of_line frame.reader.feed.line) ws (to_come frame) c.in-Err-answer_line.cause q _ (ap (event_of c.args.plan.now) (sym c.words.ensures)) (rw c.number.ensures at c.in-Err-answer_line.ensures.answers) c.stopped.ensures
 
 pub returns-in-Ok-End-clause-answers : goal.returns-in-Ok-End-clause-answers
 returns-in-Ok-End-clause-answers g c =
@@ -109,11 +96,8 @@ returns-in-Err-clause-answers g c =
     let q = stopped_with _ _ _ _ _ (is_read x.fault) _ (broken_on called failed source_calls c.lines.frame.reader.left _ _ _ c.lines.invariant.went) c.in-Err.ensures.gives in
     stop_answers _ _ _ _ _ _ _ _ _ _ c.lines.invariant.runs _ _ _ c.stopped-in-Err.result x.line x.fault (come_said c.lines.frame) q (c.stopped-in-Err.ensures ∙ ap (λ (z : RunCause). record { event = c.lines.tally.answered + 1; cause = z }) c.frame_cause.ensures)
 
-pub returns-in-Err-answer-clause-calls : goal.returns-in-Err-answer-clause-calls
-returns-in-Err-answer-clause-calls g c = calls_on g.R.Source.called source_calls c.lines.frame.reader.left _ _ _ c.lines.invariant.went c.advance.ensures.calls
-
-pub returns-in-Err-event_of-clause-calls : goal.returns-in-Err-event_of-clause-calls
-returns-in-Err-event_of-clause-calls g c = calls_on g.R.Source.called source_calls c.lines.frame.reader.left _ _ _ c.lines.invariant.went c.advance.ensures.calls
+pub returns-in-Err-answer_line-clause-calls : goal.returns-in-Err-answer_line-clause-calls
+returns-in-Err-answer_line-clause-calls g c = calls_on g.R.Source.called source_calls c.lines.frame.reader.left _ _ _ c.lines.invariant.went c.advance.ensures.calls
 
 pub returns-in-Ok-End-clause-calls : goal.returns-in-Ok-End-clause-calls
 returns-in-Ok-End-clause-calls g c = calls_on g.R.Source.called source_calls c.lines.frame.reader.left _ _ _ c.lines.invariant.went c.advance.ensures.calls
