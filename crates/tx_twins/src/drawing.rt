@@ -68,7 +68,8 @@ fn figures(plan: &Plan, line: &Line, chance: &mut Chance) -> Option<Figures> {
 /// The line of a subscriber who calls: mostly one that takes part in no call, but also one that does, or one that is out of order.
 fn calling_line(plan: &Plan, picture: &Picture, chance: &mut Chance) -> Option<Line> {
     if chance.one_in(40) {
-        return picture.busy_line(chance);
+        let call = chance.pick(picture.calls.as_slice())?;
+        return Some(call.line);
     }
     if chance.one_in(40) {
         return chance.pick(picture.faulty.as_slice());

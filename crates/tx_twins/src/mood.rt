@@ -24,91 +24,98 @@ pub enum Kind {
 }
 
 /// Calls go on as they come.
-fn calm_kind(chance: &mut Chance) -> Kind {
-    match chance.below(124) {
-        0..=19 => Kind::Key,
-        20..=59 => Kind::Route,
-        60..=84 => Kind::Confirm,
-        85..=94 => Kind::Clear,
-        95..=108 => Kind::Released,
-        109..=110 => Kind::Restore,
-        111..=112 => Kind::Unblock,
-        113..=114 => Kind::CircuitIn,
-        115 => Kind::LineFault,
-        116..=117 => Kind::LineMend,
-        118 => Kind::LineAway,
-        119..=120 => Kind::LineBack,
-        _ => Kind::Stray,
-    }
-}
+static CALM: [(usize, Kind); 13] = [
+    (20, Kind::Key),
+    (60, Kind::Route),
+    (85, Kind::Confirm),
+    (95, Kind::Clear),
+    (109, Kind::Released),
+    (111, Kind::Restore),
+    (113, Kind::Unblock),
+    (115, Kind::CircuitIn),
+    (116, Kind::LineFault),
+    (118, Kind::LineMend),
+    (119, Kind::LineAway),
+    (121, Kind::LineBack),
+    (124, Kind::Stray),
+];
 
 /// Confirmations are late, so that calls meet head on.
-fn slow_kind(chance: &mut Chance) -> Kind {
-    match chance.below(149) {
-        0..=23 => Kind::Key,
-        24..=83 => Kind::Route,
-        84..=92 => Kind::Confirm,
-        93..=96 => Kind::Clear,
-        97..=126 => Kind::Released,
-        127..=130 => Kind::Restore,
-        131..=134 => Kind::Unblock,
-        135 => Kind::CircuitOut,
-        136..=139 => Kind::CircuitIn,
-        140 => Kind::LineFault,
-        141..=142 => Kind::LineMend,
-        143 => Kind::LineAway,
-        144..=145 => Kind::LineBack,
-        _ => Kind::Stray,
-    }
-}
+static SLOW: [(usize, Kind); 14] = [
+    (24, Kind::Key),
+    (84, Kind::Route),
+    (93, Kind::Confirm),
+    (97, Kind::Clear),
+    (127, Kind::Released),
+    (131, Kind::Restore),
+    (135, Kind::Unblock),
+    (136, Kind::CircuitOut),
+    (140, Kind::CircuitIn),
+    (141, Kind::LineFault),
+    (143, Kind::LineMend),
+    (144, Kind::LineAway),
+    (146, Kind::LineBack),
+    (149, Kind::Stray),
+];
 
 /// Groups and circuits go in and out of use.
-fn rough_kind(chance: &mut Chance) -> Kind {
-    match chance.below(132) {
-        0..=19 => Kind::Key,
-        20..=55 => Kind::Route,
-        56..=71 => Kind::Confirm,
-        72..=77 => Kind::Clear,
-        78..=89 => Kind::Released,
-        90..=93 => Kind::Fail,
-        94..=98 => Kind::Restore,
-        99..=102 => Kind::Block,
-        103..=107 => Kind::Unblock,
-        108..=113 => Kind::CircuitOut,
-        114..=119 => Kind::CircuitIn,
-        120..=121 => Kind::LineFault,
-        122..=123 => Kind::LineMend,
-        124..=125 => Kind::LineAway,
-        126..=127 => Kind::LineBack,
-        _ => Kind::Stray,
-    }
-}
+static ROUGH: [(usize, Kind); 16] = [
+    (20, Kind::Key),
+    (56, Kind::Route),
+    (72, Kind::Confirm),
+    (78, Kind::Clear),
+    (90, Kind::Released),
+    (94, Kind::Fail),
+    (99, Kind::Restore),
+    (103, Kind::Block),
+    (108, Kind::Unblock),
+    (114, Kind::CircuitOut),
+    (120, Kind::CircuitIn),
+    (122, Kind::LineFault),
+    (124, Kind::LineMend),
+    (126, Kind::LineAway),
+    (128, Kind::LineBack),
+    (132, Kind::Stray),
+];
 
 /// Many lines are out of order or away.
-fn empty_kind(chance: &mut Chance) -> Kind {
-    match chance.below(111) {
-        0..=15 => Kind::Key,
-        16..=39 => Kind::Route,
-        40..=47 => Kind::Confirm,
-        48..=53 => Kind::Clear,
-        54..=59 => Kind::Released,
-        60..=61 => Kind::Restore,
-        62..=63 => Kind::Unblock,
-        64..=65 => Kind::CircuitIn,
-        66..=77 => Kind::LineFault,
-        78..=86 => Kind::LineMend,
-        87..=98 => Kind::LineAway,
-        99..=107 => Kind::LineBack,
-        _ => Kind::Stray,
+static EMPTY: [(usize, Kind); 13] = [
+    (16, Kind::Key),
+    (40, Kind::Route),
+    (48, Kind::Confirm),
+    (54, Kind::Clear),
+    (60, Kind::Released),
+    (62, Kind::Restore),
+    (64, Kind::Unblock),
+    (66, Kind::CircuitIn),
+    (78, Kind::LineFault),
+    (87, Kind::LineMend),
+    (99, Kind::LineAway),
+    (108, Kind::LineBack),
+    (111, Kind::Stray),
+];
+
+/// A kind of a mood, by a number below the last of its table: the first kind whose number is greater.
+fn drawn(mood: &[(usize, Kind)], chance: &mut Chance) -> Kind {
+    let numbers = match mood.last() {
+        Some((numbers, _)) => *numbers,
+        None => 0,
+    };
+    let number = chance.below(numbers);
+    for (end, kind) in mood {
+        if number < *end {
+            return *kind;
+        }
     }
+    Kind::Stray
 }
 
 /// The kind of the next event in a mood. There are four moods, which come again and again.
 pub fn next_kind(chance: &mut Chance, mood: u64) -> Kind {
     match mood % 4 {
-        0 => calm_kind(chance),
-        1 => slow_kind(chance),
-        2 => rough_kind(chance),
-        _ => empty_kind(chance),
+        0 => drawn(&CALM, chance),
+        1 => drawn(&SLOW, chance),
+        2 => drawn(&ROUGH, chance),
+        _ => drawn(&EMPTY, chance),
     }
 }

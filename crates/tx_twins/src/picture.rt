@@ -1,5 +1,4 @@
 // What the replies and the tickets tell of a network.
-use crate::chance::Chance;
 use std::alloc::{Allocator, Global};
 use tx_plan::{Circuit, GroupId, Line};
 use tx_state::{Event, Phase, Reply, Ticket};
@@ -56,12 +55,6 @@ impl Picture {
             }
         }
         false
-    }
-
-    /// The line of a subscriber who calls already.
-    pub fn busy_line(&self, chance: &mut Chance) -> Option<Line> {
-        let call = chance.pick(self.calls.as_slice())?;
-        Some(call.line)
     }
 
     /// The place of the call of this number, or one behind all.

@@ -150,7 +150,7 @@ fn play_events<M: Network, N: Network>(
             Ok(()) => {}
             Err(Halt::NoMemory) => return Err(Stop::NoMemory),
             Err(Halt::Differs(difference)) => {
-                tally.note_difference(Differs {
+                tally.differs = Some(Differs {
                     script,
                     place,
                     event,

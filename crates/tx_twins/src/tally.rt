@@ -15,7 +15,7 @@ pub struct Tally {
     causes: Causes,
     wants: Wants,
     /// How the networks differ, where they do.
-    differs: Option<Differs>,
+    pub differs: Option<Differs>,
 }
 
 /// Counts of the scripts that are played with all memory there, and of those that are played with memory refused.
@@ -119,10 +119,6 @@ impl Tally {
         self.causes.note(cause);
     }
 
-    pub fn note_difference(&mut self, differs: Differs) {
-        self.differs = Some(differs);
-    }
-
     /// Takes in that an event met a request for memory that was refused.
     pub fn note_want(&mut self, event: &Event) {
         self.wants.note(event);
@@ -140,30 +136,20 @@ impl Replies {
                 a_stands,
                 b_stands,
                 ..
-            } => self.note_head_on(*a_stands, *b_stands),
+            } => match (*a_stands, *b_stands) {
+                (true, true) => add_one(&mut self.head_on_both_stand),
+                (false, false) => add_one(&mut self.head_on_none_stands),
+                _ => add_one(&mut self.head_on_one_stands),
+            },
             Reply::Cleared => add_one(&mut self.cleared),
             Reply::Done => add_one(&mut self.done),
-            Reply::Lost(lost) => self.note_lost(*lost),
+            Reply::Lost(lost) => match *lost {
+                0 => add_one(&mut self.lost_none),
+                1 => add_one(&mut self.lost_one),
+                _ => add_one(&mut self.lost_several),
+            },
             Reply::Answered(_) => {}
             Reply::Refused(_) => {}
-        }
-    }
-
-    fn note_head_on(&mut self, a_stands: bool, b_stands: bool) {
-        if a_stands && b_stands {
-            add_one(&mut self.head_on_both_stand);
-        } else if a_stands || b_stands {
-            add_one(&mut self.head_on_one_stands);
-        } else {
-            add_one(&mut self.head_on_none_stands);
-        }
-    }
-
-    fn note_lost(&mut self, lost: u64) {
-        match lost {
-            0 => add_one(&mut self.lost_none),
-            1 => add_one(&mut self.lost_one),
-            _ => add_one(&mut self.lost_several),
         }
     }
 }
@@ -223,25 +209,16 @@ impl Wants {
     }
 }
 
-/// A count under its name.
-#[derive(Clone, Copy)]
-struct Told<'a> {
-    name: &'a [u8],
-    count: u64,
-}
-
-impl<'a> Told<'a> {
-    fn of(name: &'a [u8], count: u64) -> Told<'a> {
-        Told { name, count }
-    }
-}
-
-/// Writes counts under a name, each in a line.
-fn write_counts<W: Sink>(name: &[u8], counts: &[Told<'_>], out: &mut W) -> Result<(), WriteFault> {
+/// Writes counts under a name, each in a line behind its own name.
+fn write_counts<W: Sink>(
+    name: &[u8],
+    counts: &[(&'static str, u64)],
+    out: &mut W,
+) -> Result<(), WriteFault> {
     write_parts(&[name, b" {\n"], out)?;
-    for told in counts {
-        write_parts(&[b"    ", told.name], out)?;
-        write_count(b": ", told.count, b",\n", out)?;
+    for (name, count) in counts {
+        write_parts(&[b"    ", name.as_bytes()], out)?;
+        write_count(b": ", *count, b",\n", out)?;
     }
     write_bytes(b"}\n", out)
 }
@@ -251,18 +228,18 @@ impl Replies {
         write_counts(
             b"Replies",
             &[
-                Told::of(b"keyed", self.keyed),
-                Told::of(b"seized", self.seized),
-                Told::of(b"at", self.at),
-                Told::of(b"connected", self.connected),
-                Told::of(b"head_on_both_stand", self.head_on_both_stand),
-                Told::of(b"head_on_one_stands", self.head_on_one_stands),
-                Told::of(b"head_on_none_stands", self.head_on_none_stands),
-                Told::of(b"cleared", self.cleared),
-                Told::of(b"done", self.done),
-                Told::of(b"lost_none", self.lost_none),
-                Told::of(b"lost_one", self.lost_one),
-                Told::of(b"lost_several", self.lost_several),
+                ("keyed", self.keyed),
+                ("seized", self.seized),
+                ("at", self.at),
+                ("connected", self.connected),
+                ("head_on_both_stand", self.head_on_both_stand),
+                ("head_on_one_stands", self.head_on_one_stands),
+                ("head_on_none_stands", self.head_on_none_stands),
+                ("cleared", self.cleared),
+                ("done", self.done),
+                ("lost_none", self.lost_none),
+                ("lost_one", self.lost_one),
+                ("lost_several", self.lost_several),
             ],
             out,
         )
@@ -274,12 +251,12 @@ impl Services {
         write_counts(
             b"Services",
             &[
-                Told::of(b"occ", self.occ),
-                Told::of(b"nc", self.nc),
-                Told::of(b"np", self.np),
-                Told::of(b"der", self.der),
-                Told::of(b"abs", self.abs),
-                Told::of(b"na", self.na),
+                ("occ", self.occ),
+                ("nc", self.nc),
+                ("np", self.np),
+                ("der", self.der),
+                ("abs", self.abs),
+                ("na", self.na),
             ],
             out,
         )
@@ -291,18 +268,18 @@ impl Refusals {
         write_counts(
             b"Refusals",
             &[
-                Told::of(b"unknown_call", self.unknown_call),
-                Told::of(b"not_standing", self.not_standing),
-                Told::of(b"not_calling", self.not_calling),
-                Told::of(b"not_connected", self.not_connected),
-                Told::of(b"unknown_line", self.unknown_line),
-                Told::of(b"line_engaged", self.line_engaged),
-                Told::of(b"line_out_of_order", self.line_out_of_order),
-                Told::of(b"already_so", self.already_so),
-                Told::of(b"not_so", self.not_so),
-                Told::of(b"not_releasing", self.not_releasing),
-                Told::of(b"unknown_circuit", self.unknown_circuit),
-                Told::of(b"exhausted", self.exhausted),
+                ("unknown_call", self.unknown_call),
+                ("not_standing", self.not_standing),
+                ("not_calling", self.not_calling),
+                ("not_connected", self.not_connected),
+                ("unknown_line", self.unknown_line),
+                ("line_engaged", self.line_engaged),
+                ("line_out_of_order", self.line_out_of_order),
+                ("already_so", self.already_so),
+                ("not_so", self.not_so),
+                ("not_releasing", self.not_releasing),
+                ("unknown_circuit", self.unknown_circuit),
+                ("exhausted", self.exhausted),
             ],
             out,
         )
@@ -314,10 +291,10 @@ impl Causes {
         write_counts(
             b"Causes",
             &[
-                Told::of(b"answered", self.answered),
-                Told::of(b"cleared_by_caller", self.cleared_by_caller),
-                Told::of(b"cleared_by_called", self.cleared_by_called),
-                Told::of(b"lost", self.lost),
+                ("answered", self.answered),
+                ("cleared_by_caller", self.cleared_by_caller),
+                ("cleared_by_called", self.cleared_by_called),
+                ("lost", self.lost),
             ],
             out,
         )
