@@ -72,23 +72,14 @@ pub fn findings_differ(
     None
 }
 
-/// How the ranks for a code differ from the heights.
-fn code_differs(plan: &Plan, survey: &Survey, cert: &Cert) -> Option<Difference> {
-    for (place, height) in survey.heights.iter().enumerate() {
-        let exchange = plan.exchange_at(place)?;
-        if cert.rank(survey.code, exchange).map(usize::from) != *height {
-            return Some(Difference::RankAt(survey.code, exchange));
-        }
-    }
-    None
-}
-
-/// How the ranks differ from the heights.
+/// How the ranks for each code differ from the heights.
 pub fn ranks_differ(plan: &Plan, surveys: &[Survey], cert: &Cert) -> Option<Difference> {
     for survey in surveys {
-        let difference = code_differs(plan, survey, cert);
-        if difference.is_some() {
-            return difference;
+        for (place, height) in survey.heights.iter().enumerate() {
+            let exchange = plan.exchange_at(place)?;
+            if cert.rank(survey.code, exchange).map(usize::from) != *height {
+                return Some(Difference::RankAt(survey.code, exchange));
+            }
         }
     }
     None

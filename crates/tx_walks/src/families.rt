@@ -121,17 +121,6 @@ struct Passages {
 
 const NO_PASSAGES: Passages = Passages { has: 0, at: 0 };
 
-/// Adds a route by the list of a number.
-fn put_route(
-    choice: Choice<'_>,
-    groups: &Words<'_>,
-    number: u64,
-    text: &mut Vec<u8>,
-) -> Result<(), NoMemory> {
-    put_words(&[b"\nROUTE".as_slice(), choice.first, choice.second], text)?;
-    put_list(groups, number, b"", b"", text)
-}
-
 /// Adds no line, or the route that a line `ROUTES` says.
 fn put_routes(line: &[u8], number: u64, text: &mut Vec<u8>) -> Result<(), NoMemory> {
     if number == 0 {
@@ -139,7 +128,8 @@ fn put_routes(line: &[u8], number: u64, text: &mut Vec<u8>) -> Result<(), NoMemo
     }
     let mut groups = words(line);
     let choice = choice_of(&mut groups, true);
-    put_route(choice, &groups, number, text)
+    put_words(&[b"\nROUTE".as_slice(), choice.first, choice.second], text)?;
+    put_list(&groups, number, b"", b"", text)
 }
 
 /// Adds a line for each code of the list that a line `CODES` says.

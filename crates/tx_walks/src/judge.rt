@@ -239,7 +239,7 @@ fn judge_number(
 
 /// Judges all plans that the lines of a family give.
 fn judge_family(alloc: Global, lines: &[u8], room: &mut Room) -> Result<Tally, Stop> {
-    let mut tally = Tally::new();
+    let mut tally = Tally::default();
     for number in 0..count_plans(lines) {
         judge_number(alloc, lines, number, room, &mut tally)?;
     }

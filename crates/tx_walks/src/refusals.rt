@@ -24,15 +24,6 @@ enum Tried {
     Wrong,
 }
 
-/// Judges the events that were made.
-fn judged(events: &[Event], wanted: &[Event]) -> Tried {
-    if events == wanted {
-        Tried::Right
-    } else {
-        Tried::Wrong
-    }
-}
-
 /// Asks for the events of the first finding that has some.
 fn try_findings<A: Allocator + Copy>(
     alloc: A,
@@ -46,9 +37,9 @@ fn try_findings<A: Allocator + Copy>(
 {
     match first_counter(alloc, plan, findings, limit, spare) {
         Ok(Some(events)) => {
-            let tried = judged(events.as_slice(), wanted);
+            let is_right = events.as_slice() == wanted;
             drop(events);
-            tried
+            if is_right { Tried::Right } else { Tried::Wrong }
         }
         Ok(None) => Tried::Wrong,
         Err(_) => Tried::Told,

@@ -16,7 +16,7 @@ use tx_rank::{Finding, Walk};
 use tx_text::NoMemory;
 
 /// What was judged.
-#[derive(Clone, Copy)]
+#[derive(Clone, Copy, Default)]
 pub struct ScriptTally {
     /// The loops and walks that were judged by their events.
     pub findings: u64,
@@ -25,13 +25,6 @@ pub struct ScriptTally {
 }
 
 impl ScriptTally {
-    pub fn new() -> ScriptTally {
-        ScriptTally {
-            findings: 0,
-            rankings: 0,
-        }
-    }
-
     /// One finding more.
     fn add(&mut self, finding: &Finding) {
         match finding {

@@ -33,12 +33,6 @@ fn note_lesser(counts: &mut [Option<usize>], exchange: ExchangeId, count: usize)
     }
 }
 
-fn mark(marks: &mut [bool], place: usize) {
-    if let Some(known) = marks.get_mut(place) {
-        *known = true;
-    }
-}
-
 /// Takes in how far a walk that ends at the home goes from each exchange that it passes.
 fn note_heights(heights: &mut [Option<usize>], trail: &Trail<'_>) {
     let mut left = trail.steps.len();
@@ -75,7 +69,9 @@ impl Survey {
         if trail.end() == self.home {
             note_heights(&mut self.heights, trail);
         } else if trail.is_simple() {
-            mark(&mut self.away, steps);
+            if let Some(known) = self.away.get_mut(steps) {
+                *known = true;
+            }
         }
     }
 

@@ -6,7 +6,7 @@ use tx_cases::write_count;
 use tx_text::{Sink, WriteFault, write_bytes};
 
 /// Counts of plans and of answers.
-#[derive(Clone, Copy)]
+#[derive(Clone, Copy, Default)]
 pub struct Tally {
     plans: u64,
     rankings: u64,
@@ -29,22 +29,6 @@ fn add(count: &mut u64, more: usize) {
 }
 
 impl Tally {
-    pub fn new() -> Tally {
-        Tally {
-            plans: 0,
-            rankings: 0,
-            found: 0,
-            ranks: 0,
-            failed: 0,
-            ambiguous: 0,
-            loops: 0,
-            shorts: 0,
-            steps: 0,
-            longs: 0,
-            scripts: ScriptTally::new(),
-        }
-    }
-
     /// A plan.
     pub fn add_plan(&mut self) {
         add(&mut self.plans, 1);
@@ -84,22 +68,10 @@ impl Tally {
     }
 }
 
-/// A text, and the count behind it.
-#[derive(Clone, Copy)]
-struct Told<'a> {
-    before: &'a [u8],
-    count: u64,
-}
-
-impl<'a> Told<'a> {
-    fn of(before: &'a [u8], count: u64) -> Told<'a> {
-        Told { before, count }
-    }
-}
-
-fn write_told<W: Sink>(list: &[Told<'_>], out: &mut W) -> Result<(), WriteFault> {
-    for told in list {
-        write_count(told.before, told.count, b"", out)?;
+/// Writes texts, each with the count behind it.
+fn write_told<W: Sink>(list: &[(&'static str, u64)], out: &mut W) -> Result<(), WriteFault> {
+    for (before, count) in list {
+        write_count(before.as_bytes(), *count, b"", out)?;
     }
     Ok(())
 }
@@ -109,17 +81,17 @@ pub fn write_tally<W: Sink>(name: &[u8], tally: &Tally, out: &mut W) -> Result<(
     write_bytes(name, out)?;
     write_told(
         &[
-            Told::of(b": ", tally.plans),
-            Told::of(b" plans, ", tally.rankings),
-            Told::of(b" rankings\n- ", tally.found),
-            Told::of(b" found, with ranks of ", tally.ranks),
-            Told::of(b" in all\n- ", tally.failed),
-            Told::of(b" fail, by ", tally.ambiguous),
-            Told::of(b" ambiguous pairs, ", tally.loops),
-            Told::of(b" loops, ", tally.shorts),
-            Told::of(b" short walks of ", tally.steps),
-            Told::of(b" steps in all, ", tally.longs),
-            Told::of(b" long walks\n- ", tally.scripts.findings),
+            (": ", tally.plans),
+            (" plans, ", tally.rankings),
+            (" rankings\n- ", tally.found),
+            (" found, with ranks of ", tally.ranks),
+            (" in all\n- ", tally.failed),
+            (" fail, by ", tally.ambiguous),
+            (" ambiguous pairs, ", tally.loops),
+            (" loops, ", tally.shorts),
+            (" short walks of ", tally.steps),
+            (" steps in all, ", tally.longs),
+            (" long walks\n- ", tally.scripts.findings),
         ],
         out,
     )?;

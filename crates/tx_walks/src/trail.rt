@@ -26,14 +26,6 @@ impl<'a> Trail<'a> {
         }
     }
 
-    /// Its first so many steps.
-    fn front(&self, length: usize) -> Trail<'a> {
-        Trail {
-            start: self.start,
-            steps: self.steps.split_at(length.min(self.steps.len())).0,
-        }
-    }
-
     /// Whether it passes an exchange.
     fn passes(&self, exchange: ExchangeId) -> bool {
         for (_, to) in self.steps {
@@ -47,7 +39,11 @@ impl<'a> Trail<'a> {
     /// Whether nothing repeats.
     pub fn is_simple(&self) -> bool {
         for (place, (_, to)) in self.steps.iter().enumerate() {
-            if self.front(place).passes(*to) {
+            let before = Trail {
+                start: self.start,
+                steps: self.steps.split_at(place.min(self.steps.len())).0,
+            };
+            if before.passes(*to) {
                 return false;
             }
         }
@@ -71,31 +67,19 @@ impl<'a> Trail<'a> {
 
 /// What is wrong with a walk for a code.
 impl<'a> Trail<'a> {
-    /// Whether the last exchange is not the home.
-    fn is_away(&self, plan: &Plan, code: CodeId) -> bool {
-        self.end() != plan.home(code)
-    }
-
     /// Whether nothing repeats, and the last exchange is not the home and lists fewer than `spare` + 1 groups.
     pub fn is_short(&self, plan: &Plan, code: CodeId, spare: u8) -> bool {
         self.is_simple()
-            && self.is_away(plan, code)
+            && self.end() != plan.home(code)
             && plan.list(self.end(), code).len() <= usize::from(spare)
     }
 
     /// Whether nothing repeats, there are `limit` + 1 steps, and the last exchange is not the home.
     pub fn is_long(&self, plan: &Plan, code: CodeId, limit: u8) -> bool {
         self.steps.len() == usize::from(limit).saturating_add(1)
-            && self.is_away(plan, code)
+            && self.end() != plan.home(code)
             && self.is_simple()
     }
-}
-
-/// Whether one step leads from an exchange to another for the code.
-fn is_step(plan: &Plan, code: CodeId, from: ExchangeId, group: GroupId, to: ExchangeId) -> bool {
-    from != plan.home(code)
-        && plan.list(from, code).contains(&group)
-        && plan.other_end(group, from) == Some(to)
 }
 
 /// Whether it starts where calls for the code may start, and goes by the lists for the code.
@@ -105,7 +89,10 @@ pub fn is_walk(plan: &Plan, code: CodeId, trail: &Trail<'_>) -> bool {
     }
     let mut at = trail.start;
     for (group, to) in trail.steps {
-        if !is_step(plan, code, at, *group, *to) {
+        if at == plan.home(code)
+            || !plan.list(at, code).contains(group)
+            || plan.other_end(*group, at) != Some(*to)
+        {
             return false;
         }
         at = *to;

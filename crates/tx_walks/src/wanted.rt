@@ -22,19 +22,13 @@ fn begins(plan: &Plan, shorter: CodeId, longer: CodeId) -> bool {
     shorter != longer && figures.starts_with(plan.code_figures(shorter))
 }
 
-/// Whether a pair comes before another: by the figures of its first code, and then by those of its second.
-fn is_before(plan: &Plan, a: CodeId, b: CodeId, c: CodeId, d: CodeId) -> bool {
-    let first = (plan.code_figures(a), plan.code_figures(b));
-    let second = (plan.code_figures(c), plan.code_figures(d));
-    first < second
-}
-
-/// Whether a code that begins another one makes a pair before this one.
+/// Whether a code that begins another one makes a pair before this one: by the figures of its first code, and then by those of its second.
 fn has_before(plan: &Plan, shorter: CodeId, longer: CodeId) -> bool {
+    let pair = (plan.code_figures(shorter), plan.code_figures(longer));
     for i in 0..plan.codes() {
         for j in 0..plan.codes() {
             if let (Some(a), Some(b)) = (plan.code_at(i), plan.code_at(j)) {
-                if begins(plan, a, b) && is_before(plan, a, b, shorter, longer) {
+                if begins(plan, a, b) && (plan.code_figures(a), plan.code_figures(b)) < pair {
                     return true;
                 }
             }
