@@ -1,42 +1,39 @@
 // Numbers in decimal figures.
-ghost use Rattle.std.specs.Prelude.{◌≡◌, true};
+ghost use Rattle.std.specs.Prelude.{◌≡◌, Some, None, if◌then◌else◌};
 ghost use Rattle.std.specs.Str.Parse.{digits_value};
-ghost use Rattle.tx_text.specs.Words.{are_figures, is_numeral, number_of};
+ghost use Rattle.tx_text.specs.Words.{are_figures, number_of};
 
-use crate::figures::are_figures;
+use crate::figures::is_figure;
 
 /// The number that the text is the decimal form of, without a sign or leading zeros, if it is at most `max`.
 #[inline(always)]
 pub fn number(text: &[u8], max: u32) -> Option<u32>
     ensures { result ≡ number_of max text.now }
 {
-    if !is_numeral(text) {
+    let value = value_of(text)?;
+    if text.len() > 1 && text[0] == b'0' {
         return None;
     }
-    let value = value_of(text);
     if value > max as u64 {
         return None;
     }
     Some(value as u32)
 }
 
+/// The value of one to ten figures, made as they are looked at.
 #[inline(always)]
-fn is_numeral(text: &[u8]) -> bool
-    ensures gives { result ≡ is_numeral text.now }
-    ensures form { result ≡ true → are_figures 1 10 text.now ≡ true }
+fn value_of(text: &[u8]) -> Option<u64>
+    ensures { result ≡ (if are_figures 1 10 text.now then Some (digits_value 10 text.now) else None) }
 {
-    are_figures(text, 1, 10) && (text.len() == 1 || text[0] != b'0')
-}
-
-/// The value of at most ten figures.
-#[inline(always)]
-fn value_of(text: &[u8]) -> u64
-    requires { are_figures 1 10 text.now ≡ true }
-    ensures { result ≡ digits_value 10 text.now }
-{
+    if text.is_empty() || text.len() > 10 {
+        return None;
+    }
     let mut value: u64 = 0;
     for byte in text {
+        if !is_figure(*byte) {
+            return None;
+        }
         value = value * 10 + (*byte - b'0') as u64;
     }
-    value
+    Some(value)
 }
