@@ -34,7 +34,7 @@ marked : (v : List ℕ) → map (top 7) (map lane v) ≡ map (λ b. not (is_word
 marked [] = refl
 marked (b ∷ bs) = ap₂ (λ x xs. x ∷ xs) (one_of_three (eqb b 32) (eqb b 9) (eqb b 35)) (marked bs)
 
-pub mask_of : (v z : List ℕ) → length v ≡ 16 → z ≡ map lane v → mask_l (map (top 7) z) % 2 ^ 64 ≡ mask_l (map (λ b. not (is_word_byte b)) v)
+pub mask_of : (v z : List ℕ) → length v ≤ 16 → z ≡ map lane v → mask_l (map (top 7) z) % 2 ^ 64 ≡ mask_l (map (λ b. not (is_word_byte b)) v)
 mask_of v z long e =
     ap (λ l. mask_l l % 2 ^ 64) (ap (map (top 7)) e ∙ marked v)
     ∙ mask_l-mod (map (λ b. not (is_word_byte b)) v) 64 (omega (arith, length-map v (λ b. not (is_word_byte b)), long))
@@ -60,11 +60,11 @@ none_ends : (xs : List ℕ) → prefix_len is_word_byte xs ≡ length xs → mas
 none_ends [] e = refl
 none_ends (x ∷ xs) e = no_end (is_word_byte x) _ (length xs) _ (prefix_len-le-length is_word_byte xs) (omega arith) (none_ends xs)
 
--- where a byte of the first sixteen is no byte of a word, the first of these ends the word
-pub ends_at : (text : List ℕ) → 16 ≤ length text → 0 < mask_l (map (λ b. not (is_word_byte b)) (chunk 0 16 text))
-    → prefix_len is_word_byte text ≡ count_trailing_zeros 64 (mask_l (map (λ b. not (is_word_byte b)) (chunk 0 16 text)))
-ends_at text room some =
-    let c = chunk 0 16 text in
-    ap (prefix_len is_word_byte) (chunk-drop 0 16 text) ∙ prefix_len-append is_word_byte c (drop 16 text)
-    ∙ ap (λ b. cond b (length c + prefix_len is_word_byte (drop 16 text)) (prefix_len is_word_byte c)) (ne_eqb _ _ (λ (e : prefix_len is_word_byte c ≡ length c). omega (arith, none_ends c e)))
-    ∙ same_run c ∙ sym (trailing_mask_l (λ b. not (is_word_byte b)) 64 c (omega (arith, length-chunk 0 16 text room)) some)
+-- where a byte of the first n is no byte of a word, the first of these ends the word
+pub ends_at : (n : ℕ) (text : List ℕ) → n ≤ 64 → n ≤ length text → 0 < mask_l (map (λ b. not (is_word_byte b)) (chunk 0 n text))
+    → prefix_len is_word_byte text ≡ count_trailing_zeros 64 (mask_l (map (λ b. not (is_word_byte b)) (chunk 0 n text)))
+ends_at n text most room some =
+    let c = chunk 0 n text in
+    ap (prefix_len is_word_byte) (chunk-drop 0 n text) ∙ prefix_len-append is_word_byte c (drop (0 + n) text)
+    ∙ ap (λ b. cond b (length c + prefix_len is_word_byte (drop (0 + n) text)) (prefix_len is_word_byte c)) (ne_eqb _ _ (λ (e : prefix_len is_word_byte c ≡ length c). omega (arith, none_ends c e)))
+    ∙ same_run c ∙ sym (trailing_mask_l (λ b. not (is_word_byte b)) 64 c (omega (arith, most, length-chunk 0 n text (omega (arith, room)))) some)

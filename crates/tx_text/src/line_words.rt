@@ -114,7 +114,17 @@ fn word_ends(block: u8x16) -> u64
         | block.simd_eq(u8x16::splat(b'#'))).to_bitmask()
 }
 
-/// How long the word at the front is. Where 16 bytes follow, its end is looked for in all of them at once.
+/// The same of a block of eight bytes.
+#[inline(always)]
+fn word_ends_of_eight(block: u8x8) -> u64
+    ensures { result ≡ mask_l (map (λ b. not (is_word_byte b)) block) }
+{
+    (block.simd_eq(u8x8::splat(b' '))
+        | block.simd_eq(u8x8::splat(b'\t'))
+        | block.simd_eq(u8x8::splat(b'#'))).to_bitmask()
+}
+
+/// How long the word at the front is. Where 16 or 8 bytes follow, its end is looked for in all of them at once.
 #[inline(always)]
 fn word_len(text: &[u8]) -> usize
     ensures within { result ≤ length text.now }
@@ -124,6 +134,11 @@ fn word_len(text: &[u8]) -> usize
         let ends = word_ends(u8x16::from_slice(text));
         if ends != 0 {
             return ends.trailing_zeros() as usize;
+        }
+    } else if text.len() >= 8 {
+        let half = word_ends_of_eight(u8x8::from_slice(text));
+        if half != 0 {
+            return half.trailing_zeros() as usize;
         }
     }
     count_word_bytes(text)
