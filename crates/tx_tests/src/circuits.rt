@@ -2,22 +2,13 @@
 pub(crate) mod calls;
 mod model;
 
-use calls::{ALFA, BETA, Call, WHATS, apply, call_of, next};
+use calls::{ALFA, BETA, Call, ENDS, WHATS, apply, call_of, next};
 use model::Model;
 use std::alloc::Allocator;
-use tx_cases::{Stop, named, next_line, next_number, write_broken, write_count};
+use tx_cases::{named, next_line, next_number, tell, tell_broken, tell_count};
 use tx_circuits::CircuitTable;
 use tx_plan::Plan;
-use tx_text::{NoMemory, Sink, WriteFault, words, write_bytes};
-
-/// The end of a word.
-fn end_of(word: Option<&[u8]>) -> u16 {
-    if word == Some(b"BETA".as_slice()) {
-        BETA
-    } else {
-        ALFA
-    }
-}
+use tx_text::{Sink, words};
 
 /// Makes the call that a line says, where it may be made, and tells whether.
 fn apply_line<A: Allocator>(table: &mut CircuitTable<A>, line: &[u8]) -> bool {
@@ -26,17 +17,15 @@ fn apply_line<A: Allocator>(table: &mut CircuitTable<A>, line: &[u8]) -> bool {
         return false;
     };
     let number = next_number(&mut rest, 240);
-    let end = end_of(rest.next());
-    let far = end_of(rest.next());
-    apply(
-        table,
-        Call {
-            what,
-            number,
-            end,
-            far,
-        },
-    )
+    let end = named(&ENDS, rest.next().unwrap_or(b"".as_slice()));
+    let far = named(&ENDS, rest.next().unwrap_or(b"".as_slice()));
+    let call = Call {
+        what,
+        number,
+        end: end.unwrap_or(ALFA),
+        far: far.unwrap_or(ALFA),
+    };
+    apply(table, call)
 }
 
 /// Makes the call of each line, and tells which number ALFA and BETA take next then, or 0 for none.
@@ -44,21 +33,26 @@ pub(crate) fn tell_circuits<A: Allocator, W: Sink>(
     table: &mut CircuitTable<A>,
     lines: &[u8],
     out: &mut W,
-) -> Result<(), WriteFault> {
+) {
     let mut rest = lines;
     for _ in 0..lines.len() {
         let Some((line, behind)) = next_line(rest) else {
             break;
         };
-        write_bytes(line, out)?;
+        tell(line, out);
         if !apply_line(table, line) {
-            write_bytes(b", not made", out)?;
+            tell(b", not made", out);
         }
-        write_count(b": ", u64::from(next(table, ALFA)), b"", out)?;
-        write_count(b" ", u64::from(next(table, BETA)), b"\n", out)?;
+        tell_count(b": ", u64::from(next(table, ALFA)), b"", out);
+        tell_count(
+            b" ",
+            u64::from(next(table, BETA)),
+            b"
+",
+            out,
+        );
         rest = behind;
     }
-    Ok(())
 }
 
 /// Makes three of the 43 calls, as far as each may be made, on a table and on the model. Tells whether the two agree.
@@ -79,27 +73,23 @@ fn agree_along<A: Allocator>(table: &mut CircuitTable<A>, sequence: u32) -> bool
     true
 }
 
-/// Whether a new table agrees with the model along a sequence.
-fn agrees<A: Allocator + Copy>(alloc: A, plan: &Plan<A>, sequence: u32) -> Result<bool, NoMemory> {
-    let mut table = CircuitTable::build(alloc, plan)?;
-    let agrees = agree_along(&mut table, sequence);
-    drop(table);
-    Ok(agrees)
+/// Whether a new table agrees with the model along a sequence, if there is memory for it.
+fn agrees<A: Allocator + Copy>(alloc: A, plan: &Plan<A>, sequence: u32) -> bool {
+    match CircuitTable::build(alloc, plan) {
+        Ok(mut table) => agree_along(&mut table, sequence),
+        Err(_) => false,
+    }
 }
 
 /// Tries all sequences of three calls, and tells how many there are.
-pub(crate) fn try_sequences<A: Allocator + Copy, W: Sink>(
-    alloc: A,
-    plan: &Plan<A>,
-    out: &mut W,
-) -> Result<(), Stop> {
+pub(crate) fn try_sequences<A: Allocator + Copy, W: Sink>(alloc: A, plan: &Plan<A>, out: &mut W) {
     let mut tried = 0u64;
     for sequence in 0..79_507u32 {
-        if !agrees(alloc, plan, sequence)? {
-            write_broken(b"not as the model, sequence", u64::from(sequence), out)?;
+        if !agrees(alloc, plan, sequence) {
+            tell_broken(b"not as the model, sequence", u64::from(sequence), out);
             break;
         }
         tried = tried.saturating_add(1);
     }
-    Ok(write_count(b"", tried, b" sequences agree\n", out)?)
+    tell_count(b"", tried, b" sequences agree\n", out);
 }

@@ -1,10 +1,11 @@
-// Readers and writers that fail.
+// A reader and writer that fails.
 use std::io;
 use std::io::{ErrorKind, Read, Write};
 
-/// A reader and writer that moves one byte a call, and fails at the third.
+/// A reader that gives one byte a call, and a writer that takes at most so many. Both fail at the third call.
 #[derive(Drop)]
 pub(crate) struct Flaky {
+    pub takes: usize,
     pub calls: u8,
 }
 
@@ -25,21 +26,7 @@ impl Write for Flaky {
         if self.calls == 3 {
             return Err(io::Error::from(ErrorKind::Other));
         }
-        Ok(buf.len().min(1))
-    }
-
-    fn flush(&mut self) -> io::Result<()> {
-        Ok(())
-    }
-}
-
-/// A writer that takes nothing.
-#[derive(Drop)]
-pub(crate) struct Full;
-
-impl Write for Full {
-    fn write(&mut self, _buf: &[u8]) -> io::Result<usize> {
-        Ok(0)
+        Ok(buf.len().min(self.takes))
     }
 
     fn flush(&mut self) -> io::Result<()> {

@@ -2,7 +2,7 @@
 use crate::circuits::calls::{ALFA, BETA, next};
 use refusing::Refusing;
 use std::alloc::Allocator;
-use tx_cases::{Stop, write_broken, write_count};
+use tx_cases::{tell_broken, tell_count};
 use tx_circuits::CircuitTable;
 use tx_lines::{LineAnswer, LineBook};
 use tx_plan::{CodeId, Plan, PlanRefusal};
@@ -51,11 +51,7 @@ fn judged(is_right: bool) -> Came {
 /// A feeder, which takes no memory when it is fed.
 fn make_feeder<A: Allocator>(alloc: A) -> Came {
     match LineFeeder::new(alloc) {
-        Ok(mut feeder) => {
-            let came = judged(feeder.feed(&[b'#'; 513]) == Err(TextFault::LineTooLong));
-            drop(feeder);
-            came
-        }
+        Ok(mut feeder) => judged(feeder.feed(&[b'#'; 513]) == Err(TextFault::LineTooLong)),
         Err(TextFault::NoMemory) => Came::Wanting,
         Err(_) => Came::Wrong,
     }
@@ -64,11 +60,7 @@ fn make_feeder<A: Allocator>(alloc: A) -> Came {
 /// A sink, which takes no memory when it is written to.
 fn make_sink<A: Allocator>(alloc: A) -> Came {
     match MemorySink::new(alloc, 8) {
-        Ok(mut sink) => {
-            let came = judged(write_bytes(b"SCRIPT 1", &mut sink) == Ok(()));
-            drop(sink);
-            came
-        }
+        Ok(mut sink) => judged(write_bytes(b"SCRIPT 1", &mut sink).is_ok()),
         Err(_) => Came::Wanting,
     }
 }
@@ -76,11 +68,7 @@ fn make_sink<A: Allocator>(alloc: A) -> Came {
 /// A trie of codes of which one begins another.
 fn make_trie<A: Allocator + Copy>(alloc: A, plan: &Plan<A>) -> Came {
     match CodeTrie::build(alloc, plan) {
-        Ok(trie) => {
-            let came = judged(trie.ambiguous().is_some());
-            drop(trie);
-            came
-        }
+        Ok(trie) => judged(trie.ambiguous().is_some()),
         Err(_) => Came::Wanting,
     }
 }
@@ -88,34 +76,24 @@ fn make_trie<A: Allocator + Copy>(alloc: A, plan: &Plan<A>) -> Came {
 /// A table of circuits, of which ALFA takes the first next and BETA the third.
 fn make_table<A: Allocator + Copy>(alloc: A, plan: &Plan<A>) -> Came {
     match CircuitTable::build(alloc, plan) {
-        Ok(table) => {
-            let came = judged(next(&table, ALFA) == 1 && next(&table, BETA) == 3);
-            drop(table);
-            came
-        }
+        Ok(table) => judged(next(&table, ALFA) == 1 && next(&table, BETA) == 3),
         Err(_) => Came::Wanting,
     }
 }
 
-const CODE: u16 = 0;
-
-const NUMBER: &[u8] = b"10001";
-
 /// Engages a line, again where there was no room for it at first.
 fn engage<A: Allocator>(book: &mut LineBook<A>) -> Came {
-    let code = CodeId::at(CODE);
-    let Some(line) = book.find(code, NUMBER) else {
+    let code = CodeId::at(0);
+    let number = b"10001".as_slice();
+    let Some(line) = book.find(code, number) else {
         return Came::Wrong;
     };
     let refused = book.reserve_one().is_err();
-    if book.answer(code, NUMBER) != LineAnswer::Free(line) {
-        return Came::Wrong;
-    }
-    if book.reserve_one().is_err() {
+    if book.answer(code, number) != LineAnswer::Free(line) || book.reserve_one().is_err() {
         return Came::Wrong;
     }
     book.engage(&line);
-    if book.answer(code, NUMBER) != LineAnswer::Engaged {
+    if book.answer(code, number) != LineAnswer::Engaged {
         return Came::Wrong;
     }
     if refused { Came::Wanting } else { Came::Right }
@@ -124,31 +102,22 @@ fn engage<A: Allocator>(book: &mut LineBook<A>) -> Came {
 /// A book of lines, of which one is engaged.
 fn make_book<A: Allocator + Copy>(alloc: A, plan: &Plan<A>) -> Came {
     match LineBook::build(alloc, plan) {
-        Ok(mut book) => {
-            let came = engage(&mut book);
-            drop(book);
-            came
-        }
+        Ok(mut book) => engage(&mut book),
         Err(_) => Came::Wanting,
     }
 }
 
-/// Makes it, where it has a plan over that plan.
-fn make_over<A: Allocator + Copy>(alloc: A, made: Made, plan: &Plan<A>) -> Came {
-    match made {
-        Made::Feeder => make_feeder(alloc),
-        Made::Sink => make_sink(alloc),
-        Made::Trie => make_trie(alloc, plan),
-        Made::Book => make_book(alloc, plan),
-        Made::Table => make_table(alloc, plan),
-    }
-}
-
-/// Reads the plan, and makes what is to be made.
+/// Reads the plan, and makes what is to be made: where it has a plan, over that plan.
 fn make<A: Allocator + Copy>(alloc: A, made: Made, plan: &[u8]) -> Came {
     match read_plan(alloc, plan) {
         Ok(plan) => {
-            let came = make_over(alloc, made, &plan);
+            let came = match made {
+                Made::Feeder => make_feeder(alloc),
+                Made::Sink => make_sink(alloc),
+                Made::Trie => make_trie(alloc, &plan),
+                Made::Book => make_book(alloc, &plan),
+                Made::Table => make_table(alloc, &plan),
+            };
             drop(plan);
             came
         }
@@ -166,9 +135,9 @@ pub(crate) fn play_growths<A: Allocator + Copy, W: Sink>(
     made: Option<Made>,
     plan: &[u8],
     out: &mut W,
-) -> Result<(), Stop> {
+) {
     let Some(made) = made else {
-        return Ok(write_broken(b"no such type", 0, out)?);
+        return tell_broken(b"no such type", 0, out);
     };
     let mut wanting = 0u64;
     for request in 1..1000u64 {
@@ -179,11 +148,11 @@ pub(crate) fn play_growths<A: Allocator + Copy, W: Sink>(
             wanting = wanting.saturating_add(1);
         }
         if came == Came::Wrong || (came == Came::Right) == refused {
-            write_broken(b"refused request", request, out)?;
+            tell_broken(b"refused request", request, out);
         }
         if !refused {
             break;
         }
     }
-    Ok(write_count(b"", wanting, b" requests beside the plan's\n", out)?)
+    tell_count(b"", wanting, b" requests beside the plan's\n", out);
 }

@@ -2,24 +2,21 @@
 ghost use Rattle.std.specs.Prelude.{◌+◌, ◌≤◌, length};
 
 use std::alloc::Allocator;
-use tx_cases::{Judge, Stop, write_broken, write_count};
-use tx_text::{
-    Fed, LineFeeder, Lines, MemorySink, Sink, TextFault, TextLine, WriteFault, write_bytes,
-    write_parts,
-};
+use tx_cases::{Judge, tell, tell_broken, tell_count, tell_parts};
+use tx_text::{Fed, LineFeeder, Lines, MemorySink, Sink, TextFault, TextLine};
 
 /// The longest text that is fed in pieces.
 const LONGEST: usize = 1000;
 
-fn tell_line<W: Sink>(line: TextLine<'_>, out: &mut W) -> Result<(), WriteFault> {
-    write_count(b"line ", line.number, b"", out)?;
-    write_count(b" at ", line.start as u64, b": ", out)?;
+fn tell_line<W: Sink>(line: TextLine<'_>, out: &mut W) {
+    tell_count(b"line ", line.number, b"", out);
+    tell_count(b" at ", line.start as u64, b": ", out);
     let end = if line.finished {
         b"]\n".as_slice()
     } else {
-        b"], unfinished\n".as_slice()
+        b"], unfinished\n"
     };
-    write_parts(&[b"[", line.text, end], out)
+    tell_parts(&[b"[", line.text, end], out);
 }
 
 pub(crate) fn fault_name(fault: TextFault) -> &'static [u8] {
@@ -30,27 +27,22 @@ pub(crate) fn fault_name(fault: TextFault) -> &'static [u8] {
     }
 }
 
-fn tell_fault<W: Sink>(fault: TextFault, out: &mut W) -> Result<(), WriteFault> {
-    write_parts(&[fault_name(fault), b"\n"], out)
-}
-
 /// Tells the lines of a text, and its fault.
-fn tell_lines<W: Sink>(text: &[u8], out: &mut W) -> Result<(), WriteFault> {
+fn tell_lines<W: Sink>(text: &[u8], out: &mut W) {
     for line in Lines::new(text) {
         match line {
-            Ok(line) => tell_line(line, out)?,
-            Err(fault) => tell_fault(fault, out)?,
+            Ok(line) => tell_line(line, out),
+            Err(fault) => tell_parts(&[fault_name(fault), b"\n"], out),
         }
     }
-    Ok(())
 }
 
 /// Where a text is cut into three pieces, and whether each call is told.
 #[derive(Clone, Copy)]
-struct Cuts {
-    first: usize,
-    second: usize,
-    told: bool,
+pub(crate) struct Cuts {
+    pub first: usize,
+    pub second: usize,
+    pub told: bool,
 }
 
 impl Cuts {
@@ -69,24 +61,21 @@ impl Cuts {
     }
 }
 
-fn tell_fed<W: Sink>(answer: Result<Fed, TextFault>, out: &mut W) -> Result<(), WriteFault> {
+fn tell_fed<W: Sink>(answer: Result<Fed, TextFault>, out: &mut W) {
     match answer {
-        Ok(fed) => write_count(b"", fed.taken as u64, b" taken\n", out),
-        Err(fault) => tell_fault(fault, out),
+        Ok(fed) => tell_count(b"", fed.taken as u64, b" taken\n", out),
+        Err(fault) => tell_parts(&[fault_name(fault), b"\n"], out),
     }
 }
 
 /// Feeds an LF and a byte more behind a fault, which stays.
-fn feed_again<A: Allocator, W: Sink>(
-    feeder: &mut LineFeeder<A>,
-    out: &mut W,
-) -> Result<(), WriteFault>
+fn feed_again<A: Allocator, W: Sink>(feeder: &mut LineFeeder<A>, out: &mut W)
     requires { feeder.old.start + length feeder.old.begun ≤ 1000 }
 {
     let end = feeder.feed(b"\n");
     let byte = feeder.feed(b"A");
-    tell_fed(end, out)?;
-    tell_fed(byte, out)
+    tell_fed(end, out);
+    tell_fed(byte, out);
 }
 
 /// Feeds a text piece by piece, and tells the lines that come of it. Tells whether there was no fault.
@@ -95,7 +84,7 @@ fn feed_pieces<A: Allocator, W: Sink>(
     text: &[u8],
     cuts: Cuts,
     out: &mut W,
-) -> Result<bool, WriteFault>
+) -> bool
     requires { feeder.old.start + length feeder.old.begun + length text.now ≤ 1000 }
 {
     let mut rest = text;
@@ -104,26 +93,26 @@ fn feed_pieces<A: Allocator, W: Sink>(
         match feeder.feed(piece) {
             Ok(fed) => {
                 if cuts.told {
-                    tell_fed(Ok(fed), out)?;
+                    tell_fed(Ok(fed), out);
                 }
                 if fed.line {
-                    tell_line(feeder.line(), out)?;
+                    tell_line(feeder.line(), out);
                 }
                 rest = rest.split_at(fed.taken).1;
             }
             Err(fault) => {
-                tell_fault(fault, out)?;
+                tell_parts(&[fault_name(fault), b"\n"], out);
                 if cuts.told {
-                    feed_again(feeder, out)?;
+                    feed_again(feeder, out);
                 }
-                return Ok(false);
+                return false;
             }
         }
         if rest.is_empty() {
             break;
         }
     }
-    Ok(true)
+    true
 }
 
 /// Feeds a text, and tells how it ends.
@@ -132,105 +121,63 @@ fn feed_text<A: Allocator, W: Sink>(
     text: &[u8],
     cuts: Cuts,
     out: &mut W,
-) -> Result<(), WriteFault>
+)
     requires { feeder.old.start + length feeder.old.begun + length text.now ≤ 1000 }
 {
-    if !feed_pieces(feeder, text, cuts, out)? && !cuts.told {
-        return Ok(());
+    if !feed_pieces(feeder, text, cuts, out) && !cuts.told {
+        return;
     }
     match feeder.finish() {
         Ok(true) => tell_line(feeder.line(), out),
-        Ok(false) => Ok(()),
-        Err(fault) => tell_fault(fault, out),
+        Ok(false) => {}
+        Err(fault) => tell_parts(&[fault_name(fault), b"\n"], out),
     }
 }
 
 /// Feeds a text to a new feeder.
-fn feed_anew<A: Allocator, W: Sink>(
-    alloc: A,
-    text: &[u8],
-    cuts: Cuts,
-    out: &mut W,
-) -> Result<(), Stop> {
+pub(crate) fn feed_anew<A: Allocator, W: Sink>(alloc: A, text: &[u8], cuts: Cuts, out: &mut W) {
     if text.len() > LONGEST {
-        return Ok(write_broken(b"too long to be fed", 0, out)?);
+        return tell_broken(b"too long to be fed", 0, out);
     }
     match LineFeeder::new(alloc) {
-        Ok(mut feeder) => {
-            let told = feed_text(&mut feeder, text, cuts, out);
-            drop(feeder);
-            Ok(told?)
-        }
-        Err(_) => Err(Stop::NoMemory),
+        Ok(mut feeder) => feed_text(&mut feeder, text, cuts, out),
+        Err(_) => tell_broken(b"no memory", 0, out),
     }
 }
 
-/// Tells each call of the feeder for a text in three pieces.
-pub(crate) fn play_feed<A: Allocator, W: Sink>(
-    alloc: A,
-    text: &[u8],
-    first: usize,
-    second: usize,
-    out: &mut W,
-) -> Result<(), Stop> {
-    let cuts = Cuts {
-        first,
-        second,
-        told: true,
-    };
-    feed_anew(alloc, text, cuts, out)
+/// Feeds a text in three pieces: the lines have to be those of the whole.
+fn try_cuts<A: Allocator, W: Sink>(alloc: A, text: &[u8], cuts: Cuts, whole: &[u8], out: &mut W) {
+    let mut judge = Judge::new(whole, usize::MAX);
+    feed_anew(alloc, text, cuts, &mut judge);
+    if !judge.is_whole() {
+        tell_count(b"cut at ", cuts.first as u64, b" and then, ", out);
+        tell_broken(b"not the same, cut at", cuts.second as u64, out);
+    }
 }
 
-/// Feeds a text in all three pieces into which it can be cut: the lines have to be those of the whole.
-fn try_cuts<A: Allocator + Copy, W: Sink>(
-    alloc: A,
-    text: &[u8],
-    whole: &[u8],
-    out: &mut W,
-) -> Result<(), Stop> {
+/// Feeds a text in all three pieces into which it can be cut.
+fn try_all_cuts<A: Allocator + Copy, W: Sink>(alloc: A, text: &[u8], whole: &[u8], out: &mut W) {
     for second in 0..=text.len() {
         for first in 0..=second {
-            let mut judge = Judge::new(whole, usize::MAX);
             let cuts = Cuts {
                 first,
                 second,
                 told: false,
             };
-            feed_anew(alloc, text, cuts, &mut judge)?;
-            if !judge.is_whole() {
-                write_count(b"cut at ", first as u64, b" and then, ", out)?;
-                write_broken(b"not the same, cut at", second as u64, out)?;
-            }
+            try_cuts(alloc, text, cuts, whole, out);
         }
     }
-    Ok(())
 }
 
-/// Writes the lines of a text, and where it is short, feeds it in pieces.
-fn tell_and_cut<A: Allocator + Copy, W: Sink>(
-    alloc: A,
-    text: &[u8],
-    whole: &[u8],
-    out: &mut W,
-) -> Result<(), Stop> {
-    write_bytes(whole, out)?;
-    if text.len() < 100 {
-        try_cuts(alloc, text, whole, out)?;
-    }
-    Ok(())
-}
-
-/// Tells the lines of a text, whole and in pieces.
-pub(crate) fn play_lines<A: Allocator + Copy, W: Sink>(
-    alloc: A,
-    text: &[u8],
-    out: &mut W,
-) -> Result<(), Stop> {
-    let mut whole = MemorySink::new(alloc, 5000)?;
-    let told = match tell_lines(text, &mut whole) {
-        Ok(()) => tell_and_cut(alloc, text, whole.taken(), out),
-        Err(_) => Err(Stop::Write),
+/// Tells the lines of a text, and feeds it in pieces where it is short.
+pub(crate) fn play_lines<A: Allocator + Copy, W: Sink>(alloc: A, text: &[u8], out: &mut W) {
+    let Ok(mut whole) = MemorySink::new(alloc, 5000) else {
+        return tell_broken(b"no memory", 0, out);
     };
+    tell_lines(text, &mut whole);
+    tell(whole.taken(), out);
+    if text.len() < 100 {
+        try_all_cuts(alloc, text, whole.taken(), out);
+    }
     drop(whole);
-    told
 }

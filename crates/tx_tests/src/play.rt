@@ -1,14 +1,14 @@
 // Plays a case by its kind.
-use crate::ends::{tell_ends, tell_rooms, tell_slice, tell_sources, tell_two_texts};
+use crate::ends::{tell_ends, tell_reads, tell_rooms, tell_sources, tell_two_texts};
 use crate::frames::{play_calls, play_frame};
 use crate::growths::{MADE, play_growths};
-use crate::lines::{play_feed, play_lines};
+use crate::lines::{Cuts, feed_anew, play_lines};
 use crate::plans::{Over, with_plan};
-use crate::readers::play_plan;
+use crate::readers::{tell_growths, tell_plan};
 use crate::spelling::{Spelling, tell_spellings};
 use std::alloc::Global;
-use tx_cases::{Case, Stop, named, next_number, spell, two_texts, write_broken};
-use tx_text::{Sink, words, write_parts};
+use tx_cases::{Case, named, next_number, spell, tell_broken, tell_parts, two_texts};
+use tx_text::{Sink, SliceSource, words};
 
 /// What a case plays.
 #[derive(Clone, Copy)]
@@ -50,66 +50,71 @@ static KINDS: [(&str, Kind); 19] = [
     ("sequences", Kind::Over(Over::Sequences)),
 ];
 
-/// What the head of a case says behind its name: its kind, a word, and three numbers.
+/// What the head of a case says behind its kind: a word, and three numbers.
 #[derive(Clone, Copy)]
 struct Head<'a> {
-    kind: Option<Kind>,
     of: &'a [u8],
     first: u32,
     second: u32,
     third: u32,
 }
 
-fn head_of(head: &[u8]) -> Head<'_> {
+/// The kind that the head of a case says behind its name, and what stands behind it.
+fn head_of(head: &[u8]) -> (Option<Kind>, Head<'_>) {
     let mut rest = words(head);
     let _name = rest.next();
     let kind = named(&KINDS, rest.next().unwrap_or(b"".as_slice()));
-    let of = rest.again().next().unwrap_or(b"".as_slice());
-    let first = next_number(&mut rest, u32::MAX);
-    let second = next_number(&mut rest, u32::MAX);
-    let third = next_number(&mut rest, u32::MAX);
-    Head {
-        kind,
-        of,
-        first,
-        second,
-        third,
-    }
+    let head = Head {
+        of: rest.again().next().unwrap_or(b"".as_slice()),
+        first: next_number(&mut rest, u32::MAX),
+        second: next_number(&mut rest, u32::MAX),
+        third: next_number(&mut rest, u32::MAX),
+    };
+    (kind, head)
 }
 
-/// Plays a case, and writes its line, and what its kind tells.
-pub(crate) fn play<W: Sink>(alloc: Global, case: Case<'_>, out: &mut W) -> Result<(), Stop> {
-    write_parts(&[b"=== ", case.head, b"\n"], out)?;
+/// Plays a case, and tells its line, and what its kind tells.
+pub(crate) fn play<W: Sink>(alloc: Global, case: Case<'_>, out: &mut W) {
+    tell_parts(&[b"=== ", case.head, b"\n"], out);
+    let (kind, head) = head_of(case.head);
     let mut text = Vec::new(alloc);
-    let played = match spell(case.texts, &mut text) {
-        Ok(()) => play_text(alloc, head_of(case.head), text.as_slice(), out),
-        Err(_) => Err(Stop::NoMemory),
-    };
+    match (kind, spell(case.texts, &mut text)) {
+        (Some(kind), Ok(())) => play_text(alloc, kind, head, text.as_slice(), out),
+        (None, _) => tell_broken(b"no such kind of case", 0, out),
+        (_, Err(_)) => tell_broken(b"no memory", 0, out),
+    }
     drop(text);
-    played
 }
 
-fn play_text<W: Sink>(alloc: Global, head: Head<'_>, text: &[u8], out: &mut W) -> Result<(), Stop> {
-    let Some(kind) = head.kind else {
-        return Ok(write_broken(b"no such kind of case", 0, out)?);
-    };
-    let (first, second, third) = (
-        head.first as usize,
-        head.second as usize,
-        head.third as usize,
-    );
+fn play_text<W: Sink>(alloc: Global, kind: Kind, head: Head<'_>, text: &[u8], out: &mut W) {
+    let (first, second) = (head.first as usize, head.second as usize);
     match kind {
-        Kind::Spelled(spelling) => tell_spellings(spelling, first, second, text, out),
+        Kind::Spelled(spelling) => tell_spellings(spelling, head.first, head.second, text, out),
         Kind::Lines => play_lines(alloc, text, out),
-        Kind::Feed => play_feed(alloc, text, first, second, out),
+        Kind::Feed => {
+            let told = true;
+            let cuts = Cuts {
+                first,
+                second,
+                told,
+            };
+            feed_anew(alloc, text, cuts, out)
+        }
         Kind::Frame => play_frame(alloc, text, out),
         Kind::FrameCalls => play_calls(alloc, text, first, out),
         Kind::Source => tell_sources(text, first, out),
-        Kind::Slice => tell_slice(text, out),
-        Kind::TwoTexts => tell_two_texts(text, first, u64::from(head.second), third, out),
+        Kind::Slice => tell_reads(&mut SliceSource::new(text), 3, 8, out),
+        Kind::TwoTexts => {
+            let fails = u64::from(head.second);
+            tell_two_texts(text, first, fails, head.third as usize, out)
+        }
         Kind::Sink => tell_rooms(alloc, text, out),
         Kind::Ends => tell_ends(out),
-        Kind::Plan => play_plan(alloc, out),
+        Kind::Plan => {
+            tell_plan(alloc, false, out);
+            tell_plan(alloc, true, out);
+            tell_growths(alloc, out)
+        }
         Kind::Growths => play_growths(alloc, named(&MADE, head.of), text, out),
         Kind::Over(over) => {
             let (plan, calls) = two_texts(text);

@@ -1,12 +1,12 @@
 // The readers of a small plan, as many entries as there may be, and want of memory.
 use refusing::Refusing;
 use std::alloc::Allocator;
-use tx_cases::{Stop, write_broken, write_count};
+use tx_cases::{tell, tell_broken, tell_count};
 use tx_plan::{CodeId, Direction, ExchangeId, GroupId, Plan, PlanBuilder, PlanRefusal};
-use tx_text::{Sink, WriteFault, words, write_bytes};
+use tx_text::{Sink, words};
 
 /// One declaration of a small plan.
-fn declare<A: Allocator>(plan: &mut PlanBuilder<A>, step: u32) -> Result<(), PlanRefusal> {
+fn declare<A: Allocator>(plan: &mut PlanBuilder<A>, step: usize) -> Result<(), PlanRefusal> {
     match step {
         0 => plan.exchange(b"ALFA"),
         1 => plan.exchange(b"BETA"),
@@ -20,13 +20,11 @@ fn declare<A: Allocator>(plan: &mut PlanBuilder<A>, step: u32) -> Result<(), Pla
 }
 
 /// Declares the small plan, and again what found no memory. Marks that, and tells whether all was declared.
-fn declare_all<A: Allocator>(plan: &mut PlanBuilder<A>, wanting: &mut [bool]) -> bool {
-    for step in 0..8u32 {
+fn declare_all<A: Allocator>(plan: &mut PlanBuilder<A>, wanting: &mut [bool; 8]) -> bool {
+    for step in 0..8usize {
         let mut answer = declare(plan, step);
         if answer == Err(PlanRefusal::NoMemory) {
-            if let Some(mark) = wanting.get_mut(step as usize) {
-                *mark = true;
-            }
+            wanting[step] = true;
             answer = declare(plan, step);
         }
         if answer.is_err() {
@@ -37,7 +35,7 @@ fn declare_all<A: Allocator>(plan: &mut PlanBuilder<A>, wanting: &mut [bool]) ->
 }
 
 /// Tells how many exchanges, codes, ranges, groups, routes and bars.
-fn tell_sizes<A: Allocator, W: Sink>(plan: &Plan<A>, out: &mut W) -> Result<(), WriteFault> {
+fn tell_sizes<A: Allocator, W: Sink>(plan: &Plan<A>, out: &mut W) {
     let sizes = [
         plan.exchanges(),
         plan.codes(),
@@ -46,10 +44,10 @@ fn tell_sizes<A: Allocator, W: Sink>(plan: &Plan<A>, out: &mut W) -> Result<(), 
         plan.routes(),
         plan.bars(),
     ];
-    for size in sizes {
-        write_count(b"", size as u64, b" ", out)?;
+    for size in &sizes {
+        tell_count(b"", *size as u64, b" ", out);
     }
-    write_bytes(b"entries\n", out)
+    tell(b"entries\n", out);
 }
 
 const ALFA: u16 = 0;
@@ -71,6 +69,13 @@ fn has_range<A: Allocator>(plan: &Plan<A>) -> bool {
     }
 }
 
+fn has_line<A: Allocator>(plan: &Plan<A>) -> bool {
+    match plan.line_at(CodeId::at(0), b"007") {
+        Some(line) => line.national.bytes() == b"007".as_slice(),
+        None => false,
+    }
+}
+
 fn has_names<A: Allocator>(plan: &Plan<A>) -> bool {
     plan.exchange_named(b"BETA") == Some(ExchangeId::at(BETA))
         && plan.code_named(b"51") == Some(CodeId::at(1))
@@ -81,13 +86,6 @@ fn gives_names<A: Allocator>(plan: &Plan<A>) -> bool {
     plan.exchange_name(ExchangeId::at(BETA)) == b"BETA".as_slice()
         && plan.code_figures(CodeId::at(1)) == b"51".as_slice()
         && plan.group_name(GroupId::at(0)) == b"G1".as_slice()
-}
-
-fn has_line<A: Allocator>(plan: &Plan<A>) -> bool {
-    match plan.line_at(CodeId::at(0), b"007") {
-        Some(line) => line.national.bytes() == b"007".as_slice(),
-        None => false,
-    }
 }
 
 fn has_routes<A: Allocator>(plan: &Plan<A>) -> bool {
@@ -110,7 +108,7 @@ fn has_groups<A: Allocator>(plan: &Plan<A>) -> bool {
 }
 
 /// Tells what the readers of the small plan answer.
-fn tell_readers<A: Allocator, W: Sink>(plan: &Plan<A>, out: &mut W) -> Result<(), WriteFault> {
+fn tell_readers<A: Allocator, W: Sink>(plan: &Plan<A>, out: &mut W) {
     plan.rules();
     let answers = [
         has_places(plan),
@@ -121,10 +119,16 @@ fn tell_readers<A: Allocator, W: Sink>(plan: &Plan<A>, out: &mut W) -> Result<()
         has_routes(plan),
         has_groups(plan),
     ];
-    for answer in answers {
-        write_bytes(if answer { b"right " } else { b"WRONG " }, out)?;
+    for answer in &answers {
+        tell(
+            if *answer {
+                b"right ".as_slice()
+            } else {
+                b"WRONG "
+            },
+            out,
+        );
     }
-    tell_sizes(plan, out)
 }
 
 /// A letter and four figures.
@@ -146,8 +150,6 @@ fn fill<A: Allocator>(plan: &mut PlanBuilder<A>) {
     for number in 0..4200u32 {
         let name = name_of(b'G', number);
         let _ = plan.group(&name, b"BETA", b"ALFA", Direction::OneWay, 1);
-    }
-    for number in 0..4200u32 {
         let figures = name_of(b'0', number);
         let _ = plan.lines(b"41", &figures, &figures);
     }
@@ -156,58 +158,56 @@ fn fill<A: Allocator>(plan: &mut PlanBuilder<A>) {
 /// The small plan, and more than there may be where it is to be full.
 fn made<A: Allocator + Copy>(alloc: A, full: bool) -> Plan<A> {
     let mut builder = PlanBuilder::new(alloc);
-    let _ = declare_all(&mut builder, &mut []);
+    let _ = declare_all(&mut builder, &mut [false; 8]);
     if full {
         fill(&mut builder);
     }
     builder.finish()
 }
 
-/// Tells what the small plan holds.
-fn tell_small<A: Allocator + Copy, W: Sink>(alloc: A, out: &mut W) -> Result<(), WriteFault> {
-    let plan = made(alloc, false);
-    let told = tell_readers(&plan, out);
+/// Tells what the small plan holds, or how much a full one does.
+pub(crate) fn tell_plan<A: Allocator + Copy, W: Sink>(alloc: A, full: bool, out: &mut W) {
+    let plan = made(alloc, full);
+    if !full {
+        tell_readers(&plan, out);
+    }
+    tell_sizes(&plan, out);
     drop(plan);
-    told
 }
 
-/// Tells how much a full plan holds.
-fn tell_full<A: Allocator + Copy, W: Sink>(alloc: A, out: &mut W) -> Result<(), WriteFault> {
-    let plan = made(alloc, true);
-    let told = tell_sizes(&plan, out);
-    drop(plan);
-    told
-}
-
-/// Declares the small plan over an allocator.
-fn declare_over<A: Allocator + Copy>(alloc: A, wanting: &mut [bool]) -> bool {
-    let mut builder = PlanBuilder::new(alloc);
-    let done = declare_all(&mut builder, wanting);
+/// Declares the small plan with one request for memory refused, marks what found none, and tells whether the request came.
+fn declare_without<A: Allocator + Copy, W: Sink>(
+    alloc: A,
+    request: u64,
+    wanting: &mut [bool; 8],
+    out: &mut W,
+) -> bool {
+    let refusing = Refusing::new(alloc, request);
+    let mut builder = PlanBuilder::new(&refusing);
+    if !declare_all(&mut builder, wanting) {
+        tell_broken(b"refused request", request, out);
+    }
     drop(builder);
-    done
+    refusing.has_refused()
 }
 
 /// Refuses each request for memory in turn, until none is refused, and tells which declarations take memory: the first of each kind.
-fn tell_growths<A: Allocator + Copy, W: Sink>(alloc: A, out: &mut W) -> Result<(), WriteFault> {
+pub(crate) fn tell_growths<A: Allocator + Copy, W: Sink>(alloc: A, out: &mut W) {
     let mut wanting = [false; 8];
     for request in 1..100u64 {
-        let refusing = Refusing::new(alloc, request);
-        if !declare_over(&refusing, &mut wanting) {
-            write_broken(b"refused request", request, out)?;
-        }
-        if !refusing.has_refused() {
+        if !declare_without(alloc, request, &mut wanting, out) {
             break;
         }
     }
-    for mark in wanting {
-        write_bytes(if mark { b"takes " } else { b"none " }, out)?;
+    for mark in &wanting {
+        tell(
+            if *mark {
+                b"takes ".as_slice()
+            } else {
+                b"none "
+            },
+            out,
+        );
     }
-    write_bytes(b"memory\n", out)
-}
-
-/// The small plan, a full one, and the small one where memory is refused.
-pub(crate) fn play_plan<A: Allocator + Copy, W: Sink>(alloc: A, out: &mut W) -> Result<(), Stop> {
-    tell_small(alloc, out)?;
-    tell_full(alloc, out)?;
-    Ok(tell_growths(alloc, out)?)
+    tell(b"memory\n", out);
 }

@@ -8,6 +8,8 @@ pub const ALFA: u16 = 0;
 
 pub const BETA: u16 = 1;
 
+pub static ENDS: [(&str, u16); 2] = [("ALFA", ALFA), ("BETA", BETA)];
+
 /// What a call does: to a circuit, at an end where it asks for one and with a far end where it asks for that too, or to the group.
 #[derive(Clone, Copy)]
 pub enum What {
@@ -109,122 +111,50 @@ pub fn call_of(k: u32) -> Call {
 /// Makes a call where the table may be asked for it, and tells whether.
 pub fn apply<A: Allocator>(table: &mut CircuitTable<A>, call: Call) -> bool {
     let x = circuit(call.number);
-    let at = ExchangeId::at(call.end);
     match call.what {
-        What::Seize => seize(table, &x, at),
-        What::Withdraw => withdraw(table, &x, at),
-        What::GiveUp => give_up(table, &x, at, ExchangeId::at(call.far)),
-        What::Hold => hold(table, &x),
-        What::Release => release(table, &x),
-        What::Released => released(table, &x),
-        What::PutOut => put_out(table, &x),
-        What::PutIn => put_in(table, &x),
-        What::Fail => fail(table, x.group),
-        What::Restore => restore(table, x.group),
-        What::Block => block(table, x.group),
-        What::Unblock => unblock(table, x.group),
-    }
-}
-
-fn seize<A: Allocator>(table: &mut CircuitTable<A>, x: &Circuit, at: ExchangeId) -> bool {
-    if !table.has_circuit(x) || !table.may_seize(x.group, at) || !table.is_free(x, at) {
-        return false;
-    }
-    table.seize(x, at);
-    true
-}
-
-fn withdraw<A: Allocator>(table: &mut CircuitTable<A>, x: &Circuit, at: ExchangeId) -> bool {
-    if !table.is_seized(x, at) {
-        return false;
-    }
-    table.withdraw(x, at);
-    true
-}
-
-fn give_up<A: Allocator>(
-    table: &mut CircuitTable<A>,
-    x: &Circuit,
-    at: ExchangeId,
-    far: ExchangeId,
-) -> bool {
-    if !table.is_seized(x, at) {
-        return false;
-    }
-    table.give_up(x, at, far);
-    true
-}
-
-fn hold<A: Allocator>(table: &mut CircuitTable<A>, x: &Circuit) -> bool {
-    match table.seizer(x) {
-        Some(_) => {
-            table.hold(x);
-            true
+        What::Seize | What::Withdraw | What::GiveUp => apply_at_end(table, &x, call),
+        What::Fail | What::Restore | What::Block | What::Unblock => {
+            apply_to_group(table, x.group, call.what)
         }
-        None => false,
+        _ => apply_to_circuit(table, &x, call.what),
     }
 }
 
-fn release<A: Allocator>(table: &mut CircuitTable<A>, x: &Circuit) -> bool {
-    if !table.has_circuit(x) || !table.is_unseized(x) || table.is_releasing(x) {
-        return false;
+fn apply_at_end<A: Allocator>(table: &mut CircuitTable<A>, x: &Circuit, call: Call) -> bool {
+    let (at, far) = (ExchangeId::at(call.end), ExchangeId::at(call.far));
+    match call.what {
+        What::Seize
+            if table.has_circuit(x) && table.may_seize(x.group, at) && table.is_free(x, at) => {
+            table.seize(x, at)
+        }
+        What::Withdraw if table.is_seized(x, at) => table.withdraw(x, at),
+        What::GiveUp if table.is_seized(x, at) => table.give_up(x, at, far),
+        _ => return false,
     }
-    table.release(x);
     true
 }
 
-fn released<A: Allocator>(table: &mut CircuitTable<A>, x: &Circuit) -> bool {
-    if !table.is_releasing(x) {
-        return false;
+fn apply_to_circuit<A: Allocator>(table: &mut CircuitTable<A>, x: &Circuit, what: What) -> bool {
+    match what {
+        What::Hold if table.seizer(x).is_some() => table.hold(x),
+        What::Release if table.has_circuit(x) && table.is_unseized(x) && !table.is_releasing(x) => {
+            table.release(x)
+        }
+        What::Released if table.is_releasing(x) => table.released(x),
+        What::PutOut if table.has_circuit(x) && !table.is_out(x) => table.put_out(x),
+        What::PutIn if table.is_out(x) => table.put_in(x),
+        _ => return false,
     }
-    table.released(x);
     true
 }
 
-fn put_out<A: Allocator>(table: &mut CircuitTable<A>, x: &Circuit) -> bool {
-    if !table.has_circuit(x) || table.is_out(x) {
-        return false;
+fn apply_to_group<A: Allocator>(table: &mut CircuitTable<A>, group: GroupId, what: What) -> bool {
+    match what {
+        What::Fail if table.has_group(group) && !table.is_failed(group) => table.fail(group),
+        What::Restore if table.is_failed(group) => table.restore(group),
+        What::Block if table.has_group(group) && !table.is_blocked(group) => table.block(group),
+        What::Unblock if table.is_blocked(group) => table.unblock(group),
+        _ => return false,
     }
-    table.put_out(x);
-    true
-}
-
-fn put_in<A: Allocator>(table: &mut CircuitTable<A>, x: &Circuit) -> bool {
-    if !table.is_out(x) {
-        return false;
-    }
-    table.put_in(x);
-    true
-}
-
-fn fail<A: Allocator>(table: &mut CircuitTable<A>, group: GroupId) -> bool {
-    if !table.has_group(group) || table.is_failed(group) {
-        return false;
-    }
-    table.fail(group);
-    true
-}
-
-fn restore<A: Allocator>(table: &mut CircuitTable<A>, group: GroupId) -> bool {
-    if !table.is_failed(group) {
-        return false;
-    }
-    table.restore(group);
-    true
-}
-
-fn block<A: Allocator>(table: &mut CircuitTable<A>, group: GroupId) -> bool {
-    if !table.has_group(group) || table.is_blocked(group) {
-        return false;
-    }
-    table.block(group);
-    true
-}
-
-fn unblock<A: Allocator>(table: &mut CircuitTable<A>, group: GroupId) -> bool {
-    if !table.is_blocked(group) {
-        return false;
-    }
-    table.unblock(group);
     true
 }

@@ -134,34 +134,27 @@ impl Model {
     pub fn apply(&mut self, call: Call) -> bool {
         let number = call.number;
         if 0 < number && number < 4 {
-            return self.apply_to((number - 1) as usize, call);
+            let place = (number - 1) as usize;
+            let held = self.circuits[place];
+            self.circuits[place] = held.after(call);
+            return held.allows(call);
         }
         let (failed, blocked) = (self.failed, self.blocked);
         match call.what {
-            What::Fail => self.fail(),
+            What::Fail => {
+                for held in self.circuits.iter_mut() {
+                    *held = Held {
+                        out: held.out,
+                        ..IDLE
+                    };
+                }
+                self.failed = true;
+            }
             What::Restore => self.failed = false,
             What::Block => self.blocked = true,
             _ => self.blocked = false,
         }
         self.failed != failed || self.blocked != blocked
-    }
-
-    fn fail(&mut self) {
-        for held in self.circuits.iter_mut() {
-            *held = Held {
-                out: held.out,
-                ..IDLE
-            };
-        }
-        self.failed = true;
-    }
-
-    fn apply_to(&mut self, place: usize, call: Call) -> bool
-        requires { place < 3 }
-    {
-        let held = self.circuits[place];
-        self.circuits[place] = held.after(call);
-        held.allows(call)
     }
 
     // The number that an exchange takes next: ALFA the least, BETA the greatest; 0 for none.
@@ -178,8 +171,9 @@ impl Model {
         found
     }
 
-    // Whether the table tells the same of the circuits.
-    fn holds<A: Allocator>(&self, table: &CircuitTable<A>) -> bool {
+    /// Whether the table tells the same.
+    pub fn agrees<A: Allocator>(&self, table: &CircuitTable<A>) -> bool {
+        let group = GroupId::at(0);
         let mut number = 0u32;
         for held in self.circuits {
             number = number.saturating_add(1);
@@ -187,15 +181,8 @@ impl Model {
                 return false;
             }
         }
-        true
-    }
-
-    /// Whether the table tells the same.
-    pub fn agrees<A: Allocator>(&self, table: &CircuitTable<A>) -> bool {
-        let group = GroupId::at(0);
         self.failed == table.is_failed(group)
             && self.blocked == table.is_blocked(group)
-            && self.holds(table)
             && self.next(ALFA) == next(table, ALFA)
             && self.next(BETA) == next(table, BETA)
     }
