@@ -83,10 +83,6 @@ pub is_found : (o : Option CheckFault) → is_some o ≡ true → (x : CheckFaul
 is_found None h = absurd (let z : ⊥ = cc in z)
 is_found (Some x) h = (x, refl)
 
-pub not_found : (o : Option CheckFault) → is_some o ≡ false → o ≡ None
-not_found None h = refl
-not_found (Some x) h = absurd (let z : ⊥ = cc in z)
-
 module _ (f : ℕ → List CheckFault) where
   -- nothing was found below a place, and there it was
   pub found_at : (i n x : ℕ) (o : Option CheckFault) → i < n → x ≡ i → o ≡ foremost (f x) → is_some o ≡ true → ((k : ℕ) → k < i → f k ≡ []) → o ≡ foremost (flat_map f (range_with_len 0 n))

@@ -1,5 +1,5 @@
 // The groups of a route.
-ghost use Rattle.std.specs.Prelude.{◌≡◌, ◌==◌, ◌++◌, ◌∷◌, [], if◌then◌else◌, nat_lt, length};
+ghost use Rattle.std.specs.Prelude.{◌≡◌, ◌==◌, ◌++◌, ◌∷◌, [], if◌then◌else◌, nat_lt, ◌≤◌, length};
 ghost use Rattle.std.specs.List.{list_any};
 ghost use Rattle.tx_entries.specs.inner.Distinct.{differ};
 
@@ -74,7 +74,8 @@ impl GroupList {
     /// The groups.
     #[inline(always)]
     pub fn groups(&self) -> &[GroupId]
-        ensures { result.now ≡ self.now }
+        ensures value { result.now ≡ self.now }
+        ensures few { length result.now ≤ 16 }
     {
         &self.groups[..usize::from(self.len)]
     }

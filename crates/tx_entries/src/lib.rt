@@ -17,10 +17,10 @@ mod line;
 mod name_key;
 mod national;
 mod pair;
+mod pair_bytes;
 mod places;
 mod range;
 mod ranges;
-mod route_row;
 mod routes;
 mod rows;
 

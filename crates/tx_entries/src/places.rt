@@ -1,5 +1,5 @@
-// Where the route of an exchange and a code stands.
-ghost use Rattle.std.specs.Prelude.{◌≡◌, ◌<◌, ℕ, [], length, slice_set, OnOk};
+// Where the groups of an exchange and a code stand.
+ghost use Rattle.std.specs.Prelude.{◌≡◌, ◌<◌, ◌+◌, ◌*◌, ℕ, [], length, slice_set, OnOk};
 ghost use Rattle.tx_entries.specs.inner.Places.{place_at, cell_of};
 
 use crate::pair::Pair;
@@ -8,9 +8,9 @@ use std::marker::Model;
 use tx_text::NoMemory;
 
 /// What a cell holds where there is no route.
-const NO_PLACE: u32 = u32::MAX;
+const NO_LIST: u32 = u32::MAX;
 
-/// A cell for each exchange and code: the place of the pair's route.
+/// A cell of four bytes for each exchange and code: where the groups of the pair's route begin, and in the last five bits how many they are.
 ///
 /// Each code has 256 cells side by side, one for each exchange that a plan may have, as far as the last code that has a route. So the table grows at its end
 /// alone and no cell moves; a plan of few codes has a small table; and the cells of one code stand together.
@@ -45,16 +45,19 @@ impl<A: Allocator> Places<A> {
         }
     }
 
-    /// The place of a pair's route.
+    /// Where the groups of a pair begin and end.
     #[inline(always)]
-    pub fn find(&self, pair: &Pair) -> Option<usize>
+    pub fn find(&self, pair: &Pair) -> Option<(usize, usize)>
         ensures { result ≡ place_at self.now pair.now.exchange pair.now.code }
     {
         if pair.exchange.place() >= 256 {
             return None;
         }
         match self.cells.get(cell_of(pair)) {
-            Some(place) if *place != NO_PLACE => Some(*place as usize),
+            Some(cell) if *cell != NO_LIST => {
+                let start = *cell as usize / 32;
+                Some((start, start + *cell as usize % 32))
+            }
             _ => None,
         }
     }
@@ -68,17 +71,19 @@ impl<A: Allocator> Places<A> {
     {
         let len = usize::from(pair.code.place()) * 256 + 256;
         if self.cells.len() < len {
-            self.cells.resize(len, NO_PLACE)?;
+            self.cells.resize(len, NO_LIST)?;
         }
         Ok(())
     }
 
-    /// Writes the place of a pair's route.
+    /// Writes where the groups of a pair begin, and how many they are.
     #[inline(always)]
-    pub fn put(&mut self, pair: &Pair, place: u32)
-        requires { cell_of pair.now.exchange pair.now.code < length self.old }
-        ensures { self.new ≡ slice_set self.old (cell_of pair.now.exchange pair.now.code) place }
+    pub fn put(&mut self, pair: &Pair, start: usize, len: usize)
+        requires room { cell_of pair.now.exchange pair.now.code < length self.old }
+        requires start { start < 134217727 }
+        requires len { len < 32 }
+        ensures { self.new ≡ slice_set self.old (cell_of pair.now.exchange pair.now.code) (start * 32 + len) }
     {
-        self.cells[cell_of(pair)] = place;
+        self.cells[cell_of(pair)] = (start * 32 + len) as u32;
     }
 }

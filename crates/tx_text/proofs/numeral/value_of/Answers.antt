@@ -10,6 +10,7 @@ loop-byte-preserved c =
     let i : ℕ = c.loop-byte.byte-index in
     let lt = c.loop-byte-test.true in
     let good : is_figure (get_or text i 0) ≡ true = grind arith in
-    let so_far = c.loop-byte.invariant in
-    (value_more text i c.loop-byte.value lt good so_far.0.0 so_far.0.1,
-     list_all_more is_figure text i 0 lt ∙ ap (λ b. b && is_figure (get_or text i 0)) so_far.1 ∙ good)
+    let so_far = c.loop-byte.invariant in (
+      value_more text i c.loop-byte.value lt good so_far.0.0 so_far.0.1,
+      list_all_more is_figure text i 0 lt ∙ ap (λ b. b && is_figure (get_or text i 0)) so_far.1 ∙ good,
+    )

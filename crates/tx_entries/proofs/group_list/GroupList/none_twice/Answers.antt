@@ -19,7 +19,7 @@ returns-then-is_among c =
     let g = c.index-groups-rest.result in
     let within = c.loop-rest.invariant.within in
     let here : g ≡ get_or gs (n - 1) 0 = c.index-groups-rest.is ∙ get_or_default gs (n - 1) g 0 (omega (arith, c.loop-rest-test.true, within)) in
-    sym (twice gs (n - 1) n (omega (arith, c.loop-rest-test.true)) within (asked gs (n - 1) n g within here ∙ sym c.is_among.ensures ∙ c.if-is_among.true)) ∙ ap differ c.groups-groups.ensures
+    sym (twice gs (n - 1) n (omega (arith, c.loop-rest-test.true)) within (asked gs (n - 1) n g within here ∙ sym c.is_among.ensures ∙ c.if-is_among.true)) ∙ ap differ c.groups-groups.ensures.value
 
 pub loop-rest-preserved : goal.loop-rest-preserved
 loop-rest-preserved c =
