@@ -197,21 +197,6 @@ fn drive_script<A: Allocator + Copy, W: Sink>(
     drop(events);
 }
 
-fn drive_certified<A: Allocator + Copy, W: Sink>(
-    alloc: A,
-    over: Over,
-    plan: &Plan<A>,
-    texts: Texts<'_>,
-    numbers: (u8, u8),
-    out: &mut W,
-) {
-    if !is_certified(alloc, plan, texts.cert, numbers.0, numbers.1) {
-        return tell(b"NO\n", out);
-    }
-    tell(b"YES\n", out);
-    drive_script(alloc, over, plan, texts, out);
-}
-
 /// Checks a certificate of a plan, with a limit and a spare number, and after a Yes drives the events of the script behind it.
 pub(crate) fn play_certified<A: Allocator + Copy, W: Sink>(
     alloc: A,
@@ -225,7 +210,12 @@ pub(crate) fn play_certified<A: Allocator + Copy, W: Sink>(
     let texts = Texts { plan, cert, script };
     match read_plan(alloc, plan) {
         Ok(plan) => {
-            drive_certified(alloc, over, &plan, texts, numbers, out);
+            if is_certified(alloc, &plan, texts.cert, numbers.0, numbers.1) {
+                tell(b"YES\n", out);
+                drive_script(alloc, over, &plan, texts, out);
+            } else {
+                tell(b"NO\n", out);
+            }
             drop(plan);
         }
         Err(_) => tell_broken(b"no plan", 0, out),

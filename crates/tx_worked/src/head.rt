@@ -1,5 +1,6 @@
 // What the head of a case says.
 use crate::job::Job;
+use tx_cases::named;
 use tx_text::{number, words};
 
 /// What is done with a job.
@@ -9,6 +10,8 @@ pub(crate) enum Mode {
     EachEnd,
     Prefixes,
 }
+
+static MODES: [(&str, Mode); 2] = [("each-end", Mode::EachEnd), ("prefixes", Mode::Prefixes)];
 
 /// What the head of a case says behind its name.
 #[derive(Clone, Copy)]
@@ -24,7 +27,7 @@ pub(crate) fn head_of(head: &[u8]) -> Head<'_> {
     let mut rest = words(head);
     let _name = rest.next();
     let word = rest.next().unwrap_or(b"".as_slice());
-    let mode = mode_of(word);
+    let mode = named(&MODES, word).unwrap_or(Mode::Plain);
     let kind = match mode {
         Mode::Plain => word,
         Mode::EachEnd | Mode::Prefixes => rest.next().unwrap_or(b"".as_slice()),
@@ -35,16 +38,6 @@ pub(crate) fn head_of(head: &[u8]) -> Head<'_> {
         first: rest.next().unwrap_or(b"".as_slice()),
         second: rest.next().unwrap_or(b"".as_slice()),
         third: rest.next().unwrap_or(b"".as_slice()),
-    }
-}
-
-fn mode_of(word: &[u8]) -> Mode {
-    if word == b"each-end".as_slice() {
-        Mode::EachEnd
-    } else if word == b"prefixes".as_slice() {
-        Mode::Prefixes
-    } else {
-        Mode::Plain
     }
 }
 

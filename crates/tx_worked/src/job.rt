@@ -74,17 +74,13 @@ impl Ends {
         }
     }
 
-    /// The call of a source that fails.
-    fn fails_at(&self, end: End) -> Option<u64> {
-        match self.fails {
-            Some((failing, call)) if failing == end => Some(call),
-            _ => None,
-        }
-    }
-
     /// A source over one of the texts.
     fn source<'a>(&self, end: End, text: &'a [u8]) -> MemorySource<'a> {
-        MemorySource::new(text, self.piece.max(1), self.fails_at(end))
+        let fails_at = match self.fails {
+            Some((failing, call)) if failing == end => Some(call),
+            _ => None,
+        };
+        MemorySource::new(text, self.piece.max(1), fails_at)
     }
 }
 
@@ -104,14 +100,6 @@ pub(crate) struct Did {
 }
 
 impl Did {
-    fn of(answer: Result<u8, JobFault>, judge: &Judge<'_>) -> Did {
-        Did {
-            answer,
-            written: judge.taken(),
-            is_front: judge.is_front(),
-        }
-    }
-
     /// Whether it did all that the whole job does.
     pub(crate) fn is_as(&self, whole: Whole<'_>) -> bool {
         self.is_front && self.written == whole.text.len() && self.answer == whole.answer
@@ -123,40 +111,10 @@ impl Did {
     }
 }
 
-/// Runs an input of a plan and a script.
-fn do_pipe<A: Allocator + Copy, R: Source + Drop, W: Sink>(
-    alloc: A,
-    input: R,
-    out: &mut W,
-) -> Result<u8, JobFault> {
-    match pipe_job(alloc, input, out) {
+/// The exit status 0 of a job that has no other, or its fault.
+fn status<T: Copy>(answer: Result<T, JobFault>) -> Result<u8, JobFault> {
+    match answer {
         Ok(_) => Ok(0),
-        Err(fault) => Err(fault),
-    }
-}
-
-/// Runs a script over a plan.
-fn do_run<A: Allocator + Copy, P: Source, R: Source, W: Sink>(
-    alloc: A,
-    plan: &mut P,
-    script: &mut R,
-    out: &mut W,
-) -> Result<u8, JobFault> {
-    match run_job(alloc, plan, script, out) {
-        Ok(_) => Ok(0),
-        Err(fault) => Err(fault),
-    }
-}
-
-/// Lists the codes of a plan.
-fn do_codes<A: Allocator + Copy, P: Source, W: Sink>(
-    alloc: A,
-    plan: &mut P,
-    out: &mut W,
-) -> Result<u8, JobFault> {
-    match codes_job(alloc, plan, out) {
-        Ok(Some(_)) => Ok(1),
-        Ok(None) => Ok(0),
         Err(fault) => Err(fault),
     }
 }
@@ -197,23 +155,6 @@ fn do_audit<A: Allocator + Copy, P: Source, W: Sink>(
     }
 }
 
-/// Draws a plan, or a code.
-fn do_draw<A: Allocator + Copy, P: Source, W: Sink>(
-    alloc: A,
-    plan: &mut P,
-    code: Option<&[u8]>,
-    bounds: Option<(u8, u8)>,
-    out: &mut W,
-) -> Result<u8, JobFault>
-    requires limit { IfSome bounds (λ b. b.0 ≤ 62) }
-    requires spare { IfSome bounds (λ b. b.1 ≤ 15) }
-{
-    match draw_job(alloc, plan, code, bounds, out) {
-        Ok(()) => Ok(0),
-        Err(fault) => Err(fault),
-    }
-}
-
 /// Draws the code of some figures, the first of them not 0.
 fn do_draw_code<A: Allocator + Copy, P: Source, W: Sink>(
     alloc: A,
@@ -227,7 +168,7 @@ fn do_draw_code<A: Allocator + Copy, P: Source, W: Sink>(
 {
     let mut figures = Buffer::new();
     let code = figures.format(code).as_bytes();
-    do_draw(alloc, plan, Some(code), bounds, out)
+    status(draw_job(alloc, plan, Some(code), bounds, out))
 }
 
 /// Does a job over its sources, and answers its exit status: that of a pipe has but one.
@@ -240,8 +181,12 @@ fn do_job<A: Allocator + Copy, P: Source, R: Source, S: Source, W: Sink>(
     out: &mut W,
 ) -> Result<u8, JobFault> {
     match job {
-        Job::Pipe | Job::Run => do_run(alloc, first, second, out),
-        Job::Codes => do_codes(alloc, first, out),
+        Job::Pipe | Job::Run => status(run_job(alloc, first, second, out)),
+        Job::Codes => match codes_job(alloc, first, out) {
+            Ok(None) => Ok(0),
+            Ok(Some(_)) => Ok(1),
+            Err(fault) => Err(fault),
+        },
         Job::Grade => grade_status(alloc, first, out),
         Job::Check { limit, spare } => {
             check_status(alloc, first, second, limit.min(62), spare.min(15), out)
@@ -251,7 +196,7 @@ fn do_job<A: Allocator + Copy, P: Source, R: Source, S: Source, W: Sink>(
             let (limit, spare) = (limit.min(62), spare.min(15));
             run_checked_status(alloc, first, second, limit, spare, third, out)
         }
-        Job::Draw => do_draw(alloc, first, None, None, out),
+        Job::Draw => status(draw_job(alloc, first, None, None, out)),
         Job::DrawCode { code } => do_draw_code(alloc, first, code, None, out),
         Job::DrawFinding { code, limit, spare } => {
             let bounds = (limit.min(62), spare.min(15));
@@ -269,7 +214,7 @@ pub(crate) fn do_task<A: Allocator + Copy, W: Sink>(
 ) -> Result<u8, JobFault> {
     let mut first = ends.source(End::First, task.first);
     if let Job::Pipe = task.job {
-        return do_pipe(alloc, first, out);
+        return status(pipe_job(alloc, first, out));
     }
     let mut second = ends.source(End::Second, task.second);
     let mut third = ends.source(End::Third, task.third);
@@ -286,7 +231,11 @@ pub(crate) fn done<A: Allocator + Copy>(
 ) -> Did {
     let mut judge = Judge::new(text, room);
     let answer = do_task(alloc, task, ends, &mut judge);
-    Did::of(answer, &judge)
+    Did {
+        answer,
+        written: judge.taken(),
+        is_front: judge.is_front(),
+    }
 }
 
 /// What a task does where a request for memory is refused, and whether that request came.

@@ -1,11 +1,11 @@
 // Runs and jobs at each room, at each failing call and for each prefix.
-use crate::job::{Ends, Job, ROOM, Task, Whole, done};
+use crate::job::{Ends, ROOM, Task, Whole, done};
 use crate::runs::{Ran, Script, WholeRun, run_beside, run_text, told_cause};
 use crate::stretches::{Happens, Stretches};
+use crate::trials::sources;
 use std::alloc::Allocator;
 use tx_cases::{tell, tell_broken, tell_count};
 use tx_jobs::write_fault;
-use tx_script::{RunFault, Summary};
 use tx_text::{MemorySink, MemorySource, Sink, Source};
 
 /// More than any case has of anything.
@@ -79,17 +79,8 @@ fn calls_left<R: Source>(source: &mut R) -> u64 {
     left
 }
 
-/// Tells what was written, where the run stopped, and how many calls were made.
-fn tell_calls<W: Sink>(written: &[u8], end: Result<Summary, RunFault>, left: u64, out: &mut W) {
-    tell(written, out);
-    if let Err(fault) = end {
-        tell_count(b"\nevent ", fault.event, b": ", out);
-        let _ = write_fault(&told_cause(fault.cause), out);
-    }
-    tell_count(b"", 1000u64.saturating_sub(left), b" reads\n", out);
-}
-
-/// How many calls of the script's source a run makes, at one byte a call, where the writer takes so many bytes.
+/// Tells what a run writes, where it stops, and how many calls of the script's source it makes, at one byte a call, where the writer takes so many
+/// bytes.
 pub(crate) fn count_calls<A: Allocator + Copy, W: Sink>(
     alloc: A,
     text: Script<'_>,
@@ -101,49 +92,31 @@ pub(crate) fn count_calls<A: Allocator + Copy, W: Sink>(
         return tell_broken(b"no memory", 0, out);
     };
     let end = run_text(alloc, text, &mut source, &mut written);
-    tell_calls(written.taken(), end, calls_left(&mut source), out);
+    tell(written.taken(), out);
+    if let Err(fault) = end {
+        tell_count(b"\nevent ", fault.event, b": ", out);
+        let _ = write_fault(&told_cause(fault.cause), out);
+    }
+    let calls = 1000u64.saturating_sub(calls_left(&mut source));
+    tell_count(b"", calls, b" reads\n", out);
     drop(written);
 }
 
-fn front(text: &[u8], length: usize) -> &[u8] {
-    text.split_at(length.min(text.len())).0
-}
-
-/// The task with a front of its last text.
-fn cut(task: Task<'_>, length: usize) -> Task<'_> {
-    match task.job {
-        Job::Pipe
-        | Job::Codes
-        | Job::Grade
-        | Job::Audit { .. }
-        | Job::Draw
-        | Job::DrawCode { .. }
-        | Job::DrawFinding { .. } => Task {
-            first: front(task.first, length),
+/// The task with another last text.
+fn with_last<'a>(task: Task<'a>, text: &'a [u8]) -> Task<'a> {
+    match sources(task.job) {
+        1 => Task {
+            first: text,
             ..task
         },
-        Job::Run | Job::Check { .. } => Task {
-            second: front(task.second, length),
+        2 => Task {
+            second: text,
             ..task
         },
-        Job::Checked { .. } => Task {
-            third: front(task.third, length),
+        _ => Task {
+            third: text,
             ..task
         },
-    }
-}
-
-fn last_text(task: Task<'_>) -> &[u8] {
-    match task.job {
-        Job::Pipe
-        | Job::Codes
-        | Job::Grade
-        | Job::Audit { .. }
-        | Job::Draw
-        | Job::DrawCode { .. }
-        | Job::DrawFinding { .. } => task.first,
-        Job::Run | Job::Check { .. } => task.second,
-        Job::Checked { .. } => task.third,
     }
 }
 
@@ -155,14 +128,14 @@ pub(crate) fn list_prefixes<A: Allocator + Copy, W: Sink>(
     out: &mut W,
 ) {
     let mut stretches = Stretches::new();
-    for length in 0..=last_text(task).len() {
-        let did = done(
-            alloc,
-            cut(task, length),
-            Ends::pieces(4096),
-            whole.text,
-            ROOM,
-        );
+    let last = match sources(task.job) {
+        1 => task.first,
+        2 => task.second,
+        _ => task.third,
+    };
+    for length in 0..=last.len() {
+        let cut = with_last(task, last.split_at(length.min(last.len())).0);
+        let did = done(alloc, cut, Ends::pieces(4096), whole.text, ROOM);
         if !did.is_front {
             tell_broken(b"not a front of the output, prefix", length as u64, out);
         }

@@ -4,12 +4,13 @@ use crate::head::{Head, Mode, head_of, job_of, limit_and_spare, long_number, num
 use crate::job::{Ends, Job, ROOM, Task, Whole, do_task};
 use crate::listings::{count_calls, list_prefixes};
 use crate::runs::{Over, Script, run_beside};
-use crate::trials::{tell_whole, try_ends, try_pieces, try_refusals};
+use crate::trials::{try_ends, try_pieces, try_refusals};
 use crate::whole_runs::{Told, play_run};
 use crate::written::{play_cert, play_plan};
 use memchr::memmem;
 use std::alloc::Allocator;
 use tx_cases::{Case, Judge, spell, tell, tell_broken, tell_parts, two_texts};
+use tx_jobs::write_fault;
 use tx_text::{MemorySink, Sink};
 
 /// Plays a case, and writes its line, and what its kind tells.
@@ -23,7 +24,7 @@ pub(crate) fn play<A: Allocator + Copy, W: Sink>(alloc: A, case: Case<'_>, out: 
     drop(texts);
 }
 
-/// Plays the kinds that are jobs.
+/// Plays a case's texts by its kind: as a job, or by writing and reading back, or over both networks.
 fn play_texts<A: Allocator + Copy, W: Sink>(alloc: A, head: Head<'_>, texts: &[u8], out: &mut W) {
     if head.kind == b"both".as_slice() {
         return play_both(alloc, head, texts, out);
@@ -31,19 +32,9 @@ fn play_texts<A: Allocator + Copy, W: Sink>(alloc: A, head: Head<'_>, texts: &[u
     let (first, second) = two_texts(texts);
     match job_of(head) {
         Some(job) => play_task(alloc, task_of(job, first, second), head.mode, out),
-        None => play_other(alloc, head, texts, out),
-    }
-}
-
-/// Plays the kinds that write and read back.
-fn play_other<A: Allocator + Copy, W: Sink>(alloc: A, head: Head<'_>, texts: &[u8], out: &mut W) {
-    let (first, second) = two_texts(texts);
-    if head.kind == b"plan".as_slice() {
-        play_plan(alloc, texts, out)
-    } else if head.kind == b"cert".as_slice() {
-        play_cert(alloc, first, second, out)
-    } else {
-        play_over_both(alloc, head, first, second, out)
+        None if head.kind == b"plan".as_slice() => play_plan(alloc, texts, out),
+        None if head.kind == b"cert".as_slice() => play_cert(alloc, first, second, out),
+        None => play_over_both(alloc, head, first, second, out),
     }
 }
 
@@ -59,21 +50,8 @@ fn play_over_both<A: Allocator + Copy, W: Sink>(
         return tell_broken(b"no memory", 0, out);
     };
     play_over(alloc, Over::Plain, head, plan, rest, &mut told);
-    play_again(alloc, head, plan, rest, told.taken(), out);
-    drop(told);
-}
-
-/// Writes what was told over the plain network, and plays over the engine.
-fn play_again<A: Allocator + Copy, W: Sink>(
-    alloc: A,
-    head: Head<'_>,
-    plan: &[u8],
-    rest: &[u8],
-    told: &[u8],
-    out: &mut W,
-) {
-    tell(told, out);
-    let mut judge = Judge::new(told, ROOM);
+    tell(told.taken(), out);
+    let mut judge = Judge::new(told.taken(), ROOM);
     play_over(alloc, Over::Engine, head, plan, rest, &mut judge);
     if !judge.is_whole() {
         tell_broken(
@@ -82,6 +60,7 @@ fn play_again<A: Allocator + Copy, W: Sink>(
             out,
         );
     }
+    drop(told);
 }
 
 fn play_over<A: Allocator + Copy, W: Sink>(
@@ -176,18 +155,17 @@ fn play_whole<A: Allocator + Copy, W: Sink>(
     if matches!(task.job, Job::Run) {
         try_plain(alloc, task, whole.text, out);
     }
-    match mode {
-        Mode::Prefixes => list_prefixes(alloc, task, whole, out),
-        Mode::Plain => {
-            tell_whole(whole, out);
-            try_pieces(alloc, task, whole, out);
-        }
-        Mode::EachEnd => {
-            tell_whole(whole, out);
-            try_pieces(alloc, task, whole, out);
-            try_refusals(alloc, task, whole, out);
-            try_ends(alloc, task, whole, out);
-        }
+    if let Mode::Prefixes = mode {
+        return list_prefixes(alloc, task, whole, out);
+    }
+    tell(whole.text, out);
+    if let Err(fault) = whole.answer {
+        let _ = write_fault(&fault, out);
+    }
+    try_pieces(alloc, task, whole, out);
+    if let Mode::EachEnd = mode {
+        try_refusals(alloc, task, whole, out);
+        try_ends(alloc, task, whole, out);
     }
 }
 
@@ -203,14 +181,6 @@ fn play_task<A: Allocator + Copy, W: Sink>(alloc: A, task: Task<'_>, mode: Mode,
     };
     play_whole(alloc, task, whole, mode, out);
     drop(written);
-}
-
-/// The plan that an input begins with, up to and with its first line END, and what stands behind it.
-fn plan_and_script(input: &[u8]) -> (&[u8], &[u8]) {
-    match memmem::find(input, b"\nEND\n") {
-        Some(end) => input.split_at(end.saturating_add(5).min(input.len())),
-        None => (input, b"".as_slice()),
-    }
 }
 
 /// Tries that a plan and a script in two texts and in one do the same, and the laws of the run.
@@ -237,7 +207,11 @@ fn try_both<A: Allocator + Copy, W: Sink>(
 
 /// Plays an input as a pipe, and as a plan and a script, which have to do the same.
 fn play_both<A: Allocator + Copy, W: Sink>(alloc: A, head: Head<'_>, input: &[u8], out: &mut W) {
-    let (first, second) = plan_and_script(input);
+    // The plan goes up to and with its first line END.
+    let (first, second) = match memmem::find(input, b"\nEND\n") {
+        Some(end) => input.split_at(end.saturating_add(5).min(input.len())),
+        None => (input, b"".as_slice()),
+    };
     let pipe = task_of(Job::Pipe, input, b"");
     let run = task_of(Job::Run, first, second);
     play_task(alloc, pipe, head.mode, out);

@@ -71,21 +71,18 @@ fn try_rooms<A: Allocator + Copy, W: Sink>(
     }
 }
 
-/// Whether memory may be wanted where the run stopped: in an event that takes memory, or, for the network or the reader, before the first.
-fn may_want(fault: RunFault, script: &[u8]) -> bool {
-    match fault.cause {
-        RunCause::NoMemory => fault.event == 0 || takes_memory(event_word(script, fault.event)),
-        RunCause::Script(_) => fault.event == 1,
-        RunCause::Read | RunCause::Write => false,
-    }
-}
-
-/// Whether a run that was refused memory stopped as it has to.
+/// Whether a run that was refused memory stopped where memory may be wanted: in an event that takes memory, or, for the network or the reader, before
+/// the first.
 fn wanted_memory(ran: &Ran, script: &[u8], whole: &[u8]) -> bool {
-    match ran.end {
-        Ok(_) => false,
-        Err(fault) => may_want(fault, script) && stopped(ran, JobFault::NoMemory, whole),
-    }
+    let Err(RunFault { event, cause }) = ran.end else {
+        return false;
+    };
+    let may_want = match cause {
+        RunCause::NoMemory => event == 0 || takes_memory(event_word(script, event)),
+        RunCause::Script(_) => event == 1,
+        RunCause::Read | RunCause::Write => false,
+    };
+    may_want && stopped(ran, JobFault::NoMemory, whole)
 }
 
 /// Refuses each request for memory in turn, until none is refused.

@@ -24,19 +24,13 @@ impl Stretch {
     fn tell<W: Sink>(&self, out: &mut W) {
         tell_count(b"", self.from, b"", out);
         tell_count(b" to ", self.to, b": ", out);
-        self.happens.tell(out);
-    }
-}
-
-impl Happens {
-    fn tell<W: Sink>(&self, out: &mut W) {
-        if let Some(event) = self.event {
+        if let Some(event) = self.happens.event {
             tell_count(b"event ", event, b", ", out);
         }
-        if let Some(bytes) = self.bytes {
+        if let Some(bytes) = self.happens.bytes {
             tell_count(b"", bytes, b" bytes, ", out);
         }
-        match self.fault {
+        match self.happens.fault {
             Some(fault) => {
                 let _ = write_fault(&fault, out);
             }

@@ -1,20 +1,12 @@
 // The laws of a job: however its sources cut the text, wherever an end fails, and whichever request for memory is refused.
-use crate::job::{Did, End, Ends, Job, ROOM, Task, Whole, do_task, done, done_without};
+use crate::job::{End, Ends, Job, ROOM, Task, Whole, do_task, done, done_without};
 use std::alloc::Allocator;
-use tx_cases::{tell, tell_broken, tell_count, tell_parts};
-use tx_jobs::{JobFault, write_fault};
+use tx_cases::{tell_broken, tell_count, tell_parts};
+use tx_jobs::JobFault;
 use tx_text::Sink;
 
 /// More than any case has of anything.
 const MANY: u64 = 1_000_000;
-
-/// Tells what a job does: what it writes and its fault.
-pub(crate) fn tell_whole<W: Sink>(whole: Whole<'_>, out: &mut W) {
-    tell(whole.text, out);
-    if let Err(fault) = whole.answer {
-        let _ = write_fault(&fault, out);
-    }
-}
 
 /// Plays a task by sources of 1, 2, 7 and 4,096 bytes a call, which has to make no difference.
 pub(crate) fn try_pieces<A: Allocator + Copy, W: Sink>(
@@ -52,16 +44,7 @@ fn reads<A: Allocator + Copy, W: Sink>(
     MANY
 }
 
-/// Whether a task in a room does what it has to: a write fault behind so many bytes, where the room is too small.
-fn keeps_to_room(did: &Did, room: usize, whole: Whole<'_>) -> bool {
-    if room < whole.text.len() {
-        did.stopped(JobFault::Write) && did.written == room
-    } else {
-        did.is_as(whole)
-    }
-}
-
-/// Gives a task each room, up to one for all.
+/// Gives a task each room, up to one for all: where it is too small, the task has to stop with a write fault behind so many bytes.
 fn try_rooms<A: Allocator + Copy, W: Sink>(
     alloc: A,
     task: Task<'_>,
@@ -70,7 +53,12 @@ fn try_rooms<A: Allocator + Copy, W: Sink>(
 ) {
     for room in 0..=whole.text.len() {
         let did = done(alloc, task, Ends::pieces(4096), whole.text, room);
-        if !keeps_to_room(&did, room, whole) {
+        let keeps = if room < whole.text.len() {
+            did.stopped(JobFault::Write) && did.written == room
+        } else {
+            did.is_as(whole)
+        };
+        if !keeps {
             tell_broken(b"room", room as u64, out);
             break;
         }
@@ -115,7 +103,7 @@ fn name(job: Job) -> &'static [u8] {
 }
 
 /// How many sources a job has.
-fn sources(job: Job) -> u8 {
+pub(crate) fn sources(job: Job) -> u8 {
     match job {
         Job::Pipe
         | Job::Codes
@@ -129,26 +117,7 @@ fn sources(job: Job) -> u8 {
     }
 }
 
-/// Makes each call of each source of a task fail, and tells how many there are.
-fn tell_reads<A: Allocator + Copy, W: Sink>(
-    alloc: A,
-    task: Task<'_>,
-    whole: Whole<'_>,
-    out: &mut W,
-) {
-    let first = reads(alloc, task, End::First, whole, out);
-    tell_count(b", ", first, b"", out);
-    if sources(task.job) > 1 {
-        let second = reads(alloc, task, End::Second, whole, out);
-        tell_count(b" and ", second, b"", out);
-    }
-    if sources(task.job) > 2 {
-        let third = reads(alloc, task, End::Third, whole, out);
-        tell_count(b" and ", third, b"", out);
-    }
-}
-
-/// Makes each end fail at each place. Tells a task's status, how many calls of its sources it makes and how many bytes it writes.
+/// Gives each room, and makes each call of each source fail. Tells a task's status, how many calls of its sources it makes and how many bytes it writes.
 pub(crate) fn try_ends<A: Allocator + Copy, W: Sink>(
     alloc: A,
     task: Task<'_>,
@@ -162,7 +131,16 @@ pub(crate) fn try_ends<A: Allocator + Copy, W: Sink>(
     };
     tell_parts(&[b"-- ", name(task.job)], out);
     tell_count(b": status ", u64::from(status), b"", out);
-    tell_reads(alloc, task, whole, out);
+    let first = reads(alloc, task, End::First, whole, out);
+    tell_count(b", ", first, b"", out);
+    if sources(task.job) > 1 {
+        let second = reads(alloc, task, End::Second, whole, out);
+        tell_count(b" and ", second, b"", out);
+    }
+    if sources(task.job) > 2 {
+        let third = reads(alloc, task, End::Third, whole, out);
+        tell_count(b" and ", third, b"", out);
+    }
     let bytes = whole.text.len() as u64;
     tell_count(b" reads, ", bytes, b" bytes\n", out);
 }

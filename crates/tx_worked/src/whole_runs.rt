@@ -33,21 +33,6 @@ fn tell_run<W: Sink>(whole: WholeRun<'_>, out: &mut W) {
     }
 }
 
-fn tell_of<A: Allocator + Copy, W: Sink>(
-    alloc: A,
-    told: Told,
-    text: Script<'_>,
-    whole: WholeRun<'_>,
-    out: &mut W,
-) {
-    match told {
-        Told::Whole => tell_run(whole, out),
-        Told::Laws => try_run_laws(alloc, text, whole, out),
-        Told::Rooms => list_rooms(alloc, text, whole.text, out),
-        Told::Calls(piece) => list_calls(alloc, text, piece, whole, out),
-    }
-}
-
 /// Runs a script whole, and tells something of the run.
 pub(crate) fn play_run<A: Allocator + Copy, W: Sink>(
     alloc: A,
@@ -63,6 +48,11 @@ pub(crate) fn play_run<A: Allocator + Copy, W: Sink>(
         end,
         text: written.taken(),
     };
-    tell_of(alloc, told, text, whole, out);
+    match told {
+        Told::Whole => tell_run(whole, out),
+        Told::Laws => try_run_laws(alloc, text, whole, out),
+        Told::Rooms => list_rooms(alloc, text, whole.text, out),
+        Told::Calls(piece) => list_calls(alloc, text, piece, whole, out),
+    }
     drop(written);
 }

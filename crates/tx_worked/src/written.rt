@@ -35,20 +35,6 @@ fn reads_as<A: Allocator + Copy>(alloc: A, plan: &Plan<A>, cert: &Cert<A>, text:
     }
 }
 
-/// Writes what was written for a certificate, and reads it.
-fn read_back<A: Allocator + Copy, W: Sink>(
-    alloc: A,
-    plan: &Plan<A>,
-    cert: &Cert<A>,
-    text: &[u8],
-    out: &mut W,
-) {
-    tell(text, out);
-    if !reads_as(alloc, plan, cert, text) {
-        tell_broken(b"not read back", 0, out);
-    }
-}
-
 /// Writes a certificate, and reads what was written.
 fn write_and_read<A: Allocator + Copy, W: Sink>(
     alloc: A,
@@ -60,7 +46,10 @@ fn write_and_read<A: Allocator + Copy, W: Sink>(
         return tell_broken(b"no memory", 0, out);
     };
     let _ = write_cert(cert, plan, &mut written);
-    read_back(alloc, plan, cert, written.taken(), out);
+    tell(written.taken(), out);
+    if !reads_as(alloc, plan, cert, written.taken()) {
+        tell_broken(b"not read back", 0, out);
+    }
     drop(written);
 }
 
@@ -133,11 +122,6 @@ pub(crate) fn play_cert<A: Allocator + Copy, W: Sink>(
     cert: &[u8],
     out: &mut W,
 ) {
-    write_back(alloc, plan, cert, out);
-    try_refusals(alloc, plan, cert, out);
-}
-
-fn write_back<A: Allocator + Copy, W: Sink>(alloc: A, plan: &[u8], cert: &[u8], out: &mut W) {
     match read_plan(alloc, plan) {
         Ok(plan) => {
             write_back_cert(alloc, &plan, cert, out);
@@ -145,6 +129,7 @@ fn write_back<A: Allocator + Copy, W: Sink>(alloc: A, plan: &[u8], cert: &[u8], 
         }
         Err(_) => tell_broken(b"no plan", 0, out),
     }
+    try_refusals(alloc, plan, cert, out);
 }
 
 /// Reads a plan and writes it: nothing where it is refused.
@@ -155,22 +140,17 @@ fn write_again<A: Allocator + Copy, W: Sink>(alloc: A, plan: &[u8], out: &mut W)
     }
 }
 
-/// Writes what was written for a plan, which is written the same again.
-fn tell_again<A: Allocator + Copy, W: Sink>(alloc: A, written: &[u8], out: &mut W) {
-    tell(written, out);
-    let mut judge = Judge::new(written, ROOM);
-    write_again(alloc, written, &mut judge);
-    if !judge.is_whole() {
-        tell_broken(b"not written the same again", 0, out);
-    }
-}
-
 /// Reads a plan and writes it. What was written reads back, and is written the same.
 pub(crate) fn play_plan<A: Allocator + Copy, W: Sink>(alloc: A, plan: &[u8], out: &mut W) {
     let Ok(mut written) = MemorySink::new(alloc, ROOM) else {
         return tell_broken(b"no memory", 0, out);
     };
     write_again(alloc, plan, &mut written);
-    tell_again(alloc, written.taken(), out);
+    tell(written.taken(), out);
+    let mut judge = Judge::new(written.taken(), ROOM);
+    write_again(alloc, written.taken(), &mut judge);
+    if !judge.is_whole() {
+        tell_broken(b"not written the same again", 0, out);
+    }
     drop(written);
 }
