@@ -14,6 +14,7 @@ import subprocess
 import sys
 from collections import defaultdict
 
+sys.dont_write_bytecode = True
 from unused import BY_PLACE, texts
 
 HEAD = re.compile(r"(\s*)(?:abbrev |unfoldable )?(?:pub )?([^\s:{}()=]+)((?: \{[^}]*\}| \([^)]*\))*) : (.*)")

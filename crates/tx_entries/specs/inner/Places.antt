@@ -9,7 +9,7 @@ use Rattle.tx_entries.specs.declared.pair.Pair.{Pair}
 abbrev pub no_list : ℕ
 no_list = 4294967295
 
--- where the groups that a cell names begin and end: it is 32 times the one, and their number
+-- where the groups that a cell names begin and end: the cell is 32 times the place of the first, plus their number
 abbrev pub named_by : ℕ → Option (ℕ × ℕ)
 named_by n = if n == no_list then None else Some (n / 32, n / 32 + n % 32)
 
