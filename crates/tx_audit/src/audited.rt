@@ -31,7 +31,7 @@ impl<A: Allocator> Audited<A> {
 }
 
 /// Why an audit stopped.
-#[derive(Clone, Copy, Debug, PartialEq, Eq)]
+#[derive(Clone, Copy)]
 pub enum AuditFault {
     /// The plan's text is refused, its source failed, or its reader wanted memory. Nothing was written.
     Plan(PlanFault),

@@ -9,7 +9,7 @@ use tx_network::OpenCall;
 use tx_text::NoMemory;
 
 /// A key, and the number that it stands under.
-#[derive(Clone, Copy, Debug, PartialEq, Eq)]
+#[derive(Clone, Copy)]
 pub struct NumberedKey {
     pub number: u32,
     pub key: u32,

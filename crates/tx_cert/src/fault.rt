@@ -5,7 +5,7 @@ ghost use Rattle.tx_cert.specs.CertFaults.{word_row, frame_row, fault_row};
 use tx_text::{FaultAt, FaultKind, FormFault, FrameFault, LineFault};
 
 /// What is wrong with the words of a line. Of several the first in this order is told.
-#[derive(Clone, Copy, Debug, PartialEq, Eq)]
+#[derive(Clone, Copy, PartialEq, Eq)]
 pub enum CertWord {
     /// C1: the first word is none of a certificate's.
     UnknownWord,

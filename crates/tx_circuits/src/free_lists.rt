@@ -6,7 +6,7 @@ ghost use Rattle.tx_circuits.specs.declared.free_lists.Way.{Way as WayValue};
 ghost use Rattle.tx_circuits.specs.inner.Slots.{ahead, back, begins, list_of, rank_of};
 
 /// An end of a group.
-#[derive(Clone, Copy, Debug, PartialEq, Eq)]
+#[derive(Clone, Copy)]
 pub enum End {
     /// The exchange that the plan names first.
     First,
@@ -15,7 +15,7 @@ pub enum End {
 }
 
 /// A way through a free list: to greater numbers, or to smaller ones.
-#[derive(Clone, Copy, Debug, PartialEq, Eq)]
+#[derive(Clone, Copy)]
 pub enum Way {
     Up,
     Down,
@@ -36,7 +36,7 @@ impl Way {
 }
 
 /// The circuits beside one in a free list, by their places in the group.
-#[derive(Clone, Copy, Debug, PartialEq, Eq)]
+#[derive(Clone, Copy)]
 pub struct Links {
     pub above: Option<u8>,
     pub below: Option<u8>,
@@ -68,7 +68,7 @@ impl Links {
 }
 
 /// The first and the last place of the circuits that are free at an end.
-#[derive(Clone, Copy, Debug, PartialEq, Eq)]
+#[derive(Clone, Copy)]
 pub struct FreeList {
     pub least: Option<u8>,
     pub greatest: Option<u8>,
@@ -105,7 +105,7 @@ impl FreeList {
 }
 
 /// The free lists of a group, one for each end.
-#[derive(Clone, Copy, Debug, PartialEq, Eq)]
+#[derive(Clone, Copy)]
 pub struct FreeLists {
     pub first: FreeList,
     pub other: FreeList,

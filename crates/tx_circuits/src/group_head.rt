@@ -6,7 +6,7 @@ use crate::free_lists::End;
 use tx_plan::{Direction, ExchangeId};
 
 /// A group's ends and direction, and its marks.
-#[derive(Clone, Copy, Debug)]
+#[derive(Clone, Copy)]
 pub struct GroupHead {
     pub a: ExchangeId,
     pub b: ExchangeId,

@@ -10,7 +10,7 @@ use crate::slot::Slot;
 use crate::state::State;
 
 /// A group, its free lists, and whether its slots are linked in them. They are not while all circuits are idle and no slot was written.
-#[derive(Clone, Copy, Debug)]
+#[derive(Clone, Copy)]
 pub struct Row {
     pub head: GroupHead,
     pub lists: FreeLists,

@@ -5,7 +5,7 @@ ghost use Rattle.tx_circuits.specs.inner.Slots.{is_free, has_seized, with_seized
 use crate::free_lists::End;
 
 /// What holds a circuit.
-#[derive(Clone, Copy, Debug, PartialEq, Eq)]
+#[derive(Clone, Copy)]
 pub struct State {
     pub seized_first: bool,
     pub seized_other: bool,

@@ -21,7 +21,7 @@ pub(crate) struct Case<'a> {
 }
 
 /// What is done with the words.
-#[derive(Clone, Copy, Debug, PartialEq, Eq)]
+#[derive(Clone, Copy)]
 pub(crate) enum What {
     Run,
     /// Run with each request for memory refused in turn.

@@ -15,7 +15,7 @@ use tx_state::Service;
 use tx_trie::CodeTrie;
 
 /// What becomes of a call that is routed.
-#[derive(Clone, Copy, Debug, PartialEq, Eq)]
+#[derive(Clone, Copy)]
 pub(crate) enum Decision {
     /// It is connected to the line.
     Connect(Line),

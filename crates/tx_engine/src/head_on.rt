@@ -19,7 +19,7 @@ use tx_plan::{Circuit, ExchangeId};
 use tx_state::{Cause, Reply, Service};
 
 /// One of two calls that meet, with whether it had collided before at the exchange where it stands.
-#[derive(Clone, Copy, Debug, PartialEq, Eq)]
+#[derive(Clone, Copy)]
 pub(crate) struct Met {
     pub key: u32,
     pub number: u32,

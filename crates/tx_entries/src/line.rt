@@ -4,7 +4,7 @@ use crate::national::National;
 use std::hash::{Hash, Hasher};
 
 /// A subscriber's line: a destination code and the national number after it (ITU-T F.69).
-#[derive(Clone, Copy, Debug)]
+#[derive(Clone, Copy)]
 pub struct Line {
     pub code: CodeId,
     pub national: National,

@@ -7,7 +7,7 @@ use std::hash::{Hash, Hasher};
 use std::marker::Model;
 
 /// A text of at most 8 bytes. Behind the text stand zeros, so that all of it is made, compared and hashed as one number.
-#[derive(Clone, Copy, Debug)]
+#[derive(Clone, Copy)]
 pub struct NameKey {
     bytes: [u8; 8],
     len: u8,

@@ -7,7 +7,7 @@ use std::marker::Model;
 use tx_text::{Short, are_figures};
 
 /// A national number: 1 to 9 figures. Leading zeros count.
-#[derive(Clone, Copy, Debug, PartialEq, Eq)]
+#[derive(Clone, Copy, PartialEq, Eq)]
 pub struct National {
     figures: Short<9>,
 }

@@ -3,7 +3,7 @@ use crate::ids::{CodeId, ExchangeId};
 use std::hash::{Hash, Hasher};
 
 /// An exchange and a code: what routes and bars are declared for.
-#[derive(Clone, Copy, Debug)]
+#[derive(Clone, Copy)]
 pub struct Pair {
     pub exchange: ExchangeId,
     pub code: CodeId,

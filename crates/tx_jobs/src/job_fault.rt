@@ -2,7 +2,6 @@
 ghost use Rattle.std.specs.Prelude.{◌≡◌};
 ghost use Rattle.tx_jobs.specs.JobFaults.{status_of, plan_fault, cert_fault, script_fault, run_fault};
 
-use thiserror::Error;
 use tx_cert::{CertFault, CertWord};
 use tx_plan::PlanRefusal;
 use tx_plantext::{PlanFault, PlanWord};
@@ -10,28 +9,21 @@ use tx_script::{RunCause, RunFault, ScriptFault};
 use tx_text::{FaultKind, FrameFault, LineFault, TextFault};
 
 /// Why a job stopped before its end.
-#[derive(Clone, Copy, Debug, PartialEq, Eq, Error)]
+#[derive(Clone, Copy, PartialEq, Eq)]
 pub enum JobFault {
     /// The plan's text is refused.
-    #[error("the plan is refused")]
     Plan(PlanFault),
     /// The certificate's text is refused.
-    #[error("the certificate is refused")]
     Cert(CertFault),
     /// The script's text is refused.
-    #[error("the script is refused")]
     Script(ScriptFault),
     /// An input failed.
-    #[error("a read failed")]
     Read,
     /// The output failed.
-    #[error("a write failed")]
     Write,
     /// No memory was left.
-    #[error("no memory")]
     NoMemory,
     /// The plan has no code of the figures that were asked for.
-    #[error("no such code in the plan")]
     UnknownCode,
 }
 

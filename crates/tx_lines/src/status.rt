@@ -3,7 +3,7 @@ ghost use Rattle.std.specs.Prelude.{◌≡◌};
 ghost use Rattle.tx_lines.specs.Status.{has, with_mark, is_unmarked};
 
 /// A mark that a line may have.
-#[derive(Clone, Copy, Debug, PartialEq, Eq)]
+#[derive(Clone, Copy)]
 pub enum Mark {
     Faulty,
     Away,
@@ -11,7 +11,7 @@ pub enum Mark {
 }
 
 /// What is known of a line: the marks that it has.
-#[derive(Clone, Copy, Debug, PartialEq, Eq)]
+#[derive(Clone, Copy)]
 pub struct Status {
     pub faulty: bool,
     pub away: bool,

@@ -3,7 +3,7 @@ use tx_plan::Circuit;
 use tx_state::Hop;
 
 /// What a call meets on the circuit that it has seized.
-#[derive(Clone, Copy, Debug, PartialEq, Eq)]
+#[derive(Clone, Copy)]
 pub(crate) enum Meeting {
     /// Nobody: it goes on over the hop.
     GoesOn(Hop),

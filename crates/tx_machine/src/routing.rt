@@ -3,7 +3,7 @@ use tx_plan::{Circuit, Line};
 use tx_state::Service;
 
 /// What is done with a call that is routed.
-#[derive(Clone, Copy, Debug, PartialEq, Eq)]
+#[derive(Clone, Copy)]
 pub(crate) enum Routing {
     /// It is answered with a service code, and ends.
     Answer(Service),

@@ -9,7 +9,7 @@ use crate::line_so_far::LineSoFar;
 use tx_text::{ReadFault, Source};
 
 /// Which text an input is at.
-#[derive(Clone, Copy, Debug, PartialEq, Eq)]
+#[derive(Clone, Copy)]
 pub(crate) enum Part {
     Plan,
     PlanOver,

@@ -2,7 +2,7 @@
 use tx_state::{Hop, Phase};
 
 /// What may become of a call that stays open.
-#[derive(Clone, Copy, Debug, PartialEq, Eq)]
+#[derive(Clone, Copy)]
 pub enum Change {
     /// It goes to another phase.
     To(Phase),

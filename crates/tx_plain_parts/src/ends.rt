@@ -2,7 +2,7 @@
 use tx_plan::GroupId;
 
 /// The calls that end.
-#[derive(Clone, Copy, Debug, PartialEq, Eq)]
+#[derive(Clone, Copy)]
 pub enum Ends {
     /// The call of a number.
     Numbered(u32),

@@ -1,7 +1,7 @@
 // Why a declaration is refused.
 
 /// Why a declaration of a plan is refused. Of several reasons the first in this order is given. The codes are those that a plan's text is refused with.
-#[derive(Clone, Copy, Debug, PartialEq, Eq)]
+#[derive(Clone, Copy, PartialEq, Eq)]
 pub enum PlanRefusal {
     /// P4: a route without groups. The reader of a text also tells a wrong number of words by it.
     WrongCount,

@@ -6,7 +6,7 @@ use tx_plan::PlanRefusal;
 use tx_text::{FaultAt, FaultKind, FormFault, FrameFault, LineFault};
 
 /// What is wrong with the words of a line.
-#[derive(Clone, Copy, Debug, PartialEq, Eq)]
+#[derive(Clone, Copy, PartialEq, Eq)]
 pub enum PlanWord {
     /// P3: no line begins with the word, or the fifth word of a group is no direction. Under `PLAN 1` no line begins with BAR.
     UnknownWord,

@@ -13,7 +13,7 @@ use tx_plan::{ExchangeId, GroupId};
 use tx_text::NoMemory;
 
 /// The walk in hand goes on, all walks from its start are ranked, or it is a loop.
-#[derive(Clone, Copy, Debug, PartialEq, Eq)]
+#[derive(Clone, Copy)]
 pub enum Progress {
     More,
     Done,

@@ -8,7 +8,7 @@ use crate::routes::Routes;
 use tx_plan::{ExchangeId, GroupId};
 
 /// A group leads to an exchange without a rank, or all lead to ranks, of which this is the greatest.
-#[derive(Clone, Copy, Debug, PartialEq, Eq)]
+#[derive(Clone, Copy)]
 pub enum Look {
     Onward(GroupId, ExchangeId),
     Settled(u16),

@@ -6,7 +6,7 @@ use crate::script_word::ScriptFault;
 use tx_text::{NoMemory, WriteFault};
 
 /// Why a run stopped before its end.
-#[derive(Clone, Copy, Debug, PartialEq, Eq)]
+#[derive(Clone, Copy, PartialEq, Eq)]
 pub enum RunCause {
     /// The source failed, or was not at its end after the allowed number of calls.
     Read,

@@ -5,7 +5,7 @@ ghost use Rattle.tx_script.specs.ScriptFaults.{frame_row, word_row, fault_row};
 use tx_text::{FaultAt, FaultKind, FormFault, FrameFault, LineFault};
 
 /// What is wrong with the words of a script's line. Of several faults the first in this order is given.
-#[derive(Clone, Copy, Debug, PartialEq, Eq)]
+#[derive(Clone, Copy, PartialEq, Eq)]
 pub enum ScriptWord {
     /// S1: the first word is no event's, or the third of a CLEAR line of three words is neither CALLER nor CALLED.
     UnknownWord,

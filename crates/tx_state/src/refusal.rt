@@ -3,7 +3,7 @@ ghost use Rattle.std.specs.Prelude.{◌≡◌};
 ghost use Rattle.tx_state.specs.Refusals.{refusal_number};
 
 /// Why an event is refused. Of several that apply, the one of the least number is answered.
-#[derive(Clone, Copy, Debug, PartialEq, Eq)]
+#[derive(Clone, Copy, PartialEq, Eq)]
 pub enum Refusal {
     /// M1: no open call has the number.
     UnknownCall,

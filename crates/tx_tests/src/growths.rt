@@ -31,7 +31,7 @@ pub(crate) static MADE: [(&str, Made); 5] = [
 ];
 
 /// What came of it.
-#[derive(Clone, Copy, PartialEq, Eq)]
+#[derive(Clone, Copy)]
 enum Came {
     /// All answers are right, and none was for want of memory.
     Right,

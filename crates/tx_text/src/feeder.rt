@@ -10,7 +10,7 @@ use std::alloc::{Allocator, Global};
 use std::marker::Model;
 
 /// What a call of `feed` did: how many bytes of the piece it took, and whether it completed a line.
-#[derive(Clone, Copy, Debug, PartialEq, Eq)]
+#[derive(Clone, Copy, PartialEq, Eq)]
 pub struct Fed {
     pub taken: usize,
     pub line: bool,

@@ -11,7 +11,7 @@ use crate::line_words::{Words, is_blank};
 use crate::split::words;
 
 /// What is wrong with the form of a text.
-#[derive(Clone, Copy, Debug, PartialEq, Eq)]
+#[derive(Clone, Copy, PartialEq, Eq)]
 pub enum FormFault {
     /// The first line with words is not the header, or no line has words.
     NoHeader,
@@ -22,7 +22,7 @@ pub enum FormFault {
 }
 
 /// What is wrong with a text beside the words of its lines.
-#[derive(Clone, Copy, Debug, PartialEq, Eq)]
+#[derive(Clone, Copy, PartialEq, Eq)]
 pub enum FrameFault {
     /// A line could not be read.
     Line(LineFault),
@@ -31,21 +31,21 @@ pub enum FrameFault {
 }
 
 /// What is wrong with a text: its frame, or the words of a line.
-#[derive(Clone, Copy, Debug, PartialEq, Eq)]
+#[derive(Clone, Copy, PartialEq, Eq)]
 pub enum FaultKind<W> {
     Frame(FrameFault),
     Word(W),
 }
 
 /// A fault of a text, with the number of its line, from 1.
-#[derive(Clone, Copy, Debug, PartialEq, Eq)]
+#[derive(Clone, Copy, PartialEq, Eq)]
 pub struct FaultAt<W> {
     pub line: u64,
     pub kind: FaultKind<W>,
 }
 
 /// Which part of a text is read.
-#[derive(Clone, Copy, Debug, PartialEq, Eq)]
+#[derive(Clone, Copy)]
 pub enum FramePart {
     /// Before the header.
     Start,
@@ -56,14 +56,14 @@ pub enum FramePart {
 }
 
 /// A fault of the frame, with the number of its line, from 1.
-#[derive(Clone, Copy, Debug, PartialEq, Eq)]
+#[derive(Clone, Copy)]
 pub struct FrameStop {
     pub line: u64,
     pub fault: FrameFault,
 }
 
 /// What a call that goes on in a text came to.
-#[derive(Clone, Copy, Debug, PartialEq, Eq)]
+#[derive(Clone, Copy)]
 pub enum FrameStep {
     /// The header of this version.
     Header(u8),
@@ -74,7 +74,7 @@ pub enum FrameStep {
 }
 
 /// What a finished line is in the frame.
-#[derive(Clone, Copy, Debug, PartialEq, Eq)]
+#[derive(Clone, Copy)]
 pub(crate) enum LineForm {
     Blank,
     Header(u8),

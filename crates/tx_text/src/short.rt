@@ -5,7 +5,7 @@ use std::hash::{Hash, Hasher};
 use std::marker::Model;
 
 /// A text of at most N bytes, where N is at most 255. Behind the text stand zeros, so that all its bytes can be compared and hashed at once.
-#[derive(Clone, Copy, Debug)]
+#[derive(Clone, Copy)]
 pub struct Short<const N: usize> {
     bytes: [u8; N],
     len: u8,

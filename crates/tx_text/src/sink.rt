@@ -7,7 +7,7 @@ ghost use Rattle.tx_text.specs.Ends.{moved, StopsIn};
 ghost use Rattle.tx_text.specs.Wrote.{Wrote};
 
 /// A sink failed.
-#[derive(Clone, Copy, Debug, PartialEq, Eq)]
+#[derive(Clone, Copy)]
 pub struct WriteFault;
 
 /// Where bytes go.

@@ -5,7 +5,7 @@ ghost use Rattle.tx_text.specs.declared.source.ReadFault.{ReadFault};
 ghost use Rattle.tx_text.specs.Ends.{moved};
 
 /// A source failed.
-#[derive(Clone, Copy, Debug, PartialEq, Eq)]
+#[derive(Clone, Copy)]
 pub struct ReadFault;
 
 /// Where bytes come from.

@@ -150,7 +150,7 @@ fn play_all<W: Sink>(alloc: Global, text: &[u8], out: &mut W) -> Result<(), Writ
     write_tallies(&tallies, out)?;
     match played {
         Ok(()) => Ok(()),
-        Err(stop) => write_stop(alloc, stop, tallies.difference(), out),
+        Err(stop) => write_stop(stop, tallies.difference(), out),
     }
 }
 

@@ -15,7 +15,7 @@ use tx_text::NoMemory;
 const MOOD_EVENTS: u32 = 100;
 
 /// A script that is made from a seed.
-#[derive(Clone, Copy, Debug)]
+#[derive(Clone, Copy)]
 pub struct Script {
     pub seed: u64,
     /// How many call numbers were given before it.
@@ -151,9 +151,8 @@ fn play_events<M: Network, N: Network>(
             Err(Halt::NoMemory) => return Err(Stop::NoMemory),
             Err(Halt::Differs(difference)) => {
                 tally.differs = Some(Differs {
-                    script,
+                    seed: script.seed,
                     place,
-                    event,
                     difference,
                 });
                 return Err(Stop::Differs);

@@ -1,10 +1,7 @@
 // Why the program stops before its end.
-use crate::script::Script;
 use crate::twins::Difference;
-use std::alloc::{AllocError, Global};
-use tx_cases::write_broken;
-use tx_state::Event;
-use tx_text::{NoMemory, Sink, WriteFault, write_bytes, write_parts};
+use tx_cases::{write_broken, write_count};
+use tx_text::{NoMemory, Sink, WriteFault};
 
 /// Why the program stops before its end.
 #[derive(Clone, Copy)]
@@ -18,13 +15,13 @@ pub enum Stop {
     Differs,
 }
 
-/// After which event of which script the networks differ, and how.
-#[derive(Clone, Copy, Debug)]
+/// After which event of which script the networks differ, and in what.
+#[derive(Clone, Copy)]
 pub struct Differs {
-    pub script: Script,
+    /// The seed of the script.
+    pub seed: u64,
     /// The place of the event, from 0.
     pub place: u32,
-    pub event: Event,
     pub difference: Difference,
 }
 
@@ -40,27 +37,14 @@ impl From<WriteFault> for Stop {
     }
 }
 
-/// The script, the event and the difference in words.
-fn text_of(alloc: Global, differs: &Differs) -> Result<String, AllocError> {
-    format!(in alloc; "{differs:?}")
-}
-
-/// Tells how the networks differ.
-fn write_differs<W: Sink>(alloc: Global, differs: &Differs, out: &mut W) -> Result<(), WriteFault> {
-    write_broken(b"the networks differ, event", u64::from(differs.place), out)?;
-    match text_of(alloc, differs) {
-        Ok(text) => {
-            let written = write_parts(&[text.as_bytes(), b"\n"], out);
-            drop(text);
-            written
-        }
-        Err(_) => write_bytes(b"no memory\n", out),
-    }
+/// Tells in what the networks differ, and after which event of which script.
+fn write_differs<W: Sink>(differs: &Differs, out: &mut W) -> Result<(), WriteFault> {
+    write_broken(differs.difference.law(), u64::from(differs.place), out)?;
+    write_count(b"of the script of seed ", differs.seed, b"\n", out)
 }
 
 /// Writes why the program stopped.
 pub fn write_stop<W: Sink>(
-    alloc: Global,
     stop: Stop,
     differs: Option<Differs>,
     out: &mut W,
@@ -69,7 +53,7 @@ pub fn write_stop<W: Sink>(
         (Stop::BadPlans, _) => write_broken(b"no plan", 0, out),
         (Stop::NoMemory, _) => write_broken(b"no memory", 0, out),
         (Stop::Write, _) => Err(WriteFault),
-        (Stop::Differs, Some(differs)) => write_differs(alloc, &differs, out),
+        (Stop::Differs, Some(differs)) => write_differs(&differs, out),
         (Stop::Differs, None) => write_broken(b"the networks differ", 0, out),
     }
 }

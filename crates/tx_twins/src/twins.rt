@@ -4,23 +4,38 @@ use std::alloc::{Allocator, Global};
 use tx_state::{Event, Network, Reply, Ticket};
 use tx_text::NoMemory;
 
-/// How two networks differ after an event. That of the plain network comes first.
-#[derive(Clone, Copy, Debug)]
+/// In what two networks differ after an event.
+#[derive(Clone, Copy)]
 pub enum Difference {
-    Reply(Reply, Reply),
-    Counts(Counts, Counts),
-    /// The oldest ticket that waits, of the call of this number; 0 where there is none.
-    Ticket(u32, u32),
+    Reply,
+    /// How many calls are open, or how many events were accepted.
+    Counts,
+    /// The oldest ticket that waits, or that there is none.
+    Ticket,
     /// Memory was refused, and then the counts were other ones than before.
-    ChangedByRefusal(Counts, Counts),
+    ChangedByRefusal,
     /// Memory was wanting again, where no request was refused any more.
     NoMemory,
-    /// Memory was wanting where no request was refused, or a refused request was passed over: whether memory was wanting.
-    Wanting(bool),
+    /// Memory was wanting where no request was refused, or a refused request was passed over.
+    Wanting,
+}
+
+impl Difference {
+    /// The law that is broken.
+    pub fn law(self) -> &'static [u8] {
+        match self {
+            Difference::Reply => b"the replies are the same, event",
+            Difference::Counts => b"the counts are the same, event",
+            Difference::Ticket => b"the tickets are the same, event",
+            Difference::ChangedByRefusal => b"refused memory changes nothing, event",
+            Difference::NoMemory => b"memory is refused once, event",
+            Difference::Wanting => b"memory is wanting where it is refused, event",
+        }
+    }
 }
 
 /// How many calls are open in a network, and how many events it accepted.
-#[derive(Clone, Copy, Debug, PartialEq, Eq)]
+#[derive(Clone, Copy, PartialEq, Eq)]
 pub struct Counts {
     open_calls: u64,
     events: u64,
@@ -51,7 +66,7 @@ fn apply<N: Network>(net: &mut N, event: &Event) -> Result<Answer, Difference> {
     }
     let after = Counts::of(net);
     if after != before {
-        return Err(Difference::ChangedByRefusal(before, after));
+        return Err(Difference::ChangedByRefusal);
     }
     match net.apply(*event) {
         Ok(reply) => {
@@ -74,15 +89,13 @@ pub fn apply_to_both<M: Network, N: Network>(
     let was_over = memory.has_refused();
     let answer = apply(second, event)?;
     if answer.was_refused != (memory.has_refused() && !was_over) {
-        return Err(Difference::Wanting(answer.was_refused));
+        return Err(Difference::Wanting);
     }
     if answer.reply != wanted.reply {
-        return Err(Difference::Reply(wanted.reply, answer.reply));
+        return Err(Difference::Reply);
     }
-    let wanted = Counts::of(first);
-    let counts = Counts::of(second);
-    if counts != wanted {
-        return Err(Difference::Counts(wanted, counts));
+    if Counts::of(second) != Counts::of(first) {
+        return Err(Difference::Counts);
     }
     Ok(answer)
 }
@@ -99,14 +112,6 @@ fn is_same<A: Allocator, B: Allocator>(ticket: &Ticket<A>, other: &Ticket<B>) ->
         && ticket.path.hops() == other.path.hops()
 }
 
-/// The number of a ticket's call, or 0.
-fn number_of<A: Allocator>(ticket: Option<&Ticket<A>>) -> u32 {
-    match ticket {
-        Some(ticket) => ticket.number,
-        None => 0,
-    }
-}
-
 /// Compares the oldest tickets of two networks, if there are any.
 pub fn compare_tickets<A: Allocator, B: Allocator>(
     wanted: Option<&Ticket<A>>,
@@ -120,6 +125,6 @@ pub fn compare_tickets<A: Allocator, B: Allocator>(
     if is_right {
         Ok(())
     } else {
-        Err(Difference::Ticket(number_of(wanted), number_of(ticket)))
+        Err(Difference::Ticket)
     }
 }

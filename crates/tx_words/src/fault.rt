@@ -7,7 +7,7 @@ use clap::error::ErrorKind;
 use std::alloc::{AllocError, AllocFailed};
 
 /// Why the words give no command.
-#[derive(Debug, Drop)]
+#[derive(Drop)]
 pub enum WordsFault {
     /// The words are refused, or ask for help or for the version.
     Clap(clap::Error),

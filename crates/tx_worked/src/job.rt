@@ -46,7 +46,7 @@ pub(crate) struct Task<'a> {
 }
 
 /// One of the sources of a task.
-#[derive(Clone, Copy, PartialEq, Eq)]
+#[derive(Clone, Copy)]
 pub(crate) enum End {
     First,
     Second,
