@@ -168,6 +168,14 @@ module _ {A : Type 0} (p : Plan) (calls : Vec (OpenCall A) A) (tickets : Vec End
     out_all = w.out_all;
   }
 
+  -- other failed groups
+  pub whole_failed : (failed' : Groups) → failed'.groups ≡ failed.groups → IsWhole p calls tickets failed' blocked releasing out numbers
+  whole_failed failed' e = record { rules = w.rules; room = w.room; held = w.held; hops = w.hops; failed_all = e ∙ w.failed_all; blocked_all = w.blocked_all; releasing_all = w.releasing_all; out_all = w.out_all }
+
+  -- other blocked groups
+  pub whole_blocked : (blocked' : Groups) → blocked'.groups ≡ blocked.groups → IsWhole p calls tickets failed blocked' releasing out numbers
+  whole_blocked blocked' e = record { rules = w.rules; room = w.room; held = w.held; hops = w.hops; failed_all = w.failed_all; blocked_all = e ∙ w.blocked_all; releasing_all = w.releasing_all; out_all = w.out_all }
+
   -- other circuits out
   pub whole_out : (out' : Circuits) → out'.groups ≡ out.groups → IsWhole p calls tickets failed blocked releasing out' numbers
   whole_out out' e = record { rules = w.rules; room = w.room; held = w.held; hops = w.hops; failed_all = w.failed_all; blocked_all = w.blocked_all; releasing_all = w.releasing_all; out_all = e ∙ w.out_all }

@@ -85,7 +85,6 @@ impl<'p, A: Allocator + Copy> Plain<'p, A> {
     }
 
     /// A line goes out of order.
-    #[tactic(auto, using(tx_entries::proofs::Named::line_put))]
     pub(crate) fn line_fault(&mut self, line: Line) -> Result<Reply, NoMemory>
         requires events { self.old.state.events < 2 ^ 64 - 1 }
         ensures plan { self.new.plan ≡ self.old.plan }
@@ -98,7 +97,6 @@ impl<'p, A: Allocator + Copy> Plain<'p, A> {
     }
 
     /// A line goes away.
-    #[tactic(auto, using(tx_entries::proofs::Named::line_put))]
     pub(crate) fn line_away(&mut self, line: Line) -> Result<Reply, NoMemory>
         requires events { self.old.state.events < 2 ^ 64 - 1 }
         ensures plan { self.new.plan ≡ self.old.plan }
