@@ -9,3 +9,5 @@ pub mod Confirming
 pub mod HeadOn
 pub mod Lost
 pub mod Taken
+pub mod Marking
+pub mod Accepting
