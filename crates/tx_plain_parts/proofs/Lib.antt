@@ -4,3 +4,4 @@ pub mod Sweeps
 pub mod Sweeping
 pub mod Giving
 pub mod LineSets
+pub mod Finding

@@ -1,7 +1,7 @@
 -- Calls that are changed in place.
-use Rattle.std.proofs.Common.{◌≡◌, ℕ, zero, suc, [], ◌∷◌, ◌+◌, ◌<◌, ◌≤◌, List, ◌++◌, inl, inr, map, take, drop, length, get_or, ap, sym, ◌∙◌, arith, subst, add-one}
+use Rattle.std.proofs.Common.{◌≡◌, ℕ, zero, suc, [], ◌∷◌, ◌+◌, ◌<◌, ◌≤◌, List, ◌++◌, inl, inr, map, take, drop, length, get_or, ap, sym, ◌∙◌, arith, subst, add-one, refl}
 use Rattle.std.specs.Prelude.{slice_set}
-use Rattle.std.proofs.lemmas.List.{length-set, take_all}
+use Rattle.std.proofs.lemmas.List.{length-set, take_all, drop_all, append-nil}
 use Rattle.tx_plan.proofs.Among.{among_at}
 use Rattle.tx_state.specs.Call.{Call}
 use Rattle.tx_plan.specs.Among.{Among}
@@ -92,3 +92,20 @@ swept_step F old at now x y h is inv seen' room' = record {
   room = λ r c m. elim (mem_set now at y c m) [ inl e ↦ subst HasRoom e (room' (inv.room r x (among_at now at x h is))) | inr o ↦ inv.room r c o ];
   within = subst (λ k. at + 1 ≤ k) (sym (length-set now at y)) (omega arith);
 }
+
+-- before the first call
+pub reserving_none : {A : Type 0} (n : ℕ) (old : List (OpenCall A)) → IsReserving n old 0 old
+reserving_none n old = record { seen = refl; len = refl; room = λ r. r; ready = λ c m. absurd m; within = omega arith }
+
+pub changing_none : {A : Type 0} (n : ℕ) (change : Change) (old : List (OpenCall A)) → ((c : OpenCall A) → Among c old → IsReady n c) → IsChanging n change old 0 old
+changing_none n change old ready' = record { seen = refl; len = refl; room = λ r. r; ready = ready'; within = omega arith }
+
+pub sweeping_none : {A : Type 0} (F : Call → Call) (old : List (OpenCall A)) → IsSweeping F old 0 old
+sweeping_none F old = record { seen = refl; len = refl; room = λ r. r; within = omega arith }
+
+-- past the last call
+pub swept_all : {A : Type 0} (F : Call → Call) (old : List (OpenCall A)) (at : ℕ) (now : List (OpenCall A)) → map call_seen (take at now) ++ map F (map call_seen (drop at now)) ≡ map F (map call_seen old) → length now ≤ at → map call_seen now ≡ map F (map call_seen old)
+swept_all F old at now seen past =
+    sym (append-nil (map call_seen now))
+    ∙ (λ i. map call_seen (sym (take_all at now past) i) ++ map F (map call_seen (sym (drop_all at now past) i)))
+    ∙ seen
