@@ -1,11 +1,15 @@
 -- What the loops of the code keep.
-use Rattle.std.proofs.Common.{◌≡◌, ℕ, zero, suc, ◌+◌, ◌-◌, ◌<◌, Bool, true, false, List, [], ◌∷◌, length, drop, Option, Some, None, Result, Ok, Err, refl, sym, ap, ◌∙◌, arith}
+use Rattle.std.proofs.Common.{◌≡◌, ℕ, zero, suc, ◌+◌, ◌-◌, ◌<◌, ◌≤◌, Bool, true, false, List, [], ◌∷◌, length, drop, ◌++◌, map, take, get_or, Option, Some, None, Result, Ok, Err, refl, sym, ap, ◌∙◌, arith}
 use Rattle.std.specs.Prelude.{find, slice_get, is_some, IfOk}
-use Rattle.std.specs.List.{range_with_len}
+use Rattle.std.specs.List.{range_with_len, AllByRecursion}
+use Rattle.std.proofs.lemmas.List.{append_assoc, append-nil, drop_all, map_more}
+use Rattle.std.proofs.lemmas.Option.{slice_get_read}
 use Rattle.std.specs.Option.{option_map, IfSome}
 use Rattle.tx_plan.specs.Plan.{Plan}
 use Rattle.tx_state.specs.declared.event.Event.{Event}
-use Rattle.tx_counter.specs.Counter.{is_single, turns_on_one}
+use Rattle.tx_state.proofs.Lists.{at_place}
+use Rattle.tx_plan.specs.Routes.{route_list}
+use Rattle.tx_counter.specs.Counter.{is_single, turns_on_one, step_events, walk_events}
 
 pub drop_at : {A : Type 0} (xs : List A) (i : ℕ) (x : A) → slice_get xs i ≡ Some x → drop i xs ≡ x ∷ drop (i + 1) xs
 drop_at xs i x h = at xs i h ∙ (let e : suc i ≡ i + 1 = omega arith in ap (λ k. x ∷ drop k xs) e)
@@ -14,6 +18,32 @@ drop_at xs i x h = at xs i h ∙ (let e : suc i ≡ i + 1 = omega arith in ap (�
     at [] i h = let bad : ⊥ = cc in absurd bad
     at (y ∷ ys) zero h = let e : y ≡ x = cc in ap (λ z. z ∷ ys) e
     at (y ∷ ys) (suc i) h = at ys i h
+
+-- one of a list of which all are so
+pub one_of_all : {A : Type 0} (P : A → Type 0) (xs : List A) (i : ℕ) (x : A) → AllByRecursion P xs → i < length xs → x ≡ get_or xs i x → P x
+one_of_all P xs i x all low is = at_place P xs all i x (slice_get_read xs (length xs) i x refl low is)
+
+-- one more event, of one more thing
+pub one_pushed : {A B : Type 0} (f : A → B) (xs : List A) (i : ℕ) (x : A) (start old new : List B) → i < length xs → x ≡ get_or xs i x → old ≡ start ++ map f (take i xs) → new ≡ old ++ f x ∷ [] → new ≡ start ++ map f (take (i + 1) xs)
+one_pushed f xs i x start old new low is was now =
+    now
+    ∙ ap (λ l. l ++ f x ∷ []) was
+    ∙ append_assoc start (map f (take i xs)) (f x ∷ [])
+    ∙ ap (λ l. start ++ l) (ap (λ y. map f (take i xs) ++ f y ∷ []) is ∙ sym (map_more f xs i x low))
+
+-- the call has gone one step further
+module _ (p : Plan) (code at : ℕ) (steps : List (ℕ × ℕ)) (i : ℕ) (all old : List Event) (was : all ≡ old ++ walk_events p code at (drop i steps)) where
+  pub one_step_on : (s : ℕ × ℕ) (list : List ℕ) (new : List Event) → i < length steps → s ≡ get_or steps i s → list ≡ route_list p at code → new ≡ old ++ step_events list s.0 → all ≡ new ++ walk_events p code s.1 (drop (i + 1) steps)
+  one_step_on s list new low is listed now =
+      let rest = walk_events p code s.1 (drop (i + 1) steps) in
+      was
+      ∙ ap (λ l. old ++ walk_events p code at l) (drop_at steps i s (slice_get_read steps (length steps) i s refl low is))
+      ∙ sym (append_assoc old (step_events (route_list p at code) s.0) rest)
+      ∙ ap (λ l. (old ++ step_events l s.0) ++ rest) (sym listed)
+      ∙ ap (λ l. l ++ rest) (sym now)
+
+  pub all_stepped : length steps ≤ i → old ≡ all
+  all_stepped past = sym (was ∙ ap (λ l. old ++ walk_events p code at l) (drop_all i steps past) ∙ append-nil old)
 
 module _ {A : Type 0} (t : A → Bool) (xs : List A) (i : ℕ) (x : A) (h : slice_get xs i ≡ Some x) where
   pub find_here : t x ≡ true → find t (drop i xs) ≡ Some x
