@@ -61,9 +61,12 @@ module _ {A : Type 0} (words : A → List (List ℕ)) where
   pub line_past : (xs : List A) (i : ℕ) → slice_get xs i ≡ None → line_at words xs i ≡ []
   line_past xs i e = rw e refl
 
+regroup : (a b c d e f end : List ℕ) → a ++ (b ++ (c ++ (d ++ (e ++ (f ++ end))))) ≡ (a ++ (b ++ c)) ++ ((d ++ (e ++ f)) ++ end)
+regroup a b c d e f end = simp append_assoc
+
 -- the text of a plan, list by list
-pub plan_cut : (p : Plan) → plan_written p ≡ line_written (head_of (has_bars p)) ++ (lines_of_list exchange_words p.exchanges ++ (lines_of_list (code_words p) p.codes ++ (lines_of_list (range_words p) p.ranges
-    ++ (lines_of_list (group_words p) p.groups ++ (lines_of_list (route_words p) p.routes ++ (lines_of_list (bar_words p) p.bars ++ codes "END\n"))))))
+pub plan_cut : (p : Plan) → plan_written p ≡ line_written (head_of (has_bars p)) ++ ((lines_of_list exchange_words p.exchanges ++ (lines_of_list (code_words p) p.codes ++ lines_of_list (range_words p) p.ranges))
+    ++ ((lines_of_list (group_words p) p.groups ++ (lines_of_list (route_words p) p.routes ++ lines_of_list (bar_words p) p.bars)) ++ codes "END\n"))
 plan_cut p =
     let end = codes "END\n" in
     ap (λ (l : List ℕ). line_written (head_of (has_bars p)) ++ l)
@@ -72,7 +75,8 @@ plan_cut p =
     ∙ ap (λ (l : List ℕ). lines_of_list (code_words p) p.codes ++ l) (lines_first (range_words p) p.ranges _ end
     ∙ ap (λ (l : List ℕ). lines_of_list (range_words p) p.ranges ++ l) (lines_first (group_words p) p.groups _ end
     ∙ ap (λ (l : List ℕ). lines_of_list (group_words p) p.groups ++ l) (lines_first (route_words p) p.routes (map (bar_words p) p.bars) end
-    ∙ ap (λ (l : List ℕ). lines_of_list (route_words p) p.routes ++ l) (lines_last (bar_words p) p.bars end))))))
+    ∙ ap (λ (l : List ℕ). lines_of_list (route_words p) p.routes ++ l) (lines_last (bar_words p) p.bars end)))))
+    ∙ regroup (lines_of_list exchange_words p.exchanges) (lines_of_list (code_words p) p.codes) (lines_of_list (range_words p) p.ranges) (lines_of_list (group_words p) p.groups) (lines_of_list (route_words p) p.routes) (lines_of_list (bar_words p) p.bars) end)
 
 -- ---- one line
 

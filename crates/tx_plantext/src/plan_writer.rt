@@ -30,13 +30,27 @@ fn write_whole<A: Allocator, W: Sink>(plan: &Plan<A>, sink: &mut W) -> Result<()
     ensures { Wrote (W.taken sink.old) (W.taken sink.new) (W.failed sink.old) (W.failed sink.new) (plan_written plan.now) result }
 {
     write_head(plan.bars() > 0, sink)?;
+    write_numbering(plan, sink)?;
+    write_routing(plan, sink)?;
+    write_text(&[b"END\n"], sink)
+}
+
+/// Writes the exchanges, the codes and the ranges of lines.
+fn write_numbering<A: Allocator, W: Sink>(plan: &Plan<A>, sink: &mut W) -> Result<(), WriteFault>
+    ensures { Wrote (W.taken sink.old) (W.taken sink.new) (W.failed sink.old) (W.failed sink.new) (lines_of_list exchange_words plan.now.exchanges ++ (lines_of_list (code_words plan.now) plan.now.codes ++ lines_of_list (range_words plan.now) plan.now.ranges)) result }
+{
     write_exchanges(plan, sink)?;
     write_codes(plan, sink)?;
-    write_ranges(plan, sink)?;
+    write_ranges(plan, sink)
+}
+
+/// Writes the groups, the routes and the bars.
+fn write_routing<A: Allocator, W: Sink>(plan: &Plan<A>, sink: &mut W) -> Result<(), WriteFault>
+    ensures { Wrote (W.taken sink.old) (W.taken sink.new) (W.failed sink.old) (W.failed sink.new) (lines_of_list (group_words plan.now) plan.now.groups ++ (lines_of_list (route_words plan.now) plan.now.routes ++ lines_of_list (bar_words plan.now) plan.now.bars)) result }
+{
     write_groups(plan, sink)?;
     write_routes(plan, sink)?;
-    write_bars(plan, sink)?;
-    write_text(&[b"END\n"], sink)
+    write_bars(plan, sink)
 }
 
 fn write_head<W: Sink>(bars: bool, sink: &mut W) -> Result<(), WriteFault>

@@ -1,7 +1,8 @@
 // Commands, and the words that ask for them.
 ghost use Rattle.std.specs.Prelude.{◌≡◌, ◌≢◌, ◌≤◌, ℕ, List, Option, [], Ok, Some, None, IfOk, IfErr, IfSome, is_some, not, codes, option_map, string_bytes};
-ghost use Rattle.clap.specs.Words.{Row, first_of, found_of, rows_of, subcommand_rows_of};
+ghost use Rattle.clap.specs.Words.{Row, app_of, first_of, found_of, rows_of, subcommand_rows_of};
 ghost use Rattle.tx_words.specs.Commands.{IsInRange, Names, Gives, Asks, AskFor, IsFoundIn};
+ghost use Rattle.tx_words.specs.Grammar.{program_words};
 ghost use Rattle.tx_words.specs.Faults.{HasNumber, IsRefusalIn, IsRefusalOf, status_of};
 
 use crate::fault::WordsFault;
@@ -268,6 +269,30 @@ fn no_command(grammar: &mut clap::Command<'_>) -> Result<WordsFault, AllocError>
     Ok(WordsFault::of_clap(e))
 }
 
+/// The command that stands in the words, which are not none, by the grammar of the program.
+fn command_in<'a>(
+    alloc: Global,
+    grammar: &mut clap::Command<'a>,
+    words: &'a [&str],
+) -> Result<Command, WordsFault>
+    requires { app_of grammar.old ≡ program_words }
+    ensures in_range { IfOk result IsInRange }
+    ensures asked { IfOk result (AskFor words.now) }
+    ensures refused { IfErr result (IsRefusalOf words.now) }
+{
+    let matches = match grammar.try_get_matches_from_mut(words) {
+        Ok(matches) => matches,
+        Err(e) => return Err(WordsFault::of_clap(e)),
+    };
+    let found = found_command(alloc, &matches);
+    drop(matches);
+    match found {
+        Ok(Some(command)) => Ok(command),
+        Ok(None) => Err(no_command(grammar)?),
+        Err(fault) => Err(fault),
+    }
+}
+
 /// Reads the words after the program's name. `Err` is refused words, a request for help or for the version, or want of memory.
 pub fn read_command(alloc: Global, words: &[&str]) -> Result<Command, WordsFault>
     ensures in_range { IfOk result IsInRange }
@@ -279,12 +304,5 @@ pub fn read_command(alloc: Global, words: &[&str]) -> Result<Command, WordsFault
         return Ok(Command::Pipe);
     }
     let mut grammar = grammar(alloc)?;
-    let matches = match grammar.try_get_matches_from_mut(words) {
-        Ok(matches) => matches,
-        Err(e) => return Err(WordsFault::of_clap(e)),
-    };
-    match found_command(alloc, &matches)? {
-        Some(command) => Ok(command),
-        None => Err(no_command(&mut grammar)?),
-    }
+    command_in(alloc, &mut grammar, words)
 }
