@@ -7,8 +7,9 @@
 Runs each example of examples/list with a built program (crates/telexplan/out/telexplan where none is named), in a folder of its own, and compares what it prints,
 its exit status and the files that it makes with what stands in examples/. Then checks README.md and docs/FORMATS.md: each block there says, in a comment before
 it, what it shows, and has to show just that; the table of codes has to be the program's and to have the codes of the definitions, the map of the crates has to be that
-of crates.txt, what the pages name has to be there, each link of theirs has to lead to a file and a heading that are there, and the players of the gate, crates/tx_worked,
-crates/tx_ends and crates/tx_pictures, have to have the examples and the pictures as they stand. Prints a line for each difference; the status is 1 if there is one.
+of crates.txt, what the pages name has to be there, each link of theirs has to lead to a file and a heading that are there, the players of the gate, crates/tx_worked and
+crates/tx_ends, have to have the examples and the pictures as they stand, and all pictures of the plans of crates/tx_worked have to be ones that can be read. Prints a line
+for each difference; the status is 1 if there is one.
 
 --pages runs nothing: it checks the pages and the players' cases alone. Each example is such a case, and the gate plays them, so the pages then show what the
 program prints.
@@ -129,14 +130,60 @@ def images():
     return in_examples(".svg")
 
 
-def check_pictures(tell):
-    """Each picture is one that the player of pictures prints, and has its image beside it."""
-    printed = read("crates/tx_pictures/stdout")
+def check_images(tell):
+    """Each picture is one that the player of worked examples prints, and has its image beside it."""
+    printed = read("crates/tx_worked/stdout")
     for it in sorted(in_examples(".dot")):
         if b"\n" + read(it) not in printed:
-            tell(f"{it}: the player of pictures does not print it")
+            tell(f"{it}: the player of worked examples does not print it")
         if it.replace(".dot", ".svg") not in images():
             tell(f"{it}: it has no image")
+
+
+def texts_by_head(path):
+    """What stands behind each line `=== HEAD` of a file."""
+    return dict(it.split("\n", 1) for it in re.split(r"(?m)^=== ", read(path).decode("latin-1"))[1:])
+
+
+def lines_wanted(plan):
+    """How each line for an exchange, a group or a place of a list begins: in the picture of a plan, and in that of each code."""
+    said = [it.partition("#")[0].split() for it in plan.splitlines()]
+    of = lambda verb: [it[1:] for it in said if it[:1] == [verb]]
+    line = lambda a, b, label: f'"{a}" -> "{b}" [label="{label}'
+    ends = {name: (a, b) for name, a, b, *_ in of("GROUP")}
+    other = lambda group, x: ends[group][ends[group][0] == x]
+    boxes = [f'"{x}" [label="{x}' for (x,) in of("EXCHANGE")]
+    yield boxes + [line(a, b, f"{name} ") for name, (a, b) in ends.items()]
+    for code, _ in of("CODE"):
+        lists = [(x, groups) for x, c, *groups in of("ROUTE") if c == code]
+        yield boxes + [line(x, other(group, x), f'{order + 1} {group}"') for x, groups in lists for order, group in enumerate(groups)]
+
+
+def faults_of_picture(picture, wanted):
+    """What is wrong with a picture: its braces and the quotes of each line balance, and it has one line for each that is wanted, and no others of their kind."""
+    if (picture.count("{"), picture.count("}")) != (1, 1):
+        yield "not one pair of braces"
+    lines = picture.splitlines()
+    if any(it.count('"') % 2 for it in lines):
+        yield "quotes that do not balance"
+    drawn = [it for it in lines if it.startswith('"')]
+    if len(drawn) != len(wanted):
+        yield f"{len(drawn)} lines and not {len(wanted)}"
+    yield from (f"not one line {it}" for it in wanted if sum(at.startswith(it) for at in drawn) != 1)
+
+
+def check_pictures(tell):
+    """For each case of all pictures of a plan, what must be printed is one picture of the plan and one of each code, and each can be read."""
+    printed = texts_by_head("crates/tx_worked/stdout")
+    for head, plan in texts_by_head("crates/tx_worked/data/cases").items():
+        if head.split()[1] != "pictures":
+            continue
+        wanted, pictures = list(lines_wanted(plan)), printed[head].split("digraph")[1:]
+        if len(pictures) != len(wanted):
+            tell(f"crates/tx_worked: {head} has {len(pictures)} pictures and not {len(wanted)}")
+        for n, (picture, lines) in enumerate(zip(pictures, wanted)):
+            for fault in faults_of_picture(picture, lines):
+                tell(f"crates/tx_worked: picture {n + 1} of {head}: {fault}")
 
 
 def write_examples(program):
@@ -441,6 +488,7 @@ def main(words):
     check_links(told.append)
     check_map(told.append)
     check_cases(told.append)
+    check_images(told.append)
     check_pictures(told.append)
     check_ends(told.append)
     print("".join(f"{it}\n" for it in told) + f"{len(examples())} examples, {len(told)} differences")

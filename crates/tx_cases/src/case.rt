@@ -1,4 +1,6 @@
 // The cases of a file, and their lines and numbers.
+ghost use Rattle.std.specs.Prelude.{◌≤◌, length};
+
 use memchr::{memchr, memmem};
 use tx_text::{Words, number};
 
@@ -15,47 +17,71 @@ pub fn next_line(text: &[u8]) -> Option<(&[u8], &[u8])> {
         return None;
     }
     match memchr(b'\n', text) {
-        Some(end) => {
-            let (line, rest) = text.split_at_checked(end)?;
-            Some((line, rest.strip_prefix(b"\n".as_slice())?))
-        }
-        None => Some((text, b"".as_slice())),
+        Some(end) => Some((&text[..end], &text[end + 1..])),
+        None => Some((text, b"")),
     }
 }
 
 /// The next case, which begins with a line `=== HEAD`, and what stands behind it.
 pub fn next_case(text: &[u8]) -> Option<(Case<'_>, &[u8])> {
-    let text = text.strip_prefix(b"=== ".as_slice())?;
-    let (head, rest) = text.split_at_checked(memchr(b'\n', text)?)?;
-    let end = match memmem::find(rest, b"\n=== ") {
-        Some(end) => end.saturating_add(1),
-        None => rest.len(),
+    if !text.starts_with(b"=== ") {
+        return None;
+    }
+    let Some((head, rest)) = next_line(&text[4..]) else {
+        return None;
     };
-    let (texts, more) = rest.split_at_checked(end)?;
-    let texts = texts.strip_prefix(b"\n".as_slice())?;
-    Some((Case { head, texts }, more))
+    let end = texts_len(rest);
+    Some((
+        Case {
+            head,
+            texts: &rest[..end],
+        },
+        &rest[end..],
+    ))
+}
+
+/// How long the texts of a case are.
+fn texts_len(texts: &[u8]) -> usize
+    ensures { result ≤ length texts.now }
+{
+    if texts.starts_with(b"=== ") {
+        return 0;
+    }
+    match memmem::find(texts, b"\n=== ") {
+        Some(end) => end + 1,
+        None => texts.len(),
+    }
 }
 
 /// The texts before and behind the first line `---`.
 pub fn two_texts(texts: &[u8]) -> (&[u8], &[u8]) {
     match memmem::find(texts, b"---\n") {
-        Some(cut) => {
-            let (first, rest) = texts.split_at(cut.min(texts.len()));
-            (
-                first,
-                rest.strip_prefix(b"---\n".as_slice()).unwrap_or(rest),
-            )
-        }
-        None => (texts, b"".as_slice()),
+        Some(cut) => (&texts[..cut], &texts[cut + 4..]),
+        None => (texts, b""),
     }
 }
 
 /// The number of the next word, and 0 where it is none.
 pub fn next_number(words: &mut Words<'_>, most: u32) -> u32 {
     match words.next() {
-        Some(word) => number(word, most).unwrap_or(0),
+        Some(word) => number_of(word, most),
         None => 0,
     }
+}
+
+/// The number that a word says, and 0 where it says none.
+pub fn number_of(word: &[u8], most: u32) -> u32 {
+    number(word, most).unwrap_or(0)
+}
+
+/// The number that figures say, or the greatest.
+pub fn long_number(word: &[u8]) -> u64 {
+    let mut number = 0u64;
+    for figure in word {
+        let figure = u64::from(figure.saturating_sub(b'0'));
+        number = number.saturating_mul(10).saturating_add(figure);
+    }
+    number
 }
 
 /// What a table has for a word, if the word stands there.

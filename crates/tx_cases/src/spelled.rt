@@ -3,17 +3,25 @@ use crate::case::next_number;
 use itoa::Buffer;
 use memchr::memchr;
 use std::alloc::Allocator;
-use tx_text::{NoMemory, words};
+use tx_text::{NoMemory, Words, words};
+
+/// What stands before a byte and behind it.
+fn cut(text: &[u8], byte: u8) -> Option<(&[u8], &[u8])> {
+    match memchr(byte, text) {
+        Some(end) => Some((&text[..end], &text[end + 1..])),
+        None => None,
+    }
+}
 
 /// What stands before the next mark `{..}`, the mark, and what stands behind it.
 fn next_mark(text: &[u8]) -> Option<(&[u8], &[u8], &[u8])> {
-    let (before, rest) = text.split_at_checked(memchr(b'{', text)?)?;
-    let (mark, rest) = rest.split_at_checked(memchr(b'}', rest)?)?;
-    Some((
-        before,
-        mark.strip_prefix(b"{".as_slice())?,
-        rest.strip_prefix(b"}".as_slice())?,
-    ))
+    match cut(text, b'{') {
+        Some((before, rest)) => match cut(rest, b'}') {
+            Some((mark, behind)) => Some((before, mark, behind)),
+            None => None,
+        },
+        None => None,
+    }
 }
 
 /// Adds the bytes of a text of the file, in which `{13}` stands for the byte of that number, `{35 512}` for 512 of them, `{}` for a line that goes on, and
@@ -26,14 +34,19 @@ pub fn spell<A: Allocator>(text: &[u8], bytes: &mut Vec<u8, A>) -> Result<(), No
         };
         bytes.extend_from_slice(before)?;
         put_mark(mark, bytes)?;
-        rest = if mark.is_empty() {
-            behind.strip_prefix(b"\n".as_slice()).unwrap_or(behind)
-        } else {
-            behind
-        };
+        rest = behind_mark(mark, behind);
     }
     bytes.extend_from_slice(rest)?;
     Ok(())
+}
+
+/// What stands behind a mark: without its LF, where the line goes on.
+fn behind_mark<'a>(mark: &[u8], behind: &'a [u8]) -> &'a [u8] {
+    if mark.is_empty() && behind.starts_with(b"\n") {
+        &behind[1..]
+    } else {
+        behind
+    }
 }
 
 /// Adds the bytes of a mark: none, a byte's number and how often it stands, or `lines`, two numbers, and a line that stands once for each number between
@@ -74,15 +87,29 @@ fn put_line<A: Allocator>(
     bytes: &mut Vec<u8, A>,
 ) -> Result<(), NoMemory> {
     let mut digits = Buffer::new();
-    let number = digits.format(number).as_bytes();
+    put_words(line_words(mark), digits.format(number).as_bytes(), bytes)?;
+    bytes.push(b'\n')?;
+    Ok(())
+}
+
+/// The words of a mark's line.
+fn line_words(mark: &[u8]) -> Words<'_> {
     let mut line = words(mark);
     let _from = line.next();
     let _to = line.next();
+    line
+}
+
+/// Adds words, each with a blank behind it.
+fn put_words<A: Allocator>(
+    line: Words<'_>,
+    number: &[u8],
+    bytes: &mut Vec<u8, A>,
+) -> Result<(), NoMemory> {
     for word in line {
         put_word(word, number, bytes)?;
         bytes.push(b' ')?;
     }
-    bytes.push(b'\n')?;
     Ok(())
 }
 

@@ -58,6 +58,28 @@ fn put_events<A: Allocator, B: Allocator, W: Sink>(
     }
 }
 
+fn tell_replies<A: Allocator, W: Sink>(plan: &Plan<A>, replies: &[Reply], out: &mut W) {
+    for reply in replies {
+        let _ = write_reply(reply, plan, out);
+    }
+}
+
+/// Writes the network's next ticket, and tells whether it had one.
+fn tell_next_ticket<A: Allocator, N: Network, W: Sink>(
+    plan: &Plan<A>,
+    net: &mut N,
+    out: &mut W,
+) -> bool {
+    match net.next_ticket() {
+        Some(ticket) => {
+            let _ = write_ticket(&ticket, plan, out);
+            drop(ticket);
+            true
+        }
+        None => false,
+    }
+}
+
 /// Writes the replies, then the tickets, and then how many events were accepted and calls are open.
 fn tell_driven<A: Allocator, N: Network, W: Sink>(
     plan: &Plan<A>,
@@ -65,14 +87,11 @@ fn tell_driven<A: Allocator, N: Network, W: Sink>(
     replies: &[Reply],
     out: &mut W,
 ) {
-    for reply in replies {
-        let _ = write_reply(reply, plan, out);
-    }
+    tell_replies(plan, replies, out);
     for _ in 0..=replies.len() {
-        let Some(ticket) = net.next_ticket() else {
+        if !tell_next_ticket(plan, net, out) {
             break;
-        };
-        let _ = write_ticket(&ticket, plan, out);
+        }
     }
     tell_count(b"END EVENTS ", net.events(), b"", out);
     tell_count(b" OPEN ", net.open_calls(), b"\n", out);
@@ -92,54 +111,31 @@ fn drive_events<A: Allocator, N: Network, B: Allocator, W: Sink>(
     }
 }
 
-/// Tells what events that were played on the engine came to, and keeps their replies.
-fn tell_played<A: Allocator + Copy, B: Allocator, W: Sink>(
-    plan: &Plan<A>,
-    played: &Played<'_, A>,
-    replies: &mut Vec<Reply, B>,
-    out: &mut W,
-) {
-    if replies
-        .extend_from_slice(played.replies.as_slice())
-        .is_err()
-    {
-        tell_broken(b"no memory", 0, out);
-    }
-    for reply in played.replies.as_slice() {
-        let _ = write_reply(reply, plan, out);
-    }
-    for ticket in played.tickets.as_slice() {
-        let _ = write_ticket(ticket, plan, out);
-    }
-    tell_count(b"END EVENTS ", played.network.events(), b"", out);
-    tell_count(b" OPEN ", played.network.open_calls(), b"\n", out);
-}
-
-/// The same through a new network of the plan.
-fn drive_over<A: Allocator + Copy, W: Sink>(
+/// The same through a new plain network of the plan.
+fn drive_plain<A: Allocator + Copy, W: Sink>(
     alloc: A,
-    over: Over,
     plan: &Plan<A>,
     events: &[Event],
     replies: &mut Vec<Reply, A>,
     out: &mut W,
 ) {
-    match over {
-        Over::Plain => match Plain::new(alloc, plan) {
-            Ok(mut net) => {
-                drive_events(plan, &mut net, events, replies, out);
-                drop(net);
-            }
-            Err(NoMemory) => tell_broken(b"no memory", 0, out),
-        },
-        Over::Engine => match play(alloc, plan, 0, 0, events) {
-            Ok(played) => {
-                tell_played(plan, &played, replies, out);
-                drop(played);
-            }
-            Err(NoMemory) => tell_broken(b"no memory", 0, out),
-        },
+    match Plain::new(alloc, plan) {
+        Ok(mut net) => {
+            drive_events(plan, &mut net, events, replies, out);
+            drop(net);
+        }
+        Err(NoMemory) => tell_broken(b"no memory", 0, out),
     }
+}
+
+/// Tells what events that were played on the engine came to.
+fn tell_played<A: Allocator + Copy, W: Sink>(plan: &Plan<A>, played: &Played<'_, A>, out: &mut W) {
+    tell_replies(plan, played.replies.as_slice(), out);
+    for ticket in played.tickets.as_slice() {
+        let _ = write_ticket(ticket, plan, out);
+    }
+    tell_count(b"END EVENTS ", played.network.events(), b"", out);
+    tell_count(b" OPEN ", played.network.open_calls(), b"\n", out);
 }
 
 /// Whether the checker says Yes to a certificate of the plan.
@@ -168,19 +164,43 @@ struct Texts<'a> {
     script: &'a [u8],
 }
 
-/// Drives the events, and again where memory is refused.
-fn drive_all<A: Allocator + Copy, W: Sink>(
+/// Drives the events through a plain network, and again where memory is refused.
+fn drive_over_plain<A: Allocator + Copy, W: Sink>(
     alloc: A,
-    over: Over,
     plan: &Plan<A>,
     text: &[u8],
     events: &[Event],
     out: &mut W,
 ) {
     let mut replies = Vec::new(alloc);
-    drive_over(alloc, over, plan, events, &mut replies, out);
-    try_drives(alloc, over, text, events, replies.as_slice(), out);
+    drive_plain(alloc, plan, events, &mut replies, out);
+    try_drives(alloc, Over::Plain, text, events, replies.as_slice(), out);
     drop(replies);
+}
+
+/// Plays the events on the engine, and drives them again where memory is refused.
+fn play_on_engine<A: Allocator + Copy, W: Sink>(
+    alloc: A,
+    plan: &Plan<A>,
+    text: &[u8],
+    events: &[Event],
+    out: &mut W,
+) {
+    match play(alloc, plan, 0, 0, events) {
+        Ok(played) => {
+            tell_played(plan, &played, out);
+            try_drives(
+                alloc,
+                Over::Engine,
+                text,
+                events,
+                played.replies.as_slice(),
+                out,
+            );
+            drop(played);
+        }
+        Err(NoMemory) => tell_broken(b"no memory", 0, out),
+    }
 }
 
 /// Drives the events of the script.
@@ -193,7 +213,10 @@ fn drive_script<A: Allocator + Copy, W: Sink>(
 ) {
     let mut events = Vec::new(alloc);
     put_events(plan, texts.script, &mut events, out);
-    drive_all(alloc, over, plan, texts.plan, events.as_slice(), out);
+    match over {
+        Over::Plain => drive_over_plain(alloc, plan, texts.plan, events.as_slice(), out),
+        Over::Engine => play_on_engine(alloc, plan, texts.plan, events.as_slice(), out),
+    }
     drop(events);
 }
 

@@ -1,7 +1,7 @@
 // What the head of a case says.
 use crate::job::Job;
-use tx_cases::named;
-use tx_text::{number, words};
+use tx_cases::{named, number_of};
+use tx_text::words;
 
 /// What is done with a job.
 #[derive(Clone, Copy)]
@@ -41,21 +41,6 @@ pub(crate) fn head_of(head: &[u8]) -> Head<'_> {
     }
 }
 
-/// The number that a word says, and 0 where it says none.
-pub(crate) fn number_of(word: &[u8], most: u32) -> u32 {
-    number(word, most).unwrap_or(0)
-}
-
-/// The number that figures say, or the greatest.
-pub(crate) fn long_number(word: &[u8]) -> u64 {
-    let mut number = 0u64;
-    for figure in word {
-        let figure = u64::from(figure.saturating_sub(b'0'));
-        number = number.saturating_mul(10).saturating_add(figure);
-    }
-    number
-}
-
 /// The limit and the spare number of a case.
 pub(crate) fn limit_and_spare(head: Head<'_>) -> (u8, u8) {
     let limit = number_of(head.first, 62).min(62) as u8;
@@ -64,18 +49,18 @@ pub(crate) fn limit_and_spare(head: Head<'_>) -> (u8, u8) {
 }
 
 /// A picture: of a plan, or of a code, with a limit and a spare number behind it or without.
-fn drawing_of(head: Head<'_>) -> Job {
-    if head.first.is_empty() {
+pub(crate) fn drawing_of(code: &[u8], limit: &[u8], spare: &[u8]) -> Job {
+    if code.is_empty() {
         return Job::Draw;
     }
-    let code = number_of(head.first, 9999).min(9999) as u16;
-    if head.second.is_empty() {
+    let code = number_of(code, 9999).min(9999) as u16;
+    if limit.is_empty() {
         return Job::DrawCode { code };
     }
     Job::DrawFinding {
         code,
-        limit: number_of(head.second, 62).min(62) as u8,
-        spare: number_of(head.third, 15).min(15) as u8,
+        limit: number_of(limit, 62).min(62) as u8,
+        spare: number_of(spare, 15).min(15) as u8,
     }
 }
 
@@ -97,7 +82,7 @@ pub(crate) fn job_of(head: Head<'_>) -> Option<Job> {
     } else if head.kind == b"checked".as_slice() {
         Some(Job::Checked { limit, spare })
     } else if head.kind == b"draw".as_slice() {
-        Some(drawing_of(head))
+        Some(drawing_of(head.first, head.second, head.third))
     } else {
         None
     }

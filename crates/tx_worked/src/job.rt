@@ -5,7 +5,7 @@ use itoa::Buffer;
 use refusing::Refusing;
 use std::alloc::Allocator;
 use tx_audit::write_counter;
-use tx_cases::Judge;
+use tx_cases::{Judge, two_texts};
 use tx_cert::write_cert;
 use tx_jobs::{
     Evidence, JobFault, check_status, codes_job, draw_job, evidence_job, grade_status, pipe_job,
@@ -43,6 +43,20 @@ pub(crate) struct Task<'a> {
     pub first: &'a [u8],
     pub second: &'a [u8],
     pub third: &'a [u8],
+}
+
+/// A job and its texts. That of a checked run has its second and third text in one.
+pub(crate) fn task_of<'a>(job: Job, first: &'a [u8], rest: &'a [u8]) -> Task<'a> {
+    let (second, third) = match job {
+        Job::Checked { .. } => two_texts(rest),
+        _ => (rest, b"".as_slice()),
+    };
+    Task {
+        job,
+        first,
+        second,
+        third,
+    }
 }
 
 /// One of the sources of a task.

@@ -6,6 +6,7 @@
 //!   `check L K` a plan and a certificate, `checked L K` (a run after a Yes) these and a script. An audit writes behind its report the certificate that it
 //!   found, or the script of the first finding that has one. Each is played by sources of 1, 2, 7 and 4,096 bytes a call, which has to make no difference.
 //!   `draw`, `draw CODE` and `draw CODE L K` have a plan.
+//! - `pictures` and `pictures L K` have a plan, which is drawn, and each of its codes, with the walk of the code's first finding where there are numbers.
 //! - `each-end` before such a kind also refuses each request for memory, gives each smaller room, and makes each call of each source fail. The lines with
 //!   `--` tell the exit status, the calls of the sources at one byte a call, the bytes written, and what a run counted or the event where it stopped.
 //! - `prefixes` before such a kind plays each front of the last text, and tells the stretches of lengths at which the same happens.
@@ -21,7 +22,7 @@ mod driven;
 mod head;
 mod job;
 mod listings;
-mod outputs;
+mod pictures;
 mod play;
 mod run_laws;
 mod runs;

@@ -1,15 +1,18 @@
 // Plays a case by its kind.
 use crate::checked::play_certified;
-use crate::head::{Head, Mode, head_of, job_of, limit_and_spare, long_number, number_of};
-use crate::job::{Ends, Job, ROOM, Task, Whole, do_task};
+use crate::head::{Head, Mode, head_of, job_of, limit_and_spare};
+use crate::job::{Ends, Job, ROOM, Task, Whole, do_task, task_of};
 use crate::listings::{count_calls, list_prefixes};
+use crate::pictures::play_pictures;
 use crate::runs::{Over, Script, run_beside};
 use crate::trials::{try_ends, try_pieces, try_refusals};
 use crate::whole_runs::{Told, play_run};
 use crate::written::{play_cert, play_plan};
 use memchr::memmem;
 use std::alloc::Allocator;
-use tx_cases::{Case, Judge, spell, tell, tell_broken, tell_parts, two_texts};
+use tx_cases::{
+    Case, Judge, long_number, number_of, spell, tell, tell_broken, tell_parts, two_texts,
+};
 use tx_jobs::write_fault;
 use tx_text::{MemorySink, Sink};
 
@@ -33,6 +36,7 @@ fn play_texts<A: Allocator + Copy, W: Sink>(alloc: A, head: Head<'_>, texts: &[u
     match job_of(head) {
         Some(job) => play_task(alloc, task_of(job, first, second), head.mode, out),
         None if head.kind == b"plan".as_slice() => play_plan(alloc, texts, out),
+        None if head.kind == b"pictures".as_slice() => play_pictures(alloc, head, texts, out),
         None if head.kind == b"cert".as_slice() => play_cert(alloc, first, second, out),
         None => play_over_both(alloc, head, first, second, out),
     }
@@ -114,20 +118,6 @@ fn opening<'a>(over: Over, plan: &'a [u8], script: &'a [u8]) -> Script<'a> {
         numbers: 0,
         events: 0,
         over,
-    }
-}
-
-/// A job and its texts. That of a checked run has its second and third text in one.
-fn task_of<'a>(job: Job, first: &'a [u8], rest: &'a [u8]) -> Task<'a> {
-    let (second, third) = match job {
-        Job::Checked { .. } => two_texts(rest),
-        _ => (rest, b"".as_slice()),
-    };
-    Task {
-        job,
-        first,
-        second,
-        third,
     }
 }
 

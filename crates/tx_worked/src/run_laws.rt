@@ -1,9 +1,8 @@
 // The laws of a run: what is written, and which event is told, wherever an end fails or memory is refused.
 use crate::job::ROOM;
-use crate::outputs::{event_word, takes_memory, written_after};
 use crate::runs::{Ran, Script, WholeRun, run_beside, run_without, told_cause};
 use std::alloc::Allocator;
-use tx_cases::{tell, tell_broken, tell_count};
+use tx_cases::{event_word, takes_memory, tell, tell_broken, tell_count, written_after};
 use tx_jobs::JobFault;
 use tx_script::{RunCause, RunFault, Summary};
 use tx_text::Sink;

@@ -1,10 +1,10 @@
 // What the output and the script of a run tell of its events.
-use tx_cases::next_line;
+use crate::case::next_line;
 use tx_text::words;
 
 /// How many bytes of the output are that of the first so many events: their replies, each with the tickets behind it. The line END EVENTS counts as
 /// one more.
-pub(crate) fn written_after(output: &[u8], events: u64) -> usize {
+pub fn written_after(output: &[u8], events: u64) -> usize {
     let mut rest = output;
     let mut left = events;
     for _ in 0..output.len() {
@@ -23,7 +23,7 @@ pub(crate) fn written_after(output: &[u8], events: u64) -> usize {
 }
 
 /// The first word of the line that says an event of a script, counted from 1.
-pub(crate) fn event_word(script: &[u8], event: u64) -> &[u8] {
+pub fn event_word(script: &[u8], event: u64) -> &[u8] {
     let mut rest = script;
     let mut left = event;
     for _ in 0..script.len() {
@@ -42,7 +42,7 @@ pub(crate) fn event_word(script: &[u8], event: u64) -> &[u8] {
 }
 
 /// Whether an event of this first word takes memory: a call that is keyed or routed, and a line that gets a status.
-pub(crate) fn takes_memory(word: &[u8]) -> bool {
+pub fn takes_memory(word: &[u8]) -> bool {
     word == b"KEY".as_slice()
         || word == b"ROUTE".as_slice()
         || word == b"FAULT".as_slice()
