@@ -1,6 +1,6 @@
 -- A word's end, found in a block of bytes at once.
-use Rattle.std.proofs.Common.{◌≡◌, ℕ, ◌+◌, ◌*◌, ◌%◌, ◌^◌, ◌<◌, ◌≤◌, Bool, true, false, not, cond, eqb, ◌||◌, List, [], ◌∷◌, map, length, drop, refl, sym, ap, ap₂, ◌∙◌, arith}
-use Rattle.std.proofs.lemmas.Bool.{ne_eqb}
+use Rattle.std.proofs.Common.{◌≡◌, ℕ, zero, suc, ◌+◌, ◌*◌, ◌%◌, ◌^◌, ◌<◌, ◌≤◌, Bool, true, false, not, cond, eqb, ◌||◌, List, [], ◌∷◌, map, length, drop, refl, sym, ap, ap₂, ◌∙◌, arith}
+use Rattle.std.proofs.lemmas.Bool.{eq-eqb, ne_eqb}
 use Rattle.std.proofs.lemmas.List.{length-map}
 use Rattle.std.proofs.lemmas.List.Folds.{prefix_len-append}
 use Rattle.std.proofs.lemmas.List.Sums.{prefix_len-le-length}
@@ -60,11 +60,41 @@ none_ends : (xs : List ℕ) → prefix_len is_word_byte xs ≡ length xs → mas
 none_ends [] e = refl
 none_ends (x ∷ xs) e = no_end (is_word_byte x) _ (length xs) _ (prefix_len-le-length is_word_byte xs) (omega arith) (none_ends xs)
 
--- where a byte of the first n is no byte of a word, the first of these ends the word
+-- where one of n bytes from a place on is no byte of a word, the first of these ends the word
+pub ends_in : (i n : ℕ) (text : List ℕ) → n ≤ 64 → i + n ≤ length text → 0 < mask_l (map (λ b. not (is_word_byte b)) (chunk i n text))
+    → prefix_len is_word_byte (drop i text) ≡ count_trailing_zeros 64 (mask_l (map (λ b. not (is_word_byte b)) (chunk i n text)))
+ends_in i n text most room some =
+    let c = chunk i n text in
+    ap (prefix_len is_word_byte) (chunk-drop i n text) ∙ prefix_len-append is_word_byte c (drop (i + n) text)
+    ∙ ap (λ b. cond b (length c + prefix_len is_word_byte (drop (i + n) text)) (prefix_len is_word_byte c)) (ne_eqb _ _ (λ (e : prefix_len is_word_byte c ≡ length c). omega (arith, none_ends c e)))
+    ∙ same_run c ∙ sym (trailing_mask_l (λ b. not (is_word_byte b)) 64 c (omega (arith, most, length-chunk i n text room)) some)
+
 pub ends_at : (n : ℕ) (text : List ℕ) → n ≤ 64 → n ≤ length text → 0 < mask_l (map (λ b. not (is_word_byte b)) (chunk 0 n text))
     → prefix_len is_word_byte text ≡ count_trailing_zeros 64 (mask_l (map (λ b. not (is_word_byte b)) (chunk 0 n text)))
-ends_at n text most room some =
-    let c = chunk 0 n text in
-    ap (prefix_len is_word_byte) (chunk-drop 0 n text) ∙ prefix_len-append is_word_byte c (drop (0 + n) text)
-    ∙ ap (λ b. cond b (length c + prefix_len is_word_byte (drop (0 + n) text)) (prefix_len is_word_byte c)) (ne_eqb _ _ (λ (e : prefix_len is_word_byte c ≡ length c). omega (arith, none_ends c e)))
-    ∙ same_run c ∙ sym (trailing_mask_l (λ b. not (is_word_byte b)) 64 c (omega (arith, most, length-chunk 0 n text (omega (arith, room)))) some)
+ends_at n text most room some = ends_in 0 n text most (omega (arith, room)) some
+
+no_mask : (b : Bool) (n l m : ℕ) → cond (not b) 1 0 + 2 * m ≡ 0 → (m ≡ 0 → n ≡ l) → cond b (1 + n) 0 ≡ suc l
+no_mask true n l m e ih = let same = ih (omega (arith, e)) in omega (arith, same)
+no_mask false n l m e ih = let no : ⊥ = omega (arith, e) in absurd no
+
+all_run : (xs : List ℕ) → mask_l (map (λ b. not (is_word_byte b)) xs) ≡ 0 → prefix_len is_word_byte xs ≡ length xs
+all_run [] e = refl
+all_run (x ∷ xs) e = no_mask (is_word_byte x) _ (length xs) _ e (all_run xs)
+
+-- where each of n bytes from a place on is a byte of a word, the word has them all
+pub runs_on : (i n : ℕ) (text : List ℕ) → i + n ≤ length text → mask_l (map (λ b. not (is_word_byte b)) (chunk i n text)) ≡ 0 → n ≤ prefix_len is_word_byte (drop i text)
+runs_on i n text room none =
+    let c = chunk i n text in
+    let whole = ap (prefix_len is_word_byte) (chunk-drop i n text) ∙ prefix_len-append is_word_byte c (drop (i + n) text)
+    ∙ ap (λ b. cond b (length c + prefix_len is_word_byte (drop (i + n) text)) (prefix_len is_word_byte c)) (eq-eqb _ _ (all_run c none)) in
+    omega (arith, whole, length-chunk i n text room)
+
+longer : (b : Bool) (n m i : ℕ) → suc i ≤ cond b (1 + n) 0 → (i ≤ n → n ≡ i + m) → cond b (1 + n) 0 ≡ suc i + m
+longer true n m i le ih = let same = ih (omega (arith, le)) in omega (arith, same)
+longer false n m i le ih = let no : ⊥ = omega (arith, le) in absurd no
+
+-- what is left of a word behind some of its bytes
+pub run_behind : (text : List ℕ) (i : ℕ) → i ≤ prefix_len is_word_byte text → prefix_len is_word_byte text ≡ i + prefix_len is_word_byte (drop i text)
+run_behind text zero le = omega arith
+run_behind [] (suc i) le = let no : ⊥ = omega (arith, le) in absurd no
+run_behind (x ∷ xs) (suc i) le = longer (is_word_byte x) _ _ i le (run_behind xs i)

@@ -1,6 +1,6 @@
 // Lines that come in pieces.
-ghost use Rattle.std.specs.Prelude.{◌≡◌, ◌+◌, ◌-◌, ◌^◌, ◌<◌, ◌≤◌, ◌++◌, IfOk, IfErr, IfNone, IsSome, [], length, vec_len, vec_capacity};
-ghost use Rattle.tx_text.specs.Feed.{feed_gives, feed_leaves, begun_fault, begun_more, ended, faulted, line_fault, finish_gives, finish_leaves, finished};
+ghost use Rattle.std.specs.Prelude.{◌≡◌, ◌+◌, ◌-◌, ◌^◌, ◌<◌, ◌≤◌, ◌++◌, true, false, IfOk, IfErr, IfNone, IsSome, [], length, vec_len, vec_capacity};
+ghost use Rattle.tx_text.specs.Feed.{feed_gives, feed_leaves, begun_more, ended, faulted, line_fault, finish_gives, finish_leaves, finished};
 ghost use Rattle.tx_text.specs.TextLine.{line_of};
 
 use crate::line::TextLine;
@@ -112,6 +112,7 @@ impl<A: Allocator> LineFeeder<A> {
     }
 
     /// Adds bytes to the line that has begun, and tells what is wrong with it then.
+    #[tactic(auto, unfolding(crate::specs::Feed::begun_fault))]
     #[inline(always)]
     fn add(&mut self, front: &[u8], line: bool) -> Option<TextFault>
         requires begun { self.old.line ≡ None }
@@ -120,14 +121,17 @@ impl<A: Allocator> LineFeeder<A> {
         ensures held { IfNone result (self.new ≡ begun_more self.old front.now) }
         ensures others { faulted self.new TextFault.BadByte ≡ faulted self.old TextFault.BadByte }
     {
-        if let Some(fault) = hold(&mut self.held, front) {
-            return Some(fault);
+        if !hold(&mut self.held, front) {
+            return Some(TextFault::LineTooLong);
         }
+        let bytes = without_cr(&self.held);
         if line {
-            bytes_fault(without_cr(&self.held))
-        } else {
-            None
+            return bytes_fault(bytes);
         }
+        if bytes.len() > 512 {
+            return Some(TextFault::LineTooLong);
+        }
+        None
     }
 
     /// The text came to its end: tells whether an unfinished line stands, and completes it. `Err` tells that this line is too long or has a bad byte.
@@ -200,26 +204,22 @@ impl<A: Allocator> LineFeeder<A> {
     }
 }
 
-/// Adds bytes to a line that has begun, unless it is too long then, whatever bytes follow.
-#[tactic(auto, unfolding(crate::specs::Feed::begun_fault))]
+/// Adds bytes to a line that has begun, and tells whether there is room for them. Else it is too long, whatever bytes follow.
 #[inline(always)]
-fn hold<A: Allocator>(held: &mut Vec<u8, A>, front: &[u8]) -> Option<TextFault>
+fn hold<A: Allocator>(held: &mut Vec<u8, A>, front: &[u8]) -> bool
     requires room { 513 ≤ vec_capacity held.old }
     requires short { vec_len held.old ≤ 513 }
     ensures room { 513 ≤ vec_capacity held.new }
     ensures short { vec_len held.new ≤ 513 }
     ensures grown { vec_len held.new ≤ vec_len held.old + length front.now }
-    ensures gives { result ≡ begun_fault (held.old.items ++ front.now) }
-    ensures held { IfNone result (held.new.items ≡ held.old.items ++ front.now) }
+    ensures full { result ≡ false → 513 < vec_len held.old + length front.now }
+    ensures held { result ≡ true → held.new.items ≡ held.old.items ++ front.now }
 {
     if front.len() > 513 - held.len() {
-        return Some(TextFault::LineTooLong);
+        return false;
     }
     if held.extend_from_slice(front).is_err() {
         unreachable!();
     }
-    if without_cr(held).len() > 512 {
-        return Some(TextFault::LineTooLong);
-    }
-    None
+    true
 }

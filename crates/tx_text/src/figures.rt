@@ -58,11 +58,31 @@ pub(crate) fn is_figure(byte: u8) -> bool
     b'0' <= byte && byte <= b'9'
 }
 
+/// Whether all these bytes are figures, looked at several at a time where their number is fixed.
+#[inline(always)]
+fn are_all_figures(bytes: &[u8]) -> bool
+    ensures { result ≡ list_all is_figure bytes.now }
+{
+    let mut all = true;
+    for byte in bytes {
+        all = all & is_figure(*byte);
+    }
+    all
+}
+
+/// Whether a text is figures. Of 4 to 16 bytes the front and the end are looked at in blocks, which may overlap.
 #[inline(always)]
 fn all_figures(text: &[u8]) -> bool
     ensures { result ≡ list_all is_figure text.now }
 {
-    text.iter().all(|byte| is_figure(*byte))
+    let len = text.len();
+    if len < 4 || len > 16 {
+        text.iter().all(|byte| is_figure(*byte))
+    } else if len < 8 {
+        are_all_figures(&text[..4]) & are_all_figures(&text[len - 4..])
+    } else {
+        are_all_figures(&text[..8]) & are_all_figures(&text[len - 8..])
+    }
 }
 
 /// Whether the text is at least `least` and at most `most` figures, and nothing else.

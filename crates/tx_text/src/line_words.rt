@@ -124,7 +124,37 @@ fn word_ends_of_eight(block: u8x8) -> u64
         | block.simd_eq(u8x8::splat(b'#'))).to_bitmask()
 }
 
-/// How long the word at the front is. Where 16 or 8 bytes follow, its end is looked for in all of them at once.
+/// The same of a block of four bytes.
+#[inline(always)]
+fn word_ends_of_four(block: u8x4) -> u64
+    ensures { result ≡ mask_l (map (λ b. not (is_word_byte b)) block) }
+{
+    (block.simd_eq(u8x4::splat(b' '))
+        | block.simd_eq(u8x4::splat(b'\t'))
+        | block.simd_eq(u8x4::splat(b'#'))).to_bitmask()
+}
+
+/// How long the word at the front of four to eight bytes is. Its end is looked for in the first four and in the last four.
+#[inline(always)]
+fn short_word_len(text: &[u8]) -> usize
+    requires least { 4 ≤ length text.now }
+    requires most { length text.now ≤ 8 }
+    ensures within { result ≤ length text.now }
+    ensures count { result ≡ prefix_len is_word_byte text.now }
+{
+    let first = word_ends_of_four(u8x4::from_slice(text));
+    if first != 0 {
+        return first.trailing_zeros() as usize;
+    }
+    let from = text.len() - 4;
+    let last = word_ends_of_four(u8x4::from_slice(&text[from..]));
+    if last != 0 {
+        return from + last.trailing_zeros() as usize;
+    }
+    text.len()
+}
+
+/// How long the word at the front is. Where 16, 8 or 4 bytes follow, its end is looked for in all of them at once.
 #[inline(always)]
 fn word_len(text: &[u8]) -> usize
     ensures within { result ≤ length text.now }
@@ -140,6 +170,8 @@ fn word_len(text: &[u8]) -> usize
         if half != 0 {
             return half.trailing_zeros() as usize;
         }
+    } else if text.len() >= 4 {
+        return short_word_len(text);
     }
     count_word_bytes(text)
 }
@@ -150,6 +182,9 @@ fn first_word(text: &[u8]) -> Option<(&[u8], &[u8])>
     ensures { MatchOption result (words_of text.now ≡ [])
         (λ x. words_of text.now ≡ x.0.now ∷ words_of x.1.now) }
 {
+    if text.is_empty() {
+        return None;
+    }
     let (_, from) = text.split_at(count_blanks(text));
     let (word, rest) = from.split_at(word_len(from));
     if word.is_empty() {

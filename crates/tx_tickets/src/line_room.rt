@@ -4,30 +4,28 @@ ghost use Rattle.std.specs.Prelude.{◌≡◌, ◌+◌, ◌≤◌, ◌++◌, [],
 use itoa::Buffer;
 use std::marker::Model;
 
-/// How many bytes a line may have at most.
-pub(crate) const ROOM: usize = 192;
-
-/// The bytes of a line so far, in room that is lent. The caller sees that they have room.
+/// The bytes of a line so far, in room of at most 255 bytes that is lent. The caller sees that they have room.
 #[derive(Drop)]
-pub(crate) struct LineRoom<'a> {
-    room: &'a mut [u8; ROOM],
+pub(crate) struct LineRoom<'a, const N: usize> {
+    room: &'a mut [u8; N],
     len: usize,
 }
 
-impl<'a> Model for LineRoom<'a> {
+impl<'a, const N: usize> Model for LineRoom<'a, N> {
     ghost use Rattle.std.specs.Prelude.{ℕ, List, take, ◌≤◌};
 
     ghost Value = { List ℕ };
 
     ghost view = { λ l. take l.len l.room.now };
 
-    ghost invariant = { λ l. l.len ≤ 192 };
+    ghost invariant = { λ l. (l.len ≤ N) × (N ≤ 255) };
 }
 
-impl<'a> LineRoom<'a> {
+impl<'a, const N: usize> LineRoom<'a, N> {
     /// A line of no bytes.
     #[inline(always)]
-    pub(crate) fn new(room: &'a mut [u8; ROOM]) -> LineRoom<'a>
+    pub(crate) fn new(room: &'a mut [u8; N]) -> LineRoom<'a, N>
+        requires { N ≤ 255 }
         ensures { result ≡ [] }
     {
         LineRoom { room, len: 0 }
@@ -60,7 +58,7 @@ impl<'a> LineRoom<'a> {
     /// Appends bytes.
     #[inline(always)]
     pub(crate) fn put(&mut self, bytes: &[u8])
-        requires { length self.old + length bytes.now ≤ 192 }
+        requires { length self.old + length bytes.now ≤ N }
         ensures { self.new ≡ self.old ++ bytes.now }
     {
         let from = self.len;
@@ -73,7 +71,7 @@ impl<'a> LineRoom<'a> {
     /// Appends the figures of a number.
     #[inline(always)]
     pub(crate) fn put_number(&mut self, number: u64)
-        requires { length self.old + 20 ≤ 192 }
+        requires { length self.old + 20 ≤ N }
         ensures text { self.new ≡ self.old ++ decimal number }
         ensures width { length (decimal number) ≤ 20 }
     {

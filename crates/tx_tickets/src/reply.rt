@@ -4,7 +4,7 @@ ghost use Rattle.std.specs.Io.KnownBytes.{append_known};
 ghost use Rattle.tx_text.specs.Ends.{StopsIn};
 ghost use Rattle.tx_tickets.specs.Texts.{circuit_text, line_text, stands_text, reply_text};
 
-use crate::line_room::{LineRoom, ROOM};
+use crate::line_room::LineRoom;
 use crate::names::{code_figures, exchange_name, group_name};
 use crate::words::{refusal_word, service_word, stands_word};
 use itoa::Buffer;
@@ -12,6 +12,9 @@ use std::alloc::Allocator;
 use tx_plan::{Circuit, Line, Plan};
 use tx_state::Reply;
 use tx_text::{Sink, WriteFault, write_bytes, write_parts};
+
+/// How many bytes the line of a reply may have at most.
+const ROOM: usize = 64;
 
 /// Writes the line of a reply, as `CONNECTED 41 10002`, with its LF. Where the sink fails, a front of the line was taken.
 pub fn write_reply<A: Allocator, W: Sink>(
@@ -32,7 +35,7 @@ pub fn write_reply<A: Allocator, W: Sink>(
 
 /// Puts a reply on an empty line.
 #[inline(always)]
-fn put_reply<A: Allocator>(reply: &Reply, plan: &Plan<A>, line: &mut LineRoom<'_>)
+fn put_reply<A: Allocator>(reply: &Reply, plan: &Plan<A>, line: &mut LineRoom<'_, ROOM>)
     requires { line.old ≡ [] }
     ensures { line.new ≡ reply_text plan.now reply.now }
 {
@@ -57,7 +60,7 @@ fn put_reply<A: Allocator>(reply: &Reply, plan: &Plan<A>, line: &mut LineRoom<'_
 
 /// Puts a first word, given with its space, and another.
 #[inline(always)]
-fn put_word(first: &[u8], word: &[u8], line: &mut LineRoom<'_>)
+fn put_word(first: &[u8], word: &[u8], line: &mut LineRoom<'_, ROOM>)
     requires first { length first.now ≤ 10 }
     requires word { length word.now ≤ 20 }
     requires line { line.old ≡ [] }
@@ -70,7 +73,7 @@ fn put_word(first: &[u8], word: &[u8], line: &mut LineRoom<'_>)
 
 /// Puts a first word, given with its space, and a number.
 #[inline(always)]
-fn put_count(first: &[u8], count: u64, line: &mut LineRoom<'_>)
+fn put_count(first: &[u8], count: u64, line: &mut LineRoom<'_, ROOM>)
     requires first { length first.now ≤ 10 }
     requires line { line.old ≡ [] }
     ensures { line.new ≡ first.now ++ (decimal count ++ codes "\n") }
@@ -81,7 +84,7 @@ fn put_count(first: &[u8], count: u64, line: &mut LineRoom<'_>)
 }
 
 #[inline(always)]
-fn put_circuit<A: Allocator>(circuit: &Circuit, plan: &Plan<A>, line: &mut LineRoom<'_>)
+fn put_circuit<A: Allocator>(circuit: &Circuit, plan: &Plan<A>, line: &mut LineRoom<'_, ROOM>)
     requires { line.old ≡ [] }
     ensures { line.new ≡ codes "SEIZED " ++ (circuit_text plan.now circuit.now ++ codes "\n") }
 {
@@ -93,7 +96,7 @@ fn put_circuit<A: Allocator>(circuit: &Circuit, plan: &Plan<A>, line: &mut LineR
 }
 
 #[inline(always)]
-fn put_connected<A: Allocator>(called: &Line, plan: &Plan<A>, line: &mut LineRoom<'_>)
+fn put_connected<A: Allocator>(called: &Line, plan: &Plan<A>, line: &mut LineRoom<'_, ROOM>)
     requires { line.old ≡ [] }
     ensures { line.new ≡ codes "CONNECTED " ++ (line_text plan.now called.now ++ codes "\n") }
 {
@@ -105,7 +108,7 @@ fn put_connected<A: Allocator>(called: &Line, plan: &Plan<A>, line: &mut LineRoo
 }
 
 /// Puts the two calls of a head-on collision.
-fn put_head_on(a: u32, a_stands: bool, b: u32, b_stands: bool, line: &mut LineRoom<'_>)
+fn put_head_on(a: u32, a_stands: bool, b: u32, b_stands: bool, line: &mut LineRoom<'_, ROOM>)
     requires { line.old ≡ [] }
     ensures { line.new ≡ codes "HEADON " ++ (decimal a ++ (stands_text a_stands ++ (codes " " ++ (decimal b ++ (stands_text b_stands ++ codes "\n"))))) }
 {

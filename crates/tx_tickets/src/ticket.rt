@@ -5,13 +5,16 @@ ghost use Rattle.std.specs.Io.KnownBytes.{append_known};
 ghost use Rattle.tx_text.specs.Ends.{StopsIn};
 ghost use Rattle.tx_tickets.specs.Texts.{hop_text, caller_text, events_text, why_text, ticket_text};
 
-use crate::line_room::{LineRoom, ROOM};
+use crate::line_room::LineRoom;
 use crate::names::{code_figures, exchange_name, group_name};
 use crate::words::cause_word;
 use std::alloc::Allocator;
 use tx_plan::Plan;
 use tx_state::{Hop, Ticket};
 use tx_text::{Sink, WriteFault, write_bytes};
+
+/// How many bytes of a ticket's line may stand in its room.
+const ROOM: usize = 192;
 
 /// A line of more bytes may have no room for one more hop and an LF.
 const FULL: usize = 152;
@@ -41,7 +44,7 @@ pub fn write_ticket<A: Allocator, B: Allocator, W: Sink>(
 fn put_caller<A: Allocator, B: Allocator>(
     ticket: &Ticket<A>,
     plan: &Plan<B>,
-    line: &mut LineRoom<'_>,
+    line: &mut LineRoom<'_, ROOM>,
 )
     requires { line.old ≡ [] }
     ensures text { line.new ≡ caller_text plan.now ticket.now }
@@ -60,7 +63,7 @@ fn put_caller<A: Allocator, B: Allocator>(
 
 /// Puts the events of the call's start and its end.
 #[inline(always)]
-fn put_events<A: Allocator>(ticket: &Ticket<A>, line: &mut LineRoom<'_>)
+fn put_events<A: Allocator>(ticket: &Ticket<A>, line: &mut LineRoom<'_, ROOM>)
     requires { length line.old ≤ 61 }
     ensures text { line.new ≡ line.old ++ events_text ticket.now }
     ensures width { length line.new ≤ 106 }
@@ -73,7 +76,11 @@ fn put_events<A: Allocator>(ticket: &Ticket<A>, line: &mut LineRoom<'_>)
 
 /// Puts why the call ended, and where it started.
 #[inline(always)]
-fn put_why<A: Allocator, B: Allocator>(ticket: &Ticket<A>, plan: &Plan<B>, line: &mut LineRoom<'_>)
+fn put_why<A: Allocator, B: Allocator>(
+    ticket: &Ticket<A>,
+    plan: &Plan<B>,
+    line: &mut LineRoom<'_, ROOM>,
+)
     requires { length line.old ≤ 106 }
     ensures text { line.new ≡ line.old ++ why_text plan.now ticket.now }
     ensures width { length line.new ≤ 123 }
@@ -88,7 +95,7 @@ fn put_why<A: Allocator, B: Allocator>(ticket: &Ticket<A>, plan: &Plan<B>, line:
 fn write_path<A: Allocator, W: Sink>(
     hops: &[Hop],
     plan: &Plan<A>,
-    line: LineRoom<'_>,
+    line: LineRoom<'_, ROOM>,
     sink: &mut W,
 ) -> Result<(), WriteFault>
     requires { length line ≤ 123 }
@@ -112,7 +119,7 @@ fn write_path<A: Allocator, W: Sink>(
 
 /// Puts a hop: its circuit, and the exchange that it leads to.
 #[inline(always)]
-fn put_hop<A: Allocator>(hop: &Hop, plan: &Plan<A>, line: &mut LineRoom<'_>)
+fn put_hop<A: Allocator>(hop: &Hop, plan: &Plan<A>, line: &mut LineRoom<'_, ROOM>)
     requires { length line.old ≤ 152 }
     ensures text { line.new ≡ line.old ++ hop_text plan.now hop.now }
     ensures width { length line.new ≤ 191 }
