@@ -1,4 +1,4 @@
--- Events that change one mark of the table: what they need, and the parts, the reply and the state after them.
+-- Events that change one mark: the parts, the reply and the state after them.
 use Rattle.std.proofs.Common.{◌≡◌, ℕ, ◌+◌, List, sym, ap, ◌∙◌}
 use Rattle.std.specs.FinSet as set
 use Rattle.std.specs.Ordering.{nat_cmp}
@@ -31,3 +31,12 @@ marked_step f v p calls t u b numbers events tickets t' e is seen =
     ap (λ (n : Net). counted (Done, f n.state)) (sym e)
     ∙ ap (λ (s : State). counted (Done, s)) seen
     ∙ ap (λ (z : Table). (Done, state_seen calls z b numbers (events + 1) tickets)) (sym is)
+
+-- of a book b' that is u, where f makes of the state that b shows the one that u shows
+pub line_step : (f : State → State) (v : Net) (p : Plan) (calls : List Call) (t : Table) (b u : Book) (numbers events : ℕ) (tickets : List Ended) (b' : Book)
+    → record { plan = p; state = state_seen calls t b numbers events tickets } ≡ v → b' ≡ u → f (state_seen calls t b numbers events tickets) ≡ state_seen calls t u numbers events tickets
+    → counted (Done, f v.state) ≡ (Done, state_seen calls t b' numbers (events + 1) tickets)
+line_step f v p calls t b u numbers events tickets b' e is seen =
+    ap (λ (n : Net). counted (Done, f n.state)) (sym e)
+    ∙ ap (λ (s : State). counted (Done, s)) seen
+    ∙ ap (λ (z : Book). (Done, state_seen calls t z numbers (events + 1) tickets)) (sym is)
