@@ -1,5 +1,5 @@
 use Rattle.std.proofs.Common.{◌≡◌, ◌≤◌, ◌<◌, ◌++◌, ◌∷◌, [], List, length, take, sym, ap, ◌∙◌, subst, arith, rules}
-use Rattle.std.proofs.lemmas.List.{take_more, take_all}
+use Rattle.std.proofs.lemmas.List.{take_more, take_all, length-take-le}
 use Rattle.std.proofs.lemmas.List.Sorted.{ranks_by}
 use Rattle.std.proofs.lemmas.Option.{get_or_from_slice_get}
 use Rattle.std.specs.Prelude.{IsPermutation}
@@ -8,6 +8,7 @@ use Rattle.tx_lines.specs.inner.Ordered.{place_cmp, start_of, IsInOrder, AreFirs
 use Rattle.tx_lines.proofs.Order.{places_total}
 use Rattle.tx_lines.proofs.Arranged.{arranged, sorted_from_clause}
 use Rattle.tx_lines.proofs.ranges.Ranges.build.Goals as goal
+use borrow.Author.Count.{falls}
 
 pub loop-place-preserved : goal.loop-place-preserved
 loop-place-preserved g c =
@@ -40,3 +41,26 @@ firsts_of-requires-clause-order g c =
     let P : List LineRange → Type 0 = λ l. IsPermutation l c.sort_unstable_by.new.self.items in
     subst IsInOrder (sym c.deref.ensures.value) (arranged c.args.plan.now c.rules.ensures c.sort_unstable_by.new.self.items (subst P all c.sort_unstable_by.ensures.permutation)
     (sorted_from_clause (λ r q. place_cmp (start_of r) (start_of q)) c.sort_unstable_by.new.self.items (ranks_by places_total start_of) c.sort_unstable_by.ensures.sorted (λ a r q k. search rules)))
+
+pub loop-place-init : goal.loop-place-init
+loop-place-init g c = record { items = c.in_ok-ranges.ensures.items; room = (let k = c.in_ok-ranges.ensures.capacity in omega arith) }
+
+pub push_reserved-requires : goal.push_reserved-requires
+push_reserved-requires g c =
+    let ranges = c.loop-place.ranges in
+    let n : length c.args.plan.now.ranges ≡ c.ranges-place-end.result = sym c.ranges-place-end.ensures in
+    let len : ranges.len ≡ length (take c.loop-place.place c.args.plan.now.ranges) = ranges.ok.0 ∙ ap length c.loop-place.invariant.items in
+    let low = length-take-le c.loop-place.place c.args.plan.now.ranges (omega arith) in
+    let room = c.loop-place.invariant.room in
+    omega arith
+
+pub loop-place-smaller : goal.loop-place-smaller
+loop-place-smaller g c = falls c.ranges-place-end.result c.loop-place.place c.loop-place-test.true
+
+pub returns : goal.returns
+returns g c =
+    let ranges = c.args.plan.now.ranges in
+    let past : length ranges ≤ c.loop-place.place = (let e = c.ranges-place-end.ensures in omega arith) in
+    let all : c.loop-place.ranges.items ≡ ranges = c.loop-place.invariant.items ∙ take_all c.loop-place.place ranges past in
+    let P : List LineRange → Type 0 = λ l. IsPermutation l c.sort_unstable_by.new.self.items in
+    subst P all c.sort_unstable_by.ensures.permutation
