@@ -1,5 +1,5 @@
 -- Whether calls may start at each exchange, one exchange after another.
-use Rattle.std.proofs.Common.{◌≡◌, ℕ, zero, suc, ◌+◌, Bool, List, [], ◌∷◌, ◌++◌, length, ◌⊎◌, inl, inr, Some, ap}
+use Rattle.std.proofs.Common.{◌≡◌, ℕ, zero, suc, Bool, List, [], ◌∷◌, ◌++◌, length, ◌⊎◌, inl, inr, Some, ap}
 use Rattle.std.specs.Prelude.{slice_get}
 use Rattle.tx_plan.specs.Plan.{Plan}
 use Rattle.tx_plan.specs.Routes.{is_origin}

@@ -2,50 +2,20 @@
 ghost use Rattle.std.specs.Prelude.{◌≡◌, ◌≢◌, ℕ, length, [], IfOk};
 ghost use Rattle.std.specs.List.{AllByRecursion};
 ghost use Rattle.tx_plan.specs.Certified.{Ranks, IsCertified};
-ghost use Rattle.tx_plan.specs.Ambiguous.{ambiguous_of};
 ghost use Rattle.tx_cert.specs.Certificate.{ranks_of};
 ghost use Rattle.tx_rank.specs.Heights.{AreHeights};
-ghost use Rattle.tx_rank.specs.Findings.{IsTrueOf, AreFindings, pair_findings};
+ghost use Rattle.tx_rank.specs.Findings.{IsTrueOf};
 ghost use Rattle.tx_rank.specs.Grades.{AreBounds, CanBeCertified, NothingIsWrong, AreCodeBounds, AreUnmended};
 ghost use Rattle.tx_rank.specs.Gradings.{IsGraded, OnGraded, OnUngraded};
 
 use crate::bounds::Bounds;
 use crate::code_bounds::code_bounds;
-use crate::code_ranking::rank_code;
-use crate::code_routes::{CodeRoutes, origins_of};
-use crate::finding::Finding;
 use crate::plan_grade::Grade;
-use crate::ranking::pair_found;
+use crate::ranking::{pair_found, rank_codes};
 use std::alloc::Allocator;
 use tx_cert::Cert;
 use tx_plan::{CodeId, Plan};
 use tx_text::NoMemory;
-
-/// Ranks the exchanges for each code, or adds what is wrong with it. No walk is too long for this limit, and only an empty list is too short.
-fn rank_codes<A: Allocator + Copy>(
-    alloc: A,
-    plan: &Plan<A>,
-    findings: &mut Vec<Finding<A>, A>,
-) -> Result<Cert<A>, NoMemory>
-    requires { findings.old.items ≡ pair_findings (ambiguous_of plan.now.codes) }
-    ensures listed { IfOk result (λ _. AreFindings plan.now 255 0 findings.new.items) }
-    ensures exchanges { IfOk result (λ cert. cert.exchanges ≡ length plan.now.exchanges) }
-    ensures heights { IfOk result (λ cert. findings.new.items ≡ [] → AreHeights plan.now (ranks_of cert)) }
-    ensures certified { IfOk result (λ cert. findings.new.items ≡ [] → IsCertified plan.now (ranks_of cert) 255 0) }
-{
-    plan.rules();
-    let mut cert = Cert::new(alloc, plan)?;
-    let origins = origins_of(alloc, plan)?;
-    for place in 0..plan.codes() {
-        let net = CodeRoutes {
-            plan,
-            origins: &origins,
-            code: CodeId::at(place as u16),
-        };
-        rank_code(alloc, &net, net.code, u8::MAX, 0, &mut cert, findings)?;
-    }
-    Ok(cert)
-}
 
 /// The grade that the ranks by height show.
 fn graded<A: Allocator + Copy>(
@@ -88,7 +58,8 @@ pub fn grade<A: Allocator + Copy>(alloc: A, plan: &Plan<A>) -> Result<Grade<A>, 
 {
     plan.rules();
     let mut findings = pair_found(alloc, plan)?;
-    let cert = rank_codes(alloc, plan, &mut findings)?;
+    // No walk is too long for this limit, and only an empty list is too short.
+    let cert = rank_codes(alloc, plan, u8::MAX, 0, &mut findings)?;
     if findings.is_empty() {
         return graded(alloc, plan, &cert);
     }

@@ -1,5 +1,5 @@
 // The ranking of a plan.
-ghost use Rattle.std.specs.Prelude.{◌≡◌, ◌≢◌, ◌≤◌, ◌↔◌, ℕ, [], IfOk, OnOk};
+ghost use Rattle.std.specs.Prelude.{◌≡◌, ◌≢◌, ◌≤◌, ◌↔◌, ℕ, length, [], IfOk, OnOk};
 ghost use Rattle.std.specs.List.{AllByRecursion};
 ghost use Rattle.tx_plan.specs.Certified.{Ranks, IsCertified};
 ghost use Rattle.tx_plan.specs.Ambiguous.{ambiguous_of};
@@ -41,6 +41,35 @@ pub fn pair_found<A: Allocator + Copy>(
     Ok(findings)
 }
 
+/// Ranks the exchanges for each code, or adds what is wrong with it.
+pub fn rank_codes<A: Allocator + Copy>(
+    alloc: A,
+    plan: &Plan<A>,
+    limit: u8,
+    spare: u8,
+    findings: &mut Vec<Finding<A>, A>,
+) -> Result<Cert<A>, NoMemory>
+    requires { findings.old.items ≡ pair_findings (ambiguous_of plan.now.codes) }
+    ensures listed { IfOk result (λ _. AreFindings plan.now limit spare findings.new.items) }
+    ensures codes { IfOk result (λ cert. cert.codes ≡ length plan.now.codes) }
+    ensures exchanges { IfOk result (λ cert. cert.exchanges ≡ length plan.now.exchanges) }
+    ensures heights { IfOk result (λ cert. findings.new.items ≡ [] → AreHeights plan.now (ranks_of cert)) }
+    ensures certified { IfOk result (λ cert. findings.new.items ≡ [] → IsCertified plan.now (ranks_of cert) limit spare) }
+{
+    plan.rules();
+    let mut cert = Cert::new(alloc, plan)?;
+    let origins = origins_of(alloc, plan)?;
+    for place in 0..plan.codes() {
+        let net = CodeRoutes {
+            plan,
+            origins: &origins,
+            code: CodeId::at(place as u16),
+        };
+        rank_code(alloc, &net, net.code, limit, spare, &mut cert, findings)?;
+    }
+    Ok(cert)
+}
+
 /// Ranks the exchanges for each code by their heights above its home, for at most `limit` transits (0 to 62, ITU-T F.68) and `spare` groups to spare (0 to
 /// 15), or tells what is wrong. `Err` is want of memory.
 pub fn rank<A: Allocator + Copy>(
@@ -64,26 +93,8 @@ pub fn rank<A: Allocator + Copy>(
     ensures each { IfOk result (OnFails (AllByRecursion (IsTrueOf plan.now limit spare))) }
     ensures listed { IfOk result (OnFails (AreFindings plan.now limit spare)) }
 {
-    plan.rules();
     let mut findings = pair_found(alloc, plan)?;
-    let mut cert = Cert::new(alloc, plan)?;
-    let origins = origins_of(alloc, plan)?;
-    for place in 0..plan.codes() {
-        let net = CodeRoutes {
-            plan,
-            origins: &origins,
-            code: CodeId::at(place as u16),
-        };
-        rank_code(
-            alloc,
-            &net,
-            net.code,
-            limit,
-            spare,
-            &mut cert,
-            &mut findings,
-        )?;
-    }
+    let cert = rank_codes(alloc, plan, limit, spare, &mut findings)?;
     if findings.is_empty() {
         cert.whole();
         return Ok(Ranking::Found(cert));

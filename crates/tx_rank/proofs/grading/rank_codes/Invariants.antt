@@ -1,5 +1,0 @@
-use Rattle.tx_rank.proofs.Listing.{IsRankedBelow}
-use Rattle.tx_rank.proofs.grading.rank_codes.Given as goal
-
-abbrev pub invariant-loop-place : goal.invariant-loop-place
-invariant-loop-place g l = IsRankedBelow l.plan 255 0 l.place l.cert l.findings.items
