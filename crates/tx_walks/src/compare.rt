@@ -27,27 +27,38 @@ pub enum Difference {
     Grade,
 }
 
+/// Whether a walk is one for a code, with what is wanted wrong.
+fn is_wrong(
+    plan: &Plan,
+    code: CodeId,
+    trail: &Trail<'_>,
+    wanted: Wanted,
+    limit: u8,
+    spare: u8,
+) -> bool {
+    is_walk(plan, code, trail)
+        && match wanted {
+            Wanted::Ambiguous(_, _) => false,
+            Wanted::Loop(_) => trail.is_loop(),
+            Wanted::Short(_, end, steps) => {
+                trail.is_short(plan, code, spare)
+                    && trail.end() == end
+                    && trail.steps.len() == steps
+            }
+            Wanted::Long(_) => trail.is_long(plan, code, limit),
+        }
+}
+
 /// Whether a finding is the one that is wanted: its walk is one for its code, with this wrong.
 fn shows(plan: &Plan, finding: &Finding, wanted: Wanted, limit: u8, spare: u8) -> bool {
     match (finding, wanted) {
         (Finding::Ambiguous(shorter, longer), Wanted::Ambiguous(first, second)) => {
             *shorter == first && *longer == second
         }
-        (Finding::Loop(code, walk), Wanted::Loop(of)) => {
-            let trail = Trail::of(walk);
-            *code == of && is_walk(plan, of, &trail) && trail.is_loop()
-        }
-        (Finding::Short(code, walk), Wanted::Short(of, end, steps)) => {
-            let trail = Trail::of(walk);
-            *code == of
-                && is_walk(plan, of, &trail)
-                && trail.is_short(plan, of, spare)
-                && trail.end() == end
-                && trail.steps.len() == steps
-        }
-        (Finding::Long(code, walk), Wanted::Long(of)) => {
-            let trail = Trail::of(walk);
-            *code == of && is_walk(plan, of, &trail) && trail.is_long(plan, of, limit)
+        (Finding::Loop(code, walk), Wanted::Loop(of))
+        | (Finding::Short(code, walk), Wanted::Short(of, _, _))
+        | (Finding::Long(code, walk), Wanted::Long(of)) => {
+            *code == of && is_wrong(plan, of, &Trail::of(walk), wanted, limit, spare)
         }
         _ => false,
     }
@@ -64,8 +75,8 @@ pub fn findings_differ(
     if wanted.is_empty() || findings.len() != wanted.len() {
         return Some(Difference::Count);
     }
-    for (place, (finding, want)) in findings.iter().zip(wanted).enumerate() {
-        if !shows(plan, finding, *want, limit, spare) {
+    for place in 0..wanted.len() {
+        if !shows(plan, &findings[place], wanted[place], limit, spare) {
             return Some(Difference::FindingAt(place));
         }
     }

@@ -207,7 +207,7 @@ fn judge_plan(
         work.differs = Some(Difference::Grade);
         return Err(Stop::Differs(0, 0));
     }
-    tally.add_plan();
+    tally.plans = tally.plans.saturating_add(1);
     for limit in 0..NUMBERS {
         for spare in 0..NUMBERS {
             let judged = Judged { text, limit, spare };

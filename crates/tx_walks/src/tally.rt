@@ -8,7 +8,7 @@ use tx_text::{Sink, WriteFault, write_bytes};
 /// Counts of plans and of answers.
 #[derive(Clone, Copy, Default)]
 pub struct Tally {
-    plans: u64,
+    pub plans: u64,
     rankings: u64,
     found: u64,
     /// The ranks of all that was found, added up.
@@ -29,11 +29,6 @@ fn add(count: &mut u64, more: usize) {
 }
 
 impl Tally {
-    /// A plan.
-    pub fn add_plan(&mut self) {
-        add(&mut self.plans, 1);
-    }
-
     /// A certificate with these heights.
     pub fn add_found(&mut self, surveys: &[Survey]) {
         add(&mut self.rankings, 1);
