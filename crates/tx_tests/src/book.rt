@@ -1,44 +1,39 @@
 // What a line book answers.
+use crate::spelling::next_named;
 use std::alloc::Allocator;
-use tx_cases::{named, next_line, next_number, tell, tell_broken, tell_parts};
+use tx_cases::{next_line, next_number, tell, tell_broken, tell_parts};
 use tx_lines::{LineAnswer, LineBook};
 use tx_plan::{CodeId, Line};
 use tx_text::{Sink, words};
 
-/// What happens to a line.
+/// A mark of a line.
 #[derive(Clone, Copy)]
-enum Happens {
-    Fault,
-    Repair,
+enum Mark {
+    Faulty,
     Away,
-    Back,
-    Engage,
-    Free,
+    Engaged,
 }
 
-static HAPPENS: [(&str, Happens); 6] = [
-    ("fault", Happens::Fault),
-    ("repair", Happens::Repair),
-    ("away", Happens::Away),
-    ("back", Happens::Back),
-    ("engage", Happens::Engage),
-    ("free", Happens::Free),
+/// What happens to a line: it gets a mark, or loses it.
+static HAPPENS: [(&str, (Mark, bool)); 6] = [
+    ("fault", (Mark::Faulty, true)),
+    ("repair", (Mark::Faulty, false)),
+    ("away", (Mark::Away, true)),
+    ("back", (Mark::Away, false)),
+    ("engage", (Mark::Engaged, true)),
+    ("free", (Mark::Engaged, false)),
 ];
 
-/// Lets a thing happen to a line. Only a new mark takes room: tells whether there was room for it.
-fn happen<A: Allocator>(book: &mut LineBook<A>, line: &Line, happens: Happens) -> bool {
-    if let Happens::Fault | Happens::Away | Happens::Engage = happens {
-        if book.reserve_one().is_err() {
-            return false;
-        }
+/// Gives a line a mark, or takes it. Only a new mark takes room: tells whether there was room for it.
+fn set_mark<A: Allocator>(book: &mut LineBook<A>, line: &Line, mark: Mark, to: bool) -> bool {
+    if to && book.reserve_one().is_err() {
+        return false;
     }
-    match happens {
-        Happens::Fault => book.set_fault(line, true),
-        Happens::Repair => book.set_fault(line, false),
-        Happens::Away => book.set_away(line, true),
-        Happens::Back => book.set_away(line, false),
-        Happens::Engage => book.engage(line),
-        Happens::Free => book.free(line),
+    match mark {
+        Mark::Faulty => book.set_fault(line, to),
+        Mark::Away => book.set_away(line, to),
+        Mark::Engaged if to => book.engage(line),
+        Mark::Engaged => book.free(line),
     }
     true
 }
@@ -66,30 +61,53 @@ fn tell_answer<A: Allocator, W: Sink>(
     number: &[u8],
     out: &mut W,
 ) {
-    match book.answer(code, number) {
-        LineAnswer::NoLine => tell(b": no line\n", out),
-        LineAnswer::OutOfOrder => tell(b": out of order\n", out),
-        LineAnswer::Away => tell(b": away\n", out),
-        LineAnswer::Engaged => tell(b": engaged\n", out),
-        LineAnswer::Free(line) => tell_parts(&[b": free [", line.national.bytes(), b"]\n"], out),
+    let text = match book.answer(code, number) {
+        LineAnswer::NoLine => b": no line\n".as_slice(),
+        LineAnswer::OutOfOrder => b": out of order\n",
+        LineAnswer::Away => b": away\n",
+        LineAnswer::Engaged => b": engaged\n",
+        LineAnswer::Free(line) => {
+            return tell_parts(&[b": free [", line.national.bytes(), b"]\n"], out);
+        }
+    };
+    tell(text, out);
+}
+
+/// What a line of a case says: the place of a code, a number, and what happens to the line first, if anything does.
+#[derive(Clone, Copy)]
+struct Asked<'a> {
+    code: CodeId,
+    number: &'a [u8],
+    happens: Option<(Mark, bool)>,
+}
+
+fn read_asked(line: &[u8]) -> Asked<'_> {
+    let mut rest = words(line);
+    let code = next_number(&mut rest, 65_535).min(65_535) as u16;
+    Asked {
+        code: CodeId::at(code),
+        number: rest.next().unwrap_or(b"".as_slice()),
+        happens: next_named(&HAPPENS, &mut rest),
     }
 }
 
-/// Tells what is found for the place of a code and a number, behind what happens to the line, where a third word says it.
+/// Tells what is found, behind what happens to the line, and what is answered.
 fn play_line<A: Allocator, W: Sink>(book: &mut LineBook<A>, line: &[u8], out: &mut W) {
-    let mut rest = words(line);
-    let code = CodeId::at(next_number(&mut rest, 65_535).min(65_535) as u16);
-    let number = rest.next().unwrap_or(b"".as_slice());
-    let happens = named(&HAPPENS, rest.next().unwrap_or(b"".as_slice()));
-    match (book.find(code, number), happens) {
-        (Some(line), Some(happens)) => {
-            if !happen(book, &line, happens) {
-                tell_broken(b"no memory", 0, out);
+    let Asked {
+        code,
+        number,
+        happens,
+    } = read_asked(line);
+    match book.find(code, number) {
+        Some(line) => {
+            if let Some((to_have, to)) = happens {
+                if !set_mark(book, &line, to_have, to) {
+                    tell_broken(b"no memory", 0, out);
+                }
             }
             tell_marks(book, &line, out);
         }
-        (Some(line), None) => tell_marks(book, &line, out),
-        (None, _) => tell(b": not found", out),
+        None => tell(b": not found", out),
     }
     tell_answer(book, code, number, out);
 }

@@ -2,10 +2,11 @@
 pub(crate) mod calls;
 mod model;
 
+use crate::spelling::next_named;
 use calls::{ALFA, BETA, Call, ENDS, WHATS, apply, call_of, next};
 use model::Model;
 use std::alloc::Allocator;
-use tx_cases::{named, next_line, next_number, tell, tell_broken, tell_count};
+use tx_cases::{next_line, next_number, tell, tell_broken, tell_count};
 use tx_circuits::CircuitTable;
 use tx_plan::Plan;
 use tx_text::{Sink, words};
@@ -13,17 +14,14 @@ use tx_text::{Sink, words};
 /// Makes the call that a line says, where it may be made, and tells whether.
 fn apply_line<A: Allocator>(table: &mut CircuitTable<A>, line: &[u8]) -> bool {
     let mut rest = words(line);
-    let Some(what) = named(&WHATS, rest.next().unwrap_or(b"".as_slice())) else {
+    let Some(what) = next_named(&WHATS, &mut rest) else {
         return false;
     };
-    let number = next_number(&mut rest, 240);
-    let end = named(&ENDS, rest.next().unwrap_or(b"".as_slice()));
-    let far = named(&ENDS, rest.next().unwrap_or(b"".as_slice()));
     let call = Call {
         what,
-        number,
-        end: end.unwrap_or(ALFA),
-        far: far.unwrap_or(ALFA),
+        number: next_number(&mut rest, 240),
+        end: next_named(&ENDS, &mut rest).unwrap_or(ALFA),
+        far: next_named(&ENDS, &mut rest).unwrap_or(ALFA),
     };
     apply(table, call)
 }
@@ -44,13 +42,7 @@ pub(crate) fn tell_circuits<A: Allocator, W: Sink>(
             tell(b", not made", out);
         }
         tell_count(b": ", u64::from(next(table, ALFA)), b"", out);
-        tell_count(
-            b" ",
-            u64::from(next(table, BETA)),
-            b"
-",
-            out,
-        );
+        tell_count(b" ", u64::from(next(table, BETA)), b"\n", out);
         rest = behind;
     }
 }

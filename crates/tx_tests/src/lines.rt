@@ -32,7 +32,7 @@ fn tell_lines<W: Sink>(text: &[u8], out: &mut W) {
     for line in Lines::new(text) {
         match line {
             Ok(line) => tell_line(line, out),
-            Err(fault) => tell_parts(&[fault_name(fault), b"\n"], out),
+            Err(fault) => tell_fed(Err(fault), out),
         }
     }
 }
@@ -61,6 +61,7 @@ impl Cuts {
     }
 }
 
+/// Tells how much was taken, or a fault.
 fn tell_fed<W: Sink>(answer: Result<Fed, TextFault>, out: &mut W) {
     match answer {
         Ok(fed) => tell_count(b"", fed.taken as u64, b" taken\n", out),
@@ -101,7 +102,7 @@ fn feed_pieces<A: Allocator, W: Sink>(
                 rest = rest.split_at(fed.taken).1;
             }
             Err(fault) => {
-                tell_parts(&[fault_name(fault), b"\n"], out);
+                tell_fed(Err(fault), out);
                 if cuts.told {
                     feed_again(feeder, out);
                 }
@@ -130,7 +131,7 @@ fn feed_text<A: Allocator, W: Sink>(
     match feeder.finish() {
         Ok(true) => tell_line(feeder.line(), out),
         Ok(false) => {}
-        Err(fault) => tell_parts(&[fault_name(fault), b"\n"], out),
+        Err(fault) => tell_fed(Err(fault), out),
     }
 }
 

@@ -32,7 +32,10 @@ fn over_trie<A: Allocator + Copy, W: Sink>(alloc: A, plan: &Plan<A>, lines: &[u8
 /// Makes a line book, and tells what is found in it.
 fn over_book<A: Allocator + Copy, W: Sink>(alloc: A, plan: &Plan<A>, lines: &[u8], out: &mut W) {
     match LineBook::build(alloc, plan) {
-        Ok(mut book) => play_book(&mut book, lines, out),
+        Ok(mut book) => {
+            play_book(&mut book, lines, out);
+            drop(book);
+        }
         Err(_) => tell_broken(b"no memory", 0, out),
     }
 }

@@ -155,19 +155,14 @@ fn fill<A: Allocator>(plan: &mut PlanBuilder<A>) {
     }
 }
 
-/// The small plan, and more than there may be where it is to be full.
-fn made<A: Allocator + Copy>(alloc: A, full: bool) -> Plan<A> {
+/// Tells what the small plan holds, or how much one does that has more than there may be.
+pub(crate) fn tell_plan<A: Allocator + Copy, W: Sink>(alloc: A, full: bool, out: &mut W) {
     let mut builder = PlanBuilder::new(alloc);
     let _ = declare_all(&mut builder, &mut [false; 8]);
     if full {
         fill(&mut builder);
     }
-    builder.finish()
-}
-
-/// Tells what the small plan holds, or how much a full one does.
-pub(crate) fn tell_plan<A: Allocator + Copy, W: Sink>(alloc: A, full: bool, out: &mut W) {
-    let plan = made(alloc, full);
+    let plan = builder.finish();
     if !full {
         tell_readers(&plan, out);
     }

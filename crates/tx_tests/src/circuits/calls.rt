@@ -51,14 +51,6 @@ pub struct Call {
     pub far: u16,
 }
 
-/// A circuit of the group.
-pub fn circuit(number: u32) -> Circuit {
-    Circuit {
-        group: GroupId::at(0),
-        number,
-    }
-}
-
 /// The number of the circuit that an exchange takes next; 0 for none.
 pub fn next<A: Allocator>(table: &CircuitTable<A>, exchange: u16) -> u32 {
     let exchange = ExchangeId::at(exchange);
@@ -110,7 +102,10 @@ pub fn call_of(k: u32) -> Call {
 
 /// Makes a call where the table may be asked for it, and tells whether.
 pub fn apply<A: Allocator>(table: &mut CircuitTable<A>, call: Call) -> bool {
-    let x = circuit(call.number);
+    let x = Circuit {
+        group: GroupId::at(0),
+        number: call.number,
+    };
     match call.what {
         What::Seize | What::Withdraw | What::GiveUp => apply_at_end(table, &x, call),
         What::Fail | What::Restore | What::Block | What::Unblock => {

@@ -1,10 +1,10 @@
 // A group of three circuits that is scanned each time.
 ghost use Rattle.std.specs.Prelude.{◌<◌};
 
-use super::calls::{ALFA, BETA, Call, What, circuit, next};
+use super::calls::{ALFA, BETA, Call, What, next};
 use std::alloc::Allocator;
 use tx_circuits::CircuitTable;
-use tx_plan::{ExchangeId, GroupId};
+use tx_plan::{Circuit, ExchangeId, GroupId};
 
 #[derive(Clone, Copy, PartialEq, Eq)]
 struct Held {
@@ -34,7 +34,10 @@ const IDLE: Held = Held {
 impl Held {
     // What the table tells of a circuit.
     fn told<A: Allocator>(table: &CircuitTable<A>, number: u32) -> Held {
-        let x = circuit(number);
+        let x = Circuit {
+            group: GroupId::at(0),
+            number,
+        };
         Held {
             by_alfa: table.is_seized(&x, ExchangeId::at(ALFA)),
             by_beta: table.is_seized(&x, ExchangeId::at(BETA)),
