@@ -1,5 +1,6 @@
 -- What is wrong with a line, and with a part of it.
-use Rattle.std.proofs.Common.{◌≡◌, ℕ, ◌+◌, ◌-◌, ◌<◌, ◌≤◌, ◌++◌, Bool, true, false, cond, eqb, Some, List, length, take, get_or, refl, arith}
+use Rattle.std.proofs.Common.{◌≡◌, ℕ, ◌+◌, ◌-◌, ◌<◌, ◌≤◌, ◌++◌, Bool, true, false, cond, eqb, Some, List, length, take, get_or, refl, ap, arith}
+use Rattle.std.proofs.Math.Seq.{take-length}
 use Rattle.std.proofs.lemmas.List.{length-take, length-append}
 use Rattle.std.proofs.lemmas.Bool.{lt-ltb}
 use Rattle.tx_text.specs.declared.text_fault.TextFault.TheVariants.{LineTooLong}
@@ -13,6 +14,14 @@ cr_len line false = omega arith
 pub length-without_cr : (line : List ℕ) → length line ≤ length (without_cr line) + 1
 unfolding without_cr
 length-without_cr line = cr_len line (eqb (get_or line (length line - 1) 0) 13)
+
+taken : (line : List ℕ) (b : Bool) → take (length (cond b (take (length line - 1) line) line)) line ≡ cond b (take (length line - 1) line) line
+taken line true = ap (λ n. take n line) (omega (arith, length-take (length line - 1) line))
+taken line false = take-length line
+
+pub take_without_cr : (line : List ℕ) → take (length (without_cr line)) line ≡ without_cr line
+unfolding without_cr
+take_without_cr line = taken line (eqb (get_or line (length line - 1) 0) 13)
 
 -- a line that has no room is too long, whatever bytes follow
 pub too_long : (lf : Bool) (begun front : List ℕ) → 513 < length begun + length front → Some LineTooLong ≡ line_fault lf (begun ++ front)

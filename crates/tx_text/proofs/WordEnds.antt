@@ -1,4 +1,4 @@
--- A word's end, found in a block of bytes at once.
+-- The end of a word or a line, found in a block of bytes at once.
 use Rattle.std.proofs.Common.{◌≡◌, ℕ, zero, suc, ◌+◌, ◌*◌, ◌%◌, ◌^◌, ◌<◌, ◌≤◌, Bool, true, false, not, cond, eqb, ◌||◌, List, [], ◌∷◌, map, length, drop, refl, sym, ap, ap₂, ◌∙◌, arith}
 use Rattle.std.proofs.lemmas.Bool.{eq-eqb, ne_eqb}
 use Rattle.std.proofs.lemmas.List.{length-map}
@@ -10,6 +10,7 @@ use lib.Bits.{bit_or}
 use lib.Count.{count_trailing_zeros}
 use lib.Lanes.{chunk, zip2, mask_l, top}
 use Rattle.tx_text.specs.Words.{is_word_byte}
+use Rattle.tx_text.specs.Text.{is_lf}
 
 -- THE MASK
 
@@ -42,59 +43,79 @@ mask_of v z long e =
 pub three_lanes : (v : List ℕ) (a b c : List ℕ) → a ≡ map (λ x. hit x 32) v → b ≡ map (λ x. hit x 9) v → c ≡ map (λ x. hit x 35) v → zip2 bit_or (zip2 bit_or a b) c ≡ map lane v
 three_lanes v a b c p q r = zip2_of_maps bit_or (λ x. bit_or (hit x 32) (hit x 9)) (λ x. hit x 35) v (zip2_of_maps bit_or (λ x. hit x 32) (λ x. hit x 9) v p q) r
 
--- THE WORD
+-- ONE COMPARISON
 
-same_run : (xs : List ℕ) → prefix_len is_word_byte xs ≡ prefix_len (λ b. not (not (is_word_byte b))) xs
-same_run [] = refl
-same_run (x ∷ xs) = ap₂ (λ b n. cond b (1 + n) 0) (twice (is_word_byte x)) (same_run xs)
+lf_marked : (v : List ℕ) → map (top 7) (map (λ x. hit x 10) v) ≡ map is_lf v
+lf_marked [] = refl
+lf_marked (b ∷ bs) = ap₂ (λ x xs. x ∷ xs) (whole (eqb b 10)) (lf_marked bs)
   where
-    twice : (b : Bool) → b ≡ not (not b)
-    twice true = refl
-    twice false = refl
+    whole : (x : Bool) → top 7 (cond x 255 0) ≡ x
+    whole true = refl
+    whole false = refl
+
+pub lf_mask : (v z : List ℕ) → length v ≤ 16 → z ≡ map (λ x. hit x 10) v → mask_l (map (top 7) z) % 2 ^ 64 ≡ mask_l (map is_lf v)
+lf_mask v z long e =
+    ap (λ l. mask_l l % 2 ^ 64) (ap (map (top 7)) e ∙ lf_marked v)
+    ∙ mask_l-mod (map is_lf v) 64 (omega (arith, length-map v is_lf, long))
+
+-- THE RUN AT THE FRONT
+
+twice : (b : Bool) → b ≡ not (not b)
+twice true = refl
+twice false = refl
+
+pub lfs_again : (c : List ℕ) → map (λ b. not (not (is_lf b))) c ≡ map is_lf c
+lfs_again [] = refl
+lfs_again (b ∷ bs) = ap₂ (λ x xs. x ∷ xs) (sym (twice (is_lf b))) (lfs_again bs)
 
 no_end : (b : Bool) (n l m : ℕ) → n ≤ l → cond b (1 + n) 0 ≡ 1 + l → (n ≡ l → m ≡ 0) → cond (not b) 1 0 + 2 * m ≡ 0
 no_end true n l m le e ih = let z = ih (omega arith) in omega arith
 no_end false n l m le e ih = let no : ⊥ = omega arith in absurd no
 
-none_ends : (xs : List ℕ) → prefix_len is_word_byte xs ≡ length xs → mask_l (map (λ b. not (is_word_byte b)) xs) ≡ 0
-none_ends [] e = refl
-none_ends (x ∷ xs) e = no_end (is_word_byte x) _ (length xs) _ (prefix_len-le-length is_word_byte xs) (omega arith) (none_ends xs)
-
--- where one of n bytes from a place on is no byte of a word, the first of these ends the word
-pub ends_in : (i n : ℕ) (text : List ℕ) → n ≤ 64 → i + n ≤ length text → 0 < mask_l (map (λ b. not (is_word_byte b)) (chunk i n text))
-    → prefix_len is_word_byte (drop i text) ≡ count_trailing_zeros 64 (mask_l (map (λ b. not (is_word_byte b)) (chunk i n text)))
-ends_in i n text most room some =
-    let c = chunk i n text in
-    ap (prefix_len is_word_byte) (chunk-drop i n text) ∙ prefix_len-append is_word_byte c (drop (i + n) text)
-    ∙ ap (λ b. cond b (length c + prefix_len is_word_byte (drop (i + n) text)) (prefix_len is_word_byte c)) (ne_eqb _ _ (λ (e : prefix_len is_word_byte c ≡ length c). omega (arith, none_ends c e)))
-    ∙ same_run c ∙ sym (trailing_mask_l (λ b. not (is_word_byte b)) 64 c (omega (arith, most, length-chunk i n text room)) some)
-
-pub ends_at : (n : ℕ) (text : List ℕ) → n ≤ 64 → n ≤ length text → 0 < mask_l (map (λ b. not (is_word_byte b)) (chunk 0 n text))
-    → prefix_len is_word_byte text ≡ count_trailing_zeros 64 (mask_l (map (λ b. not (is_word_byte b)) (chunk 0 n text)))
-ends_at n text most room some = ends_in 0 n text most (omega (arith, room)) some
-
 no_mask : (b : Bool) (n l m : ℕ) → cond (not b) 1 0 + 2 * m ≡ 0 → (m ≡ 0 → n ≡ l) → cond b (1 + n) 0 ≡ suc l
 no_mask true n l m e ih = let same = ih (omega (arith, e)) in omega (arith, same)
 no_mask false n l m e ih = let no : ⊥ = omega (arith, e) in absurd no
-
-all_run : (xs : List ℕ) → mask_l (map (λ b. not (is_word_byte b)) xs) ≡ 0 → prefix_len is_word_byte xs ≡ length xs
-all_run [] e = refl
-all_run (x ∷ xs) e = no_mask (is_word_byte x) _ (length xs) _ e (all_run xs)
-
--- where each of n bytes from a place on is a byte of a word, the word has them all
-pub runs_on : (i n : ℕ) (text : List ℕ) → i + n ≤ length text → mask_l (map (λ b. not (is_word_byte b)) (chunk i n text)) ≡ 0 → n ≤ prefix_len is_word_byte (drop i text)
-runs_on i n text room none =
-    let c = chunk i n text in
-    let whole = ap (prefix_len is_word_byte) (chunk-drop i n text) ∙ prefix_len-append is_word_byte c (drop (i + n) text)
-    ∙ ap (λ b. cond b (length c + prefix_len is_word_byte (drop (i + n) text)) (prefix_len is_word_byte c)) (eq-eqb _ _ (all_run c none)) in
-    omega (arith, whole, length-chunk i n text room)
 
 longer : (b : Bool) (n m i : ℕ) → suc i ≤ cond b (1 + n) 0 → (i ≤ n → n ≡ i + m) → cond b (1 + n) 0 ≡ suc i + m
 longer true n m i le ih = let same = ih (omega (arith, le)) in omega (arith, same)
 longer false n m i le ih = let no : ⊥ = omega (arith, le) in absurd no
 
--- what is left of a word behind some of its bytes
-pub run_behind : (text : List ℕ) (i : ℕ) → i ≤ prefix_len is_word_byte text → prefix_len is_word_byte text ≡ i + prefix_len is_word_byte (drop i text)
-run_behind text zero le = omega arith
-run_behind [] (suc i) le = let no : ⊥ = omega (arith, le) in absurd no
-run_behind (x ∷ xs) (suc i) le = longer (is_word_byte x) _ _ i le (run_behind xs i)
+module _ (p : ℕ → Bool) where
+  same_run : (xs : List ℕ) → prefix_len p xs ≡ prefix_len (λ b. not (not (p b))) xs
+  same_run [] = refl
+  same_run (x ∷ xs) = ap₂ (λ b n. cond b (1 + n) 0) (twice (p x)) (same_run xs)
+
+  none_ends : (xs : List ℕ) → prefix_len p xs ≡ length xs → mask_l (map (λ b. not (p b)) xs) ≡ 0
+  none_ends [] e = refl
+  none_ends (x ∷ xs) e = no_end (p x) _ (length xs) _ (prefix_len-le-length p xs) (omega arith) (none_ends xs)
+
+  -- where one of n bytes from a place on fails, the first of these ends the run
+  pub ends_in : (i n : ℕ) (text : List ℕ) → n ≤ 64 → i + n ≤ length text → 0 < mask_l (map (λ b. not (p b)) (chunk i n text))
+      → prefix_len p (drop i text) ≡ count_trailing_zeros 64 (mask_l (map (λ b. not (p b)) (chunk i n text)))
+  ends_in i n text most room some =
+      let c = chunk i n text in
+      ap (prefix_len p) (chunk-drop i n text) ∙ prefix_len-append p c (drop (i + n) text)
+      ∙ ap (λ b. cond b (length c + prefix_len p (drop (i + n) text)) (prefix_len p c)) (ne_eqb _ _ (λ (e : prefix_len p c ≡ length c). omega (arith, none_ends c e)))
+      ∙ same_run c ∙ sym (trailing_mask_l (λ b. not (p b)) 64 c (omega (arith, most, length-chunk i n text room)) some)
+
+  all_run : (xs : List ℕ) → mask_l (map (λ b. not (p b)) xs) ≡ 0 → prefix_len p xs ≡ length xs
+  all_run [] e = refl
+  all_run (x ∷ xs) e = no_mask (p x) _ (length xs) _ e (all_run xs)
+
+  -- where none of n bytes from a place on fails, the run has them all
+  pub runs_on : (i n : ℕ) (text : List ℕ) → i + n ≤ length text → mask_l (map (λ b. not (p b)) (chunk i n text)) ≡ 0 → n ≤ prefix_len p (drop i text)
+  runs_on i n text room none =
+      let c = chunk i n text in
+      let whole = ap (prefix_len p) (chunk-drop i n text) ∙ prefix_len-append p c (drop (i + n) text)
+      ∙ ap (λ b. cond b (length c + prefix_len p (drop (i + n) text)) (prefix_len p c)) (eq-eqb _ _ (all_run c none)) in
+      omega (arith, whole, length-chunk i n text room)
+
+  -- what is left of a run behind some of its bytes
+  pub run_behind : (text : List ℕ) (i : ℕ) → i ≤ prefix_len p text → prefix_len p text ≡ i + prefix_len p (drop i text)
+  run_behind text zero le = omega arith
+  run_behind [] (suc i) le = let no : ⊥ = omega (arith, le) in absurd no
+  run_behind (x ∷ xs) (suc i) le = longer (p x) _ _ i le (run_behind xs i)
+
+pub ends_at : (n : ℕ) (text : List ℕ) → n ≤ 64 → n ≤ length text → 0 < mask_l (map (λ b. not (is_word_byte b)) (chunk 0 n text))
+    → prefix_len is_word_byte text ≡ count_trailing_zeros 64 (mask_l (map (λ b. not (is_word_byte b)) (chunk 0 n text)))
+ends_at n text most room some = ends_in is_word_byte 0 n text most (omega (arith, room)) some

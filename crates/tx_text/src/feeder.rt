@@ -1,6 +1,7 @@
 // Lines that come in pieces.
 ghost use Rattle.std.specs.Prelude.{◌≡◌, ◌+◌, ◌-◌, ◌^◌, ◌<◌, ◌≤◌, ◌++◌, true, false, IfOk, IfErr, IfNone, IsSome, [], length, vec_len, vec_capacity};
 ghost use Rattle.tx_text.specs.Feed.{feed_gives, feed_leaves, begun_more, ended, faulted, line_fault, finish_gives, finish_leaves, finished};
+ghost use Rattle.tx_text.specs.Text.{without_cr};
 ghost use Rattle.tx_text.specs.TextLine.{line_of};
 
 use crate::line::TextLine;
@@ -162,15 +163,10 @@ impl<A: Allocator> LineFeeder<A> {
         ensures line { self.now.line ≡ Some (line_of result) }
         ensures small { result.number < 2 ^ 64 - 1 }
     {
-        let held = self.held.as_slice();
         TextLine {
             number: self.number,
             start: self.line_start,
-            text: if self.finished {
-                without_cr(held)
-            } else {
-                held
-            },
+            text: self.held.as_slice(),
             finished: self.finished,
         }
     }
@@ -189,7 +185,7 @@ impl<A: Allocator> LineFeeder<A> {
         self.start += self.held.len();
     }
 
-    /// Completes the line that has begun, at an LF.
+    /// Completes the line that has begun, at an LF. A CR at its end goes.
     #[inline(always)]
     fn complete_line(&mut self)
         requires begun { self.old.line ≡ None }
@@ -201,6 +197,7 @@ impl<A: Allocator> LineFeeder<A> {
         self.number += 1;
         self.line_start = self.start;
         self.start += self.held.len() + 1;
+        drop_cr(&mut self.held);
     }
 }
 
@@ -222,4 +219,15 @@ fn hold<A: Allocator>(held: &mut Vec<u8, A>, front: &[u8]) -> bool
         unreachable!();
     }
     true
+}
+
+/// Takes the one CR at the end away, if there is one.
+#[tactic(auto, using(crate::proofs::LineFaults::take_without_cr))]
+#[inline(always)]
+fn drop_cr<A: Allocator>(held: &mut Vec<u8, A>)
+    ensures room { vec_capacity held.new ≡ vec_capacity held.old }
+    ensures items { held.new.items ≡ without_cr held.old.items }
+{
+    let len = without_cr(held).len();
+    held.truncate(len);
 }

@@ -5,7 +5,6 @@
 //! `Sink` by `write_bytes` and `write_parts`. `LineSink` gathers the parts of a line, which then goes out in one call.
 #![tactic(auto)]
 
-mod copy;
 mod feeder;
 mod figures;
 mod frame;

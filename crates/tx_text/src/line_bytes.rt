@@ -1,10 +1,12 @@
 // The bytes of a line.
-ghost use Rattle.std.specs.Prelude.{◌≡◌, ◌≤◌, length};
+ghost use Rattle.std.specs.Prelude.{◌≡◌, ◌≤◌, map, length, IfSome};
 ghost use Rattle.std.specs.List.{list_all, position_or_len};
+ghost use Rattle.std.specs.Simd.Lanes.{mask_l};
 ghost use Rattle.tx_text.specs.Text.{without_cr, bytes_fault, is_text_byte, is_lf};
 
 use crate::text_fault::TextFault;
 use memchr::memchr;
+use std::simd::prelude::*;
 
 /// The line without the one CR at its end, if there is one.
 #[tactic(auto, unfolding(crate::specs::Text::without_cr))]
@@ -76,9 +78,48 @@ pub fn bytes_fault(line: &[u8]) -> Option<TextFault>
     Some(TextFault::BadByte)
 }
 
-/// Where the first LF stands, or the length.
+/// A bit for each byte of a block, set where it is an LF.
+#[inline(always)]
+fn lfs(block: u8x16) -> u64
+    ensures { result ≡ mask_l (map is_lf block) }
+{
+    block.simd_eq(u8x16::splat(b'\n')).to_bitmask()
+}
+
+/// Where the first LF stands, if it is looked for and found in the first 32 bytes.
+#[inline(always)]
+fn near_lf(piece: &[u8]) -> Option<usize>
+    ensures within { IfSome result (λ place. place ≤ length piece.now) }
+    ensures place { IfSome result (λ place. place ≡ position_or_len is_lf piece.now) }
+{
+    if piece.len() < 32 {
+        return None;
+    }
+    let front = lfs(u8x16::from_slice(piece));
+    if front != 0 {
+        return Some(front.trailing_zeros() as usize);
+    }
+    let behind = lfs(u8x16::from_slice(&piece[16..]));
+    if behind != 0 {
+        return Some(16 + behind.trailing_zeros() as usize);
+    }
+    None
+}
+
+/// Where the first LF stands, or the length. Most lines are short, so it is looked for near the front first.
 #[inline(always)]
 pub(crate) fn lf_or_len(piece: &[u8]) -> usize
+    ensures within { result ≤ length piece.now }
+    ensures place { result ≡ position_or_len is_lf piece.now }
+{
+    match near_lf(piece) {
+        Some(place) => place,
+        None => far_lf_or_len(piece),
+    }
+}
+
+/// The same, looked for in all bytes.
+fn far_lf_or_len(piece: &[u8]) -> usize
     ensures within { result ≤ length piece.now }
     ensures place { result ≡ position_or_len is_lf piece.now }
 {

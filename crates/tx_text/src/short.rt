@@ -1,7 +1,6 @@
 // Short texts that are kept in place.
 ghost use Rattle.std.specs.Prelude.{◌≡◌, ◌≤◌, ◌-◌, ◌++◌, length, replicate};
 
-use crate::copy::copy;
 use std::hash::{Hash, Hasher};
 use std::marker::Model;
 
@@ -74,9 +73,14 @@ impl<const N: usize> Short<N> {
         requires room { N ≤ 255 }
         ensures { result ≡ text.now }
     {
+        // As many steps as there are places, so that a short text is made in registers.
         let mut bytes = [0; N];
         let len = text.len();
-        copy(&mut bytes[..len], text);
+        for i in 0..N {
+            if i < len {
+                bytes[i] = text[i];
+            }
+        }
         Short {
             bytes,
             len: len as u8,

@@ -27,20 +27,20 @@ ends_of i text = mask_l (map (λ b. not (is_word_byte b)) (chunk i 4 text))
 far : (text : List ℕ) → 4 ≤ length text → length text ≤ 8 → ends_of 0 text ≡ 0
     → prefix_len is_word_byte text ≡ length text - 4 + prefix_len is_word_byte (drop (length text - 4) text)
 far text least most none =
-    let front : 4 ≤ prefix_len is_word_byte text = runs_on 0 4 text (omega (arith, least)) none in
-    run_behind text (length text - 4) (omega (arith, front, most))
+    let front : 4 ≤ prefix_len is_word_byte text = runs_on is_word_byte 0 4 text (omega (arith, least)) none in
+    run_behind is_word_byte text (length text - 4) (omega (arith, front, most))
 
 far_end : (text : List ℕ) (last : ℕ) → 4 ≤ length text → length text ≤ 8 → ends_of 0 text ≡ 0 → last ≡ ends_of (length text - 4) text → 0 < last
     → prefix_len is_word_byte text ≡ length text - 4 + count_trailing_zeros 64 last
 far_end text last least most none e some =
     let from = length text - 4 in
     far text least most none
-    ∙ ap (λ n. from + n) (ends_in from 4 text (omega arith) (omega (arith, least)) (omega (arith, e, some)) ∙ ap (count_trailing_zeros 64) (sym e))
+    ∙ ap (λ n. from + n) (ends_in is_word_byte from 4 text (omega arith) (omega (arith, least)) (omega (arith, e, some)) ∙ ap (count_trailing_zeros 64) (sym e))
 
 no_end : (text : List ℕ) → 4 ≤ length text → length text ≤ 8 → ends_of 0 text ≡ 0 → ends_of (length text - 4) text ≡ 0 → length text ≡ prefix_len is_word_byte text
 no_end text least most none e =
     let from = length text - 4 in
-    let all = runs_on from 4 text (omega (arith, least)) e in
+    let all = runs_on is_word_byte from 4 text (omega (arith, least)) e in
     omega (arith, far text least most none, all, length-drop from text, prefix_len-le-length is_word_byte (drop from text), least)
 
 pub returns-then-last-ne0-clause-within : goal.returns-then-last-ne0-clause-within

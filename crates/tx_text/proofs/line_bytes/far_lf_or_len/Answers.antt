@@ -1,7 +1,7 @@
 use Rattle.std.proofs.Common.{sym}
 use Rattle.tx_text.specs.Text.{is_lf}
 use Rattle.tx_text.proofs.Places.{place_some, place_none}
-use Rattle.tx_text.proofs.line_bytes.lf_or_len.Goals as goal
+use Rattle.tx_text.proofs.line_bytes.far_lf_or_len.Goals as goal
 
 pub returns-in-Some-clause-place : goal.returns-in-Some-clause-place
 returns-in-Some-clause-place c = sym (place_some is_lf c.args.piece.now _ c.in-Some.ensures)
