@@ -1,5 +1,5 @@
 -- The lines of codes, one after another.
-use Rattle.std.proofs.Common.{◌≡◌, ℕ, ◌+◌, ◌<◌, ◌≤◌, List, [], ◌∷◌, ◌++◌, take, length, codes, Option, ap, sym, ◌∙◌, subst, append-nil}
+use Rattle.std.proofs.Common.{◌≡◌, ℕ, ◌+◌, ◌<◌, ◌≤◌, List, [], ◌∷◌, ◌++◌, take, length, codes, Option, ap, sym, ◌∙◌, subst, append_assoc, append-nil}
 use Rattle.std.proofs.lemmas.List.{take_more, take_all}
 use Rattle.std.proofs.lemmas.List.Concat.{flat_map-append}
 use Rattle.std.proofs.lemmas.Option.{get_or_from_slice_get}
@@ -16,6 +16,11 @@ use Rattle.tx_trie.proofs.Building.{code_there, its_figures, its_home}
 
 abbrev line_of : Plan → ℕ → List ℕ
 line_of p code = line_written (codes "CODE" ∷ figures_of p code ∷ exchange_name p (home_of p code) ∷ [])
+
+-- a line by its parts
+pub code_text : (p : Plan) (code home : ℕ) (figures name : List ℕ) → figures ≡ figures_of p code → home ≡ home_of p code → name ≡ exchange_name p home
+    → line_of p code ≡ codes "CODE " ++ (figures ++ (codes " " ++ (name ++ (codes "\n" ++ []))))
+code_text p code home figures name f h n = rw (n, h, f) (simp append_assoc)
 
 module _ (p : Plan) (rules : IsPlan p) (n code : ℕ) (is : code ≡ n) (within : n < length p.codes) where
   its_line : line_of p code ≡ code_line p (code_there p rules n within).0

@@ -3,13 +3,14 @@ ghost use Rattle.std.specs.Prelude.{◌≡◌, ◌∷◌, [], codes, true, OnOk,
 ghost use Rattle.std.specs.Io.KnownBytes.{append_known};
 ghost use Rattle.tx_text.specs.Ends.{StopsIn};
 ghost use Rattle.tx_text.specs.Written.{line_written};
+ghost use Rattle.tx_text.specs.Wrote.{Wrote};
 ghost use Rattle.tx_plan.specs.Plan.{figures_of, exchange_name, home_of};
 ghost use Rattle.tx_trie.specs.CodesText.{pair_line, codes_text};
 
 use crate::trie::CodeTrie;
 use std::alloc::Allocator;
 use tx_plan::{CodeId, Plan};
-use tx_text::{Sink, WriteFault, write_bytes, write_parts};
+use tx_text::{Sink, WriteFault, write_text};
 
 /// Writes a line for each code with its home, in order of declaration, and then the least pair of which one begins the other, or `DISTINCT`. The trie is that
 /// of the plan. Where the sink fails, a front of the text was taken.
@@ -38,23 +39,11 @@ fn write_code<A: Allocator, W: Sink>(
     code: CodeId,
     sink: &mut W,
 ) -> Result<(), WriteFault>
-    ensures ok { OnOk result (W.taken sink.new ≡ append_known (W.taken sink.old) (line_written (codes "CODE" ∷ figures_of plan.now code ∷ exchange_name plan.now (home_of plan.now code) ∷ []))) }
-    ensures err { OnErr result (StopsIn (W.taken sink.old) (W.taken sink.new) (line_written (codes "CODE" ∷ figures_of plan.now code ∷ exchange_name plan.now (home_of plan.now code) ∷ []))) }
-    ensures mark { OnErr result (W.failed sink.new ≡ true) }
-    ensures unmarked { OnOk result (W.failed sink.new ≡ W.failed sink.old) }
+    ensures { Wrote (W.taken sink.old) (W.taken sink.new) (W.failed sink.old) (W.failed sink.new) (line_written (codes "CODE" ∷ figures_of plan.now code ∷ exchange_name plan.now (home_of plan.now code) ∷ [])) result }
 {
     let figures = plan.code_figures(code);
     let home = plan.exchange_name(plan.home(code));
-    write_parts(
-        &[
-            b"CODE ".as_slice(),
-            figures,
-            b" ".as_slice(),
-            home,
-            b"\n".as_slice(),
-        ],
-        sink,
-    )
+    write_text(&[b"CODE ", figures, b" ", home, b"\n"], sink)
 }
 
 /// Writes the ambiguous pair, or that there is none.
@@ -63,24 +52,12 @@ fn write_pair<A: Allocator, W: Sink>(
     plan: &Plan<A>,
     sink: &mut W,
 ) -> Result<(), WriteFault>
-    ensures ok { OnOk result (W.taken sink.new ≡ append_known (W.taken sink.old) (pair_line plan.now pair)) }
-    ensures err { OnErr result (StopsIn (W.taken sink.old) (W.taken sink.new) (pair_line plan.now pair)) }
-    ensures mark { OnErr result (W.failed sink.new ≡ true) }
-    ensures unmarked { OnOk result (W.failed sink.new ≡ W.failed sink.old) }
+    ensures { Wrote (W.taken sink.old) (W.taken sink.new) (W.failed sink.old) (W.failed sink.new) (pair_line plan.now pair) result }
 {
     let Some((shorter, longer)) = pair else {
-        return write_bytes(b"DISTINCT\n", sink);
+        return write_text(&[b"DISTINCT\n"], sink);
     };
     let shorter = plan.code_figures(shorter);
     let longer = plan.code_figures(longer);
-    write_parts(
-        &[
-            b"AMBIGUOUS ".as_slice(),
-            shorter,
-            b" ".as_slice(),
-            longer,
-            b"\n".as_slice(),
-        ],
-        sink,
-    )
+    write_text(&[b"AMBIGUOUS ", shorter, b" ", longer, b"\n"], sink)
 }
