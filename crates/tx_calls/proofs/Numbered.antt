@@ -1,7 +1,7 @@
 -- Keys in order of their numbers, and what a search, an insertion and a clearing find and leave.
 use Rattle.std.proofs.Common.{◌≡◌, ◌≢◌, inl, inr, ℕ, zero, suc, ◌-◌, ◌<◌, ◌≤◌, ◌==◌, Bool, true, false, cond, List, [], ◌∷◌, ◌++◌, length, Option, Some, None, slice_index_or, refl, sym, ap, subst, ◌∙◌, arith, eq-eqb}
 use Rattle.std.proofs.lemmas.Bool.Decides.{nat_tests, eqb_tells}
-use Rattle.std.specs.Prelude.{filter, nat_lt, slice_get, if◌then◌else◌, IfSome}
+use Rattle.std.specs.Prelude.{filter, nat_lt, slice_get, option_and_then, if◌then◌else◌, IfSome}
 use Rattle.std.specs.List.Sorted.{IsPartitionedBy, IsPartitionPoint}
 use Rattle.tx_plan.specs.Among.{Among}
 use Rattle.tx_plan.proofs.Among.{among_cases, filter_among}
@@ -35,6 +35,15 @@ module _ (n : ℕ) where
     | inr e ↦ absurd (let none : None ≡ Some key = sym (ap (λ b. if b then Some k.key else None) e.0) ∙ h in let bad : ⊥ = cc in bad)
   ]
   at_member key (suc i) (k ∷ ks) h = let r = at_member key i ks h in (r.0, inr r.1, r.2)
+
+  -- what stands at a place, under the number and under another
+  pub at_key : (k : NumberedKey) (i : ℕ) (xs ks : List NumberedKey) → xs ≡ ks → slice_get xs i ≡ Some k → k.number ≡ n → Some k.key ≡ key_at n i ks
+  at_key k i xs ks same at e =
+      sym (ap (key_at n i) (sym same) ∙ ap (option_and_then (λ (k : NumberedKey). if k.number == n then Some k.key else None)) at ∙ ap (λ b. if b then Some k.key else None) (eq-eqb k.number n e))
+
+  pub at_other : (k : NumberedKey) (i : ℕ) (xs ks : List NumberedKey) → xs ≡ ks → slice_get xs i ≡ Some k → k.number ≢ n → None ≡ key_at n i ks
+  at_other k i xs ks same at ne =
+      sym (ap (key_at n i) (sym same) ∙ ap (option_and_then (λ (k : NumberedKey). if k.number == n then Some k.key else None)) at ∙ ap (λ b. if b then Some k.key else None) (unequal k.number n ne))
 
   -- what stands at a place under the number is what the number has
   at_under : (key i : ℕ) (ks : List NumberedKey) → AreRising ks → key_at n i ks ≡ Some key → key_under n ks ≡ Some key

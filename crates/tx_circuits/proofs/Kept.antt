@@ -1,7 +1,7 @@
 -- The groups stand in rows: one changes, and the others stay.
 use Rattle.std.proofs.Common.{◌≡◌, ◌∙◌, ℕ, zero, suc, ◌-◌, ◌<◌, ◌≤◌, inl, inr, Bool, true, false, List, [], ◌∷◌, ◌++◌, length, map, find, Option, Some, None, slice_set, refl, sym, ap, subst, arith}
 use Rattle.std.specs.Prelude.{slice_get, is_some, option_and_then, replicate, cond}
-use Rattle.std.specs.Option.{option_map, option_or}
+use Rattle.std.specs.Option.{IsSome, option_map, option_or}
 use Rattle.std.specs.List.{between}
 use Rattle.std.proofs.lemmas.Bool.Decides.{eqb_tells}
 use Rattle.std.proofs.lemmas.List.{length-map, length-replicate, map_push}
@@ -10,7 +10,7 @@ use Rattle.std.proofs.lemmas.Option.{slice_get-map}
 use Rattle.tx_entries.specs.declared.circuit.Circuit.{Circuit}
 use Rattle.tx_rows.specs.declared.late_rows.LateRows.{LateRows}
 use Rattle.tx_rows.specs.Rows.{Row as RowOf, change_at, item_at}
-use Rattle.tx_rows.specs.inner.Kept.{rows_in, AreRowsKept, IsAt}
+use Rattle.tx_rows.specs.inner.Kept.{row_seen, rows_in, AreRowsKept, IsAt}
 use Rattle.tx_rows.proofs.Lists.{get-change_here, get-change_there, pushed_is, some_is, change_twice}
 use Rattle.tx_rows.proofs.Parts.{part_is, with_part, part_rows}
 use Rattle.tx_circuits.specs.declared.slot.Slot.{Slot}
@@ -70,6 +70,18 @@ row_at rows now g view lt = by_row (slice_get rows g) refl (let e : length now �
         none (x ∷ xs) zero h e = absurd cc
         none (x ∷ xs) (suc k) h e = none xs k (omega arith) e
     by_row (Some row) e h = record { row = row; at = e; group = ap (λ v. slice_get v g) (sym view) ∙ slice_get-map group_state rows g ∙ ap (option_map group_state) e }
+
+pub row_within : (rows : List (RowOf Row Slot)) (now : List GroupState) (g i : ℕ) → map group_state rows ≡ now → i ≡ g → g < length now → i < length rows
+row_within rows now g i view is lt = let e : length now ≡ length rows = ap length (sym view) ∙ length-map rows group_state in omega arith
+
+pub row_some : (rows : List (RowOf Row Slot)) (now : List GroupState) (g i : ℕ) → map group_state rows ≡ now → i ≡ g → g < length now → (o : Option Row) → o ≡ option_map (λ r. r.head) (slice_get rows i) → IsSome o
+row_some rows now g i view is lt o read =
+    let at = row_at rows now g view lt in
+    subst IsSome (sym (read ∙ ap (λ k. option_map (λ (r : RowOf Row Slot). r.head) (slice_get rows k)) is ∙ ap (option_map (λ (r : RowOf Row Slot). r.head)) at.at)) refl
+
+-- the rows stay as many whatever is written behind them
+pub still_within : {A : Type 0} (l : LateRows Row Slot A) (slots : List Slot) (idle : Slot) (i : ℕ) → i < length (rows_in l) → i < length (map (row_seen slots idle) l.rows.items)
+still_within l slots idle i lt = subst (λ n. i < n) (length-map l.rows.items (row_seen l.items.items l.idle) ∙ sym (length-map l.rows.items (row_seen slots idle))) lt
 
 -- one row changes
 map_changed : (F : RowOf Row Slot → RowOf Row Slot) (f : GroupState → GroupState) (rows : List (RowOf Row Slot)) (g : ℕ) (r : RowOf Row Slot) → slice_get rows g ≡ Some r

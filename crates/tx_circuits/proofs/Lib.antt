@@ -1,4 +1,5 @@
 pub mod Appending
+pub mod Before
 pub mod Built
 pub mod Bytes
 pub mod Changes

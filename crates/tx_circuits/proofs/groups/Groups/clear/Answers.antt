@@ -1,11 +1,29 @@
-use Rattle.std.proofs.Common.{◌∙◌, ◌-◌, List, length, map, sym, ap}
+use Rattle.std.proofs.Common.{◌∙◌, ◌-◌, ◌<◌, List, length, map, sym, ap, subst}
 use Rattle.std.specs.List.{between}
 use Rattle.std.proofs.lemmas.List.Edits.{length-between}
+use Rattle.tx_rows.specs.inner.Kept.{rows_in}
 use Rattle.tx_rows.proofs.Parts.{part_ends, part_kept}
+use Rattle.tx_rows.specs.Rows.{Row as RowOf}
+use Rattle.tx_circuits.specs.declared.row.Row.{Row}
 use Rattle.tx_circuits.specs.declared.slot.Slot.{Slot}
 use Rattle.tx_circuits.specs.inner.Slots.{state_of, cleared}
-use Rattle.tx_circuits.proofs.Kept.{part_listed, part_kept_after, part_view_after}
+use Rattle.tx_circuits.proofs.Kept.{row_some, row_within, still_within, part_listed, part_kept_after, part_view_after}
 use Rattle.tx_circuits.proofs.groups.Groups.clear.Goals as goal
+
+pub unwrap-row-requires : goal.unwrap-row-requires
+unwrap-row-requires g c = row_some (rows_in c.self.inside.rows) c.args.self.now c.args.group c.index-place.result c.self.view_is c.index-place.ensures c.requires c.head.result c.head.ensures
+
+pub written-start-requires-clause-kept : goal.written-start-requires-clause-kept
+written-start-requires-clause-kept g c = c.self.invariant.rows
+
+pub written-start-requires-clause-row : goal.written-start-requires-clause-row
+written-start-requires-clause-row g c = row_within (rows_in c.self.inside.rows) c.args.self.now c.args.group c.index-place.result c.self.view_is c.index-place.ensures c.requires
+
+pub set_head-requires-clause-row : goal.set_head-requires-clause-row
+set_head-requires-clause-row g c =
+    let l0 = c.self.inside.rows in let l = c.written-start.new.self in
+    still_within l _ _ c.index-place.result
+    (subst (λ (rows : List (RowOf Row Slot)). c.index-place.result < length rows) (sym c.written-start.ensures.rows) (row_within (rows_in l0) c.args.self.now c.args.group c.index-place.result c.self.view_is c.index-place.ensures c.requires))
 
 pub clear-row-requires : goal.clear-row-requires
 clear-row-requires g c =

@@ -1,16 +1,34 @@
-use Rattle.std.proofs.Common.{◌≡◌, ◌∙◌, suc, ◌-◌, ◌<◌, List, length, map, sym, ap, slice_set, arith}
+use Rattle.std.proofs.Common.{◌≡◌, ◌∙◌, suc, ◌-◌, ◌<◌, List, length, map, sym, ap, subst, slice_set, arith}
 use Rattle.std.specs.List.{between}
 use Rattle.std.proofs.lemmas.List.{length-map}
 use Rattle.std.proofs.lemmas.List.Edits.{length-between}
 use Rattle.tx_rows.proofs.Lists.{some_is}
+use Rattle.tx_rows.specs.inner.Kept.{rows_in}
 use Rattle.tx_rows.proofs.Parts.{part_ends, part_kept}
+use Rattle.tx_rows.specs.Rows.{Row as RowOf}
+use Rattle.tx_circuits.specs.declared.row.Row.{Row}
 use Rattle.tx_circuits.specs.declared.slot.Slot.{Slot}
 use Rattle.tx_circuits.specs.inner.Slots.{state_of}
 use Rattle.tx_circuits.specs.inner.Groups.{GroupState, with_state}
-use Rattle.tx_circuits.proofs.Kept.{part_listed, part_group, part_kept_after, part_view_after, set_numbered_at}
+use Rattle.tx_circuits.proofs.Kept.{row_some, row_within, still_within, part_listed, part_group, part_kept_after, part_view_after, set_numbered_at}
 use Rattle.tx_circuits.proofs.Members.{known}
 use Rattle.tx_circuits.proofs.Steps.{state_in}
 use Rattle.tx_circuits.proofs.groups.Groups.set_state.Goals as goal
+
+pub unwrap-row-requires : goal.unwrap-row-requires
+unwrap-row-requires g c = row_some (rows_in c.self.inside.rows) c.args.self.now c.args.circuit.now.group c.index-group.result c.self.view_is c.index-group.ensures (state_in c.args.self.now c.args.circuit.now c.requires) c.head.result c.head.ensures
+
+pub written-start-requires-clause-kept : goal.written-start-requires-clause-kept
+written-start-requires-clause-kept g c = c.self.invariant.rows
+
+pub written-start-requires-clause-row : goal.written-start-requires-clause-row
+written-start-requires-clause-row g c = row_within (rows_in c.self.inside.rows) c.args.self.now c.args.circuit.now.group c.index-group.result c.self.view_is c.index-group.ensures (state_in c.args.self.now c.args.circuit.now c.requires)
+
+pub set_head-requires-clause-row : goal.set_head-requires-clause-row
+set_head-requires-clause-row g c =
+    let l0 = c.self.inside.rows in let l = c.written-start.new.self in
+    still_within l _ _ c.index-group.result
+    (subst (λ (rows : List (RowOf Row Slot)). c.index-group.result < length rows) (sym c.written-start.ensures.rows) (row_within (rows_in l0) c.args.self.now c.args.circuit.now.group c.index-group.result c.self.view_is c.index-group.ensures (state_in c.args.self.now c.args.circuit.now c.requires)))
 
 pub set_state-row-requires-clause-listed : goal.set_state-row-requires-clause-listed
 set_state-row-requires-clause-listed g c =

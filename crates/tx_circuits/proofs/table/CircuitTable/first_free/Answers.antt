@@ -1,16 +1,32 @@
 use Rattle.std.proofs.Common.{◌≡◌, ◌∙◌, ℕ, suc, ◌+◌, true, false, Some, None, sym, ap, subst, arith}
+use Rattle.std.specs.Prelude.{if◌then◌else◌, find}
 use Rattle.std.specs.Option.{option_map}
-use Rattle.tx_plan.specs.Circuits.{is_circuit}
+use Rattle.std.proofs.lemmas.Option.{slice_get_within}
+use Rattle.tx_plan.specs.Circuits.{is_circuit, circuits_at}
 use Rattle.tx_entries.specs.declared.circuit.Circuit.{Circuit}
 use Rattle.tx_circuits.specs.inner.Groups.{first_place}
 use Rattle.tx_circuits.specs.Table.{Table, plan_of, is_down, is_free_at, first_free}
 use Rattle.tx_circuits.specs.inner.Seen.{table_of}
 use Rattle.tx_circuits.proofs.Reading.{first_is, first_known}
-use Rattle.tx_circuits.proofs.Steps.{group_at, place_is}
+use Rattle.tx_circuits.proofs.Steps.{group_at, place_is, end_is_there}
 use Rattle.tx_circuits.proofs.table.CircuitTable.first_free.Goals as goal
 
 abbrev numbered_in : ℕ → ℕ → Circuit
 numbered_in g n = record { group = g; number = n }
+
+pub returns-then-is_down-clause-value : goal.returns-then-is_down-clause-value
+returns-then-is_down-clause-value g c =
+    let t = c.args.self.now in
+    ap (λ b. if b then None else find (is_free_at t c.args.exchange) (circuits_at (plan_of t) c.args.group c.args.exchange)) (sym c.if-is_down.true ∙ c.is_down.ensures)
+
+pub known_end-end-requires : goal.known_end-end-requires
+known_end-end-requires g c = sym (end_is_there c.self.inside.groups c.args.self.now c.self.view_is c.args.group c.args.exchange) ∙ c.requires
+
+pub first_place-requires : goal.first_place-requires
+first_place-requires g c =
+    let ts = c.self.inside.groups in
+    let at = group_at ts c.args.group c.args.exchange c.known_end-end.result c.known_end-end.ensures in
+    slice_get_within ts c.args.group at.group at.at
 
 pub returns-in-Some-clause-value : goal.returns-in-Some-clause-value
 returns-in-Some-clause-value g c =
