@@ -1,4 +1,4 @@
-// Plays a case by its kind.
+// Plays cases by their kinds.
 use crate::ends::{tell_ends, tell_reads, tell_rooms, tell_sources, tell_two_texts};
 use crate::frames::{play_calls, play_frame};
 use crate::growths::{MADE, play_growths};
@@ -7,7 +7,7 @@ use crate::plans::{Over, with_plan};
 use crate::readers::{tell_growths, tell_plan};
 use crate::spelling::{Spelling, next_named, tell_spellings};
 use std::alloc::Global;
-use tx_cases::{Case, named, next_number, spell, tell_broken, tell_parts, two_texts};
+use tx_cases::{Case, named, next_case, next_number, spell, tell_broken, tell_parts, two_texts};
 use tx_text::{Sink, SliceSource, words};
 
 /// What a case plays.
@@ -73,8 +73,20 @@ fn head_of(head: &[u8]) -> (Option<Kind>, Head<'_>) {
     (kind, head)
 }
 
+/// Plays each case of a text, and tells its line, and what its kind tells.
+pub fn play_cases<W: Sink>(alloc: Global, cases: &[u8], out: &mut W) {
+    let mut rest = cases;
+    for _ in 0..1000u32 {
+        let Some((case, more)) = next_case(rest) else {
+            break;
+        };
+        play(alloc, case, out);
+        rest = more;
+    }
+}
+
 /// Plays a case, and tells its line, and what its kind tells.
-pub(crate) fn play<W: Sink>(alloc: Global, case: Case<'_>, out: &mut W) {
+fn play<W: Sink>(alloc: Global, case: Case<'_>, out: &mut W) {
     tell_parts(&[b"=== ", case.head, b"\n"], out);
     let (kind, head) = head_of(case.head);
     let mut text = Vec::new(alloc);

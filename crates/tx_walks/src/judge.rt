@@ -1,4 +1,4 @@
-// The plans of a family, judged one after another.
+// The plans of families, judged one after another.
 ghost use Rattle.std.specs.Prelude.{◌≤◌};
 ghost use Rattle.std.specs.List.{AllByRecursion};
 ghost use Rattle.tx_rank.specs.Findings.{IsTrueOf};
@@ -8,7 +8,7 @@ use crate::families::{count_plans, put_plan};
 use crate::grades::grade_agrees;
 use crate::replay::Replay;
 use crate::scripts::{Judged, ScriptTally, scripts_differ};
-use crate::stop::Stop;
+use crate::stop::{Stop, write_stop};
 use crate::survey::Survey;
 use crate::tally::{Tally, write_tally};
 use crate::walks::{Steps, note_all_walks};
@@ -20,7 +20,7 @@ use tx_check::{Verdict, check};
 use tx_plan::{CodeId, Plan};
 use tx_plantext::read_plan;
 use tx_rank::{Finding, Ranking, rank};
-use tx_text::{NoMemory, Sink};
+use tx_text::{NoMemory, Sink, write_bytes};
 
 /// The limits 0 to 2 are tried, and the spare numbers 0 to 2.
 const NUMBERS: u8 = 3;
@@ -37,13 +37,13 @@ struct Work {
 
 /// The text of the plan in hand, and the work on it.
 #[derive(Drop)]
-pub struct Room {
-    pub plan: Vec<u8>,
+struct Room {
+    plan: Vec<u8>,
     work: Work,
 }
 
 impl Room {
-    pub fn new(alloc: Global) -> Room {
+    fn new(alloc: Global) -> Room {
         Room {
             plan: Vec::new(alloc),
             work: Work {
@@ -57,7 +57,7 @@ impl Room {
     }
 
     /// How an answer differs from what the walks show, where one does.
-    pub fn difference(&self) -> Option<Difference> {
+    fn difference(&self) -> Option<Difference> {
         self.work.differs
     }
 }
@@ -247,7 +247,7 @@ fn judge_family(alloc: Global, lines: &[u8], room: &mut Room) -> Result<Tally, S
 }
 
 /// Judges all families of a text, and writes what there was.
-pub fn judge_families<W: Sink>(
+fn judge_families<W: Sink>(
     alloc: Global,
     text: &[u8],
     room: &mut Room,
@@ -263,4 +263,13 @@ pub fn judge_families<W: Sink>(
         rest = more;
     }
     Ok(())
+}
+
+/// Judges all families of a text, and writes what there was, or why it stopped and the plan where it did.
+pub fn judge_all<W: Sink>(alloc: Global, text: &[u8], out: &mut W) {
+    let mut room = Room::new(alloc);
+    let _ = match judge_families(alloc, text, &mut room, out) {
+        Ok(()) => write_bytes(b"all agree\n", out),
+        Err(stop) => write_stop(stop, room.difference(), room.plan.as_slice(), out),
+    };
 }

@@ -97,21 +97,7 @@ fn tell_driven<A: Allocator, N: Network, W: Sink>(
     tell_count(b" OPEN ", net.open_calls(), b"\n", out);
 }
 
-/// Drives the events through a network, and tells what comes of it.
-fn drive_events<A: Allocator, N: Network, B: Allocator, W: Sink>(
-    plan: &Plan<A>,
-    net: &mut N,
-    events: &[Event],
-    replies: &mut Vec<Reply, B>,
-    out: &mut W,
-) {
-    match drive(net, events, replies) {
-        Ok(()) => tell_driven(plan, net, replies.as_slice(), out),
-        Err(NoMemory) => tell_broken(b"no memory", 0, out),
-    }
-}
-
-/// The same through a new plain network of the plan.
+/// Drives the events through a new plain network of the plan, and tells what comes of it.
 fn drive_plain<A: Allocator + Copy, W: Sink>(
     alloc: A,
     plan: &Plan<A>,
@@ -121,7 +107,10 @@ fn drive_plain<A: Allocator + Copy, W: Sink>(
 ) {
     match Plain::new(alloc, plan) {
         Ok(mut net) => {
-            drive_events(plan, &mut net, events, replies, out);
+            match drive(&mut net, events, replies) {
+                Ok(()) => tell_driven(plan, &mut net, replies.as_slice(), out),
+                Err(NoMemory) => tell_broken(b"no memory", 0, out),
+            }
             drop(net);
         }
         Err(NoMemory) => tell_broken(b"no memory", 0, out),

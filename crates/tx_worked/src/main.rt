@@ -1,4 +1,8 @@
-//! Worked examples: plays each case of the file `cases`, and prints what it writes and tells. Where a law is broken, a line with `BROKEN` says so.
+//! The player of the gate. It judges the ranking over the plans of the file `families` (`tx_walks`), plays the engine beside the plain network over the plans of
+//! the file `plans` (`tx_twins`), and plays the cases of the files `calls` (`tx_tests`) and `cases`, and prints what each of them tells. One program links them
+//! all, since the gate proves, builds and links each program anew.
+//!
+//! The file `cases` has worked examples, and what each writes and tells is printed. Where a law is broken, a line with `BROKEN` says so.
 //!
 //! A case begins with a line `=== NAME KIND` and has its texts behind it, with a line `---` between two. A text may have the marks of `spell`.
 //!
@@ -31,28 +35,31 @@ mod trials;
 mod whole_runs;
 mod written;
 
-use crate::play::play;
-use std::alloc::Global;
+use crate::play::play_cases;
 use std::io::{BufWriter, Write};
 use std::{fs, io};
-use tx_cases::next_case;
+use tx_tests::play_cases as play_calls;
 use tx_text::{Sink, ToWrite};
+use tx_twins::play_all;
+use tx_walks::judge_all;
 
-/// Plays the cases.
-fn play_cases<W: Sink>(alloc: Global, cases: &[u8], out: &mut W) {
-    let mut rest = cases;
-    for _ in 0..10_000u32 {
-        let Some((case, more)) = next_case(rest) else {
-            break;
-        };
-        play(alloc, case, out);
-        rest = more;
-    }
+/// Plays each file by its player.
+fn play_files<W: Sink>(rt: &HostRuntime, out: &mut W) -> io::Result<()> {
+    let text = fs::read(rt, "families")?;
+    judge_all(rt.alloc(), text.as_slice(), out);
+    drop(text);
+    let text = fs::read(rt, "plans")?;
+    play_all(rt.alloc(), text.as_slice(), out);
+    drop(text);
+    let text = fs::read(rt, "calls")?;
+    play_calls(rt.alloc(), text.as_slice(), out);
+    drop(text);
+    let text = fs::read(rt, "cases")?;
+    play_cases(rt.alloc(), text.as_slice(), out);
+    Ok(())
 }
 
 fn main(rt: HostRuntime) -> io::Result<()> {
-    let cases = fs::read(&rt, "cases")?;
     let mut out = ToWrite::new(BufWriter::new(rt.alloc(), rt.stdout())?);
-    play_cases(rt.alloc(), cases.as_slice(), &mut out);
-    Ok(())
+    play_files(&rt, &mut out)
 }

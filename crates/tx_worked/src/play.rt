@@ -1,4 +1,4 @@
-// Plays a case by its kind.
+// Plays cases by their kinds.
 use crate::checked::play_certified;
 use crate::head::{Head, Mode, head_of, job_of, limit_and_spare};
 use crate::job::{Ends, Job, ROOM, Task, Whole, do_task, task_of};
@@ -11,13 +11,24 @@ use crate::written::{play_cert, play_plan};
 use memchr::memmem;
 use std::alloc::Allocator;
 use tx_cases::{
-    Case, Judge, long_number, number_of, spell, tell, tell_broken, tell_parts, two_texts,
+    Case, Judge, long_number, next_case, number_of, spell, tell, tell_broken, tell_parts, two_texts,
 };
 use tx_jobs::write_fault;
 use tx_text::{MemorySink, Sink};
 
-/// Plays a case, and writes its line, and what its kind tells.
-pub(crate) fn play<A: Allocator + Copy, W: Sink>(alloc: A, case: Case<'_>, out: &mut W) {
+/// Plays each case of a text, and writes its line, and what its kind tells.
+pub(crate) fn play_cases<A: Allocator + Copy, W: Sink>(alloc: A, cases: &[u8], out: &mut W) {
+    let mut rest = cases;
+    for _ in 0..10_000u32 {
+        let Some((case, more)) = next_case(rest) else {
+            break;
+        };
+        play(alloc, case, out);
+        rest = more;
+    }
+}
+
+fn play<A: Allocator + Copy, W: Sink>(alloc: A, case: Case<'_>, out: &mut W) {
     tell_parts(&[b"=== ", case.head, b"\n"], out);
     let mut texts = Vec::new(alloc);
     match spell(case.texts, &mut texts) {

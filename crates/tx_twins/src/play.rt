@@ -1,37 +1,13 @@
-//! Twins: plays scripts through the plain network and through the engine, and compares them. After each event there has to be the same reply, the
-//! same tickets, and the same number of open calls and of accepted events.
-//!
-//! The file `plans` has the plans. The events are made from a seed: most of them such as the network accepts, some of things that a plan has not, of calls
-//! that ended, or that come too early. Of each plan four scripts begin in its opening state, one shortly before the last call number, and one shortly
-//! before the last event number. Four short ones, each in another mood, are played with each request for memory refused to the engine in turn: that changes nothing, and the same
-//! event given again has its reply.
-//!
-//! The program prints how many events there were, and how many of them had each reply, by the plain network's replies: this shows what the scripts
-//! reach, and says nothing of what is right. Where the networks differ it tells the plan, the script, the event and the difference.
-#![tactic(auto)]
-
-mod chance;
-mod drawing;
-mod mood;
-mod networks;
-mod picture;
-mod script;
-mod stop;
-mod stray;
-mod tally;
-mod twins;
-
+// Plays the scripts of all plans.
 use crate::networks::{play_refusing_each, play_script};
 use crate::script::Script;
 use crate::stop::{Stop, write_stop};
 use crate::tally::{Tallies, Tally, write_events, write_tallies};
 use std::alloc::Global;
-use std::io::{BufWriter, Write};
-use std::{fs, io};
 use tx_cases::{Case, next_case, next_number};
 use tx_plan::Plan;
 use tx_plantext::read_plan;
-use tx_text::{Sink, ToWrite, WriteFault, words};
+use tx_text::{Sink, WriteFault, words};
 
 /// How many events a script has that begins in the opening state.
 const LENGTH: u32 = 6000;
@@ -143,8 +119,7 @@ fn play_cases<W: Sink>(
     Ok(())
 }
 
-/// Plays the scripts of all plans, and writes what was counted, and why it stopped where it did.
-fn play_all<W: Sink>(alloc: Global, text: &[u8], out: &mut W) -> Result<(), WriteFault> {
+fn play_and_count<W: Sink>(alloc: Global, text: &[u8], out: &mut W) -> Result<(), WriteFault> {
     let mut tallies = Tallies::default();
     let played = play_cases(alloc, text, &mut tallies, out);
     write_tallies(&tallies, out)?;
@@ -154,9 +129,7 @@ fn play_all<W: Sink>(alloc: Global, text: &[u8], out: &mut W) -> Result<(), Writ
     }
 }
 
-fn main(rt: HostRuntime) -> io::Result<()> {
-    let text = fs::read(&rt, "plans")?;
-    let mut out = ToWrite::new(BufWriter::new(rt.alloc(), rt.stdout())?);
-    let _ = play_all(rt.alloc(), text.as_slice(), &mut out);
-    Ok(())
+/// Plays the scripts of all plans, and writes what was counted, and why it stopped where it did.
+pub fn play_all<W: Sink>(alloc: Global, text: &[u8], out: &mut W) {
+    let _ = play_and_count(alloc, text, out);
 }

@@ -1,5 +1,4 @@
-//! Calls of the crates below, by cases: plays each case of the file `cases`, and prints what the calls answer. Where a law is broken, a line with `BROKEN`
-//! says so.
+//! Calls of the crates below, by cases: plays each case of a text, and tells what the calls answer. Where a law is broken, a line with `BROKEN` says so.
 //!
 //! A case begins with a line `=== NAME KIND` and has its text behind it, which may have the marks of `spell`. A plan stands before a line `---`.
 //!
@@ -31,29 +30,4 @@ mod readers;
 mod spelling;
 mod trie;
 
-use crate::play::play;
-use std::alloc::Global;
-use std::io::{BufWriter, Write};
-use std::{fs, io};
-use tx_cases::next_case;
-use tx_text::{Sink, ToWrite};
-
-/// Plays the cases.
-fn play_cases<W: Sink>(alloc: Global, cases: &[u8], out: &mut W) {
-    let mut rest = cases;
-    for _ in 0..1000u32 {
-        let Some((case, more)) = next_case(rest) else {
-            break;
-        };
-        play(alloc, case, out);
-        rest = more;
-    }
-}
-
-fn main(rt: HostRuntime) -> io::Result<()> {
-    let cases = fs::read(&rt, "cases")?;
-    let mut out = BufWriter::new(rt.alloc(), rt.stdout())?;
-    play_cases(rt.alloc(), cases.as_slice(), &mut ToWrite::new(&mut out));
-    drop(cases);
-    out.flush()
-}
+pub use play::play_cases;
