@@ -7,11 +7,11 @@
 Runs each example of examples/list with a built program (crates/telexplan/out/telexplan where none is named), in a folder of its own, and compares what it prints,
 its exit status and the files that it makes with what stands in examples/. Then checks README.md and docs/FORMATS.md: each block there says, in a comment before
 it, what it shows, and has to show just that; the table of codes has to be the program's and to have the codes of the definitions, the map of the crates has to be that
-of crates.txt, what the pages name has to be there, each link of theirs has to lead to a file and a heading that are there, the players of the gate, crates/tx_worked and
-crates/tx_ends, have to have the examples and the pictures as they stand, and all pictures of the plans of crates/tx_worked have to be ones that can be read. Prints a line
+of crates.txt, what the pages name has to be there, each link of theirs has to lead to a file and a heading that are there, the player of the gate, crates/tx_worked,
+has to have the examples and the pictures as they stand, and all pictures of the plans of crates/tx_worked have to be ones that can be read. Prints a line
 for each difference; the status is 1 if there is one.
 
---pages runs nothing: it checks the pages and the players' cases alone. Each example is such a case, and the gate plays them, so the pages then show what the
+--pages runs nothing: it checks the pages and the player's cases alone. Each example is such a case, and the gate plays them, so the pages then show what the
 program prints.
 
 --write writes the outputs and the files that are made, for you to read through: they are right only once somebody has.
@@ -458,11 +458,11 @@ def case_of_ends(block):
 
 def check_ends(tell):
     """The player of the program's ends has the examples that are no worked cases: words that are refused, files that are missing, what is explained."""
-    told = [case_of_ends(it) for it in re.split(r"(?m)^=== ", read("crates/tx_ends/stdout").decode())]
+    told = [case_of_ends(it) for it in re.split(r"(?m)^=== ", read("crates/tx_worked/stdout").decode())]
     for example in examples():
         wanted = " ".join(example.words), read(out_of(example)).decode(), [str(example.status)]
         if not case_of(example) and wanted not in told:
-            tell(f"crates/tx_ends: no case has what {example.name} prints")
+            tell(f"crates/tx_worked: no case has what {example.name} prints")
 
 
 def main(words):

@@ -18,3 +18,4 @@ pub mod Steps
 pub mod Those
 pub mod Unnamed
 pub mod Updates
+mod Idle

@@ -120,8 +120,9 @@ fn neighbours(slots: &[Slot], list: FreeList, end: End, place: usize) -> Links
     }
 }
 
+/// The circuit has other links in the list of an end.
 #[inline(always)]
-fn set_links(slots: &mut [Slot], end: End, place: usize, links: Links)
+pub fn set_links(slots: &mut [Slot], end: End, place: usize, links: Links)
     requires place { place < length slots.old }
     requires above { IfSome links.above (λ k. k < 255) }
     requires below { IfSome links.below (λ k. k < 255) }

@@ -1,9 +1,10 @@
 // The circuits of a group, and its free lists.
-ghost use Rattle.std.specs.Prelude.{◌≡◌, ◌<◌, ◌≤◌, ◌+◌, ℕ, map, length, slice_set};
+ghost use Rattle.std.specs.Prelude.{◌≡◌, ◌<◌, ◌≤◌, ◌+◌, ℕ, map, length, replicate, slice_set, IfSome};
 ghost use Rattle.tx_circuits.specs.declared.free_lists.Way.{Way as WayValue};
-ghost use Rattle.tx_circuits.specs.inner.Slots.{IsSound, IsListed, free_at, link_at, opposite, state_of, cleared, until};
+ghost use Rattle.tx_circuits.specs.inner.Slots.{IsSound, IsListed, ahead, free_at, link_at, next_of, opposite, state_of, cleared, until};
+ghost use Rattle.tx_circuits.specs.inner.Groups.{idle};
 
-use crate::chain::{insert, relink};
+use crate::chain::{insert, relink, set_links};
 use crate::free_lists::{End, FreeList, FreeLists, Links};
 use crate::slot::Slot;
 use crate::state::State;
@@ -53,6 +54,45 @@ pub fn relist(slots: &mut [Slot]) -> FreeLists
         lists.other = append(slots, lists.other, End::Other, place);
     }
     lists
+}
+
+// The links of a circuit of so many that are all free.
+#[inline(always)]
+fn beside(place: usize, count: usize) -> Links
+    requires few { count ≤ 240 }
+    requires place { place < count }
+    ensures next { (way : WayValue) → ahead way result ≡ next_of way count place }
+    ensures above { IfSome result.above (λ k. k < 255) }
+    ensures below { IfSome result.below (λ k. k < 255) }
+{
+    Links {
+        above: if place + 1 < count {
+            Some((place + 1) as u8)
+        } else {
+            None
+        },
+        below: if place == 0 {
+            None
+        } else {
+            Some((place - 1) as u8)
+        },
+    }
+}
+
+/// Links idle circuits, which are free at both ends, in the order of their numbers, and gives the lists.
+pub fn link_idle(slots: &mut [Slot]) -> FreeLists
+    requires short { length slots.old ≤ 240 }
+    requires idle { map state_of slots.old ≡ replicate (length slots.old) idle }
+    ensures sound { IsSound slots.new result }
+    ensures states { map state_of slots.new ≡ map state_of slots.old }
+{
+    let count = slots.len();
+    for place in 0..count {
+        let links = beside(place, count);
+        set_links(slots, End::First, place, links);
+        set_links(slots, End::Other, place, links);
+    }
+    FreeLists::whole(count)
 }
 
 /// Takes all calls off the circuits, and gives the lists.

@@ -4,7 +4,7 @@ ghost use Rattle.tx_circuits.specs.inner.Slots.{state_of, cleared};
 ghost use Rattle.tx_circuits.specs.inner.Groups.{AreListed};
 
 use crate::free_lists::FreeLists;
-use crate::group::{clear, relist, set_state};
+use crate::group::{clear, link_idle, set_state};
 use crate::group_head::GroupHead;
 use crate::slot::Slot;
 use crate::state::State;
@@ -32,7 +32,7 @@ impl Row {
             lists,
             linked,
         } = self;
-        let lists = if linked { lists } else { relist(slots) };
+        let lists = if linked { lists } else { link_idle(slots) };
         Row {
             head,
             lists: set_state(slots, lists, place, to),

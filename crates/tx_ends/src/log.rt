@@ -3,8 +3,9 @@ use itoa::Buffer;
 use std::alloc::Global;
 use std::cell::RefCell;
 use std::fmt::Debug;
-use std::io;
 use std::io::Write;
+use tx_cases::tell;
+use tx_text::Sink;
 
 /// Lines, of which the last may have no LF yet.
 #[derive(Drop)]
@@ -105,13 +106,10 @@ impl Log {
         }
     }
 
-    pub(crate) fn print<W: Write>(&self, out: &mut W) -> io::Result<()> {
-        match self.lines.try_borrow_mut() {
-            Ok(mut lines) => {
-                lines.close();
-                out.write_all(lines.text.as_slice())
-            }
-            Err(_) => Ok(()),
+    pub(crate) fn print<W: Sink>(&self, out: &mut W) {
+        if let Ok(mut lines) = self.lines.try_borrow_mut() {
+            lines.close();
+            tell(lines.text.as_slice(), out);
         }
     }
 }

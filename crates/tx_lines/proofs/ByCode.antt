@@ -13,10 +13,10 @@ use Rattle.tx_lines.specs.inner.Ordered.{place_cmp, start_of, IsInOrder, IsFirst
 use Rattle.tx_lines.proofs.Order.{partitioned, rises, first_part}
 
 -- an order by the first part alone
-below_first : (a b : ℕ) (o : Ordering) → a < b → is_le (ordering_then (nat_cmp a b) o) ≡ true
+pub below_first : (a b : ℕ) (o : Ordering) → a < b → is_le (ordering_then (nat_cmp a b) o) ≡ true
 below_first a b o l = ap (λ t. is_le (ordering_then (cond t Less (cond (a == b) Equal Greater)) o)) (let q : nat_lt a b ≡ true = grind (arith, nat_tests) in q)
 
-above_first : (a b : ℕ) (o : Ordering) → b < a → is_le (ordering_then (nat_cmp a b) o) ≡ false
+pub above_first : (a b : ℕ) (o : Ordering) → b < a → is_le (ordering_then (nat_cmp a b) o) ≡ false
 above_first a b o l =
     ap (λ t. is_le (ordering_then (cond t Less (cond (a == b) Equal Greater)) o)) (let q : nat_lt a b ≡ false = grind (arith, nat_tests) in q)
     ∙ ap (λ t. is_le (ordering_then (cond t Equal Greater) o)) (let q : (a == b) ≡ false = grind (arith, nat_tests) in q)
@@ -44,55 +44,6 @@ firsts_rise ranges code first end f e =
           let b : code + 1 ≤ (get_or ranges end d).code = e.point.1 end d (omega arith) (omega arith) in
           absurd (omega arith)
     ] refl
-
-module _ (ranges : List LineRange) (code : ℕ) (number : List ℕ) (first end : ℕ) where
-  abbrev own : List LineRange
-  own = take (end - first) (drop first ranges)
-
-  abbrev starts : LineRange → Bool
-  starts r = is_le (place_cmp (start_of r) (code, number))
-
-  -- of the ranges of a code, one by its place among all
-  own_at : (i : ℕ) (d : LineRange) → i < end - first → get_or own i d ≡ get_or ranges (first + i) d
-  own_at i d l = get_or-take (end - first) (drop first ranges) i d l ∙ get_or-drop first ranges i d
-
-  -- those of the code that start by the number stand before those that do not
-  pub own_partitioned : IsInOrder ranges → end ≤ length ranges → IsPartitionedBy starts own
-  own_partitioned ordered within i j d l h p =
-      let n : length own ≡ end - first = simp (length-take, length-drop) (omega arith) in
-      let a = own_at i d (omega arith) in
-      let b = own_at j d (omega arith) in
-      ap starts a ∙ partitioned ranges ordered code number (first + i) (first + j) d (omega arith) (omega arith) (ap starts (sym b) ∙ p)
-
-  module _ (k : ℕ) (order : first ≤ end) (within : end ≤ length ranges) (before : AllWithin (λ r. r.code < code) ranges 0 first) (behind : AllWithin (λ r. code < r.code) ranges end (length ranges)) where
-    -- and so do those among all, where each code before stands before and each behind it behind
-    pub point_of_all : IsPartitionPoint (λ y. starts y ≡ true) (λ y. starts y ≡ false) own k → k ≤ end - first
-        → IsPartitionPoint (λ y. starts y ≡ true) (λ y. starts y ≡ false) ranges (first + k)
-    point_of_all point few = (yes, no)
-      where
-        n : length own ≡ end - first
-        n = simp (length-take, length-drop) (omega arith)
-
-        yes : AllWithin (λ y. starts y ≡ true) ranges 0 (first + k)
-        yes j d l h = elim (nat_lt j first) as (λ b. nat_lt j first ≡ b → starts (get_or ranges j d) ≡ true) [
-          | true ↦ λ e. below_first _ code _ (before j d l (grind (arith, nat_tests)))
-          | false ↦ λ e.
-              let m : first ≤ j = grind (arith, nat_tests) in
-              let q : first + (j - first) ≡ j = omega arith in
-              let a = own_at (j - first) d (omega arith) ∙ ap (λ i. get_or ranges i d) q in
-              ap starts (sym a) ∙ point.0 (j - first) d (omega arith) (omega arith)
-        ] refl
-
-        no : AllWithin (λ y. starts y ≡ false) ranges (first + k) (length ranges)
-        no j d l h = elim (nat_lt j end) as (λ b. nat_lt j end ≡ b → starts (get_or ranges j d) ≡ false) [
-          | true ↦ λ e.
-              let m : j < end = grind (arith, nat_tests) in
-              let w : length own ≡ end - first = n in
-              let q : first + (j - first) ≡ j = omega arith in
-              let a = own_at (j - first) d (omega arith) ∙ ap (λ i. get_or ranges i d) q in
-              ap starts (sym a) ∙ point.1 (j - first) d (omega arith) (omega arith)
-          | false ↦ λ e. above_first _ code _ (behind j d (grind (arith, nat_tests)) h)
-        ] refl
 
 -- from the tests of a search
 pub first_from : (ranges : List LineRange) (code first : ℕ) → first ≤ length ranges → IsPartitionPoint (λ y. nat_lt y.code code ≡ true) (λ y. nat_lt y.code code ≡ false) ranges first → IsFirst ranges code first

@@ -4,3 +4,5 @@ pub mod Order
 pub mod Arranged
 pub mod Bits
 pub mod ByCode
+mod Texts
+mod Halves

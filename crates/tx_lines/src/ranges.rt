@@ -3,7 +3,7 @@ ghost use Rattle.std.specs.Prelude.{◌≡◌, ◌≤◌, ◌<◌, ◌&&◌, ◌
 ghost use Rattle.std.specs.List.{list_any, AllWithin};
 ghost use Rattle.std.specs.Ordering.{is_le};
 ghost use Rattle.tx_plan.specs.Lines.{at_most, in_range};
-ghost use Rattle.tx_lines.specs.inner.Ordered.{place_cmp, start_of, IsInOrder, AreFirsts};
+ghost use Rattle.tx_lines.specs.inner.Ordered.{place_cmp, start_of, IsInOrder, IsStart, AreFirsts};
 
 use std::alloc::{Allocator, Global};
 use std::cmp::Ordering;
@@ -53,8 +53,7 @@ impl<A: Allocator> Ranges<A> {
         ensures { result ≡ list_any (λ r. (r.code == code) && in_range number.now r) self.now }
     {
         let (first, end) = self.places(code);
-        let own = &self.ranges[first..end];
-        let after = first + own.partition_point(|range| starts_by(range, code, number));
+        let after = starting_by(&self.ranges, code, number, first, end);
         if after == 0 {
             return false;
         }
@@ -113,12 +112,56 @@ fn compare_starts(a: &LineRange, b: &LineRange) -> Ordering
     compare(a.code, a.low.bytes(), b.code, b.low.bytes())
 }
 
+/// How many ranges start at the number of the code or before it, where those of the code stand from one place and up to another.
+#[inline(always)]
+fn starting_by(ranges: &[LineRange], code: CodeId, number: &[u8], first: usize, end: usize) -> usize
+    requires order { IsInOrder ranges.now }
+    requires rising { first ≤ end }
+    requires within { end ≤ length ranges.now }
+    requires before { AllWithin (λ r. r.code < code) ranges.now 0 first }
+    requires behind { AllWithin (λ r. code < r.code) ranges.now end (length ranges.now) }
+    ensures { IsStart ranges.now code number.now result }
+{
+    let mut after = first;
+    let mut rest = end;
+    while after < rest {
+        let middle = after + (rest - after) / 2;
+        if starts_by(&ranges[middle], code, number) {
+            after = middle + 1;
+        } else {
+            rest = middle;
+        }
+    }
+    after
+}
+
 /// Whether the range starts at the number of the code or before it.
 #[inline(always)]
 fn starts_by(range: &LineRange, code: CodeId, number: &[u8]) -> bool
     ensures { result ≡ is_le (place_cmp (start_of range.now) (code, number.now)) }
 {
-    compare(range.code, range.low.bytes(), code, number).is_le()
+    if range.code != code {
+        return range.code.index() < code.index();
+    }
+    let low = range.low.bytes();
+    if low.len() != number.len() {
+        return low.len() < number.len();
+    }
+    at_most(low, number)
+}
+
+/// Whether the one text is not above the other, byte by byte.
+#[inline(always)]
+fn at_most(low: &[u8], high: &[u8]) -> bool
+    ensures { result ≡ at_most low.now high.now }
+{
+    let common = low.len().min(high.len());
+    for place in 0..common {
+        if low[place] != high[place] {
+            return low[place] < high[place];
+        }
+    }
+    low.len() <= high.len()
 }
 
 /// Whether a number that does not lie before the range lies in it, and the range is of the code.
@@ -128,5 +171,5 @@ fn reaches(range: &LineRange, code: CodeId, number: &[u8]) -> bool
 {
     range.code == code
         && number.len() == range.low.bytes().len()
-        && number.cmp(range.high.bytes()).is_le()
+        && at_most(number, range.high.bytes())
 }

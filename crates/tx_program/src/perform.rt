@@ -13,6 +13,7 @@ use tx_jobs::{
     JobFault, check_status, codes_status, draw_job, grade_status, pipe_job, run_checked_status,
     run_job,
 };
+use tx_text::Source;
 use tx_words::Command;
 
 /// Opens the files of a command, does its job, and lets its output out. Answers the exit status. An output that fails is told before any other fault.
@@ -94,11 +95,23 @@ fn run_checked_files<A: Allocator + Copy, R: Read + Drop, O: Write + Drop>(
     output: &Output<O, A>,
 ) -> Result<u8, JobFault> {
     let mut plan = output.source(alloc, plan)?;
+    run_after_yes(alloc, &mut plan, cert, bounds, script, output)
+}
+
+/// Runs the script over the plan after a Yes to the certificate. A function of its own, since each exit lets go of what is open there.
+fn run_after_yes<A: Allocator + Copy, P: Source, R: Read + Drop, O: Write + Drop>(
+    alloc: A,
+    plan: &mut P,
+    cert: R,
+    bounds: Bounds,
+    script: R,
+    output: &Output<O, A>,
+) -> Result<u8, JobFault> {
     let mut cert = output.source(alloc, cert)?;
     let mut script = output.source(alloc, script)?;
     run_checked_status(
         alloc,
-        &mut plan,
+        plan,
         &mut cert,
         bounds.limit,
         bounds.spare,

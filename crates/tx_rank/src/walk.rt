@@ -33,13 +33,6 @@ impl<A: Allocator> Steps<A> {
     {
         self.steps.as_slice()
     }
-
-    /// The steps, as the vector that they are kept in.
-    pub fn into_vec(self) -> Vec<(GroupId, ExchangeId), A>
-        ensures { result.items ≡ self }
-    {
-        self.steps
-    }
 }
 
 /// A walk: where it starts, and its steps.

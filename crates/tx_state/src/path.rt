@@ -34,11 +34,4 @@ impl<A: Allocator> Path<A> {
     {
         self.hops.as_slice()
     }
-
-    /// The hops, as the vector that they are kept in.
-    pub fn into_hops(self) -> Vec<Hop, A>
-        ensures { result.items ≡ self }
-    {
-        self.hops
-    }
 }

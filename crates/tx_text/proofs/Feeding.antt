@@ -89,7 +89,7 @@ too_long-true : (b : Bool) (x : TextFault) → ◌≡◌ {A = Option TextFault} 
 too_long-true true x h = (refl, cc)
 too_long-true false x h = cc
 
-length-without_cr-le : (line : List ℕ) → length (without_cr line) ≤ length line
+pub length-without_cr-le : (line : List ℕ) → length (without_cr line) ≤ length line
 unfolding without_cr
 length-without_cr-le line = cond_le (eqb (get_or line (length line - 1) 0) 13) line
   where

@@ -1,7 +1,7 @@
 -- The end of a word or a line, found in a block of bytes at once.
-use Rattle.std.proofs.Common.{◌≡◌, ℕ, zero, suc, ◌+◌, ◌*◌, ◌%◌, ◌^◌, ◌<◌, ◌≤◌, Bool, true, false, not, cond, eqb, ◌||◌, List, [], ◌∷◌, map, length, drop, refl, sym, ap, ap₂, ◌∙◌, arith}
+use Rattle.std.proofs.Common.{◌≡◌, ℕ, zero, suc, ◌+◌, ◌*◌, ◌%◌, ◌^◌, ◌<◌, ◌≤◌, Bool, true, false, not, cond, eqb, ◌||◌, ◌-◌, List, [], ◌∷◌, ◌++◌, map, length, drop, refl, sym, ap, ap₂, ◌∙◌, arith}
 use Rattle.std.proofs.lemmas.Bool.{eq-eqb, ne_eqb}
-use Rattle.std.proofs.lemmas.List.{length-map}
+use Rattle.std.proofs.lemmas.List.{length-map, length-drop}
 use Rattle.std.proofs.lemmas.List.Folds.{prefix_len-append}
 use Rattle.std.proofs.lemmas.List.Sums.{prefix_len-le-length}
 use Rattle.std.proofs.lemmas.Simd.{chunk-drop, length-chunk, mask_l-mod, trailing_mask_l, zip2_of_maps}
@@ -119,3 +119,32 @@ module _ (p : ℕ → Bool) where
 pub ends_at : (n : ℕ) (text : List ℕ) → n ≤ 64 → n ≤ length text → 0 < mask_l (map (λ b. not (is_word_byte b)) (chunk 0 n text))
     → prefix_len is_word_byte text ≡ count_trailing_zeros 64 (mask_l (map (λ b. not (is_word_byte b)) (chunk 0 n text)))
 ends_at n text most room some = ends_in is_word_byte 0 n text most (omega (arith, room)) some
+
+-- FOUR TO EIGHT BYTES, AS THE FIRST FOUR AND THE LAST FOUR
+
+abbrev pub ends_of : ℕ → List ℕ → ℕ
+ends_of i text = mask_l (map (λ b. not (is_word_byte b)) (chunk i 4 text))
+
+-- of a word that has the first four bytes, what is left stands in the last four
+pub far : (text : List ℕ) → 4 ≤ length text → length text ≤ 8 → ends_of 0 text ≡ 0
+    → prefix_len is_word_byte text ≡ length text - 4 + prefix_len is_word_byte (drop (length text - 4) text)
+far text least most none =
+    let front : 4 ≤ prefix_len is_word_byte text = runs_on is_word_byte 0 4 text (omega (arith, least)) none in
+    run_behind is_word_byte text (length text - 4) (omega (arith, front, most))
+
+-- in neither of them a word ends
+pub no_end_in : (text : List ℕ) → 4 ≤ length text → length text ≤ 8 → ends_of 0 text ≡ 0 → ends_of (length text - 4) text ≡ 0 → length text ≡ prefix_len is_word_byte text
+no_end_in text least most none e =
+    let from = length text - 4 in
+    let all = runs_on is_word_byte from 4 text (omega (arith, least)) e in
+    omega (arith, far text least most none, all, length-drop from text, prefix_len-le-length is_word_byte (drop from text), least)
+
+-- in no byte of two blocks a word ends, so in neither of them
+halves : (a b : List ℕ) → mask_l (map (λ x. not (is_word_byte x)) (a ++ b)) ≡ 0 → (mask_l (map (λ x. not (is_word_byte x)) a) ≡ 0) × (mask_l (map (λ x. not (is_word_byte x)) b) ≡ 0)
+halves [] b h = (refl, h)
+halves (x ∷ xs) b h = let rest = halves xs b (omega (arith, h)) in (omega (arith, h, rest.0), rest.1)
+
+pub no_end_in_both : (text : List ℕ) → 4 ≤ length text → length text ≤ 8 → mask_l (map (λ x. not (is_word_byte x)) (chunk 0 4 text ++ chunk (length text - 4) 4 text)) ≡ 0 → prefix_len is_word_byte text ≡ length text
+no_end_in_both text least most h =
+    let none = halves (chunk 0 4 text) (chunk (length text - 4) 4 text) h in
+    sym (no_end_in text least most none.0 none.1)

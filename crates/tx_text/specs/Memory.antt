@@ -1,5 +1,5 @@
 -- Sources and sinks over memory: what they hold, and what a call gives and leaves.
-use Rattle.std.specs.Prelude.{ℕ, ◌+◌, ◌-◌, ◌==◌, Bool, true, false, ◌||◌, nat_lt, min, List, ◌++◌, length, take, drop, Option, None, Some, Result, Ok, Err, if◌then◌else◌}
+use Rattle.std.specs.Prelude.{ℕ, ◌+◌, ◌-◌, ◌==◌, Bool, true, false, ◌||◌, min, List, ◌++◌, length, take, drop, Option, None, Some, Result, Ok, Err, if◌then◌else◌}
 use Rattle.tx_text.specs.declared.source.ReadFault.{ReadFault}
 use Rattle.tx_text.specs.declared.sink.WriteFault.{WriteFault}
 
@@ -53,15 +53,3 @@ store_gives s bytes = if is_full s then Err (record {}) else Ok (accepted s byte
 -- a call that fails takes nothing
 abbrev pub store_leaves : Store → List ℕ → Store
 store_leaves s bytes = if is_full s then record s { failed = true } else record s { bytes = s.bytes ++ take (accepted s bytes) bytes }
-
--- a call that takes all its bytes or none fails: one did already, or not all of them have room
-abbrev pub is_over : Store → List ℕ → Bool
-is_over s bytes = s.failed || nat_lt s.room (length s.bytes + length bytes)
-
--- such a call fails, or takes all its bytes
-abbrev pub gather_gives : Store → List ℕ → Result ℕ WriteFault
-gather_gives s bytes = if is_over s bytes then Err (record {}) else Ok (length bytes)
-
--- such a call that fails takes nothing
-abbrev pub gather_leaves : Store → List ℕ → Store
-gather_leaves s bytes = if is_over s bytes then record s { failed = true } else record s { bytes = s.bytes ++ bytes }

@@ -1,5 +1,5 @@
 // Lines that come in pieces.
-ghost use Rattle.std.specs.Prelude.{◌≡◌, ◌+◌, ◌-◌, ◌^◌, ◌<◌, ◌≤◌, ◌++◌, true, false, IfOk, IfErr, IfNone, IsSome, [], length, vec_len, vec_capacity};
+ghost use Rattle.std.specs.Prelude.{◌≡◌, ◌+◌, ◌-◌, ◌^◌, ◌<◌, ◌≤◌, ◌++◌, true, false, IfOk, IfErr, IfNone, IfSome, IsSome, [], length, vec_len, vec_capacity};
 ghost use Rattle.tx_text.specs.Feed.{feed_gives, feed_leaves, begun_more, ended, faulted, line_fault, finish_gives, finish_leaves, finished};
 ghost use Rattle.tx_text.specs.Text.{without_cr};
 ghost use Rattle.tx_text.specs.TextLine.{line_of};
@@ -59,6 +59,36 @@ impl<A: Allocator> LineFeeder<A> {
             finished: false,
             fault: None,
         })
+    }
+
+    /// Counts a line that stands whole elsewhere, of so many bytes and an LF, and tells where it starts. Where a line has begun here or a fault stands, it does
+    /// nothing.
+    #[inline(always)]
+    pub(crate) fn pass(&mut self, len: usize) -> Option<usize>
+        requires { self.old.start + len + 1 < 2 ^ 64 - 1 }
+        ensures start { IfSome result (λ start. start ≡ self.old.start) }
+        ensures begun { IfSome result (λ start. self.old.begun ≡ []) }
+        ensures fault { IfSome result (λ start. self.old.fault ≡ None) }
+        ensures leaves { IfSome result (λ start. self.new ≡ record self.old { number = self.old.number + 1; start = self.old.start + len + 1; line = None }) }
+        ensures same { IfNone result (self.new ≡ self.old) }
+    {
+        if self.fault.is_some() || !(self.complete || self.held.is_empty()) {
+            return None;
+        }
+        self.begin();
+        let start = self.start;
+        self.number += 1;
+        self.start += len + 1;
+        Some(start)
+    }
+
+    /// How many lines are complete.
+    #[inline(always)]
+    pub(crate) fn number(&self) -> u64
+        ensures number { result ≡ self.now.number }
+        ensures small { result < 2 ^ 64 - 1 }
+    {
+        self.number
     }
 
     /// Lets the completed line go.

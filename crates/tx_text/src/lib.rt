@@ -2,7 +2,7 @@
 //!
 //! A text comes from a `Source` in pieces, or stands in a slice. `LineFeeder` cuts pieces into lines, `TextReader`
 //! reads the lines of a source, and `FrameReader` keeps the header, END and the numbers of lines. Texts go to a
-//! `Sink` by `write_bytes` and `write_parts`. `LineSink` gathers the parts of a line, which then goes out in one call.
+//! `Sink` by `write_bytes` and `write_parts`.
 #![tactic(auto)]
 
 mod feeder;
@@ -13,7 +13,6 @@ mod from_read;
 mod line;
 mod line_bytes;
 mod line_fault;
-mod line_sink;
 mod line_words;
 mod lines;
 mod memory_sink;
@@ -41,7 +40,6 @@ pub use from_read::FromRead;
 pub use line::TextLine;
 pub use line_bytes::{bytes_fault, without_cr};
 pub use line_fault::LineFault;
-pub use line_sink::LineSink;
 pub use line_words::Words;
 pub use lines::Lines;
 pub use memory_sink::MemorySink;

@@ -124,37 +124,19 @@ fn word_ends_of_eight(block: u8x8) -> u64
         | block.simd_eq(u8x8::splat(b'#'))).to_bitmask()
 }
 
-/// The same of a block of four bytes.
+/// Whether four to eight bytes are all of a word, looked at as the first four and the last four at once.
 #[inline(always)]
-fn word_ends_of_four(block: u8x4) -> u64
-    ensures { result ≡ mask_l (map (λ b. not (is_word_byte b)) block) }
-{
-    (block.simd_eq(u8x4::splat(b' '))
-        | block.simd_eq(u8x4::splat(b'\t'))
-        | block.simd_eq(u8x4::splat(b'#'))).to_bitmask()
-}
-
-/// How long the word at the front of four to eight bytes is. Its end is looked for in the first four and in the last four.
-#[inline(always)]
-fn short_word_len(text: &[u8]) -> usize
+fn is_one_word(text: &[u8]) -> bool
     requires least { 4 ≤ length text.now }
     requires most { length text.now ≤ 8 }
-    ensures within { result ≤ length text.now }
-    ensures count { result ≡ prefix_len is_word_byte text.now }
+    ensures { result ≡ true → prefix_len is_word_byte text.now ≡ length text.now }
 {
-    let first = word_ends_of_four(u8x4::from_slice(text));
-    if first != 0 {
-        return first.trailing_zeros() as usize;
-    }
-    let from = text.len() - 4;
-    let last = word_ends_of_four(u8x4::from_slice(&text[from..]));
-    if last != 0 {
-        return from + last.trailing_zeros() as usize;
-    }
-    text.len()
+    let first = u8x4::from_slice(text);
+    let last = u8x4::from_slice(&text[text.len() - 4..]);
+    word_ends_of_eight(first.shuffle(last, [0, 1, 2, 3, 4, 5, 6, 7])) == 0
 }
 
-/// How long the word at the front is. Where 16, 8 or 4 bytes follow, its end is looked for in all of them at once.
+/// How long the word at the front is. Where 16 or 8 bytes follow, its end is looked for in all of them at once; a line's last word mostly has 4 to 7.
 #[inline(always)]
 fn word_len(text: &[u8]) -> usize
     ensures within { result ≤ length text.now }
@@ -170,8 +152,8 @@ fn word_len(text: &[u8]) -> usize
         if half != 0 {
             return half.trailing_zeros() as usize;
         }
-    } else if text.len() >= 4 {
-        return short_word_len(text);
+    } else if text.len() >= 4 && is_one_word(text) {
+        return text.len();
     }
     count_word_bytes(text)
 }

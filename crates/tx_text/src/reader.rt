@@ -2,12 +2,14 @@
 ghost use Rattle.std.specs.Prelude.{◌≡◌, ◌+◌, ◌-◌, ◌^◌, ◌<◌, ◌≤◌, ◌⊎◌, [], length, take, drop, true, false, IfOk, IfErr, IfSome, OnOk, OnErr, Ok, Err, IsSome, Some, None};
 ghost use Rattle.std.specs.Io.KnownBytes.{prepend_known, IsAtEnd};
 ghost use Rattle.tx_text.specs.Calls.{slice_calls, Gives, Went, Calls, CallsAtMost, Broken};
-ghost use Rattle.tx_text.specs.Feed.{feed_gives, finish_gives, finish_leaves};
+ghost use Rattle.tx_text.specs.Feed.{feed_gives, finish_gives, finish_leaves, front_of, has_lf};
+ghost use Rattle.tx_text.specs.Text.{without_cr, bytes_fault};
 ghost use Rattle.tx_text.specs.TextLine.{line_of};
 ghost use Rattle.tx_text.specs.Told.{Advances, IsFeed, reading_place, reading_start, slice_start, reading_of_calls, reading_size, fed_on, lined, ended_as};
 
 use crate::feeder::LineFeeder;
 use crate::line::TextLine;
+use crate::line_bytes::{bytes_fault, lf_or_len, without_cr};
 use crate::line_fault::LineFault;
 use crate::source::Source;
 use crate::text_fault::TextFault;
@@ -20,7 +22,7 @@ const SOURCE_CALLS: u64 = 4_294_967_295;
 /// How many calls a text may take that stands in memory: it has fewer than 2^63 bytes, and each call takes 4,096 of them.
 const SLICE_CALLS: u64 = 2_251_799_813_685_249;
 
-/// Reads a text from a source, line by line.
+/// Reads a text from a source, line by line. A line that stands whole in the bytes that were read is lent from there, and the feeder holds the others.
 #[derive(Drop)]
 pub struct TextReader<A: Allocator = Global> {
     feeder: LineFeeder<A>,
@@ -28,6 +30,10 @@ pub struct TextReader<A: Allocator = Global> {
     from: usize,
     to: usize,
     left: u64,
+    lent: bool,
+    lent_start: usize,
+    lent_from: usize,
+    lent_to: usize,
 }
 
 impl<A: Allocator> Model for TextReader<A> {
@@ -72,6 +78,10 @@ impl<A: Allocator> TextReader<A> {
             from: 0,
             to: 0,
             left,
+            lent: false,
+            lent_start: 0,
+            lent_from: 0,
+            lent_to: 0,
         })
     }
 
@@ -83,12 +93,41 @@ impl<A: Allocator> TextReader<A> {
         ensures gives { result ≡ lined (feed_gives self.old.feed self.old.piece) }
         ensures leaves { self.new ≡ fed_on self.old }
     {
+        if self.lend() {
+            return Ok(true);
+        }
+        self.lent = false;
         match self.feeder.feed(part(&self.piece, self.from, self.to)) {
             Ok(fed) => {
                 self.from += fed.taken;
                 Ok(fed.line)
             }
             Err(fault) => Err(LineFault::Text(fault)),
+        }
+    }
+
+    /// Lends the first line of the bytes that were read, and tells so, where it stands whole there and is right.
+    #[inline(always)]
+    fn lend(&mut self) -> bool
+        ensures known { IsFeed self.old.feed }
+        ensures known_after { IsFeed self.new.feed }
+        ensures leaves { result ≡ true → self.new ≡ fed_on self.old }
+        ensures gives { result ≡ true → lined (feed_gives self.old.feed self.old.piece) ≡ Ok true }
+        ensures same { result ≡ false → self.new ≡ self.old }
+    {
+        let Some((len, shown)) = whole_line(part(&self.piece, self.from, self.to)) else {
+            return false;
+        };
+        match self.feeder.pass(len) {
+            Some(start) => {
+                self.lent = true;
+                self.lent_start = start;
+                self.lent_from = self.from;
+                self.lent_to = self.from + shown;
+                self.from += len + 1;
+                true
+            }
+            None => false,
         }
     }
 
@@ -129,6 +168,7 @@ impl<A: Allocator> TextReader<A> {
         ensures gives { result ≡ ended_as (finish_gives self.old.feed) }
         ensures leaves { self.new ≡ record self.old { feed = finish_leaves self.old.feed } }
     {
+        self.lent = false;
         match self.feeder.finish() {
             Ok(line) => Ok(line),
             Err(fault) => Err(LineFault::Text(fault)),
@@ -142,13 +182,23 @@ impl<A: Allocator> TextReader<A> {
         ensures line { self.now.feed.line ≡ Some (line_of result) }
         ensures small { result.number < 2 ^ 64 - 1 }
     {
-        self.feeder.line()
+        if self.lent {
+            TextLine {
+                number: self.feeder.number(),
+                start: self.lent_start,
+                text: part(&self.piece, self.lent_from, self.lent_to),
+                finished: true,
+            }
+        } else {
+            self.feeder.line()
+        }
     }
 
     /// Reads the next piece, and tells whether it has any byte.
     #[inline(always)]
     fn fill<R: Source>(&mut self, source: &mut R) -> Result<bool, LineFault>
         requires fed { self.old.piece ≡ [] }
+        requires line { self.old.feed.line ≡ None }
         requires left { 0 < self.old.left }
         ensures feed { self.new.feed ≡ self.old.feed }
         ensures left { self.new.left + 1 ≡ self.old.left }
@@ -181,4 +231,25 @@ fn part(piece: &[u8], from: usize, to: usize) -> &[u8]
     ensures { result.now ≡ take (to - from) (drop from piece.now) }
 {
     &piece[from..to]
+}
+
+/// How many bytes the first line of a piece has before its LF, and how many without the CR before it, where the line stands whole there and is right.
+#[inline(always)]
+fn whole_line(piece: &[u8]) -> Option<(usize, usize)>
+    ensures lf { IfSome result (λ line. has_lf piece.now ≡ true) }
+    ensures len { IfSome result (λ line. line.0 ≡ length (front_of piece.now)) }
+    ensures within { IfSome result (λ line. line.0 < length piece.now) }
+    ensures shown { IfSome result (λ line. line.1 ≡ length (without_cr (front_of piece.now))) }
+    ensures short { IfSome result (λ line. line.1 ≤ line.0) }
+    ensures right { IfSome result (λ line. bytes_fault (without_cr (front_of piece.now)) ≡ None) }
+{
+    let len = lf_or_len(piece);
+    if len == piece.len() {
+        return None;
+    }
+    let line = without_cr(&piece[..len]);
+    match bytes_fault(line) {
+        Some(_) => None,
+        None => Some((len, line.len())),
+    }
 }

@@ -1,3 +1,4 @@
 pub mod Begun
+pub mod Copies
 pub mod Taking
 pub mod Widths

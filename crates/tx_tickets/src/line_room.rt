@@ -1,8 +1,9 @@
 // Room for the text of one line.
-ghost use Rattle.std.specs.Prelude.{◌≡◌, ◌+◌, ◌≤◌, ◌++◌, [], length, decimal};
+ghost use Rattle.std.specs.Prelude.{◌≡◌, ◌+◌, ◌≤◌, ◌++◌, [], length, take, decimal};
 
-use itoa::Buffer;
+use itoa::{Buffer, write_digits};
 use std::marker::Model;
+use std::simd::prelude::*;
 
 /// The bytes of a line so far, in room of at most 255 bytes that is lent. The caller sees that they have room.
 #[derive(Drop)]
@@ -68,19 +69,46 @@ impl<'a, const N: usize> LineRoom<'a, N> {
         self.len = to;
     }
 
-    /// Appends the figures of a number.
+    /// Appends the front of a text. All of the text is copied, since so many bytes as the caller knows are copied at once.
+    #[inline(always)]
+    fn put_front(&mut self, text: &[u8], len: usize)
+        requires room { length self.old + length text.now ≤ N }
+        requires front { len ≤ length text.now }
+        ensures { self.new ≡ self.old ++ take len text.now }
+    {
+        let end = self.len() + len;
+        self.put(text);
+        self.keep(end);
+    }
+
+    /// Goes back to its front.
+    #[inline(always)]
+    fn keep(&mut self, len: usize)
+        requires { len ≤ length self.old }
+        ensures { self.new ≡ take len self.old }
+    {
+        self.len = len;
+    }
+
+    /// Appends the figures of a number. At most eight are made in a room of their own, and copied as eight.
     #[inline(always)]
     pub(crate) fn put_number(&mut self, number: u64)
         requires { length self.old + 20 ≤ N }
         ensures text { self.new ≡ self.old ++ decimal number }
         ensures width { length (decimal number) ≤ 20 }
     {
-        let mut figures = Buffer::new();
-        self.put(figures.format(number).as_bytes());
+        if number < 100_000_000 {
+            let mut figures = [0; 16];
+            let from = write_digits(number, &mut figures, 8);
+            self.put_front(&figures[from..from + 8], 8 - from);
+        } else {
+            let mut figures = Buffer::new();
+            self.put(figures.format(number).as_bytes());
+        }
     }
 }
 
-/// Copies bytes. At most 16 are copied by two copies of a fixed length, which may overlap.
+/// Copies bytes. Of 2 to 16 the front and the end are read at once, and then written: they may overlap.
 #[inline(always)]
 fn copy(to: &mut [u8], from: &[u8])
     requires { length to.old ≡ length from.now }
@@ -90,14 +118,17 @@ fn copy(to: &mut [u8], from: &[u8])
     if len > 16 {
         to.copy_from_slice(from);
     } else if len >= 8 {
-        to[..8].copy_from_slice(&from[..8]);
-        to[len - 8..].copy_from_slice(&from[len - 8..]);
+        let (front, end) = (u8x8::from_slice(from), u8x8::from_slice(&from[len - 8..]));
+        front.copy_to_slice(to);
+        end.copy_to_slice(&mut to[len - 8..]);
     } else if len >= 4 {
-        to[..4].copy_from_slice(&from[..4]);
-        to[len - 4..].copy_from_slice(&from[len - 4..]);
+        let (front, end) = (u8x4::from_slice(from), u8x4::from_slice(&from[len - 4..]));
+        front.copy_to_slice(to);
+        end.copy_to_slice(&mut to[len - 4..]);
     } else if len >= 2 {
-        to[..2].copy_from_slice(&from[..2]);
-        to[len - 2..].copy_from_slice(&from[len - 2..]);
+        let (front, end) = (u8x2::from_slice(from), u8x2::from_slice(&from[len - 2..]));
+        front.copy_to_slice(to);
+        end.copy_to_slice(&mut to[len - 2..]);
     } else if len == 1 {
         to[0] = from[0];
     }

@@ -211,7 +211,30 @@ fn explain_of(alloc: Global, matches: &ArgMatches<'_>) -> Result<Option<Command>
     }
 }
 
-/// The command of a subcommand's words, or None where a word that it needs is missing, which the grammar rules out.
+/// The command of a subcommand whose first word is a plan, or None where a word that it needs is missing, which the grammar rules out.
+fn plan_command(
+    alloc: Global,
+    name: &str,
+    plan: String,
+    matches: &ArgMatches<'_>,
+) -> Result<Option<Command>, WordsFault>
+    requires { Names (rows_of (found_of matches.now)) (codes "plan") plan }
+    ensures range { IfOk result (λ c. IfSome c IsInRange) }
+    ensures asked { IfOk result (λ c. IfSome c (Asks name.now (rows_of (found_of matches.now)))) }
+    ensures refused { IfErr result (IsRefusalIn (Some (name.now, rows_of (found_of matches.now)))) }
+{
+    match name {
+        "run" => run_of(alloc, plan, matches),
+        "check" => check_of(alloc, plan, matches),
+        "codes" => Ok(Some(Command::Codes { plan })),
+        "audit" => audit_of(alloc, plan, matches),
+        "grade" => Ok(Some(Command::Grade { plan })),
+        "draw" => draw_of(alloc, plan, matches),
+        _ => Ok(None),
+    }
+}
+
+/// The command of a subcommand's words, or None as above.
 fn command_of(
     alloc: Global,
     name: &str,
@@ -224,28 +247,10 @@ fn command_of(
     if name == "explain" {
         return explain_of(alloc, matches);
     }
-    let Some(plan) = text(alloc, matches, "plan")? else {
-        return Ok(None);
-    };
-    if name == "run" {
-        return run_of(alloc, plan, matches);
+    match text(alloc, matches, "plan")? {
+        Some(plan) => plan_command(alloc, name, plan, matches),
+        None => Ok(None),
     }
-    if name == "check" {
-        return check_of(alloc, plan, matches);
-    }
-    if name == "codes" {
-        return Ok(Some(Command::Codes { plan }));
-    }
-    if name == "audit" {
-        return audit_of(alloc, plan, matches);
-    }
-    if name == "grade" {
-        return Ok(Some(Command::Grade { plan }));
-    }
-    if name == "draw" {
-        return draw_of(alloc, plan, matches);
-    }
-    Ok(None)
 }
 
 /// The command that was found in the words.

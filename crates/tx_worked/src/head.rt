@@ -13,11 +13,69 @@ pub(crate) enum Mode {
 
 static MODES: [(&str, Mode); 2] = [("each-end", Mode::EachEnd), ("prefixes", Mode::Prefixes)];
 
-/// What the head of a case says behind its name.
+/// What is done with the texts of a case.
+#[derive(Clone, Copy)]
+pub(crate) enum Kind {
+    Job(JobKind),
+    /// A plan and a script in one text, as a pipe and as a run.
+    Both,
+    Pictures,
+    Plan,
+    Cert,
+    Driven(Driven),
+}
+
+/// Which job, without its numbers.
+#[derive(Clone, Copy)]
+pub(crate) enum JobKind {
+    Pipe,
+    Run,
+    Codes,
+    Grade,
+    Check,
+    Audit,
+    Checked,
+    Draw,
+}
+
+/// What is played over both networks.
+#[derive(Clone, Copy)]
+pub(crate) enum Driven {
+    /// The events of a script, after a Yes of the checker.
+    Certified,
+    /// A run that is tried by its laws.
+    Laws,
+    Rooms,
+    Calls,
+    StoppedWriter,
+    Starting,
+}
+
+static KINDS: [(&str, Kind); 17] = [
+    ("pipe", Kind::Job(JobKind::Pipe)),
+    ("run", Kind::Job(JobKind::Run)),
+    ("codes", Kind::Job(JobKind::Codes)),
+    ("grade", Kind::Job(JobKind::Grade)),
+    ("check", Kind::Job(JobKind::Check)),
+    ("audit", Kind::Job(JobKind::Audit)),
+    ("checked", Kind::Job(JobKind::Checked)),
+    ("draw", Kind::Job(JobKind::Draw)),
+    ("both", Kind::Both),
+    ("pictures", Kind::Pictures),
+    ("plan", Kind::Plan),
+    ("cert", Kind::Cert),
+    ("certified", Kind::Driven(Driven::Certified)),
+    ("rooms", Kind::Driven(Driven::Rooms)),
+    ("calls", Kind::Driven(Driven::Calls)),
+    ("stopped-writer", Kind::Driven(Driven::StoppedWriter)),
+    ("starting", Kind::Driven(Driven::Starting)),
+];
+
+/// What the head of a case says behind its name. It has no kind where the word is none.
 #[derive(Clone, Copy)]
 pub(crate) struct Head<'a> {
     pub mode: Mode,
-    pub kind: &'a [u8],
+    pub kind: Option<Kind>,
     pub first: &'a [u8],
     pub second: &'a [u8],
     pub third: &'a [u8],
@@ -28,13 +86,13 @@ pub(crate) fn head_of(head: &[u8]) -> Head<'_> {
     let _name = rest.next();
     let word = rest.next().unwrap_or(b"".as_slice());
     let mode = named(&MODES, word).unwrap_or(Mode::Plain);
-    let kind = match mode {
+    let word = match mode {
         Mode::Plain => word,
         Mode::EachEnd | Mode::Prefixes => rest.next().unwrap_or(b"".as_slice()),
     };
     Head {
         mode,
-        kind,
+        kind: named(&KINDS, word),
         first: rest.next().unwrap_or(b"".as_slice()),
         second: rest.next().unwrap_or(b"".as_slice()),
         third: rest.next().unwrap_or(b"".as_slice()),
@@ -65,25 +123,16 @@ pub(crate) fn drawing_of(code: &[u8], limit: &[u8], spare: &[u8]) -> Job {
 }
 
 /// The job of a case.
-pub(crate) fn job_of(head: Head<'_>) -> Option<Job> {
+pub(crate) fn job_of(kind: JobKind, head: Head<'_>) -> Job {
     let (limit, spare) = limit_and_spare(head);
-    if head.kind == b"pipe".as_slice() {
-        Some(Job::Pipe)
-    } else if head.kind == b"run".as_slice() {
-        Some(Job::Run)
-    } else if head.kind == b"codes".as_slice() {
-        Some(Job::Codes)
-    } else if head.kind == b"grade".as_slice() {
-        Some(Job::Grade)
-    } else if head.kind == b"check".as_slice() {
-        Some(Job::Check { limit, spare })
-    } else if head.kind == b"audit".as_slice() {
-        Some(Job::Audit { limit, spare })
-    } else if head.kind == b"checked".as_slice() {
-        Some(Job::Checked { limit, spare })
-    } else if head.kind == b"draw".as_slice() {
-        Some(drawing_of(head.first, head.second, head.third))
-    } else {
-        None
+    match kind {
+        JobKind::Pipe => Job::Pipe,
+        JobKind::Run => Job::Run,
+        JobKind::Codes => Job::Codes,
+        JobKind::Grade => Job::Grade,
+        JobKind::Check => Job::Check { limit, spare },
+        JobKind::Audit => Job::Audit { limit, spare },
+        JobKind::Checked => Job::Checked { limit, spare },
+        JobKind::Draw => drawing_of(head.first, head.second, head.third),
     }
 }

@@ -1,6 +1,6 @@
 //! The player of the gate. It judges the ranking over the plans of the file `families` (`tx_walks`), plays the engine beside the plain network over the plans of
-//! the file `plans` (`tx_twins`), and plays the cases of the files `calls` (`tx_tests`) and `cases`, and prints what each of them tells. One program links them
-//! all, since the gate proves, builds and links each program anew.
+//! the file `plans` (`tx_twins`), and plays the cases of the files `calls` (`tx_tests`), `cases`, and `ends` (`tx_ends`, over the other files), and prints what
+//! each of them tells. One program links them all, since the gate proves, builds and links each program anew.
 //!
 //! The file `cases` has worked examples, and what each writes and tells is printed. Where a law is broken, a line with `BROKEN` says so.
 //!
@@ -38,6 +38,7 @@ mod written;
 use crate::play::play_cases;
 use std::io::{BufWriter, Write};
 use std::{fs, io};
+use tx_ends::play_ends;
 use tx_tests::play_cases as play_calls;
 use tx_text::{Sink, ToWrite};
 use tx_twins::play_all;
@@ -56,6 +57,9 @@ fn play_files<W: Sink>(rt: &HostRuntime, out: &mut W) -> io::Result<()> {
     drop(text);
     let text = fs::read(rt, "cases")?;
     play_cases(rt.alloc(), text.as_slice(), out);
+    drop(text);
+    let text = fs::read(rt, "ends")?;
+    play_ends(rt, text.as_slice(), out);
     Ok(())
 }
 

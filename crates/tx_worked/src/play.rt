@@ -1,6 +1,6 @@
 // Plays cases by their kinds.
 use crate::checked::play_certified;
-use crate::head::{Head, Mode, head_of, job_of, limit_and_spare};
+use crate::head::{Driven, Head, Kind, Mode, head_of, job_of, limit_and_spare};
 use crate::job::{Ends, Job, ROOM, Task, Whole, do_task, task_of};
 use crate::listings::{count_calls, list_prefixes};
 use crate::pictures::play_pictures;
@@ -40,22 +40,25 @@ fn play<A: Allocator + Copy, W: Sink>(alloc: A, case: Case<'_>, out: &mut W) {
 
 /// Plays a case's texts by its kind: as a job, or by writing and reading back, or over both networks.
 fn play_texts<A: Allocator + Copy, W: Sink>(alloc: A, head: Head<'_>, texts: &[u8], out: &mut W) {
-    if head.kind == b"both".as_slice() {
-        return play_both(alloc, head, texts, out);
-    }
     let (first, second) = two_texts(texts);
-    match job_of(head) {
-        Some(job) => play_task(alloc, task_of(job, first, second), head.mode, out),
-        None if head.kind == b"plan".as_slice() => play_plan(alloc, texts, out),
-        None if head.kind == b"pictures".as_slice() => play_pictures(alloc, head, texts, out),
-        None if head.kind == b"cert".as_slice() => play_cert(alloc, first, second, out),
-        None => play_over_both(alloc, head, first, second, out),
+    match head.kind {
+        Some(Kind::Job(kind)) => {
+            let task = task_of(job_of(kind, head), first, second);
+            play_task(alloc, task, head.mode, out)
+        }
+        Some(Kind::Both) => play_both(alloc, head, texts, out),
+        Some(Kind::Pictures) => play_pictures(alloc, head, texts, out),
+        Some(Kind::Plan) => play_plan(alloc, texts, out),
+        Some(Kind::Cert) => play_cert(alloc, first, second, out),
+        Some(Kind::Driven(driven)) => play_over_both(alloc, driven, head, first, second, out),
+        None => tell_broken(b"no such kind of case", 0, out),
     }
 }
 
 /// Plays the kinds that drive events or run a script, over the plain network and then over the engine, which has to tell the same.
 fn play_over_both<A: Allocator + Copy, W: Sink>(
     alloc: A,
+    driven: Driven,
     head: Head<'_>,
     plan: &[u8],
     rest: &[u8],
@@ -64,10 +67,15 @@ fn play_over_both<A: Allocator + Copy, W: Sink>(
     let Ok(mut told) = MemorySink::new(alloc, ROOM) else {
         return tell_broken(b"no memory", 0, out);
     };
-    play_over(alloc, Over::Plain, head, plan, rest, &mut told);
+    let text = opening(Over::Plain, plan, rest);
+    play_over(alloc, driven, head, text, &mut told);
     tell(told.taken(), out);
     let mut judge = Judge::new(told.taken(), ROOM);
-    play_over(alloc, Over::Engine, head, plan, rest, &mut judge);
+    let text = Script {
+        over: Over::Engine,
+        ..text
+    };
+    play_over(alloc, driven, head, text, &mut judge);
     if !judge.is_whole() {
         tell_broken(
             b"not the same over the engine, bytes",
@@ -78,46 +86,32 @@ fn play_over_both<A: Allocator + Copy, W: Sink>(
     drop(told);
 }
 
+/// Plays such a kind over one of them.
 fn play_over<A: Allocator + Copy, W: Sink>(
     alloc: A,
-    over: Over,
-    head: Head<'_>,
-    plan: &[u8],
-    rest: &[u8],
-    out: &mut W,
-) {
-    if head.kind == b"certified".as_slice() {
-        play_certified(alloc, over, limit_and_spare(head), plan, rest, out)
-    } else {
-        play_script(alloc, head, opening(over, plan, rest), out)
-    }
-}
-
-/// Plays the kinds that run a script and tell its events.
-fn play_script<A: Allocator + Copy, W: Sink>(
-    alloc: A,
+    driven: Driven,
     head: Head<'_>,
     text: Script<'_>,
     out: &mut W,
 ) {
-    if head.kind == b"both".as_slice() {
-        play_run(alloc, Told::Laws, text, out)
-    } else if head.kind == b"rooms".as_slice() {
-        play_run(alloc, Told::Rooms, text, out)
-    } else if head.kind == b"calls".as_slice() {
-        let piece = number_of(head.first, 4096) as usize;
-        play_run(alloc, Told::Calls(piece), text, out)
-    } else if head.kind == b"stopped-writer".as_slice() {
-        count_calls(alloc, text, number_of(head.first, 4096) as usize, out)
-    } else if head.kind == b"starting".as_slice() {
-        let text = Script {
-            numbers: number_of(head.first, u32::MAX),
-            events: long_number(head.second),
-            ..text
-        };
-        play_run(alloc, Told::Whole, text, out)
-    } else {
-        tell_broken(b"no such kind of case", 0, out)
+    let number = number_of(head.first, u32::MAX);
+    match driven {
+        Driven::Certified => {
+            let numbers = limit_and_spare(head);
+            play_certified(alloc, text.over, numbers, text.plan, text.script, out)
+        }
+        Driven::Laws => play_run(alloc, Told::Laws, text, out),
+        Driven::Rooms => play_run(alloc, Told::Rooms, text, out),
+        Driven::Calls => play_run(alloc, Told::Calls(number as usize), text, out),
+        Driven::StoppedWriter => count_calls(alloc, text, number as usize, out),
+        Driven::Starting => {
+            let text = Script {
+                numbers: number,
+                events: long_number(head.second),
+                ..text
+            };
+            play_run(alloc, Told::Whole, text, out)
+        }
     }
 }
 
@@ -200,7 +194,7 @@ fn try_both<A: Allocator + Copy, W: Sink>(
         Mode::EachEnd => {
             try_refusals(alloc, run, whole, out);
             try_ends(alloc, run, whole, out);
-            play_over_both(alloc, head, run.first, run.second, out);
+            play_over_both(alloc, Driven::Laws, head, run.first, run.second, out);
         }
         Mode::Plain | Mode::Prefixes => {}
     }

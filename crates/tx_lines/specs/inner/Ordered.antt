@@ -1,6 +1,6 @@
 -- Ranges in order of code, width and low end.
-use Rattle.std.specs.Prelude.{◌≡◌, ℕ, ◌<◌, ◌≤◌, true, List, Some, length, slice_get, get_or}
-use Rattle.std.specs.Ordering.{ordering_then, is_lt, nat_cmp}
+use Rattle.std.specs.Prelude.{◌≡◌, ℕ, ◌<◌, ◌≤◌, true, false, List, Some, length, slice_get, get_or}
+use Rattle.std.specs.Ordering.{ordering_then, is_le, is_lt, nat_cmp}
 use Rattle.std.specs.declared.cmp.Ordering.{Ordering}
 use Rattle.std.specs.Cmp.Lexicographic.{slice_cmp}
 use Rattle.std.specs.List.Sorted.{IsSortedBy, IsPartitionPoint}
@@ -23,6 +23,11 @@ pub record IsInOrder (ranges : List LineRange) : Type 0 where
   pub sorted : IsSortedBy (λ r q. is_lt (place_cmp (start_of r) (start_of q))) ranges
   pub upward : (i : ℕ) (r : LineRange) → slice_get ranges i ≡ Some r → at_most r.low r.high ≡ true
   pub apart : (i j : ℕ) (r q : LineRange) → slice_get ranges i ≡ Some r → slice_get ranges j ≡ Some q → r.code ≡ q.code → length r.low ≡ length q.low → at_most q.low r.high ≡ true → at_most r.low q.high ≡ true → i ≡ j
+
+-- so many ranges start at the number of the code or before it, and no other does
+pub record IsStart (ranges : List LineRange) (code : ℕ) (number : List ℕ) (after : ℕ) : Type 0 where
+  pub within : after ≤ length ranges
+  pub point : IsPartitionPoint (λ r. is_le (place_cmp (start_of r) (code, number)) ≡ true) (λ r. is_le (place_cmp (start_of r) (code, number)) ≡ false) ranges after
 
 -- so many of the first ranges are of codes before this one, and no other is
 pub record IsFirst (ranges : List LineRange) (code first : ℕ) : Type 0 where

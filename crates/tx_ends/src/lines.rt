@@ -1,0 +1,51 @@
+// Plays cases, one a line.
+use crate::case::Case;
+use crate::log::Log;
+use crate::play::play;
+use std::alloc::Global;
+use std::io;
+use tx_cases::{tell, tell_broken, tell_count, tell_parts};
+use tx_program::refuse_arguments;
+use tx_text::Sink;
+
+/// What the program tells where its arguments are no words.
+fn tell_arguments<W: Sink>(alloc: Global, kind: io::ErrorKind, out: &mut W) {
+    let mut told = Vec::new(alloc);
+    let status = refuse_arguments(&io::Error::from(kind), &mut told);
+    tell(told.as_slice(), out);
+    drop(told);
+    tell_count(b"status ", u64::from(status), b"\n", out);
+}
+
+/// Plays the case of a line.
+fn play_line(rt: &HostRuntime, line: &str, log: &Log) -> io::Result<()> {
+    let case = Case::read(rt.alloc(), line)?;
+    let played = play(rt, &case, log);
+    drop(case);
+    played
+}
+
+/// Plays the case of a line, and tells what happened.
+fn tell_line<W: Sink>(rt: &HostRuntime, line: &str, out: &mut W) {
+    tell_parts(&[b"=== ", line.as_bytes(), b"\n"], out);
+    let log = Log::new(rt.alloc());
+    if play_line(rt, line, &log).is_err() {
+        log.tell("BROKEN:", "the case could not be played");
+    }
+    log.print(out);
+    drop(log);
+}
+
+/// Tells how the program refuses its arguments, and then plays each case of a text. Empty lines and lines with # at their head are passed over.
+pub fn play_ends<W: Sink>(rt: &HostRuntime, text: &[u8], out: &mut W) {
+    tell_arguments(rt.alloc(), io::ErrorKind::InvalidData, out);
+    tell_arguments(rt.alloc(), io::ErrorKind::OutOfMemory, out);
+    let Ok(text) = str::from_utf8(text) else {
+        return tell_broken(b"the cases are no UTF-8 text", 0, out);
+    };
+    for line in text.lines() {
+        if !line.is_empty() && !line.starts_with('#') {
+            tell_line(rt, line, out);
+        }
+    }
+}
