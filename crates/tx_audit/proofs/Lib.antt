@@ -1,3 +1,14 @@
 pub mod Reporting
 pub mod Found
 pub mod Untouched
+pub mod Listed
+pub mod Choices
+pub mod Walking
+pub mod Starting
+pub mod Sizes
+pub mod Passing
+pub mod Showing
+pub mod Writable
+pub mod ReadBack
+pub mod Loops
+pub mod Firsts

@@ -3,3 +3,6 @@ pub mod Audits
 pub mod CheckedRuns
 pub mod Ranked
 pub mod GradeText
+pub mod Counter
+pub mod Breaks
+pub mod Scripts

@@ -1,18 +1,27 @@
-//! The audit of a plan and its report, the text of a grade, and runs of scripts over the engine, also after a check.
+//! The audit of a plan and its report, the text of a grade, the events that show what is wrong, and runs of scripts, also after a check.
 #![tactic(auto)]
 
 mod audited;
 mod auditor;
 mod checked;
 mod checked_run;
+mod counters;
+mod event_rules;
+mod first;
+mod free_line;
 mod grade_text;
 mod report;
+mod script_writer;
 mod simulating;
+mod steps;
+mod turns;
 
 pub use audited::{AuditFault, Audited};
 pub use auditor::audit;
 pub use checked::Checked;
 pub use checked_run::run_checked;
+pub use counters::counter;
+pub use first::first_counter;
 pub use grade_text::write_grade;
+pub use script_writer::write_counter;
 pub use simulating::simulate;
-pub use tx_counter::{counter, first_counter, write_counter};

@@ -9,10 +9,10 @@ use Rattle.slab.specs.Slab.{Slab}
 use Rattle.tx_state.specs.Call.{Call}
 use Rattle.tx_state.specs.Routing.{set_call}
 use Rattle.tx_calls.specs.Calls.{Kept, Calls, kept_at, Changes, sorted_calls, calls_in, kept_of, slots_of, calls_of}
-use Rattle.tx_network.specs.Seen.{call_seen}
+use Rattle.tx_state.specs.Seen.{call_seen}
 use Rattle.tx_calls.specs.inner.Numbered.{Numbered, is_open}
 use Rattle.tx_calls.specs.inner.Tied.{IsTied}
-use Rattle.tx_network.specs.declared.open_call.OpenCall.{OpenCall}
+use Rattle.tx_state.specs.declared.open_call.OpenCall.{OpenCall}
 use Rattle.tx_calls.specs.declared.numbered_keys.NumberedKey.{NumberedKey}
 use Rattle.tx_calls.proofs.Numbered.{kept_under}
 use Rattle.tx_calls.proofs.Sorted.{length_put, after_change, tied_distinct, tied_after_change}

@@ -3,8 +3,8 @@ use Rattle.std.specs.Prelude.{◌≡◌, ◌≢◌, ℕ, ◌-◌, ◌^◌, ◌<�
 use Rattle.std.specs.Option.{option_map}
 use Rattle.slab.specs.Slab.{Slab, slab_len}
 use Rattle.tx_state.specs.Call.{Call}
-use Rattle.tx_network.specs.Seen.{call_seen}
-use Rattle.tx_network.specs.declared.open_call.OpenCall.{OpenCall}
+use Rattle.tx_state.specs.Seen.{call_seen}
+use Rattle.tx_state.specs.declared.open_call.OpenCall.{OpenCall}
 
 -- an open call, and the room for more hops of it
 pub record Kept : Type 0 where

@@ -1,11 +1,11 @@
 // Keys under numbers.
-ghost use Rattle.std.specs.Prelude.{◌≡◌, ◌<◌, ◌≤◌, ◌++◌, ◌∷◌, ◌⊎◌, [], filter, nat_lt, OnOk, IfSome, Some};
+ghost use Rattle.std.specs.Prelude.{◌≡◌, ◌<◌, ◌≤◌, ◌++◌, ◌∷◌, ◌⊎◌, [], filter, nat_lt, true, OnOk, IfSome, Some};
 ghost use Rattle.tx_calls.specs.inner.Numbered.{key_under, key_at, is_open};
 
 use slab::Slab;
 use std::alloc::{Allocator, Global};
 use std::marker::Model;
-use tx_network::OpenCall;
+use tx_state::OpenCall;
 use tx_text::NoMemory;
 
 /// A key, and the number that it stands under.
@@ -104,12 +104,20 @@ impl<A: Allocator> NumberedKeys<A> {
         }
     }
 
+    /// Whether there is room for one more key.
+    #[inline(always)]
+    pub fn has_room(&self) -> bool
+        ensures { result ≡ true → 0 < self.now.room }
+    {
+        self.keys.len() < self.keys.capacity()
+    }
+
     /// Makes room for one more key. Where there is none, the keys of calls that have ended are left out first.
     pub fn reserve_one(&mut self, calls: &Slab<OpenCall<A>, A>) -> Result<(), NoMemory>
         ensures ok { OnOk result (0 < self.new.room) }
         ensures keys { (self.new.keys ≡ self.old.keys) ⊎ (self.new.keys ≡ filter (is_open calls.now) self.old.keys) }
     {
-        if self.keys.len() < self.keys.capacity() {
+        if self.has_room() {
             return Ok(());
         }
         self.leave_out_ended(calls);

@@ -6,16 +6,15 @@ ghost use Rattle.tx_state.specs.Routing.{in_phase, set_call};
 ghost use Rattle.tx_state.specs.Confirming.{carried_on, thrown_back};
 ghost use Rattle.slab.specs.Slab.{get, HasRoomFor, Updates};
 ghost use Rattle.tx_state.specs.declared.phase.Phase.TheVariants.{Standing};
-ghost use Rattle.tx_network.specs.declared.open_call.OpenCall.{OpenCall};
+ghost use Rattle.tx_state.specs.declared.open_call.OpenCall.{OpenCall};
 ghost use Rattle.tx_calls.specs.Calls.{Kept, HasRoom, kept_at, Changes, calls_in, kept_of};
-ghost use Rattle.tx_network.specs.Seen.{call_seen};
+ghost use Rattle.tx_state.specs.Seen.{call_seen};
 
 use crate::numbered_keys::{NumberedKey, NumberedKeys, is_open};
 use slab::Slab;
 use std::alloc::{Allocator, Global};
 use std::marker::Model;
-use tx_network::OpenCall;
-use tx_state::{Hop, Phase};
+use tx_state::{Hop, OpenCall, Phase};
 use tx_text::NoMemory;
 
 /// The open calls. Each has a key of 32 bits from its opening to its end, and is found by its number.
@@ -56,6 +55,16 @@ impl<A: Allocator> OpenCalls<A> {
         ensures { result ≡ length (calls_in self.now) }
     {
         self.calls.len()
+    }
+
+    /// Whether there is room for one more call, and a key of 32 bits for it.
+    #[inline(always)]
+    pub fn has_room(&self) -> bool
+        ensures { result ≡ true → HasRoom self.now }
+    {
+        self.calls.vacant_key() <= u32::MAX as usize
+            && self.calls.len() < self.calls.capacity()
+            && self.by_number.has_room()
     }
 
     /// Makes room for one more call. Where no key of 32 bits is left for it, memory is wanting. Want of memory changes no call.

@@ -1,5 +1,5 @@
 -- Idle circuits, linked in the order of their numbers.
-use Rattle.std.proofs.Common.{◌≡◌, ◌≢◌, ◌∙◌, ℕ, zero, suc, ◌+◌, ◌-◌, ◌<◌, ◌≤◌, ◌⊎◌, inl, inr, Bool, true, false, List, length, map, Option, Some, None, refl, sym, ap, subst, arith}
+use Rattle.std.proofs.Common.{◌≡◌, ◌≢◌, ◌∙◌, ℕ, zero, suc, ◌+◌, ◌-◌, ◌<◌, ◌≤◌, inl, inr, Bool, true, false, List, length, map, Option, Some, None, refl, sym, ap, subst, arith}
 use Rattle.std.proofs.lemmas.Bool.Decides.{eqb_tells, nat_tests}
 use Rattle.std.specs.Prelude.{replicate, nat_lt, if◌then◌else◌}
 use Rattle.tx_circuits.specs.declared.free_lists.End.{End}
@@ -9,7 +9,7 @@ use Rattle.tx_circuits.specs.declared.free_lists.Way.TheVariants.{Up, Down}
 use Rattle.tx_circuits.specs.declared.slot.Slot.{Slot}
 use Rattle.tx_circuits.specs.declared.state.State.{State}
 use Rattle.tx_circuits.specs.inner.Linked.{IsFirst, IsLinked}
-use Rattle.tx_circuits.specs.inner.Slots.{free_at, free_in, link_at, chain, rank_of, list_of, begins, next_of, state_of, AreLinked}
+use Rattle.tx_circuits.specs.inner.Slots.{free_at, free_in, link_at, chain, rank_of, begins, next_of, state_of, AreLinked}
 use Rattle.tx_circuits.specs.inner.Groups.{idle, whole_list, whole_lists}
 use Rattle.tx_circuits.proofs.Places.{free_within}
 

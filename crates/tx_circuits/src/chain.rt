@@ -154,7 +154,7 @@ pub fn insert(slots: &mut [Slot], list: FreeList, end: End, place: usize, links:
 }
 
 // Puts a circuit on the list of an end, and gives the list. Walks the list.
-#[inline(never)]
+#[inline(always)]
 fn put(slots: &mut [Slot], list: FreeList, end: End, place: usize) -> FreeList
     requires short { length slots.old ≤ 240 }
     requires listed { IsListed (free_at end slots.old) end slots.old list }

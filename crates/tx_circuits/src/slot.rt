@@ -116,12 +116,15 @@ impl Slot {
         }
     }
 
-    /// Whether the circuit is free at the end.
+    /// Whether the circuit is free at the end. A bit behind those of the seizures bars both ends.
     #[inline(always)]
     pub fn is_free(self, end: End) -> bool
         ensures { result ≡ is_free end self.state }
     {
-        self.state().is_free(end)
+        if self.bits >= 4 {
+            return false;
+        }
+        !self.state().has_seized(end)
     }
 
     /// The slot with another state.

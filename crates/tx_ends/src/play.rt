@@ -1,13 +1,12 @@
 // Plays a case.
-ghost use Rattle.tx_words.specs.Commands.{IsInRange};
+ghost use Rattle.tx_program.specs.Commands.{IsInRange};
 
 use crate::case::{Case, What};
 use crate::log::Log;
 use crate::stage::Stage;
 use refusing::Refusing;
 use std::{fs, io};
-use tx_program::{run_command, run_words};
-use tx_words::{Command, WordsFault, read_command};
+use tx_program::{Command, WordsFault, read_command, run_command, run_words};
 
 /// Plays a case, and tells what happens.
 pub(crate) fn play(rt: &HostRuntime, case: &Case<'_>, log: &Log) -> io::Result<()> {

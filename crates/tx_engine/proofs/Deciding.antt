@@ -1,28 +1,27 @@
 -- The decision of a Route, by the states of lines and circuits, makes the machine's step.
-use Rattle.std.proofs.Common.{◌≡◌, ℕ, ◌==◌, Bool, true, false, not, ◌&&◌, List, [], Option, Some, None, refl, sym, ap, ◌∙◌}
-use Rattle.std.specs.Prelude.{if◌then◌else◌, find, unwrap_or, Result, Ok, Err, IfOk}
+use Rattle.std.proofs.Common.{◌≡◌, ℕ, ◌==◌, Bool, true, false, not, ◌&&◌, List, Option, Some, None, refl, sym, ap, ◌∙◌}
+use Rattle.std.specs.Prelude.{if◌then◌else◌, find, Result, Ok, Err, IfOk}
 use Rattle.std.specs.FinSet as set
-use Rattle.tx_plan.specs.Plan.{Plan, home_of, figures_of}
-use Rattle.tx_plan.specs.Codes.{code_of, after}
+use Rattle.tx_plan.specs.Plan.{Plan, home_of}
+use Rattle.tx_plan.specs.Codes.{code_of}
 use Rattle.tx_plan.specs.Lines.{is_line_at}
 use Rattle.tx_plan.specs.Routes.{route_list, is_barred}
 use Rattle.tx_entries.specs.declared.circuit.Circuit.{Circuit}
 use Rattle.tx_entries.specs.declared.line.Line.{Line}
-use Rattle.tx_state.specs.declared.service.Service.TheVariants.{Occ, Np, Der, Abs, Na}
+use Rattle.tx_state.specs.declared.service.Service.TheVariants.{Np, Na}
 use Rattle.tx_state.specs.declared.event.Event.TheVariants.{Route}
 use Rattle.tx_state.specs.Call.{Call, place_of, is_first, call_of}
 use Rattle.tx_state.specs.State.{State}
 use Rattle.tx_state.specs.Ended.{Ended}
 use Rattle.tx_state.specs.InUse.{first_in, first_free, is_free_at, is_down, choice}
-use Rattle.tx_state.specs.Lines.{line_answer}
+use Rattle.tx_state.specs.Lines.{line_answer, is_engaged}
 use Rattle.tx_state.specs.Routing.{at_line, at_trunk, line_of, routed, routed_for}
 use Rattle.tx_state.specs.Ending.{answered}
 use Rattle.tx_state.specs.Step.{with_call, accepted}
-use Rattle.tx_lines.specs.Book.{Book, answer_of, is_line_of}
-use Rattle.tx_lines.specs.declared.answer.LineAnswer.TheVariants.{NoLine, OutOfOrder, Away, Engaged, Free}
+use Rattle.tx_lines.specs.Book.{Book, is_line_of}
 use Rattle.tx_circuits.specs.Table.{Table, is_free_at as table_frees, first_free as table_first}
 use Rattle.tx_circuits.proofs.Unnamed.{circuits_at-same}
-use Rattle.tx_engine.specs.inner.Decided.{by_line, by_trunk, decided, decided_for, carry_out}
+use Rattle.tx_engine.specs.inner.Decided.{by_line, by_trunk, decided, decided_for, service_of, carry_out}
 use Rattle.tx_engine.specs.declared.decision.Decision.{Decision}
 use Rattle.tx_engine.specs.declared.decision.Decision.TheVariants.{Answer}
 use Rattle.tx_endings.specs.inner.Seen.{state_seen, AreTogether}
@@ -45,19 +44,17 @@ module _ (p : Plan) (cs : List Call) (b : Book) (t : Table) (numbers events : �
   pub choice_is : (place code : ℕ) → first_in (table_first t place) (route_list p place code) ≡ choice p here place code
   choice_is place code = λ i. first_in (λ g. first_is place g i) (route_list p place code)
 
-  -- what the line says, and what is done
-  line_case : (c : Call) (l : Line) → at_line p here c l (line_answer p here l) ≡ carry_out p here c (by_line (answer_of b l.code l.national))
-  line_case c l =
-      (λ i. at_line p here c l (if not (sym (lines l.code l.national) i) then Some Np else if set.contains b.faulty l then Some Der else if set.contains b.away l then Some Abs else if sym (together.engaged l) i then Some Occ else None))
-      ∙ known (is_line_of b.ranges l.code l.national) (set.contains b.faulty l) (set.contains b.away l) (set.contains b.engaged l)
+  -- a number that no line has
+  line_case : (c : Call) (l : Line) → at_line p here c l (line_answer p here l) ≡ carry_out p here c (by_line (is_line_of b.ranges l.code l.national) l)
+  line_case c l = by (is_line_of b.ranges l.code l.national) (lines l.code l.national)
     where
-      known : (k f a e : Bool) → at_line p here c l (if not k then Some Np else if f then Some Der else if a then Some Abs else if e then Some Occ else None)
-          ≡ carry_out p here c (by_line (if k then (if f then OutOfOrder else if a then Away else if e then Engaged else Free l) else NoLine))
-      known false f a e = refl
-      known true true a e = refl
-      known true false true e = refl
-      known true false false true = refl
-      known true false false false = refl
+      by : (k : Bool) → k ≡ is_line_at p l.code l.national → at_line p here c l (line_answer p here l) ≡ carry_out p here c (by_line k l)
+      by true e = refl
+      by false e = ap (λ k. at_line p here c l (if not k then Some Np else service_of (set.contains b.faulty l) (set.contains b.away l) (is_engaged here l))) (sym e)
+
+  -- what a line of the plan answers
+  pub answer_is : (l : Line) → is_line_at p l.code l.national ≡ true → line_answer p here l ≡ service_of (set.contains b.faulty l) (set.contains b.away l) (set.contains b.engaged l)
+  answer_is l known = (λ i. if not (known i) then Some Np else service_of (set.contains b.faulty l) (set.contains b.away l) (sym (together.engaged l) i))
 
   trunk_case : (c : Call) (place : ℕ) (o : Option Circuit) → at_trunk p here c o ≡ carry_out p here c (by_trunk place o)
   trunk_case c place None = refl
@@ -69,7 +66,7 @@ module _ (p : Plan) (cs : List Call) (b : Book) (t : Table) (numbers events : �
       by (is_first c.hops && is_barred p (place_of p c) code) (home_of p code == place_of p c)
     where
       by : (z h : Bool) → (if z then answered p c.number Na here else if h then at_line p here c (line_of p code c.keyed) (line_answer p here (line_of p code c.keyed)) else at_trunk p here c (choice p here (place_of p c) code))
-          ≡ carry_out p here c (if z then Answer Na else if h then by_line (answer_of b code (unwrap_or (after (figures_of p code) c.keyed) [])) else by_trunk (place_of p c) (first_in (table_first t (place_of p c)) (route_list p (place_of p c) code)))
+          ≡ carry_out p here c (if z then Answer Na else if h then by_line (is_line_of b.ranges code (line_of p code c.keyed).national) (line_of p code c.keyed) else by_trunk (place_of p c) (first_in (table_first t (place_of p c)) (route_list p (place_of p c) code)))
       by true h = refl
       by false true = line_case c (line_of p code c.keyed)
       by false false = ap (at_trunk p here c) (sym (choice_is (place_of p c) code)) ∙ trunk_case c (place_of p c) (first_in (table_first t (place_of p c)) (route_list p (place_of p c) code))

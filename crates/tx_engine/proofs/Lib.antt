@@ -11,3 +11,4 @@ pub mod Lost
 pub mod Taken
 pub mod Marking
 pub mod Accepting
+pub mod Behind

@@ -1,22 +1,24 @@
 -- What events that are not refused leave room for.
-use Rattle.std.proofs.Common.{◌≡◌, ◌-◌, ◌^◌, ◌<◌, ◌∷◌, [], ◌++◌, None, arith, false, true}
+use Rattle.std.proofs.Common.{◌≡◌, ℕ, ◌-◌, ◌^◌, ◌<◌, ◌∷◌, [], None, arith, false, true, not, nat_le}
 use Rattle.std.proofs.lemmas.Bool.Decides.{nat_tests}
-use Rattle.std.proofs.lemmas.Bool.{not-false}
+use Rattle.std.specs.FinSet as set
+use Rattle.tx_plan.specs.Declaring.{first_true}
 use Rattle.tx_plan.specs.Plan.{Plan}
 use Rattle.tx_plan.specs.Lines.{is_line}
 use Rattle.tx_entries.specs.declared.line.Line.{Line}
 use Rattle.tx_state.specs.Lines.{is_engaged}
 use Rattle.tx_state.specs.declared.event.Event.TheVariants.{Key}
+use Rattle.tx_state.specs.declared.refusal.Refusal.TheVariants.{UnknownLine, LineEngaged, LineOutOfOrder, Exhausted}
 use Rattle.tx_state.specs.State.{State}
-use Rattle.tx_state.specs.Refusals.{refusal, refusals}
-use Rattle.tx_state.proofs.Steps.{tests_false}
+use Rattle.tx_state.specs.Refusals.{refusal}
 
-pub key_fits : (p : Plan) (s : State) (line : Line) (keyed : _) → refusal p s (Key line keyed) ≡ None → (s.numbers < 2 ^ 32 - 1) × (s.events < 2 ^ 64 - 1)
-key_fits p s line keyed none =
-    let t = tests_false (refusals p s (Key line keyed) ++ _ ∷ []) none in
-    let a = t.1.1.1.0 in
-    let b = t.1.1.1.1.0 in
-    (grind (arith, nat_tests), grind (arith, nat_tests))
+unspent : (limit n : ℕ) → n < limit → nat_le limit n ≡ false
+unspent limit n h = grind (arith, nat_tests)
 
-pub key_known : (p : Plan) (s : State) (line : Line) (keyed : _) → refusal p s (Key line keyed) ≡ None → (is_line p line ≡ true) × (is_engaged s line ≡ false)
-key_known p s line keyed none = let t = tests_false (refusals p s (Key line keyed) ++ _ ∷ []) none in (not-false (is_line p line) t.0, t.1.0)
+-- a line that may call does so, where neither numbers nor events are spent
+pub key_open : (p : Plan) (s : State) (line : Line) (keyed : _) → is_line p line ≡ true → is_engaged s line ≡ false → set.contains s.faulty line ≡ false → s.numbers < 2 ^ 32 - 1 → s.events < 2 ^ 64 - 1
+    → refusal p s (Key line keyed) ≡ None
+key_open p s line keyed known idle mended numbers events =
+    let n = unspent (2 ^ 32 - 1) s.numbers numbers in
+    let e = unspent (2 ^ 64 - 1) s.events events in
+    λ i. first_true ((not (known i), UnknownLine) ∷ (idle i, LineEngaged) ∷ (mended i, LineOutOfOrder) ∷ (n i, Exhausted) ∷ (e i, Exhausted) ∷ [])

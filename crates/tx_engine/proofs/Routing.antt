@@ -1,12 +1,13 @@
 -- A Route that connects a call, and one that seizes a circuit.
-use Rattle.std.proofs.Common.{◌≡◌, ℕ, ◌<◌, ◌==◌, Bool, true, false, ◌&&◌, List, [], Option, Some, None, refl, sym, ap, subst, ◌∙◌, eqb-true, deque_len, deque_capacity}
-use Rattle.std.specs.Prelude.{if◌then◌else◌, find, unwrap_or}
+use Rattle.std.proofs.Common.{◌≡◌, ℕ, ◌<◌, ◌==◌, Bool, true, false, ◌&&◌, List, Option, Some, None, refl, sym, ap, subst, ◌∙◌, eqb-true, deque_len, deque_capacity}
+use Rattle.std.specs.Prelude.{if◌then◌else◌, find}
 use Rattle.std.specs.Option.{option_map}
 use Rattle.std.specs.FinSet as set
 use Rattle.tx_plan.specs.Orders.{same_circuit}
 use Rattle.tx_entries.proofs.Named.{same_circuit-is}
 use Rattle.tx_plan.specs.Plan.{Plan, home_of, figures_of}
-use Rattle.tx_plan.specs.Codes.{code_of, after}
+use Rattle.tx_plan.specs.Codes.{code_of}
+use Rattle.tx_plan.specs.Lines.{is_line_at}
 use Rattle.tx_plan.specs.Routes.{route_list, is_barred}
 use Rattle.tx_plan.specs.Circuits.{may_seize, other_end, circuits_at}
 use Rattle.tx_plan.specs.Circuits.{is_circuit}
@@ -22,9 +23,7 @@ use Rattle.tx_state.specs.Safe.{IsKeyedLine}
 use Rattle.tx_state.proofs.Lists.{find_mem}
 use Rattle.tx_state.proofs.Steps.{listed_leads, listed_may, prefix-is, code_begins}
 use Rattle.tx_state.proofs.Uses.{first_in-is, chosen, IsChosen}
-use Rattle.tx_lines.specs.Book.{Book, answer_of, is_line_of, status_answer}
-use Rattle.tx_lines.specs.declared.answer.LineAnswer.{LineAnswer}
-use Rattle.tx_lines.specs.declared.answer.LineAnswer.TheVariants.{NoLine, OutOfOrder, Away, Engaged, Free}
+use Rattle.tx_lines.specs.Book.{Book, is_line_of}
 use Rattle.tx_circuits.specs.Table.{Table, plan_of, is_down, is_free_at as table_frees, first_free as table_first}
 use Rattle.tx_circuits.proofs.Unnamed.{is_circuit-same, may_seize-same}
 use Rattle.tx_calls.specs.Calls.{Kept, Calls, Changes, calls_in}
@@ -33,55 +32,47 @@ use Rattle.tx_calls.specs.declared.end_keys.EndKeys.{EndKeys}
 use Rattle.tx_calls.proofs.Sorted.{sorted_mem}
 use Rattle.tx_endings.specs.inner.Seen.{AreTogether}
 use Rattle.tx_endings.proofs.Going.{connected_together, seized_together}
-use Rattle.tx_engine.specs.declared.decision.Decision.TheVariants.{Connect, Seize, Answer}
+use Rattle.tx_engine.specs.declared.decision.Decision.TheVariants.{Reach, Seize, Answer}
 use Rattle.tx_engine.specs.declared.parts.Parts.{Parts}
-use Rattle.tx_engine.specs.inner.Decided.{decided_for, by_line, by_trunk, IsDecided}
+use Rattle.tx_engine.specs.inner.Decided.{decided_for, by_line, by_trunk, service_of, IsDecided}
 use Rattle.tx_engine.specs.inner.Sound.{AreSound, IsSound, is_first_end, state_of}
 use Rattle.tx_engine.proofs.Keyed.{keys_stay, keys_here, keys_else, pick_same, pick_other, ends_same}
 use Rattle.tx_engine.proofs.Deciding.{first_is}
 use Rattle.tx_engine.proofs.Changing.{sound_after, together_in}
 
--- WHAT A DECISION TO CONNECT TELLS
--- the line is one of the book's, and free
-answer-free : (b : Book) (code : ℕ) (number : List ℕ) (l : Line) → by_line (answer_of b code number) ≡ Connect l
-    → (is_line_of b.ranges code number ≡ true) × (set.contains b.engaged l ≡ false) × (l ≡ record { code = code; national = number })
-answer-free b code number l e = by (record { code = code; national = number }) refl (is_line_of b.ranges code number) refl e
-  where
-    by : (asked : Line) → asked ≡ record { code = code; national = number } → (z : Bool) → is_line_of b.ranges code number ≡ z → by_line (if z then status_answer b asked else NoLine) ≡ Connect l
-        → (is_line_of b.ranges code number ≡ true) × (set.contains b.engaged l ≡ false) × (l ≡ record { code = code; national = number })
-    by asked s false q e = absurd (let bad : ⊥ = cc in bad)
-    by asked s true q e = at (set.contains b.faulty asked) (set.contains b.away asked) (set.contains b.engaged asked) refl e
-      where
-        at : (f a g : Bool) → set.contains b.engaged asked ≡ g → by_line (if f then OutOfOrder else if a then Away else if g then Engaged else Free asked) ≡ Connect l
-            → (is_line_of b.ranges code number ≡ true) × (set.contains b.engaged l ≡ false) × (l ≡ record { code = code; national = number })
-        at true a g w e = absurd (let bad : ⊥ = cc in bad)
-        at false true g w e = absurd (let bad : ⊥ = cc in bad)
-        at false false true w e = absurd (let bad : ⊥ = cc in bad)
-        at false false false w e = let same : asked ≡ l = cc in (q, ap (set.contains b.engaged) (sym same) ∙ w, sym same ∙ s)
+-- WHAT A DECISION FOR A LINE TELLS
+-- the line is one of the book's
+by_line-reach : (b : Bool) (asked l : Line) → by_line b asked ≡ Reach l → (b ≡ true) × (l ≡ asked)
+by_line-reach false asked l e = absurd (let bad : ⊥ = cc in bad)
+by_line-reach true asked l e = (refl, let same : asked ≡ l = cc in sym same)
 
-by_trunk-connect : (place : ℕ) (o : Option Circuit) (l : Line) → by_trunk place o ≡ Connect l → ⊥
-by_trunk-connect place None l e = cc
-by_trunk-connect place (Some x) l e = cc
+by_trunk-reach : (place : ℕ) (o : Option Circuit) (l : Line) → by_trunk place o ≡ Reach l → ⊥
+by_trunk-reach place None l e = cc
+by_trunk-reach place (Some x) l e = cc
 
-connected_by_line : (p : Plan) (b : Book) (t : Table) (c : Call) (o : Option ℕ) (l : Line) → decided_for p b t c o ≡ Connect l
-    → (code : ℕ) × (o ≡ Some code) × ((home_of p code == place_of p c) ≡ true) × (by_line (answer_of b code (unwrap_or (after (figures_of p code) c.keyed) [])) ≡ Connect l)
-connected_by_line p b t c None l e = absurd (let bad : ⊥ = cc in bad)
-connected_by_line p b t c (Some code) l e = by (is_first c.hops && is_barred p (place_of p c) code) (home_of p code == place_of p c) refl e
+reached_by_line : (p : Plan) (b : Book) (t : Table) (c : Call) (o : Option ℕ) (l : Line) → decided_for p b t c o ≡ Reach l
+    → (code : ℕ) × (o ≡ Some code) × ((home_of p code == place_of p c) ≡ true) × (by_line (is_line_of b.ranges code (line_of p code c.keyed).national) (line_of p code c.keyed) ≡ Reach l)
+reached_by_line p b t c None l e = absurd (let bad : ⊥ = cc in bad)
+reached_by_line p b t c (Some code) l e = by (is_first c.hops && is_barred p (place_of p c) code) (home_of p code == place_of p c) refl e
   where
     by : (z h : Bool) → (home_of p code == place_of p c) ≡ h
-        → (if z then Answer Na else if h then by_line (answer_of b code (unwrap_or (after (figures_of p code) c.keyed) [])) else by_trunk (place_of p c) (first_in (table_first t (place_of p c)) (route_list p (place_of p c) code))) ≡ Connect l
-        → (z : ℕ) × (Some code ≡ Some z) × ((home_of p z == place_of p c) ≡ true) × (by_line (answer_of b z (unwrap_or (after (figures_of p z) c.keyed) [])) ≡ Connect l)
+        → (if z then Answer Na else if h then by_line (is_line_of b.ranges code (line_of p code c.keyed).national) (line_of p code c.keyed) else by_trunk (place_of p c) (first_in (table_first t (place_of p c)) (route_list p (place_of p c) code))) ≡ Reach l
+        → (z : ℕ) × (Some code ≡ Some z) × ((home_of p z == place_of p c) ≡ true) × (by_line (is_line_of b.ranges z (line_of p z c.keyed).national) (line_of p z c.keyed) ≡ Reach l)
     by true h q e = absurd (let bad : ⊥ = cc in bad)
     by false true q e = (code, refl, q, e)
-    by false false q e = absurd (by_trunk-connect (place_of p c) (first_in (table_first t (place_of p c)) (route_list p (place_of p c) code)) l e)
+    by false false q e = absurd (by_trunk-reach (place_of p c) (first_in (table_first t (place_of p c)) (route_list p (place_of p c) code)) l e)
+
+-- a line that answers nothing is free
+pub answers_none : (f a e : Bool) → service_of f a e ≡ None → (f ≡ false) × (a ≡ false) × (e ≡ false)
+answers_none true a e h = absurd (let bad : ⊥ = cc in bad)
+answers_none false true e h = absurd (let bad : ⊥ = cc in bad)
+answers_none false false true h = absurd (let bad : ⊥ = cc in bad)
+answers_none false false false h = (refl, refl, refl)
 
 -- WHAT A DECISION TO SEIZE TELLS
-by_line-seize : (a : LineAnswer) (x : Circuit) (pl : ℕ) → by_line a ≡ Seize x pl → ⊥
-by_line-seize NoLine x pl e = cc
-by_line-seize OutOfOrder x pl e = cc
-by_line-seize Away x pl e = cc
-by_line-seize Engaged x pl e = cc
-by_line-seize (Free l) x pl e = cc
+by_line-seize : (b : Bool) (l : Line) (x : Circuit) (pl : ℕ) → by_line b l ≡ Seize x pl → ⊥
+by_line-seize false l x pl e = cc
+by_line-seize true l x pl e = cc
 
 by_trunk-seize : (place : ℕ) (o : Option Circuit) (x : Circuit) (pl : ℕ) → by_trunk place o ≡ Seize x pl → (pl ≡ place) × (o ≡ Some x)
 by_trunk-seize place None x pl e = absurd (let bad : ⊥ = cc in bad)
@@ -92,10 +83,10 @@ seized_by_choice : (p : Plan) (b : Book) (t : Table) (c : Call) (o : Option ℕ)
 seized_by_choice p b t c None x pl e = absurd (let bad : ⊥ = cc in bad)
 seized_by_choice p b t c (Some code) x pl e = by (is_first c.hops && is_barred p (place_of p c) code) (home_of p code == place_of p c) e
   where
-    by : (z h : Bool) → (if z then Answer Na else if h then by_line (answer_of b code (unwrap_or (after (figures_of p code) c.keyed) [])) else by_trunk (place_of p c) (first_in (table_first t (place_of p c)) (route_list p (place_of p c) code))) ≡ Seize x pl
+    by : (z h : Bool) → (if z then Answer Na else if h then by_line (is_line_of b.ranges code (line_of p code c.keyed).national) (line_of p code c.keyed) else by_trunk (place_of p c) (first_in (table_first t (place_of p c)) (route_list p (place_of p c) code))) ≡ Seize x pl
         → (pl ≡ place_of p c) × ((code : ℕ) × (first_in (table_first t (place_of p c)) (route_list p (place_of p c) code) ≡ Some x))
     by true h e = absurd (let bad : ⊥ = cc in bad)
-    by false true e = absurd (by_line-seize (answer_of b code (unwrap_or (after (figures_of p code) c.keyed) [])) x pl e)
+    by false true e = absurd (by_line-seize (is_line_of b.ranges code (line_of p code c.keyed).national) (line_of p code c.keyed) x pl e)
     by false false e = let r = by_trunk-seize (place_of p c) (first_in (table_first t (place_of p c)) (route_list p (place_of p c) code)) x pl e in (r.0, (code, r.1))
 
 free_by_table : (t : Table) (place g : ℕ) (x : Circuit) → table_first t place g ≡ Some x → table_frees t place x ≡ true
@@ -116,30 +107,33 @@ module _ {A : Type 0} (n : Parts A) (sound : IsSound n) (key : ℕ) (k : Kept) w
   place = place_of p k.call
 
   -- CONNECTED
-  module _ (l : Line) (d : IsDecided n key k (Connect l)) where
+  module _ (l : Line) (d : IsDecided n key k (Reach l)) where
     in_connect : Among k.call (calls_in n.calls)
     in_connect = sorted_mem n.calls.slots key k d.kept
 
-    told_line : (code : ℕ) × (code_of p k.call.keyed ≡ Some code) × ((home_of p code == place) ≡ true) × (by_line (answer_of n.lines code (unwrap_or (after (figures_of p code) k.call.keyed) [])) ≡ Connect l)
-    told_line = connected_by_line p n.lines t k.call (code_of p k.call.keyed) l (sym d.decides)
+    told_line : (code : ℕ) × (code_of p k.call.keyed ≡ Some code) × ((home_of p code == place) ≡ true) × (by_line (is_line_of n.lines.ranges code (line_of p code k.call.keyed).national) (line_of p code k.call.keyed) ≡ Reach l)
+    told_line = reached_by_line p n.lines t k.call (code_of p k.call.keyed) l (sym d.decides)
 
-    free_line : (is_line_of n.lines.ranges told_line.0 (unwrap_or (after (figures_of p told_line.0) k.call.keyed) []) ≡ true) × (set.contains n.lines.engaged l ≡ false) × (l ≡ line_of p told_line.0 k.call.keyed)
-    free_line = answer-free n.lines told_line.0 (unwrap_or (after (figures_of p told_line.0) k.call.keyed) []) l told_line.3
+    found_line : (is_line_of n.lines.ranges told_line.0 (line_of p told_line.0 k.call.keyed).national ≡ true) × (l ≡ line_of p told_line.0 k.call.keyed)
+    found_line = by_line-reach (is_line_of n.lines.ranges told_line.0 (line_of p told_line.0 k.call.keyed).national) (line_of p told_line.0 k.call.keyed) l told_line.3
+
+    pub known_line : is_line_at p l.code l.national ≡ true
+    known_line = subst (λ (m : Line). is_line_at p m.code m.national ≡ true) (sym found_line.1) (sym (sound.lines told_line.0 (line_of p told_line.0 k.call.keyed).national) ∙ found_line.0)
 
     keyed_line : IsKeyedLine p k.call l
-    keyed_line = subst (IsKeyedLine p k.call) (sym free_line.2) (record {
-      known = sym (sound.lines told_line.0 (unwrap_or (after (figures_of p told_line.0) k.call.keyed) [])) ∙ free_line.0;
+    keyed_line = subst (IsKeyedLine p k.call) (sym found_line.1) (record {
+      known = sym (sound.lines told_line.0 (line_of p told_line.0 k.call.keyed).national) ∙ found_line.0;
       at_home = sym (eqb-true (home_of p told_line.0) place told_line.2);
       keyed = prefix-is (figures_of p told_line.0) k.call.keyed (code_begins p k.call.keyed told_line.0 told_line.1);
     })
 
-    pub sound_connected : (b : Book) → b.ranges ≡ n.lines.ranges → b.engaged ≡ set.insert n.lines.engaged l
+    pub sound_connected : set.contains n.lines.engaged l ≡ false → (b : Book) → b.ranges ≡ n.lines.ranges → b.engaged ≡ set.insert n.lines.engaged l
         → (c : Calls) → Changes n.calls c key (Some (record k { call = in_phase (Connected l) k.call })) → calls_in c ≡ set_call k.call.number (in_phase (Connected l)) (calls_in n.calls)
         → AreSound p n.codes c n.keys b t n.numbers (deque_len n.tickets) (deque_capacity n.tickets)
-    sound_connected b ranges engaged c up calls =
+    sound_connected free b ranges engaged c up calls =
         sound_after p n.codes n.calls n.keys n.lines t n.numbers (deque_len n.tickets) (deque_capacity n.tickets) sound key k d.kept c (record k { call = in_phase (Connected l) k.call }) (in_phase (Connected l)) b t n.keys up calls ranges
         (together_in p (set_call k.call.number (in_phase (Connected l)) (calls_in n.calls)) t (record n.lines { engaged = set.insert n.lines.engaged l; room = b.room }) b n.numbers engaged
-        (connected_together p (calls_in n.calls) t n.lines n.numbers sound.together k.call in_connect l b.room d.stands keyed_line free_line.1))
+        (connected_together p (calls_in n.calls) t n.lines n.numbers sound.together k.call in_connect l b.room d.stands keyed_line free))
         sound.keyed.all (λ x e. let bad : ⊥ = cc in absurd bad) (sound.keyed.carriers key k d.kept) (λ i d ne q x e. refl) (λ i d ne q x m y. refl) (λ x e. let bad : ⊥ = cc in absurd bad)
 
   -- SEIZES

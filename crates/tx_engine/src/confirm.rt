@@ -10,9 +10,8 @@ ghost use Rattle.tx_engine.specs.inner.Sound.{IsSound, IsUnder, state_of};
 
 use crate::parts::Parts;
 use std::alloc::Allocator;
-use tx_network::far_of;
 use tx_plan::{Circuit, ExchangeId};
-use tx_state::{Hop, Reply};
+use tx_state::{Hop, Reply, far_of};
 
 impl<'p, A: Allocator + Copy> Parts<'p, A> {
     /// A call is confirmed.

@@ -1,24 +1,25 @@
 // What a Route decides.
-ghost use Rattle.std.specs.Prelude.{◌≡◌, map};
+ghost use Rattle.std.specs.Prelude.{◌≡◌, map, unwrap_or, Some, []};
+ghost use Rattle.tx_plan.specs.Codes.{after, code_of};
+ghost use Rattle.tx_plan.specs.Plan.{figures_of};
 ghost use Rattle.tx_plan.specs.Routes.{route_list};
 ghost use Rattle.tx_state.specs.InUse.{first_in};
-ghost use Rattle.tx_network.specs.Seen.{call_seen};
+ghost use Rattle.tx_state.specs.Seen.{call_seen};
 ghost use Rattle.tx_circuits.specs.Table.{first_free, unnamed};
-ghost use Rattle.tx_engine.specs.inner.Decided.{decided, by_line};
+ghost use Rattle.tx_engine.specs.inner.Decided.{decided};
 
 use std::alloc::Allocator;
 use tx_circuits::CircuitTable;
-use tx_lines::{LineAnswer, LineBook};
-use tx_network::{OpenCall, place_of};
-use tx_plan::{Circuit, CodeId, ExchangeId, Line, Plan, rest_after};
-use tx_state::Service;
+use tx_lines::LineBook;
+use tx_plan::{Circuit, CodeId, ExchangeId, Line, Plan};
+use tx_state::{OpenCall, Service, place_of};
 use tx_trie::CodeTrie;
 
 /// What becomes of a call that is routed.
 #[derive(Clone, Copy)]
 pub(crate) enum Decision {
-    /// It is connected to the line.
-    Connect(Line),
+    /// It has come to the line, which answers it.
+    Reach(Line),
     /// It seizes the circuit from the exchange where it stands.
     Seize(Circuit, ExchangeId),
     /// It is answered with a service code, and ends.
@@ -46,17 +47,13 @@ fn choice<A: Allocator>(
     None
 }
 
-/// What the answer of a line decides.
-fn at_line(answer: LineAnswer) -> Decision
-    ensures { result ≡ by_line answer }
+/// What is keyed behind the code that it begins with.
+#[inline(always)]
+fn behind<'k, A: Allocator>(plan: &Plan<A>, code: CodeId, keyed: &'k [u8]) -> &'k [u8]
+    requires { Some code ≡ code_of plan.now keyed.now }
+    ensures { result.now ≡ unwrap_or (after (figures_of plan.now code) keyed.now) [] }
 {
-    match answer {
-        LineAnswer::NoLine => Decision::Answer(Service::Np),
-        LineAnswer::OutOfOrder => Decision::Answer(Service::Der),
-        LineAnswer::Away => Decision::Answer(Service::Abs),
-        LineAnswer::Engaged => Decision::Answer(Service::Occ),
-        LineAnswer::Free(line) => Decision::Connect(line),
-    }
+    &keyed[plan.code_figures(code).len()..]
 }
 
 /// What becomes of the call.
@@ -80,8 +77,11 @@ pub(crate) fn decide<A: Allocator>(
         return Decision::Answer(Service::Na);
     }
     if plan.home(code) == here {
-        let rest = rest_after(plan.code_figures(code), keyed);
-        return at_line(lines.answer(code, rest));
+        let rest = behind(plan, code, keyed);
+        return match lines.find(code, rest) {
+            Some(line) => Decision::Reach(line),
+            None => Decision::Answer(Service::Np),
+        };
     }
     match choice(plan, circuits, here, code) {
         Some(circuit) => Decision::Seize(circuit, here),

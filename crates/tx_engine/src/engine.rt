@@ -8,9 +8,8 @@ use crate::parts::Parts;
 use crate::tickets::take_oldest;
 use std::alloc::{Allocator, Global};
 use std::marker::Model;
-use tx_network::refusal;
 use tx_plan::Plan;
-use tx_state::{Event, Network, Reply, Ticket};
+use tx_state::{Event, Network, Reply, Ticket, refusal_of};
 use tx_text::NoMemory;
 
 /// The indexed network. It finds lines and circuits by index, and a call by its number, at worst by a binary search. So the work of an event hardly grows
@@ -60,7 +59,7 @@ impl<'p, A: Allocator + Copy> Engine<'p, A> {
         Ok(Engine { parts })
     }
 
-    /// One event that `tx_network` refuses, or that is carried out.
+    /// One event that `refusal_of` refuses, or that is carried out.
     #[inline(never)]
     fn apply_other(&mut self, event: &Event) -> Result<Reply, NoMemory>
         ensures plan { self.new.plan ≡ self.old.plan }
@@ -68,7 +67,7 @@ impl<'p, A: Allocator + Copy> Engine<'p, A> {
         ensures err { OnErr result (self.new ≡ self.old) }
         ensures memory { OnErr result ((takes_memory event.now ≡ true) × (refusal self.old.plan self.old.state event.now ≡ None)) }
     {
-        match refusal(self, event) {
+        match refusal_of(self, event) {
             Some(refusal) => Ok(Reply::Refused(refusal)),
             None => self.accept(event),
         }

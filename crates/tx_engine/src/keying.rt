@@ -1,16 +1,18 @@
 // A line that calls.
-ghost use Rattle.std.specs.Prelude.{◌≡◌, IfOk, OnErr, None};
+ghost use Rattle.std.specs.Prelude.{◌≡◌, ◌<◌, ◌≤◌, ◌+◌, ◌-◌, ◌^◌, true, IfOk, OnOk, OnErr, None, length};
+ghost use Rattle.std.specs.VecDeque.{deque_len, deque_capacity};
+ghost use Rattle.tx_calls.specs.Calls.{HasRoom, calls_in};
 ghost use Rattle.tx_state.specs.Step.{step};
 ghost use Rattle.tx_state.specs.Refusals.{refusal};
 ghost use Rattle.tx_state.specs.declared.event.Event.TheVariants.{Key};
 ghost use Rattle.tx_engine.specs.inner.Sound.{IsSound, state_of};
 
 use crate::parts::Parts;
-use crate::tickets::reserve_tickets;
+use crate::tickets::{has_ticket_room, reserve_tickets};
 use std::alloc::Allocator;
-use tx_network::OpenCall;
+use tx_lines::Side;
 use tx_plan::Line;
-use tx_state::{Phase, Reply};
+use tx_state::{OpenCall, Phase, Refusal, Reply};
 use tx_text::{Figures, NoMemory};
 
 impl<'p, A: Allocator + Copy> Parts<'p, A> {
@@ -24,24 +26,54 @@ impl<'p, A: Allocator + Copy> Parts<'p, A> {
         ensures err { OnErr result (state_of self.new ≡ state_of self.old) }
         ensures open { OnErr result (refusal self.old.plan.now (state_of self.old) (Key line keyed) ≡ None) }
     {
-        match self.key_refusal(&line, &keyed) {
-            Some(refusal) => Ok(Reply::Refused(refusal)),
-            None => self.open_call(line, keyed),
+        if self.is_ready() {
+            self.key_in_room(line, keyed)
+        } else {
+            self.key_making_room(line, keyed)
         }
     }
 
-    /// A line that may call does so.
-    fn open_call(&mut self, line: Line, keyed: Figures) -> Result<Reply, NoMemory>
-        requires sound { IsSound self.old }
-        requires open { refusal self.old.plan.now (state_of self.old) (Key line keyed) ≡ None }
+    /// A line calls where there may be no room for its call. Room is asked for only where the event is not refused.
+    #[inline(never)]
+    fn key_making_room(&mut self, line: Line, keyed: Figures) -> Result<Reply, NoMemory>
+        requires { IsSound self.old }
         ensures sound { IsSound self.new }
         ensures plan { self.new.plan.now ≡ self.old.plan.now }
         ensures step { IfOk result (λ reply. step self.old.plan.now (state_of self.old) (Key line keyed) ≡ (reply, state_of self.new)) }
         ensures err { OnErr result (state_of self.new ≡ state_of self.old) }
+        ensures open { OnErr result (refusal self.old.plan.now (state_of self.old) (Key line keyed) ≡ None) }
     {
-        self.calls.reserve_one()?;
-        reserve_tickets(&mut self.tickets, self.calls.len())?;
-        self.lines.reserve_one()?;
+        if let Some(refusal) = self.key_refusal(&line, &keyed) {
+            return Ok(Reply::Refused(refusal));
+        }
+        self.reserve_call()?;
+        self.key_in_room(line, keyed)
+    }
+
+    /// A line calls where there is room for its call. It is looked up once.
+    #[inline(always)]
+    fn key_in_room(&mut self, line: Line, keyed: Figures) -> Result<Reply, NoMemory>
+        requires sound { IsSound self.old }
+        requires numbers { self.old.numbers < 2 ^ 32 - 1 }
+        requires events { self.old.events < 2 ^ 64 - 1 }
+        requires calls { HasRoom self.old.calls }
+        requires tickets { deque_len self.old.tickets + (length (calls_in self.old.calls) + 1) ≤ deque_capacity self.old.tickets }
+        ensures sound { IsSound self.new }
+        ensures plan { self.new.plan.now ≡ self.old.plan.now }
+        ensures step { IfOk result (λ reply. step self.old.plan.now (state_of self.old) (Key line keyed) ≡ (reply, state_of self.new)) }
+        ensures err { OnErr result (state_of self.new ≡ state_of self.old) }
+        ensures open { OnErr result (refusal self.old.plan.now (state_of self.old) (Key line keyed) ≡ None) }
+    {
+        if !self.lines.has(&line) {
+            return Ok(Reply::Refused(Refusal::UnknownLine));
+        }
+        let status = self.lines.join(&line, Side::Caller)?;
+        if status.engaged {
+            return Ok(Reply::Refused(Refusal::LineEngaged));
+        }
+        if status.faulty {
+            return Ok(Reply::Refused(Refusal::LineOutOfOrder));
+        }
         let number = self.numbers + 1;
         let call = OpenCall {
             number,
@@ -53,9 +85,37 @@ impl<'p, A: Allocator + Copy> Parts<'p, A> {
             collided: false,
         };
         let _key = self.calls.open(call);
-        self.lines.engage(&line);
         self.numbers = number;
         self.events += 1;
         Ok(Reply::Keyed(number))
+    }
+
+    /// Whether a call can be opened at once: neither numbers nor events are spent, and there is room for it and for its ticket.
+    #[inline(always)]
+    fn is_ready(&self) -> bool
+        ensures numbers { result ≡ true → self.now.numbers < 2 ^ 32 - 1 }
+        ensures events { result ≡ true → self.now.events < 2 ^ 64 - 1 }
+        ensures calls { result ≡ true → HasRoom self.now.calls }
+        ensures tickets { result ≡ true → deque_len self.now.tickets + (length (calls_in self.now.calls) + 1) ≤ deque_capacity self.now.tickets }
+    {
+        self.numbers < u32::MAX
+            && self.events < u64::MAX
+            && self.calls.has_room()
+            && has_ticket_room(&self.tickets, self.calls.len())
+    }
+
+    /// Makes room for one more call and for its ticket.
+    fn reserve_call(&mut self) -> Result<(), NoMemory>
+        requires { IsSound self.old }
+        ensures sound { IsSound self.new }
+        ensures plan { self.new.plan.now ≡ self.old.plan.now }
+        ensures numbers { self.new.numbers ≡ self.old.numbers }
+        ensures events { self.new.events ≡ self.old.events }
+        ensures state { state_of self.new ≡ state_of self.old }
+        ensures calls { OnOk result (HasRoom self.new.calls) }
+        ensures tickets { OnOk result (deque_len self.new.tickets + (length (calls_in self.new.calls) + 1) ≤ deque_capacity self.new.tickets) }
+    {
+        self.calls.reserve_one()?;
+        reserve_tickets(&mut self.tickets, self.calls.len())
     }
 }

@@ -3,16 +3,18 @@ ghost use Rattle.std.specs.Prelude.{◌≡◌, ◌<◌, ◌-◌, ◌^◌, IfOk, 
 ghost use Rattle.tx_state.specs.declared.event.Event.TheVariants.{Route};
 ghost use Rattle.tx_state.specs.Refusals.{refusal};
 ghost use Rattle.tx_state.specs.Step.{step, counted};
+ghost use Rattle.tx_state.specs.Ending.{answered};
 ghost use Rattle.tx_calls.specs.Calls.{Kept, kept_at};
-ghost use Rattle.tx_engine.specs.declared.decision.Decision.TheVariants.{Connect, Seize};
-ghost use Rattle.tx_engine.specs.inner.Decided.{decided, carry_out, IsDecided};
+ghost use Rattle.tx_engine.specs.declared.decision.Decision.TheVariants.{Reach, Seize};
+ghost use Rattle.tx_engine.specs.inner.Decided.{decided, carry_out, service_of, IsDecided};
 ghost use Rattle.tx_engine.specs.inner.Sound.{IsSound, state_of};
 
 use crate::decision::{Decision, decide};
 use crate::parts::Parts;
 use std::alloc::Allocator;
+use tx_lines::{Side, Status};
 use tx_plan::{Circuit, ExchangeId, Line};
-use tx_state::{Cause, Phase, Reply};
+use tx_state::{Cause, Phase, Reply, Service};
 use tx_text::NoMemory;
 
 impl<'p, A: Allocator + Copy> Parts<'p, A> {
@@ -31,13 +33,9 @@ impl<'p, A: Allocator + Copy> Parts<'p, A> {
             Err(refusal) => return Ok(Reply::Refused(refusal)),
         };
         match self.decision(key) {
-            Decision::Connect(line) => self.connect(key, &line),
+            Decision::Reach(line) => self.reach(key, &line),
             Decision::Seize(circuit, here) => self.seize(key, &circuit, here),
-            Decision::Answer(service) => {
-                self.end_call(key, Cause::Service(service));
-                self.events += 1;
-                Ok(Reply::Answered(service))
-            }
+            Decision::Answer(service) => Ok(self.answer(key, service)),
         }
     }
 
@@ -56,21 +54,39 @@ impl<'p, A: Allocator + Copy> Parts<'p, A> {
         )
     }
 
-    /// The call under the key is connected to the line.
-    fn connect(&mut self, key: u32, line: &Line) -> Result<Reply, NoMemory>
+    /// The call under the key is answered with a service code, and ends.
+    fn answer(&mut self, key: u32, service: Service) -> Reply
         requires sound { IsSound self.old }
-        requires decided { (k : Kept) × IsDecided self.old key k (Connect line.now) }
+        requires there { is_some (kept_at self.old.calls key) ≡ true }
         requires events { self.old.events < 2 ^ 64 - 1 }
         ensures sound { IsSound self.new }
         ensures plan { self.new.plan.now ≡ self.old.plan.now }
-        ensures ok { IfOk result (λ reply. (k : Kept) → kept_at self.old.calls key ≡ Some k → counted (carry_out self.old.plan.now (state_of self.old) k.call (Connect line.now)) ≡ (reply, state_of self.new)) }
+        ensures step { (k : Kept) → kept_at self.old.calls key ≡ Some k → counted (answered self.old.plan.now k.call.number service (state_of self.old)) ≡ (result, state_of self.new) }
+    {
+        self.end_call(key, Cause::Service(service));
+        self.events += 1;
+        Reply::Answered(service)
+    }
+
+    /// The call under the key has come to the line. It is connected, if the line is free.
+    fn reach(&mut self, key: u32, line: &Line) -> Result<Reply, NoMemory>
+        requires sound { IsSound self.old }
+        requires decided { (k : Kept) × IsDecided self.old key k (Reach line.now) }
+        requires events { self.old.events < 2 ^ 64 - 1 }
+        ensures sound { IsSound self.new }
+        ensures plan { self.new.plan.now ≡ self.old.plan.now }
+        ensures ok { IfOk result (λ reply. (k : Kept) → kept_at self.old.calls key ≡ Some k → counted (carry_out self.old.plan.now (state_of self.old) k.call (Reach line.now)) ≡ (reply, state_of self.new)) }
         ensures err { OnErr result (state_of self.new ≡ state_of self.old) }
     {
-        self.lines.reserve_one()?;
-        self.lines.engage(line);
-        self.calls.set_phase(key, Phase::Connected(*line));
-        self.events += 1;
-        Ok(Reply::Connected(*line))
+        let status = self.lines.join(line, Side::Called)?;
+        match service_of(status) {
+            Some(service) => Ok(self.answer(key, service)),
+            None => {
+                self.calls.set_phase(key, Phase::Connected(*line));
+                self.events += 1;
+                Ok(Reply::Connected(*line))
+            }
+        }
     }
 
     /// The call under the key seizes the circuit from the exchange where it stands.
@@ -90,5 +106,21 @@ impl<'p, A: Allocator + Copy> Parts<'p, A> {
         self.calls.set_phase(key, Phase::Calling(*circuit));
         self.events += 1;
         Ok(Reply::Seized(*circuit))
+    }
+}
+
+/// The service code that a line of the plan answers where it is not free.
+#[inline(always)]
+fn service_of(status: Status) -> Option<Service>
+    ensures { result ≡ service_of status.faulty status.away status.engaged }
+{
+    if status.faulty {
+        Some(Service::Der)
+    } else if status.away {
+        Some(Service::Abs)
+    } else if status.engaged {
+        Some(Service::Occ)
+    } else {
+        None
     }
 }

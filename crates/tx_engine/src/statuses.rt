@@ -6,9 +6,8 @@ ghost use Rattle.tx_state.specs.declared.event.Event.TheVariants.{LineFault, Lin
 
 use crate::engine::Engine;
 use std::alloc::Allocator;
-use tx_network::Facts;
 use tx_plan::{Circuit, GroupId, Line};
-use tx_state::{Refusal, Reply};
+use tx_state::{Facts, Refusal, Reply};
 use tx_text::NoMemory;
 
 impl<'p, A: Allocator + Copy> Engine<'p, A> {

@@ -1,11 +1,19 @@
 // The queue of tickets.
-ghost use Rattle.std.specs.Prelude.{◌≡◌, ◌≤◌, ◌+◌, OnOk, drop, slice_get};
+ghost use Rattle.std.specs.Prelude.{◌≡◌, ◌≤◌, ◌+◌, true, OnOk, drop, slice_get};
 ghost use Rattle.std.specs.VecDeque.{deque_len, deque_capacity};
 
 use std::alloc::Allocator;
 use std::collections::VecDeque;
 use tx_state::Ticket;
 use tx_text::NoMemory;
+
+/// Whether there is room for the tickets of so many open calls and of one more.
+#[inline(always)]
+pub(crate) fn has_ticket_room<A: Allocator>(tickets: &VecDeque<Ticket<A>, A>, calls: usize) -> bool
+    ensures { result ≡ true → deque_len tickets.now + (calls + 1) ≤ deque_capacity tickets.now }
+{
+    tickets.capacity() - tickets.len() > calls
+}
 
 /// Makes room for the tickets of so many open calls and of one more. The room at least doubles, so that few calls take any.
 pub(crate) fn reserve_tickets<A: Allocator>(
@@ -17,7 +25,7 @@ pub(crate) fn reserve_tickets<A: Allocator>(
     ensures room { deque_len tickets.new + calls ≤ deque_capacity tickets.new }
     ensures ok { OnOk result (deque_len tickets.new + (calls + 1) ≤ deque_capacity tickets.new) }
 {
-    if tickets.capacity() - tickets.len() <= calls {
+    if !has_ticket_room(tickets, calls) {
         tickets.reserve((calls + 1).saturating_add(calls))?;
     }
     Ok(())

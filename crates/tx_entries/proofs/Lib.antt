@@ -1,8 +1,9 @@
 pub mod Lists
 pub mod Named
 pub mod Tables
-pub mod Lookups
 pub mod PlaceTable
+pub mod NameTable
 pub mod NameWords
-pub mod GroupMarks
+pub mod GroupsApart
 pub mod RangeBlocks
+pub mod ZipRows

@@ -1,3 +1,4 @@
 pub mod Distinct
+pub mod NameTable
 pub mod Places
 pub mod Tables

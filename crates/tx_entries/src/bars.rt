@@ -3,16 +3,17 @@ ghost use Rattle.std.specs.Prelude.{◌≡◌, ◌++◌, ◌∷◌, ◌&&◌, �
 ghost use Rattle.std.specs.List.{list_any};
 ghost use Rattle.std.specs.Option.{option_copied};
 
-use crate::keys::Keys;
 use crate::pair::Pair;
+use indexmap::IndexSet;
 use std::alloc::{Allocator, Global};
+use std::hash::{BuildHasherDefault, FoldHasher};
 use std::marker::Model;
 use tx_text::NoMemory;
 
 /// Pairs of an exchange and a code: calls that start there for that code are not admitted.
 #[derive(Drop)]
 pub struct Bars<A: Allocator = Global> {
-    pairs: Keys<Pair, A>,
+    pairs: IndexSet<Pair, BuildHasherDefault<FoldHasher>, A>,
 }
 
 impl<A: Allocator> Model for Bars<A> {
@@ -21,7 +22,7 @@ impl<A: Allocator> Model for Bars<A> {
 
     ghost Value = { List Pair };
 
-    ghost view = { λ t. t.pairs };
+    ghost view = { λ t. t.pairs.keys };
 }
 
 impl<A: Allocator + Copy> Bars<A> {
@@ -30,7 +31,7 @@ impl<A: Allocator + Copy> Bars<A> {
         ensures { result ≡ [] }
     {
         Bars {
-            pairs: Keys::new(alloc),
+            pairs: IndexSet::new(alloc),
         }
     }
 }
@@ -49,7 +50,7 @@ impl<A: Allocator> Bars<A> {
     pub fn has(&self, pair: &Pair) -> bool
         ensures { result ≡ list_any (λ b. (b.exchange == pair.now.exchange) && (b.code == pair.now.code)) self.now }
     {
-        self.pairs.find(pair).is_some()
+        self.pairs.get_index_of(pair).is_some()
     }
 
     /// The pair at a place.
@@ -57,7 +58,7 @@ impl<A: Allocator> Bars<A> {
     pub fn at(&self, place: usize) -> Option<&Pair>
         ensures { option_copied result ≡ slice_get self.now place }
     {
-        self.pairs.at(place)
+        self.pairs.get_index(place)
     }
 
     /// Appends a bar.
@@ -67,6 +68,9 @@ impl<A: Allocator> Bars<A> {
         ensures ok { OnOk result (self.new ≡ self.old ++ pair ∷ []) }
         ensures err { OnErr result (self.new ≡ self.old) }
     {
-        self.pairs.add(pair)
+        match self.pairs.insert(pair) {
+            Ok(_) => Ok(()),
+            Err(_) => Err(NoMemory),
+        }
     }
 }

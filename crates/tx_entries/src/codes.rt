@@ -5,15 +5,16 @@ ghost use Rattle.std.specs.Option.{option_map_or};
 ghost use Rattle.std.specs.Str.{bytes_eq};
 
 use crate::ids::ExchangeId;
+use crate::name_key::NameKey;
 use crate::rows::Rows;
 use std::alloc::{Allocator, Global};
 use std::marker::Model;
-use tx_text::{NoMemory, Short};
+use tx_text::NoMemory;
 
 /// The figures of codes, and their homes.
 #[derive(Drop)]
 pub struct Codes<A: Allocator = Global> {
-    rows: Rows<Short<3>, ExchangeId, A>,
+    rows: Rows<ExchangeId, A>,
 }
 
 impl<A: Allocator> Model for Codes<A> {
@@ -32,7 +33,7 @@ impl<A: Allocator + Copy> Codes<A> {
         ensures { result ≡ [] }
     {
         Codes {
-            rows: Rows::new(alloc),
+            rows: Rows::new(alloc, 4095),
         }
     }
 }
@@ -54,7 +55,7 @@ impl<A: Allocator> Codes<A> {
         ensures found { is_some result ≡ list_any (λ c. bytes_eq figures.now c.figures) self.now }
         ensures within { IfSome result (λ i. i < length self.now) }
     {
-        self.rows.find(&Short::new(figures))
+        self.rows.find(&NameKey::new(figures))
     }
 
     /// The figures of the code at a place.
@@ -62,7 +63,7 @@ impl<A: Allocator> Codes<A> {
     pub fn figures(&self, place: usize) -> &[u8]
         ensures { result.now ≡ option_map_or (λ c. c.figures) (slice_get self.now place) [] }
     {
-        match self.rows.key_at(place) {
+        match self.rows.name_at(place) {
             Some(figures) => figures.bytes(),
             None => &[],
         }
@@ -81,7 +82,7 @@ impl<A: Allocator> Codes<A> {
 
     /// Appends a code.
     #[inline(always)]
-    pub fn add(&mut self, figures: Short<3>, home: ExchangeId) -> Result<(), NoMemory>
+    pub fn add(&mut self, figures: NameKey, home: ExchangeId) -> Result<(), NoMemory>
         requires { list_any (λ c. bytes_eq figures c.figures) self.old ≡ false }
         ensures ok { OnOk result (self.new ≡ self.old ++ record { figures = figures; home = home } ∷ []) }
         ensures err { OnErr result (self.new ≡ self.old) }

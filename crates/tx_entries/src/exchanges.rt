@@ -4,8 +4,8 @@ ghost use Rattle.std.specs.List.{list_any};
 ghost use Rattle.std.specs.Option.{option_map_or};
 ghost use Rattle.std.specs.Str.{bytes_eq};
 
-use crate::keys::Keys;
 use crate::name_key::NameKey;
+use crate::names::Names;
 use std::alloc::{Allocator, Global};
 use std::marker::Model;
 use tx_text::NoMemory;
@@ -13,7 +13,7 @@ use tx_text::NoMemory;
 /// The names of exchanges.
 #[derive(Drop)]
 pub struct Exchanges<A: Allocator = Global> {
-    names: Keys<NameKey, A>,
+    names: Names<A>,
 }
 
 impl<A: Allocator> Model for Exchanges<A> {
@@ -30,7 +30,7 @@ impl<A: Allocator + Copy> Exchanges<A> {
         ensures { result ≡ [] }
     {
         Exchanges {
-            names: Keys::new(alloc),
+            names: Names::new(alloc, 1023),
         }
     }
 }

@@ -1,5 +1,5 @@
 // The groups of a route.
-ghost use Rattle.std.specs.Prelude.{◌≡◌, ◌==◌, ◌++◌, ◌∷◌, [], if◌then◌else◌, nat_lt, ◌≤◌, length};
+ghost use Rattle.std.specs.Prelude.{◌≡◌, true, false, ◌==◌, ◌++◌, ◌∷◌, [], if◌then◌else◌, nat_lt, ◌≤◌, length};
 ghost use Rattle.std.specs.List.{list_any};
 ghost use Rattle.tx_entries.specs.inner.Distinct.{differ};
 
@@ -30,7 +30,7 @@ impl GroupList {
         ensures { result ≡ [] }
     {
         GroupList {
-            groups: [GroupId::at(0); 16],
+            groups: no_groups(),
             len: 0,
         }
     }
@@ -49,26 +49,12 @@ impl GroupList {
         true
     }
 
-    /// Whether no group stands there twice. From the last group on, each leaves a mark by its place, modulo a prime. Where a group finds no mark, none behind it
-    /// is the same; where it finds one, they are compared.
+    /// Whether no group stands there twice. All sixteen places are compared together, also those behind the list, which hold groups that no plan has.
     #[inline(always)]
     pub fn none_twice(&self) -> bool
         ensures { result ≡ differ self.now }
     {
-        let groups = self.groups();
-        let mut marks = [false; 251];
-        let mut rest = groups.len();
-        while rest > 0 {
-            let others = &groups[rest..];
-            rest -= 1;
-            let group = groups[rest];
-            let mark = group.index() % 251;
-            if marks[mark] && is_among(group, others) {
-                return false;
-            }
-            marks[mark] = true;
-        }
-        true
+        !any_twice(&self.groups) || none_again(self.groups())
     }
 
     /// The groups.
@@ -79,6 +65,53 @@ impl GroupList {
     {
         &self.groups[..usize::from(self.len)]
     }
+}
+
+/// Sixteen groups that no plan has, all of them different.
+#[inline(always)]
+fn no_groups() -> [GroupId; 16] {
+    let mut groups = [GroupId::at(0); 16];
+    for place in 0..16 {
+        groups[place] = GroupId::at(65520 + place as u16);
+    }
+    groups
+}
+
+/// Whether two of sixteen groups are one. They stand in a ring, where each is compared with the eight behind it, so that a compiler compares many at once.
+#[inline(always)]
+fn any_twice(groups: &[GroupId; 16]) -> bool
+    ensures { result ≡ false → differ groups.now ≡ true }
+{
+    let mut ring = [GroupId::at(0); 24];
+    for place in 0..16 {
+        ring[place] = groups[place];
+    }
+    for again in 0..8 {
+        ring[16 + again] = groups[again];
+    }
+    let all = &ring[..];
+    let mut any = false;
+    for step in 1..9 {
+        for start in 0..16 {
+            any = any | (all[start] == all[start + step]);
+        }
+    }
+    any
+}
+
+/// Whether no group stands there twice, where each is compared with those behind it.
+fn none_again(groups: &[GroupId]) -> bool
+    ensures { result ≡ differ groups.now }
+{
+    let mut rest = groups.len();
+    while rest > 0 {
+        let others = &groups[rest..];
+        rest -= 1;
+        if is_among(groups[rest], others) {
+            return false;
+        }
+    }
+    true
 }
 
 /// Whether the group is one of the groups.

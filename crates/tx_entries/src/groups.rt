@@ -15,7 +15,7 @@ use tx_text::NoMemory;
 /// The names of groups, and what is declared of each.
 #[derive(Drop)]
 pub struct Groups<A: Allocator = Global> {
-    rows: Rows<NameKey, GroupRow, A>,
+    rows: Rows<GroupRow, A>,
 }
 
 impl<A: Allocator> Model for Groups<A> {
@@ -34,7 +34,7 @@ impl<A: Allocator + Copy> Groups<A> {
         ensures { result ≡ [] }
     {
         Groups {
-            rows: Rows::new(alloc),
+            rows: Rows::new(alloc, 16383),
         }
     }
 }
@@ -64,7 +64,7 @@ impl<A: Allocator> Groups<A> {
     pub fn name(&self, place: usize) -> &[u8]
         ensures { result.now ≡ option_map_or (λ g. g.name) (slice_get self.now place) [] }
     {
-        match self.rows.key_at(place) {
+        match self.rows.name_at(place) {
             Some(name) => name.bytes(),
             None => &[],
         }

@@ -2,6 +2,7 @@
 ghost use Rattle.std.specs.Prelude.{◌≡◌, ◌≤◌, length};
 ghost use Rattle.std.specs.Int.{w32, w64, from_le_bytes, to_le_bytes};
 ghost use Rattle.tx_text.specs.Padded.{padded_to};
+ghost use Rattle.tx_entries.specs.inner.NameTable.{home_of};
 
 use std::hash::{Hash, Hasher};
 use std::marker::Model;
@@ -115,6 +116,15 @@ impl NameKey {
         ensures bytes { to_le_bytes w64 result ≡ padded_to 8 self.now }
     {
         u64::from_le_bytes(self.bytes)
+    }
+
+    /// Where it is at home, from 0 to the last home: by the upper bits of its bytes as a number, times an odd one.
+    #[inline(always)]
+    pub(crate) fn home(&self, last: u16) -> usize
+        ensures { result ≡ home_of last self.now }
+    {
+        let bits = self.word().wrapping_mul(0x9E37_79B9_7F4A_7C15) >> 48;
+        (bits & u64::from(last)) as usize
     }
 
     /// The text.

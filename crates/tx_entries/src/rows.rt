@@ -1,66 +1,71 @@
-// Keys with a value each, in the order of their declarations.
+// Names with a value each, in the order of their declarations.
 ghost use Rattle.std.specs.Prelude.{◌≡◌, ◌++◌, ◌∷◌, ◌<◌, [], false, is_some, OnOk, OnErr, IfSome, length, slice_get, position};
 ghost use Rattle.std.specs.Option.{option_copied, option_map};
 ghost use Rattle.std.specs.List.{list_any};
 ghost use Rattle.std.specs.Map.{keys_of};
+ghost use Rattle.std.specs.Str.{bytes_eq};
 
-use indexmap::IndexMap;
+use crate::name_key::NameKey;
+use crate::names::Names;
 use std::alloc::{Allocator, Global};
-use std::hash::{BuildHasherDefault, FoldHasher, Hash};
 use std::marker::Model;
 use tx_text::NoMemory;
 
-/// Keys with a value each, seen as the list of the pairs.
+/// Names with a value each, seen as the list of the pairs. The values stand by themselves, side by side.
 #[derive(Drop)]
-pub(crate) struct Rows<K: Eq + Hash + Drop, V: Drop, A: Allocator = Global> {
-    rows: IndexMap<K, V, BuildHasherDefault<FoldHasher>, A>,
+pub(crate) struct Rows<V: Drop, A: Allocator = Global> {
+    names: Names<A>,
+    values: Vec<V, A>,
 }
 
-impl<K: Eq + Hash + Drop, V: Drop, A: Allocator> Model for Rows<K, V, A> {
-    ghost use Rattle.std.specs.Prelude.{List};
+impl<V: Drop, A: Allocator> Model for Rows<V, A> {
+    ghost use Rattle.std.specs.Prelude.{◌≡◌, ℕ, List, length};
+    ghost use Rattle.std.specs.List.{zip};
 
-    ghost Value = { List (K × V) };
+    ghost Value = { List (List ℕ × V) };
 
-    ghost view = { λ t. t.rows.entries };
+    ghost view = { λ t. zip t.names t.values.items };
+
+    ghost invariant = { λ t. length t.values.items ≡ length t.names };
 }
 
-impl<K: Eq + Hash + Drop, V: Drop, A: Allocator + Copy> Rows<K, V, A> {
-    /// None. Takes no memory.
-    pub fn new(alloc: A) -> Self
+impl<V: Drop, A: Allocator + Copy> Rows<V, A> {
+    /// None, in a table whose last home is told. Takes no memory.
+    pub fn new(alloc: A, last: u16) -> Self
         ensures { result ≡ [] }
     {
         Rows {
-            rows: IndexMap::new(alloc),
+            names: Names::new(alloc, last),
+            values: Vec::new(alloc),
         }
     }
 }
 
-impl<K: Eq + Hash + Drop, V: Drop, A: Allocator> Rows<K, V, A> {
-    /// How many keys.
+impl<V: Drop, A: Allocator> Rows<V, A> {
+    /// How many names.
     #[inline(always)]
     pub fn len(&self) -> usize
         ensures { result ≡ length self.now }
     {
-        self.rows.len()
+        self.names.len()
     }
 
-    /// The place of a key.
+    /// The place of a name.
     #[inline(always)]
-    pub fn find(&self, key: &K) -> Option<usize>
-        ensures place { result ≡ position (K.eq key.now) (keys_of self.now) }
-        ensures found { is_some result ≡ list_any (K.eq key.now) (keys_of self.now) }
+    pub fn find(&self, name: &NameKey) -> Option<usize>
+        ensures place { result ≡ position (bytes_eq name.now) (keys_of self.now) }
+        ensures found { is_some result ≡ list_any (bytes_eq name.now) (keys_of self.now) }
         ensures within { IfSome result (λ i. i < length self.now) }
     {
-        self.rows.get_index_of(key)
+        self.names.find(name)
     }
 
-    /// The key at a place.
+    /// The name at a place.
     #[inline(always)]
-    pub fn key_at(&self, place: usize) -> Option<&K>
+    pub fn name_at(&self, place: usize) -> Option<&NameKey>
         ensures { option_copied result ≡ option_map (λ e. e.0) (slice_get self.now place) }
     {
-        let (key, _) = self.rows.get_index(place)?;
-        Some(key)
+        self.names.at(place)
     }
 
     /// The value at a place.
@@ -68,20 +73,18 @@ impl<K: Eq + Hash + Drop, V: Drop, A: Allocator> Rows<K, V, A> {
     pub fn value_at(&self, place: usize) -> Option<&V>
         ensures { option_copied result ≡ option_map (λ e. e.1) (slice_get self.now place) }
     {
-        let (_, value) = self.rows.get_index(place)?;
-        Some(value)
+        self.values.get(place)
     }
 
-    /// Appends a key with its value.
-    #[inline(always)]
-    pub fn add(&mut self, key: K, value: V) -> Result<(), NoMemory>
-        requires { list_any (K.eq key) (keys_of self.old) ≡ false }
-        ensures ok { OnOk result (self.new ≡ self.old ++ (key, value) ∷ []) }
+    /// Appends a name with its value.
+    pub fn add(&mut self, name: NameKey, value: V) -> Result<(), NoMemory>
+        requires { list_any (bytes_eq name) (keys_of self.old) ≡ false }
+        ensures ok { OnOk result (self.new ≡ self.old ++ (name, value) ∷ []) }
         ensures err { OnErr result (self.new ≡ self.old) }
     {
-        match self.rows.insert(key, value) {
-            Ok(_) => Ok(()),
-            Err(_) => Err(NoMemory),
-        }
+        self.values.reserve(1)?;
+        self.names.add(name)?;
+        self.values.push_reserved(value);
+        Ok(())
     }
 }

@@ -18,8 +18,8 @@ use Rattle.tx_rank.proofs.Certifying.{none_true}
 use Rattle.tx_state.specs.declared.event.Event.{Event}
 use Rattle.tx_state.specs.Sound.{IsSound}
 use Rattle.tx_state.proofs.Sound.{sound}
-use Rattle.tx_counter.specs.Counter.{counter_of, has_counter}
-use Rattle.tx_counter.proofs.Showing.{counters_show, counter_there}
+use Rattle.tx_audit.specs.Counter.{counter_of, has_counter}
+use Rattle.tx_audit.proofs.Showing.{counters_show, counter_there}
 use Rattle.tx_jobs.specs.GradeJobs.{IsGradeOf}
 
 module _ (A : Type 0) (p : Plan) (ok : IsPlan p) where

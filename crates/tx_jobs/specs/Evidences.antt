@@ -4,8 +4,8 @@ use Rattle.std.specs.Option.{option_map, IfSome}
 use Rattle.std.specs.List.{list_any}
 use Rattle.tx_plan.specs.Plan.{Plan}
 use Rattle.tx_rank.specs.declared.finding.Finding.{Finding}
-use Rattle.tx_counter.specs.Counter.{has_counter, first_counter_of}
-use Rattle.tx_counter.specs.Breaks.{ShowsOne}
+use Rattle.tx_audit.specs.Counter.{has_counter, first_counter_of}
+use Rattle.tx_audit.specs.Breaks.{ShowsOne}
 use Rattle.tx_audit.specs.declared.audited.Audited.{Audited}
 use Rattle.tx_audit.specs.declared.audited.Audited.TheVariants.{Sound as FoundSound, Unsound as FoundUnsound}
 use Rattle.tx_jobs.specs.declared.evidence.CounterScript.{CounterScript}

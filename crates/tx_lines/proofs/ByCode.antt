@@ -1,16 +1,14 @@
 -- The ranges of one code stand together.
-use Rattle.std.proofs.Common.{◌≡◌, ℕ, refl, ◌++◌, ◌+◌, ◌-◌, ◌<◌, ◌≤◌, ◌==◌, Bool, true, false, List, [], ◌∷◌, length, get_or, take, drop, cond, nat_lt, ap, sym, ◌∙◌, subst, length-append, arith}
+use Rattle.std.proofs.Common.{◌≡◌, ℕ, refl, ◌++◌, ◌+◌, ◌<◌, ◌≤◌, ◌==◌, true, false, List, [], ◌∷◌, length, get_or, cond, nat_lt, ap, sym, ◌∙◌, subst, length-append, arith}
 use Rattle.std.proofs.lemmas.Bool.Decides.{nat_tests}
-use Rattle.std.proofs.lemmas.List.{get_or-drop, get_or-take, length-drop, length-take}
 use Rattle.std.proofs.lemmas.Grind.{common_steps}
-use Rattle.std.specs.List.{AllWithin}
 use Rattle.std.specs.List.Sorted.{IsPartitionedBy, IsPartitionPoint}
 use Rattle.std.specs.Ordering.{ordering_then, is_le, nat_cmp}
 use Rattle.std.specs.declared.cmp.Ordering.{Ordering}
 use Rattle.std.specs.declared.cmp.Ordering.TheVariants.{Less, Equal, Greater}
 use Rattle.tx_entries.specs.declared.range.LineRange.{LineRange}
-use Rattle.tx_lines.specs.inner.Ordered.{place_cmp, start_of, IsInOrder, IsFirst, AreFirsts}
-use Rattle.tx_lines.proofs.Order.{partitioned, rises, first_part}
+use Rattle.tx_lines.specs.inner.Ordered.{IsInOrder, IsFirst, AreFirsts}
+use Rattle.tx_lines.proofs.Order.{rises, first_part}
 
 -- an order by the first part alone
 pub below_first : (a b : ℕ) (o : Ordering) → a < b → is_le (ordering_then (nat_cmp a b) o) ≡ true

@@ -1,4 +1,11 @@
-pub mod Entries
+pub mod Ways
+pub mod Cells
+pub mod Finding
+pub mod Closing
+pub mod Writing
+pub mod Places
+pub mod Keeping
+pub mod Growing
 pub mod Sets
 pub mod Order
 pub mod Arranged

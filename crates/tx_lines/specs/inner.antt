@@ -1,3 +1,4 @@
 pub mod Ordered
+pub mod Table
 pub mod Statuses
 pub mod Marks

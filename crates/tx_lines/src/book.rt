@@ -1,13 +1,14 @@
 // The book of subscribers' lines.
-ghost use Rattle.std.specs.Prelude.{◌≡◌, ℕ, ◌+◌, ◌<◌, ◌≤◌, true, false, if◌then◌else◌, List, Some, None, OnOk, IfOk};
+ghost use Rattle.std.specs.Prelude.{◌≡◌, ℕ, ◌+◌, ◌<◌, ◌≤◌, true, false, if◌then◌else◌, List, Some, None, OnOk, OnErr, IfOk, IsOk};
 ghost use Rattle.std.specs.FinSet as set;
 ghost use Rattle.tx_plan.specs.Lines.{is_line_at};
 ghost use Rattle.tx_plan.specs.Orders.{line_cmp};
+ghost use Rattle.tx_lines.specs.Status.{may_not_join};
 ghost use Rattle.tx_lines.specs.Book.{Book, is_line_of, has_status, place_taken, switched, answer_of};
 
 use crate::answer::LineAnswer;
 use crate::ranges::Ranges;
-use crate::status::{Mark, Status};
+use crate::status::{Mark, Side, Status};
 use crate::statuses::Statuses;
 use std::alloc::{Allocator, Global};
 use std::marker::Model;
@@ -16,7 +17,7 @@ use tx_text::NoMemory;
 
 /// The lines of a plan, and which of them are faulty (out of order), away (their subscriber is absent) or engaged.
 ///
-/// A line's first status takes a place of the book's room, which `reserve_one` makes; a further one takes none. `build` and `reserve_one` alone take memory.
+/// A line's first status takes a place of the book's room, which `reserve_one` makes, and `join` too; a further one takes none. `build` and these two alone take memory.
 #[derive(Drop)]
 pub struct LineBook<A: Allocator = Global> {
     ranges: Ranges<A>,
@@ -44,8 +45,35 @@ impl<A: Allocator + Copy> LineBook<A> {
         let ranges = Ranges::build(alloc, plan)?;
         Ok(LineBook {
             ranges,
-            statuses: Statuses::new(alloc),
+            statuses: Statuses::new(alloc)?,
         })
+    }
+
+    /// Makes room for one more line with a status. Want of memory changes no status.
+    #[inline(always)]
+    pub fn reserve_one(&mut self) -> Result<(), NoMemory>
+        ensures ok { OnOk result (0 < self.new.room) }
+        ensures room { self.old.room ≤ self.new.room }
+        ensures rest { self.new ≡ record self.old { room = self.new.room } }
+    {
+        self.statuses.reserve_one()
+    }
+
+    /// The line joins a call, if it may: it is engaged from now on. It may call unless it is engaged or faulty, and be called unless it has any status.
+    /// Gives its status up to now, for which it is looked up once. A line without a status takes a place of the room, which is made where there is none.
+    /// Want of memory changes no status.
+    #[inline(always)]
+    pub fn join(&mut self, line: &Line, side: Side) -> Result<Status, NoMemory>
+        ensures faulty { IfOk result (λ s. s.faulty ≡ set.contains self.old.faulty line.now) }
+        ensures away { IfOk result (λ s. s.away ≡ set.contains self.old.away line.now) }
+        ensures engaged { IfOk result (λ s. s.engaged ≡ set.contains self.old.engaged line.now) }
+        ensures lines { IfOk result (λ s. self.new ≡ record self.old { engaged = if may_not_join side s then self.old.engaged else set.insert self.old.engaged line.now; room = self.new.room }) }
+        ensures room { self.old.room ≤ self.new.room + place_taken self.old line.now }
+        ensures err { OnErr result (self.new ≡ record self.old { room = self.new.room }) }
+        ensures unmarked { OnErr result (has_status self.old line.now ≡ false) }
+        ensures succeeds { 0 < self.old.room → IsOk result }
+    {
+        self.statuses.join(line, side)
     }
 }
 
@@ -79,16 +107,6 @@ impl<A: Allocator> LineBook<A> {
         ensures engaged { result.engaged ≡ set.contains self.now.engaged line.now }
     {
         self.statuses.of(line)
-    }
-
-    /// Makes room for one more line with a status. Want of memory changes no status.
-    #[inline(always)]
-    pub fn reserve_one(&mut self) -> Result<(), NoMemory>
-        ensures ok { OnOk result (0 < self.new.room) }
-        ensures room { self.old.room ≤ self.new.room }
-        ensures rest { self.new ≡ record self.old { room = self.new.room } }
-    {
-        self.statuses.reserve_one()
     }
 
     /// The line becomes faulty, or is no longer so.

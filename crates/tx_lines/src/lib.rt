@@ -3,6 +3,7 @@
 
 mod answer;
 mod book;
+mod line_table;
 mod marks;
 mod ranges;
 mod status;
@@ -10,4 +11,4 @@ mod statuses;
 
 pub use answer::LineAnswer;
 pub use book::LineBook;
-pub use status::Status;
+pub use status::{Side, Status};

@@ -1,6 +1,6 @@
 // What is known of a line.
 ghost use Rattle.std.specs.Prelude.{◌≡◌};
-ghost use Rattle.tx_lines.specs.Status.{has, with_mark, is_unmarked};
+ghost use Rattle.tx_lines.specs.Status.{has, with_mark, is_unmarked, may_not_join, joined};
 
 /// A mark that a line may have.
 #[derive(Clone, Copy)]
@@ -16,6 +16,13 @@ pub struct Status {
     pub faulty: bool,
     pub away: bool,
     pub engaged: bool,
+}
+
+/// The side on which a line joins a call.
+#[derive(Clone, Copy)]
+pub enum Side {
+    Caller,
+    Called,
 }
 
 /// No mark.
@@ -61,4 +68,27 @@ pub fn is_unmarked(status: Status) -> bool
     ensures { result ≡ is_unmarked status }
 {
     !status.faulty && !status.away && !status.engaged
+}
+
+/// Whether a line that has the status may not join a call on the side.
+#[inline(always)]
+pub fn may_not_join(side: Side, status: Status) -> bool
+    ensures { result ≡ may_not_join side status }
+{
+    match side {
+        Side::Caller => status.engaged || status.faulty,
+        Side::Called => status.faulty || status.away || status.engaged,
+    }
+}
+
+/// The status once the line has joined a call on the side, if it may.
+#[inline(always)]
+pub fn joined(side: Side, status: Status) -> Status
+    ensures { result ≡ joined side status }
+{
+    if may_not_join(side, status) {
+        status
+    } else {
+        with_mark(status, Mark::Engaged, true)
+    }
 }

@@ -1,19 +1,18 @@
-// Lines with a status, in an index.
-ghost use Rattle.std.specs.Prelude.{◌≡◌, ℕ, ◌+◌, ◌<◌, ◌≤◌, if◌then◌else◌, Some, None, true, false, is_some, slice_get, unwrap_or, OnOk};
+// Lines with a status.
+ghost use Rattle.std.specs.Prelude.{◌≡◌, ℕ, ◌+◌, ◌<◌, ◌≤◌, if◌then◌else◌, Some, None, true, false, is_some, IsSome, unwrap_or, IfOk, IsOk, OnOk, OnErr};
 ghost use Rattle.std.specs.FinSet as set;
-ghost use Rattle.indexmap.specs.IndexMap.{Updates, get, spare, index_map_len};
 ghost use Rattle.tx_plan.specs.Orders.{same_line};
-ghost use Rattle.tx_lines.specs.Status.{with_mark, unmarked};
+ghost use Rattle.tx_lines.specs.Status.{with_mark, unmarked, may_not_join, joined};
+ghost use Rattle.tx_lines.specs.inner.Table.{at, kept_of, IsPlace};
 ghost use Rattle.tx_lines.specs.inner.Statuses.{Sets, marked, with_marked, is_marked, kept};
 ghost use Rattle.tx_entries.specs.declared.line.Line.{Line};
 ghost use Rattle.tx_lines.specs.declared.status.Status.{Status};
 ghost use Rattle.tx_lines.specs.declared.status.Mark.{Mark};
 
+use crate::line_table::LineTable;
 use crate::marks::Marks;
-use crate::status::{Mark, Status, UNMARKED, is_unmarked, with_mark};
-use indexmap::IndexMap;
+use crate::status::{Mark, Side, Status, is_unmarked, joined, with_mark};
 use std::alloc::{Allocator, Global};
-use std::hash::{BuildHasherDefault, FoldHasher};
 use std::marker::Model;
 use tx_plan::Line;
 use tx_text::NoMemory;
@@ -21,7 +20,7 @@ use tx_text::NoMemory;
 /// The lines that have a mark, seen as a set for each mark. A line without a mark is not kept.
 #[derive(Drop)]
 pub struct Statuses<A: Allocator = Global> {
-    entries: IndexMap<Line, Marks, BuildHasherDefault<FoldHasher>, A>,
+    table: LineTable<A>,
 }
 
 impl<A: Allocator> Model for Statuses<A> {
@@ -31,25 +30,22 @@ impl<A: Allocator> Model for Statuses<A> {
 
     ghost coded = { sets_code };
 
-    ghost view = { λ s. sets_of s.entries };
+    ghost view = { λ s. sets_of s.table };
 
-    ghost invariant = { λ s. AllMarked s.entries };
+    ghost invariant = { λ s. AllMarked s.table.cells };
 }
 
 impl<A: Allocator + Copy> Statuses<A> {
     /// No line has a mark.
-    pub fn new(alloc: A) -> Self
-        ensures faulty { result.faulty ≡ set.empty }
-        ensures away { result.away ≡ set.empty }
-        ensures engaged { result.engaged ≡ set.empty }
+    pub fn new(alloc: A) -> Result<Self, NoMemory>
+        ensures faulty { IfOk result (λ s. s.faulty ≡ set.empty) }
+        ensures away { IfOk result (λ s. s.away ≡ set.empty) }
+        ensures engaged { IfOk result (λ s. s.engaged ≡ set.empty) }
     {
-        Statuses {
-            entries: IndexMap::new(alloc),
-        }
+        let table = LineTable::new(alloc)?;
+        Ok(Statuses { table })
     }
-}
 
-impl<A: Allocator> Statuses<A> {
     /// Makes room for one more line with a mark.
     #[inline(always)]
     pub fn reserve_one(&mut self) -> Result<(), NoMemory>
@@ -57,10 +53,30 @@ impl<A: Allocator> Statuses<A> {
         ensures room { self.old.room ≤ self.new.room }
         ensures rest { self.new ≡ record self.old { room = self.new.room } }
     {
-        self.entries.reserve(1)?;
+        if self.table.room() == 0 {
+            self.table.grow()?;
+        }
         Ok(())
     }
 
+    /// A line joins a call, if it may: it is engaged from now on. Gives its status up to now. A line without a mark takes room, which is made where there is none.
+    #[inline(always)]
+    pub fn join(&mut self, line: &Line, side: Side) -> Result<Status, NoMemory>
+        ensures faulty { IfOk result (λ s. s.faulty ≡ set.contains self.old.faulty line.now) }
+        ensures away { IfOk result (λ s. s.away ≡ set.contains self.old.away line.now) }
+        ensures engaged { IfOk result (λ s. s.engaged ≡ set.contains self.old.engaged line.now) }
+        ensures lines { IfOk result (λ s. self.new ≡ record self.old { engaged = if may_not_join side s then self.old.engaged else set.insert self.old.engaged line.now; room = self.new.room }) }
+        ensures room { self.old.room ≤ self.new.room + (if is_marked self.old line.now then 0 else 1) }
+        ensures err { OnErr result (self.new ≡ record self.old { room = self.new.room }) }
+        ensures unmarked { OnErr result (is_marked self.old line.now ≡ false) }
+        ensures succeeds { 0 < self.old.room → IsOk result }
+    {
+        let status = set_joined(&mut self.table, line, side)?;
+        Ok(status)
+    }
+}
+
+impl<A: Allocator> Statuses<A> {
     /// The marks of a line.
     #[inline(always)]
     pub fn of(&self, line: &Line) -> Status
@@ -68,10 +84,7 @@ impl<A: Allocator> Statuses<A> {
         ensures away { result.away ≡ set.contains self.now.away line.now }
         ensures engaged { result.engaged ≡ set.contains self.now.engaged line.now }
     {
-        match self.entries.get(line) {
-            Some(marks) => marks.status(),
-            None => UNMARKED,
-        }
+        self.table.status(self.table.find(line))
     }
 
     /// Sets a mark of a line. Its first mark takes room.
@@ -81,7 +94,7 @@ impl<A: Allocator> Statuses<A> {
         ensures lines { self.new ≡ with_marked mark (set.insert (marked mark self.old) line.now) self.new.room self.old }
         ensures room { self.old.room ≤ self.new.room + (if is_marked self.old line.now then 0 else 1) }
     {
-        set_mark(&mut self.entries, line, mark);
+        set_mark(&mut self.table, line, mark);
     }
 
     /// Takes a mark of a line away, and with its last mark the line.
@@ -90,43 +103,77 @@ impl<A: Allocator> Statuses<A> {
         ensures lines { self.new ≡ with_marked mark (set.remove (marked mark self.old) line.now) self.new.room self.old }
         ensures room { self.old.room ≤ self.new.room }
     {
-        if let Some((place, _, marks)) = self.entries.get_full(line) {
-            let left = with_mark(marks.status(), mark, false);
-            rewrite(&mut self.entries, place, left);
+        let place = self.table.find(line);
+        let status = self.table.status(place);
+        if !is_unmarked(status) {
+            let left = with_mark(status, mark, false);
+            rewrite(&mut self.table, place, line, left);
         }
     }
 }
 
 /// Sets a mark of a line.
-#[tactic(auto, using(crate::proofs::Entries::write_room))]
 #[inline(always)]
-fn set_mark<A: Allocator>(
-    entries: &mut IndexMap<Line, Marks, BuildHasherDefault<FoldHasher>, A>,
-    line: &Line,
-    mark: Mark,
-)
-    requires { get same_line entries.old line.now ≡ None → 0 < spare entries.old }
-    ensures updates { Updates same_line entries.old entries.new line.now (Some (with_mark mark true (unwrap_or (get same_line entries.old line.now) unmarked))) }
-    ensures room { spare entries.old ≤ spare entries.new + (if is_some (get same_line entries.old line.now) then 0 else 1) }
+fn set_mark<A: Allocator>(table: &mut LineTable<A>, line: &Line, mark: Mark)
+    requires { kept_of table.old.cells line.now ≡ None → 0 < table.old.room }
+    ensures kept { (l : Line) → kept_of table.new.cells l ≡ (if same_line line.now l then Some (with_mark mark true (unwrap_or (kept_of table.old.cells line.now) unmarked)) else kept_of table.old.cells l) }
+    ensures room { table.old.room ≤ table.new.room + (if is_some (kept_of table.old.cells line.now) then 0 else 1) }
 {
-    let marks = entries.entry(*line).unwrap().or_insert(Marks::of(UNMARKED));
-    *marks = Marks::of(with_mark(marks.status(), mark, true));
+    let place = table.find(line);
+    let status = table.status(place);
+    table.put(place, line, Marks::of(with_mark(status, mark, true)));
 }
 
-/// Writes the status of the line at a place, or takes the line out where it has no mark.
+/// The cell of a line. For a line without a mark there is room then.
 #[inline(always)]
-fn rewrite<A: Allocator>(
-    entries: &mut IndexMap<Line, Marks, BuildHasherDefault<FoldHasher>, A>,
-    place: usize,
-    status: Status,
-)
-    requires { place < index_map_len entries.old }
-    ensures updates { (l : Line) (s : Status) → slice_get entries.old.entries place ≡ Some (l, s) → Updates same_line entries.old entries.new l (kept status) }
-    ensures room { spare entries.old ≤ spare entries.new }
+fn room_for<A: Allocator + Copy>(table: &mut LineTable<A>, line: &Line) -> Result<usize, NoMemory>
+    ensures place { IfOk result (λ p. IsPlace table.new.cells line.now p) }
+    ensures fits { IfOk result (λ p. at table.new.cells p ≡ None → 0 < table.new.room) }
+    ensures kept { (l : Line) → kept_of table.new.cells l ≡ kept_of table.old.cells l }
+    ensures room { table.old.room ≤ table.new.room }
+    ensures err { OnErr result (table.new ≡ table.old) }
+    ensures unmarked { OnErr result (unwrap_or (kept_of table.old.cells line.now) unmarked ≡ unmarked) }
+    ensures succeeds { 0 < table.old.room → IsOk result }
+{
+    let place = table.find(line);
+    if table.room() == 0 && is_unmarked(table.status(place)) {
+        table.grow()?;
+        return Ok(table.find(line));
+    }
+    Ok(place)
+}
+
+/// Sets the mark of a line that joins a call, if it may, and gives its status up to now.
+#[inline(always)]
+fn set_joined<A: Allocator + Copy>(
+    table: &mut LineTable<A>,
+    line: &Line,
+    side: Side,
+) -> Result<Status, NoMemory>
+    ensures status { IfOk result (λ s. s ≡ unwrap_or (kept_of table.old.cells line.now) unmarked) }
+    ensures kept { OnOk result ((l : Line) → kept_of table.new.cells l ≡ (if same_line line.now l then Some (joined side (unwrap_or (kept_of table.old.cells line.now) unmarked)) else kept_of table.old.cells l)) }
+    ensures room { table.old.room ≤ table.new.room + (if is_some (kept_of table.old.cells line.now) then 0 else 1) }
+    ensures err { OnErr result (table.new ≡ table.old) }
+    ensures unmarked { OnErr result (unwrap_or (kept_of table.old.cells line.now) unmarked ≡ unmarked) }
+    ensures succeeds { 0 < table.old.room → IsOk result }
+{
+    let place = room_for(table, line)?;
+    let status = table.status(place);
+    table.put(place, line, Marks::of(joined(side, status)));
+    Ok(status)
+}
+
+/// Writes the status of a line in its cell, or takes the line out where it has no mark.
+#[inline(always)]
+fn rewrite<A: Allocator>(table: &mut LineTable<A>, place: usize, line: &Line, status: Status)
+    requires place { IsPlace table.old.cells line.now place }
+    requires found { IsSome (kept_of table.old.cells line.now) }
+    ensures kept { (l : Line) → kept_of table.new.cells l ≡ (if same_line line.now l then kept status else kept_of table.old.cells l) }
+    ensures room { table.old.room ≤ table.new.room }
 {
     if is_unmarked(status) {
-        let _entry = entries.swap_remove_index(place);
+        table.take(place);
     } else {
-        *entries.get_index_mut(place).unwrap() = Marks::of(status);
+        table.put(place, line, Marks::of(status));
     }
 }

@@ -10,11 +10,11 @@ use Rattle.tx_state.specs.Routing.{set_call}
 use Rattle.tx_state.specs.Step.{keyed_call}
 use Rattle.tx_plan.specs.Among.{Among}
 use Rattle.tx_plan.proofs.Among.{among_cases, among_map, filter_among, map_among}
-use Rattle.tx_network.specs.Seen.{call_seen}
+use Rattle.tx_state.specs.Seen.{call_seen}
 use Rattle.tx_plain_parts.specs.inner.Seen.{HasRoom, IsReady}
 use Rattle.tx_plain_parts.specs.inner.GivenUp.{AreMarked}
 use Rattle.tx_machine.specs.inner.Whole.{AreHeld}
-use Rattle.tx_network.specs.declared.open_call.OpenCall.{OpenCall}
+use Rattle.tx_state.specs.declared.open_call.OpenCall.{OpenCall}
 
 pub held_none : (groups numbers : ℕ) → AreHeld groups numbers []
 held_none groups numbers = record { marked = λ c m. elim m [ ]; one = λ c d m n e. elim m [ ]; given = λ c m. elim m [ ] }

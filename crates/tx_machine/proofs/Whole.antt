@@ -27,11 +27,11 @@ use Rattle.tx_state.specs.Routing.{set_call}
 use Rattle.tx_state.specs.Ending.{given_up}
 use Rattle.tx_state.proofs.Lists.{find_mem, at_place}
 use Rattle.tx_plain_parts.specs.inner.Marks.{Circuits, Groups, HasMark}
-use Rattle.tx_network.specs.Seen.{call_seen}
+use Rattle.tx_state.specs.Seen.{call_seen}
 use Rattle.tx_plain_parts.specs.inner.Seen.{changed, thrown_at, HasRoom, IsReady}
 use Rattle.tx_plain_parts.specs.inner.GivenUp.{ends_by, is_given, AreMarked}
 use Rattle.tx_machine.specs.inner.Whole.{AreHeld, IsWhole}
-use Rattle.tx_network.specs.declared.open_call.OpenCall.{OpenCall}
+use Rattle.tx_state.specs.declared.open_call.OpenCall.{OpenCall}
 use Rattle.tx_plain_parts.specs.declared.change.Change.{Change}
 use Rattle.tx_plain_parts.specs.declared.change.Change.TheVariants.{To, Carry, ThrowBack}
 use Rattle.tx_plain_parts.specs.declared.ends.Ends.{Ends}

@@ -7,7 +7,7 @@ ghost use Rattle.tx_state.specs.Refusals.{is_other};
 ghost use Rattle.tx_state.specs.Confirming.{confirmed, collide};
 ghost use Rattle.tx_state.specs.Routing.{set_call};
 ghost use Rattle.tx_plain_parts.specs.inner.Marks.{HasMark};
-ghost use Rattle.tx_network.specs.Seen.{call_seen};
+ghost use Rattle.tx_state.specs.Seen.{call_seen};
 ghost use Rattle.tx_plain_parts.specs.inner.Seen.{changed};
 ghost use Rattle.tx_machine.specs.inner.Decided.{meeting_done, IsMet, IsOn};
 ghost use Rattle.tx_state.specs.declared.event.Event.TheVariants.{Confirm};
@@ -17,10 +17,9 @@ ghost use Rattle.tx_plain_parts.specs.declared.change.Change.TheVariants.{Carry}
 use crate::meeting::Meeting;
 use crate::plain::Plain;
 use std::alloc::Allocator;
-use tx_network::{OpenCall, far_of};
 use tx_plain_parts::{Change, Ends, call_of, change_numbered, rival_of, throw_back};
 use tx_plan::Circuit;
-use tx_state::{Cause, Hop, Phase, Reply, Service};
+use tx_state::{Cause, Hop, OpenCall, Phase, Reply, Service, far_of};
 
 impl<'p, A: Allocator + Copy> Plain<'p, A> {
     /// What a call meets that confirms.

@@ -1,10 +1,9 @@
 // What the plain network knows of a call, a line, a circuit and a group.
 use crate::plain::Plain;
 use std::alloc::Allocator;
-use tx_network::Facts;
 use tx_plain_parts::{call_of, engaged_in, has_line};
 use tx_plan::{Circuit, GroupId, Line};
-use tx_state::Phase;
+use tx_state::{Facts, Phase};
 
 impl<'p, A: Allocator + Copy> Facts for Plain<'p, A> {
     ghost plan = { λ n. n.plan };

@@ -5,9 +5,8 @@ ghost use Rattle.tx_state.specs.declared.event.Event.TheVariants.{Key};
 
 use crate::plain::Plain;
 use std::alloc::Allocator;
-use tx_network::OpenCall;
 use tx_plan::Line;
-use tx_state::{Phase, Reply};
+use tx_state::{OpenCall, Phase, Reply};
 use tx_text::{Figures, NoMemory};
 
 impl<'p, A: Allocator + Copy> Plain<'p, A> {

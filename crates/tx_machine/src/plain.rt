@@ -6,10 +6,9 @@ ghost use Rattle.tx_state.specs.Refusals.{refusal};
 
 use std::alloc::{Allocator, Global};
 use std::marker::Model;
-use tx_network::{OpenCall, refusal};
 use tx_plain_parts::{CircuitMarks, GroupMarks};
 use tx_plan::{Line, Plan};
-use tx_state::{Event, Network, Refusal, Reply, Ticket};
+use tx_state::{Event, Network, OpenCall, Refusal, Reply, Ticket, refusal_of};
 use tx_text::NoMemory;
 
 /// The plain network: it keeps lists and marks, as the definitions do, and goes through them. The marks have their room from the start.
@@ -94,7 +93,7 @@ impl<'p, A: Allocator + Copy> Plain<'p, A> {
         ensures err { OnErr result (self.new ≡ self.old) }
         ensures memory { OnErr result ((takes_memory event.now ≡ true) × (refusal self.old.plan self.old.state event.now ≡ None)) }
     {
-        let refusal = refusal(self, event);
+        let refusal = refusal_of(self, event);
         match refusal {
             Some(refusal) => Ok(Reply::Refused(refusal)),
             None => self.accept(event),

@@ -7,7 +7,7 @@ ghost use Rattle.tx_state.specs.Routing.{at_line, at_trunk, line_of, routed, set
 ghost use Rattle.tx_state.specs.InUse.{choice};
 ghost use Rattle.tx_state.specs.Lines.{line_answer, is_engaged};
 ghost use Rattle.tx_plan.specs.Circuits.{is_circuit};
-ghost use Rattle.tx_network.specs.Seen.{call_seen};
+ghost use Rattle.tx_state.specs.Seen.{call_seen};
 ghost use Rattle.tx_machine.specs.inner.Decided.{routing_done, IsPlanned};
 ghost use Rattle.tx_state.specs.declared.event.Event.TheVariants.{Route};
 ghost use Rattle.tx_state.specs.declared.phase.Phase.TheVariants.{Calling};
@@ -16,10 +16,9 @@ use crate::plain::Plain;
 use crate::routing::Routing;
 use crate::truth::both;
 use std::alloc::Allocator;
-use tx_network::{Facts, OpenCall, place_of};
 use tx_plain_parts::{Change, Ends, call_of, change_numbered, reserve_hop};
 use tx_plan::{Circuit, CodeId, ExchangeId, Line, code_of, rest_after};
-use tx_state::{Cause, Hop, Phase, Reply, Service};
+use tx_state::{Cause, Facts, Hop, OpenCall, Phase, Reply, Service, place_of};
 use tx_text::NoMemory;
 
 impl<'p, A: Allocator + Copy> Plain<'p, A> {

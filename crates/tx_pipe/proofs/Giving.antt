@@ -1,11 +1,14 @@
 -- What an input of two texts gives of the bytes that it read ahead.
-use Rattle.std.proofs.Common.{◌≡◌, ◌≢◌, ℕ, ◌<◌, ◌≤◌, List, [], ◌∷◌, ◌++◌, Option, Some, None, length, take, drop, refl, ap, sym, ◌∙◌, arith}
+use Rattle.std.proofs.Common.{◌≡◌, ◌≢◌, ℕ, ◌<◌, ◌≤◌, ◌==◌, true, inl, inr, List, [], ◌∷◌, ◌++◌, Option, Some, None, Result, Ok, length, take, drop, min, refl, ap, sym, subst, ◌∙◌, arith, eqb-true}
 use Rattle.std.specs.Io.KnownBytes.{IsAtEnd, prepend_known}
-use Rattle.std.proofs.lemmas.List.{append_assoc, append-nil, take-append-drop, length-take-le, take-append-le, drop-append-le}
+use Rattle.std.proofs.lemmas.List.{append_assoc, append-nil, take-append-drop, length-take-le, length-drop, take-append-le, take_all, drop-append-le, drop_all, nil_from_length}
+use Rattle.tx_text.specs.declared.source.ReadFault.{ReadFault}
+use Rattle.tx_pipe.specs.declared.two_texts.TwoTexts.{TwoTexts}
 use Rattle.tx_pipe.specs.declared.two_texts.Part.{Part}
 use Rattle.tx_pipe.specs.declared.two_texts.Part.TheVariants.{Plan, PlanOver, Script}
 use Rattle.tx_pipe.specs.Parts.{plan_part, script_part, Finds}
 use Rattle.tx_pipe.specs.Telling.{in_hand, behind, IsNext}
+use Rattle.tx_pipe.specs.InputCalls.{CalledInput, InputCall, Refilled}
 
 -- some of the bytes, and those that are left with what follows
 split_at : (n : ℕ) (held more : List ℕ) → held ++ more ≡ take n held ++ (drop n held ++ more)
@@ -84,3 +87,63 @@ all_behind Plan line (Some more) held begun end = none (held ++ more) end
     none : (text : List ℕ) → plan_part line text ≡ [] → Some text ≡ Some (script_part line text)
     none [] e = refl
     none (b ∷ bs) e = let bad : ⊥ = cc in absurd bad
+
+-- where there is room for some of the bytes, some belong to the text
+pub some_taken : (n room : ℕ) (bytes held : List ℕ) → bytes ≡ held → n ≡ min room (length bytes) → 0 < room → held ≢ [] → 0 < length (take n bytes)
+some_taken n room bytes [] same least much some = absurd (some refl)
+some_taken n room bytes (b ∷ held) same least much some =
+    let size : length bytes ≡ length (b ∷ held) = ap length same in let taken = length-take-le n bytes (omega arith) in omega arith
+
+-- A CALL OF `refill`
+
+pub none_held : (bytes held : List ℕ) → bytes ≡ held → length bytes == 0 ≡ true → held ≡ []
+none_held bytes held same none = sym same ∙ nil_from_length bytes (eqb-true (length bytes) 0 none)
+
+-- what was read is of the text in hand and of what stands behind it, as if it stood in the input yet
+module _ (line : Option (List ℕ)) (held : List ℕ) where
+  pub hand_fed : (part : Part) (input : Option (List ℕ)) → in_hand part line held input ≡ in_hand part line [] (prepend_known held input)
+  hand_fed Plan None = refl
+  hand_fed Plan (Some more) = refl
+  hand_fed PlanOver None = refl
+  hand_fed PlanOver (Some more) = refl
+  hand_fed Script None = refl
+  hand_fed Script (Some more) = refl
+
+  pub behind_fed : (part : Part) (input : Option (List ℕ)) → behind part line held input ≡ behind part line [] (prepend_known held input)
+  behind_fed Plan None = refl
+  behind_fed Plan (Some more) = refl
+  behind_fed PlanOver None = refl
+  behind_fed PlanOver (Some more) = refl
+  behind_fed Script None = refl
+  behind_fed Script (Some more) = refl
+
+-- A CALL OF `read`
+
+-- what was written to the room is the front of what was held
+pub front_is : (n : ℕ) (given room held : List ℕ) → given ≡ take n held → n ≤ length held → take n (given ++ room) ≡ take n held
+front_is n given room held is le =
+    let size : length given ≡ n = ap length is ∙ length-take-le n held le in take-append-le n given room (omega arith) ∙ take_all n given (omega arith) ∙ is
+
+-- with room for all that may be held, none is left
+pub none_left : (n room : ℕ) (held left : List ℕ) → n ≡ min room (length held) → 4096 ≤ room → length held ≤ 4096 → left ≡ drop n held → left ≡ []
+none_left n room held left least much short is = is ∙ drop_all n held (omega arith)
+
+module _ {R : Type 0} (called : ℕ → Result ℕ ReadFault → R → R → Type 0) (old filled new : TwoTexts R) (n : ℕ) (going : old.part ≢ PlanOver) (within : n ≤ length filled.held)
+    (some : filled.held ≢ [] → 0 < n) (held : new.held ≡ drop n filled.held) (source : new.source ≡ filled.source) where
+  -- it gave some of the bytes held, or of those that one call of the input gave
+  pub input_called : Refilled called (Ok tt) old filled → InputCall called (Ok n) old new
+  input_called (inl (full, ok, same)) = (
+    λ much. inl (record { going = going; within = subst (λ (s : TwoTexts R). n ≤ length s.held) same within; held = held ∙ ap (λ (s : TwoTexts R). drop n s.held) same; source = source ∙ ap (λ (s : TwoTexts R). s.source) same }),
+    λ none. absurd (omega (arith, some (subst (λ (s : TwoTexts R). s.held ≢ []) (sym same) full), none)),
+  )
+  input_called (inr call) = (
+    λ much. inr (record { read = length filled.held; input = now (Ok (length filled.held)) call; held = (let a = ap length held in let b = length-drop n filled.held in omega arith) }),
+    λ none. inr (now (Ok 0) (subst (λ k. CalledInput called (Ok k) old filled) (empty filled.held some none) call)),
+  )
+    where
+      now : (answer : Result ℕ ReadFault) → CalledInput called answer old filled → CalledInput called answer old new
+      now answer c = record { sound = c.sound; empty = c.empty; going = c.going; call = subst (called 4096 answer old.source) (sym source) c.call }
+
+      empty : (bytes : List ℕ) → (bytes ≢ [] → 0 < n) → n ≡ 0 → length bytes ≡ 0
+      empty [] more none = refl
+      empty (b ∷ bytes) more none = absurd (omega (arith, more (λ e. let bad : ⊥ = cc in bad), none))

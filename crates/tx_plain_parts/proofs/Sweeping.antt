@@ -5,9 +5,9 @@ use Rattle.std.proofs.lemmas.List.{length-set, take_all, drop_all, append-nil}
 use Rattle.tx_plan.proofs.Among.{among_at}
 use Rattle.tx_state.specs.Call.{Call}
 use Rattle.tx_plan.specs.Among.{Among}
-use Rattle.tx_network.specs.Seen.{call_seen}
+use Rattle.tx_state.specs.Seen.{call_seen}
 use Rattle.tx_plain_parts.specs.inner.Seen.{changed, change_at, HasRoom, IsReady}
-use Rattle.tx_network.specs.declared.open_call.OpenCall.{OpenCall}
+use Rattle.tx_state.specs.declared.open_call.OpenCall.{OpenCall}
 use Rattle.tx_plain_parts.specs.declared.change.Change.{Change}
 use Rattle.tx_plain_parts.proofs.Sweeps.{step_seen, mem_set, mem_take_set}
 

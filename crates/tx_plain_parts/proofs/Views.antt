@@ -6,9 +6,9 @@ use Rattle.tx_plan.specs.Plan.{Plan}
 use Rattle.tx_state.specs.declared.cause.Cause.{Cause}
 use Rattle.tx_state.specs.Ended.{Ended}
 use Rattle.tx_state.specs.Ending.{ticket_of}
-use Rattle.tx_network.specs.Seen.{call_seen}
+use Rattle.tx_state.specs.Seen.{call_seen}
 use Rattle.tx_plain_parts.specs.inner.GivenUp.{ends_by}
-use Rattle.tx_network.specs.declared.open_call.OpenCall.{OpenCall}
+use Rattle.tx_state.specs.declared.open_call.OpenCall.{OpenCall}
 use Rattle.tx_plain_parts.specs.declared.ends.Ends.{Ends}
 
 pub any_map : {A B : Type 0} (t : B → Bool) (f : A → B) (xs : List A) → list_any (λ x. t (f x)) xs ≡ list_any t (map f xs)

@@ -6,13 +6,12 @@ ghost use Rattle.tx_state.specs.InUse.{seizes_from, carries, seizes};
 ghost use Rattle.tx_state.specs.Lines.{takes_part};
 ghost use Rattle.tx_state.specs.Call.{place_of, call_of};
 ghost use Rattle.tx_state.specs.Routing.{set_call};
-ghost use Rattle.tx_network.specs.Seen.{call_seen};
+ghost use Rattle.tx_state.specs.Seen.{call_seen};
 ghost use Rattle.tx_plain_parts.specs.inner.Seen.{changed, change_at, thrown_at, HasRoom, IsReady};
 
 use std::alloc::Allocator;
-use tx_network::{OpenCall, place_of};
 use tx_plan::{Circuit, ExchangeId, Line, Plan};
-use tx_state::{Hop, Phase};
+use tx_state::{Hop, OpenCall, Phase, place_of};
 
 /// Whether two lines are one.
 pub fn same_line(a: &Line, b: &Line) -> bool

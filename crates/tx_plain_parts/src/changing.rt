@@ -8,13 +8,12 @@ ghost use Rattle.tx_state.specs.InUse.{seizes_from, carries, seizes};
 ghost use Rattle.tx_state.specs.Lines.{takes_part};
 ghost use Rattle.tx_state.specs.Call.{place_of, call_of};
 ghost use Rattle.tx_state.specs.Routing.{set_call};
-ghost use Rattle.tx_network.specs.Seen.{call_seen};
+ghost use Rattle.tx_state.specs.Seen.{call_seen};
 ghost use Rattle.tx_plain_parts.specs.inner.Seen.{changed, change_at, thrown_at, HasRoom, IsReady};
 
 use crate::change::Change;
 use std::alloc::Allocator;
-use tx_network::OpenCall;
-use tx_state::Phase;
+use tx_state::{OpenCall, Phase};
 use tx_text::NoMemory;
 
 /// Makes room for a hop of a call with the number.

@@ -6,16 +6,15 @@ ghost use Rattle.tx_state.specs.InUse.{seizes, circuits_used};
 ghost use Rattle.tx_state.specs.Call.{circuit_called};
 ghost use Rattle.tx_plan.specs.Among.{Among};
 ghost use Rattle.tx_plain_parts.specs.inner.Marks.{HasMark};
-ghost use Rattle.tx_network.specs.Seen.{call_seen};
+ghost use Rattle.tx_state.specs.Seen.{call_seen};
 ghost use Rattle.tx_plain_parts.specs.inner.GivenUp.{ends_by, with_more, is_given, AreMarked};
 
 use crate::calls::seizes;
 use crate::circuit_marks::CircuitMarks;
 use crate::ends::Ends;
 use std::alloc::Allocator;
-use tx_network::OpenCall;
 use tx_plan::{Circuit, GroupId, Plan};
-use tx_state::{Cause, Hop, Path, Phase, Ticket};
+use tx_state::{Cause, Hop, OpenCall, Path, Phase, Ticket};
 
 /// Whether the call ends.
 fn is_ended<A: Allocator>(call: &OpenCall<A>, ends: &Ends) -> bool

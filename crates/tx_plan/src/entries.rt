@@ -17,7 +17,7 @@ use tx_entries::{
     CodeId, Direction, ExchangeId, GroupId, GroupList, GroupRow, LineRange, NameKey, National,
     Pair, at_most,
 };
-use tx_text::{Short, Words, are_figures, is_name};
+use tx_text::{Words, are_figures, is_name};
 
 /// The exchange of a name, and whether it was declared.
 #[tactic(auto, using(tx_entries::proofs::Lists::found_any))]
@@ -82,7 +82,7 @@ pub(crate) fn code_entry<A: Allocator>(
     plan: &Plan<A>,
     code: &[u8],
     home: &[u8],
-) -> Result<(Short<3>, ExchangeId), PlanRefusal>
+) -> Result<(NameKey, ExchangeId), PlanRefusal>
     ensures err { IfErr result (λ e. first_true (code_refusals plan.now code.now home.now) ≡ Some e) }
     ensures ok { OnOk result (first_true (code_refusals plan.now code.now home.now) ≡ None) }
     ensures entry { IfOk result (λ e. e ≡ (code.now, exchange_at plan.now home.now)) }
@@ -103,7 +103,7 @@ pub(crate) fn code_entry<A: Allocator>(
     if plan.codes() >= 1100 {
         return Err(PlanRefusal::TooMany);
     }
-    Ok((Short::new(code), home))
+    Ok((NameKey::new(code), home))
 }
 
 /// Whether low and high have one width, and low is not above high.

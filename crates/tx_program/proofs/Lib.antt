@@ -1,1 +1,4 @@
 mod Printed
+pub mod Reading
+pub mod Grammars
+pub mod Found

@@ -1,17 +1,29 @@
-//! The program: what it does for its words, over a folder of files and its standard ends.
+//! The program: the words of the command line and the commands that they ask for, what it does for them over a folder of files and its standard ends, and what
+//! the codes of faults, refusals and findings mean.
 #![tactic(auto)]
 
 mod audited;
+mod code_table;
+mod command;
 mod ends;
+mod entry;
 mod explained;
+mod explanation;
+mod fault;
 mod folder;
+mod grammar;
 mod new_file;
 mod opened;
 mod perform;
 mod program;
 mod tell;
 
+pub use code_table::Entry;
+pub use command::{Command, read_command};
+pub use entry::{entries, entry_of};
 pub use explained::codes_are_explained;
+pub use explanation::write_explanation;
+pub use fault::WordsFault;
 pub use folder::Folder;
 pub use program::{Ends, run_command, run_words};
 pub use tell::refuse_arguments;

@@ -1,13 +1,12 @@
 // Commands whose files are open.
 ghost use Rattle.std.specs.Prelude.{◌≤◌};
-ghost use Rattle.tx_words.specs.declared.command.Command.TheVariants.{Run, Draw};
-ghost use Rattle.tx_words.specs.Commands.{IsInRange};
+ghost use Rattle.tx_program.specs.declared.command.Command.TheVariants.{Run, Draw};
+ghost use Rattle.tx_program.specs.Commands.{IsInRange};
 
 use crate::folder::Folder;
+use crate::{Command, Entry};
 use std::io::Read;
-use tx_explain::Entry;
 use tx_jobs::JobFault;
-use tx_words::Command;
 
 /// How many transits a call may pass, and how many groups of a list are to spare.
 #[derive(Clone, Copy)]
@@ -74,7 +73,7 @@ pub(crate) enum Opened<'a, I: Read + Drop, R: Read + Drop> {
         routes: Option<(&'a str, Option<Bounds>)>,
     },
     Explain {
-        entry: Option<Entry>,
+        entry: Option<&'static Entry>,
     },
 }
 

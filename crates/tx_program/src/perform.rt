@@ -1,20 +1,19 @@
 // What is done for a command.
 ghost use Rattle.std.specs.Prelude.{◌≤◌, IfSome};
-ghost use Rattle.tx_words.specs.Commands.{IsInRange};
+ghost use Rattle.tx_program.specs.Commands.{IsInRange};
 
 use crate::audited::audit_file;
 use crate::ends::Output;
 use crate::folder::Folder;
 use crate::opened::{Bounds, Opened};
+use crate::{Command, Entry, write_explanation};
 use std::alloc::Allocator;
 use std::io::{Read, Write};
-use tx_explain::{Entry, write_explanation};
 use tx_jobs::{
     JobFault, check_status, codes_status, draw_job, grade_status, pipe_job, run_checked_status,
     run_job,
 };
 use tx_text::Source;
-use tx_words::Command;
 
 /// Opens the files of a command, does its job, and lets its output out. Answers the exit status. An output that fails is told before any other fault.
 pub(crate) fn perform<A: Allocator + Copy, F: Folder, I: Read + Drop, O: Write + Drop>(
@@ -172,7 +171,7 @@ fn numbers(bounds: Option<Bounds>) -> Option<(u8, u8)>
 
 /// `explain [CODE]`.
 fn explain<A: Allocator, O: Write + Drop>(
-    entry: Option<Entry>,
+    entry: Option<&'static Entry>,
     output: &Output<O, A>,
 ) -> Result<u8, JobFault> {
     match write_explanation(entry, &mut output.sink()) {

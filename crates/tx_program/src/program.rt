@@ -1,17 +1,17 @@
 // The program, from its words to its exit status.
 ghost use Rattle.std.specs.Prelude.{◌≡◌};
-ghost use Rattle.tx_words.specs.Commands.{IsInRange};
+ghost use Rattle.tx_program.specs.Commands.{IsInRange};
 ghost use Rattle.tx_jobs.specs.JobFaults.{status_of};
 ghost use Rattle.tx_program.specs.Statuses.{AskNothing, IsRefusedWith};
 
 use crate::folder::Folder;
 use crate::perform::perform;
 use crate::tell::tell_words;
+use crate::{Command, read_command};
 use std::alloc::{Allocator, Global};
 use std::io::{Read, Write};
 use tx_jobs::{JobFault, write_fault};
 use tx_text::ToWrite;
-use tx_words::{Command, read_command};
 
 /// The ends of the program: a folder of files, standard input, standard output and standard error.
 #[derive(Drop)]

@@ -1,6 +1,6 @@
 -- Links, as they are made.
-use Rattle.std.proofs.Common.{◌≡◌, ◌≢◌, ℕ, ◌+◌, ◌<◌, true, false, eqb, eqb-true, List, [], ◌∷◌, ◌++◌, length, take, get_or, ◌⊎◌, inl, inr, Option, Some, None, refl, sym, ap, subst, ◌∙◌, arith}
-use Rattle.std.specs.Prelude.{slice_get}
+use Rattle.std.proofs.Common.{◌≡◌, ◌≢◌, ℕ, zero, suc, ◌+◌, ◌<◌, true, false, eqb, eqb-true, List, [], ◌∷◌, ◌++◌, length, take, get_or, ◌⊎◌, inl, inr, Option, Some, None, refl, sym, ap, subst, ◌∙◌, arith}
+use Rattle.std.specs.Prelude.{slice_get, replicate}
 use Rattle.std.proofs.Math.ListN.{set, length-set}
 use Rattle.std.proofs.lemmas.Bool.{eqb-false}
 use Rattle.std.proofs.lemmas.Option.{slice_get-get_or}
@@ -82,7 +82,20 @@ pub record IsLinkedBelow (n : Net) (ranks : ℕ → Option ℕ) (links : List (O
   pub true_of : AreLinks n ranks links
   pub below : LinksBelow n ranks links i
 
+-- nothing is linked yet
+none_there : (k y : ℕ) (s : ℕ × ℕ) → slice_get (replicate {A = Option (ℕ × ℕ)} k None) y ≡ Some (Some s) → ⊥
+none_there zero y s e = cc
+none_there (suc k) zero s e = cc
+none_there (suc k) (suc y) s e = none_there k y s e
+
 module _ (n : Net) (ranks : ℕ → Option ℕ) where
+  pub none_linked : (links : List (Option (ℕ × ℕ))) (k : ℕ) → length links ≡ n.exchanges → links ≡ replicate k None → IsLinkedBelow n ranks links 0
+  none_linked links k long is = record {
+    long = long;
+    true_of = λ y s e. absurd (none_there k y s (ap (λ l. slice_get l y) (sym is) ∙ e));
+    below = λ p r lt. absurd (omega (arith, lt));
+  }
+
   -- the next place has nothing to link
   pub below_skip : (links : List (Option (ℕ × ℕ))) (i : ℕ) → LinksBelow n ranks links i → ((r : ℕ) → ranks i ≡ Some r → i ≢ n.home → ⊥) → LinksBelow n ranks links (i + 1)
   below_skip links i b nothing p r h ranked away =

@@ -1,10 +1,11 @@
 -- Rows in one vector: one is added, written, or changed, and the others stay.
-use Rattle.std.proofs.Common.{◌≡◌, ◌∙◌, ℕ, zero, suc, ◌+◌, ◌-◌, ◌<◌, ◌≤◌, ◌^◌, inl, inr, List, [], ◌∷◌, ◌++◌, length, map, take, drop, Option, Some, None, slice_set, refl, sym, ap, subst, arith, set}
+use Rattle.std.proofs.Common.{◌≡◌, ◌∙◌, ℕ, zero, suc, ◌+◌, ◌-◌, ◌<◌, ◌≤◌, ◌^◌, inl, inr, List, [], ◌∷◌, ◌++◌, length, map, take, drop, Option, Some, None, slice_set, get_or, refl, sym, ap, subst, arith, set}
 use Rattle.std.specs.Prelude.{slice_get, replicate, Result, Ok, Err, IsOk, is_ok, if◌then◌else◌}
 use Rattle.std.specs.List.{between}
-use Rattle.std.proofs.lemmas.List.{take_all, drop_at, take-append-le, length-append, length-replicate, length-set, drop-set-add, drop-set-lt, take-set-le}
+use Rattle.std.proofs.lemmas.List.{take_all, drop_at, take-append-le, length-append, length-replicate, get_or-replicate, length-set, drop-set-add, drop-set-lt, take-set-le}
 use Rattle.std.proofs.Math.Seq.{take-set-lt}
-use Rattle.std.proofs.lemmas.Option.{slice_get-map}
+use Rattle.std.proofs.lemmas.List.Edits.{length-between, get_or-between}
+use Rattle.std.proofs.lemmas.Option.{slice_get-map, slice_get-get_or, slice_get_past}
 use Rattle.std.specs.Option.{option_map}
 use Rattle.std.proofs.lemmas.Slice.{between_is, take-put_mid_below, drop-put_mid, between-put_mid}
 use borrow.Rule.Slice.PartMut.{put_mid}
@@ -205,3 +206,25 @@ items_there items idle r a start = ap (λ o. items_at items idle o r.count) star
 -- an entry of the rows, as it is seen
 pub seen_at : {H T : Type 0} (items : List T) (idle : T) (rows : List (RowAt H)) (g : ℕ) (r : RowAt H) → slice_get rows g ≡ Some r → slice_get (map (row_seen items idle) rows) g ≡ Some (row_seen items idle r)
 seen_at items idle rows g r at = slice_get-map (row_seen items idle) rows g ∙ ap (option_map (row_seen items idle)) at
+
+pub seen_past : {H T : Type 0} (items : List T) (idle : T) (rows : List (RowAt H)) (g : ℕ) → slice_get rows g ≡ None → slice_get (map (row_seen items idle) rows) g ≡ None
+seen_past items idle rows g none = slice_get-map (row_seen items idle) rows g ∙ ap (option_map (row_seen items idle)) none
+
+-- AN ITEM OF A ROW
+
+module _ {T : Type 0} (items : List T) (idle : T) (count place : ℕ) where
+  pub item_past : (start : Option ℕ) → ((a : ℕ) → start ≡ Some a → a + count ≤ length items) → count ≤ place → None ≡ slice_get (items_at items idle start count) place
+  item_past None within past = sym (slice_get_past (replicate count idle) place (let e = length-replicate count idle in omega arith))
+  item_past (Some a) within past = sym (slice_get_past (between a (a + count) items) place (let e = length-between items a (a + count) (within a refl) in omega arith))
+
+  pub item_idle : (start : Option ℕ) → start ≡ None → place < count → Some idle ≡ slice_get (items_at items idle start count) place
+  item_idle start none lt =
+      sym (ap (λ o. slice_get (items_at items idle o count) place) none ∙ slice_get-get_or (replicate count idle) place idle (let e = length-replicate count idle in omega arith) ∙ ap Some (get_or-replicate count place idle idle lt))
+
+  pub item_written : (start : Option ℕ) (a : ℕ) (x : T) → start ≡ Some a → a + count ≤ length items → place < count → x ≡ get_or items (a + place) x → Some x ≡ slice_get (items_at items idle start count) place
+  item_written start a x at within lt is =
+      sym (
+      ap (λ o. slice_get (items_at items idle o count) place) at
+      ∙ slice_get-get_or (between a (a + count) items) place x (let e = length-between items a (a + count) within in omega arith)
+      ∙ ap Some (get_or-between items a (a + count) place x (omega arith) ∙ sym is)
+      )

@@ -1,9 +1,9 @@
 -- Lists and their entries.
-use Rattle.std.proofs.Common.{◌≡◌, ◌≢◌, ◌∙◌, ℕ, zero, suc, ◌+◌, ◌<◌, ◌⊎◌, inl, inr, List, [], ◌∷◌, ◌++◌, length, map, Option, Some, None, slice_index_or, slice_set, refl, sym, ap, arith}
+use Rattle.std.proofs.Common.{◌≡◌, ◌≢◌, ◌∙◌, ℕ, zero, suc, ◌<◌, ◌≤◌, ◌⊎◌, inl, inr, List, [], ◌∷◌, ◌++◌, length, map, Option, Some, None, slice_index_or, slice_set, refl, sym, ap, arith}
 use Rattle.std.specs.Prelude.{slice_get}
 use Rattle.std.specs.Option.{option_map}
 use Rattle.std.proofs.lemmas.Bool.Decides.{eqb_tells}
-use Rattle.std.proofs.lemmas.Option.{slice_get_within}
+use Rattle.std.proofs.lemmas.Option.{slice_get_within, slice_get_past}
 use Rattle.tx_rows.specs.Rows.{change_at}
 
 pub get_is : {A : Type 0} (xs : List A) (k : ℕ) (d : A) → k < length xs → slice_get xs k ≡ Some (slice_index_or xs k d)
@@ -14,6 +14,13 @@ get_is (x ∷ xs) (suc k) d h = get_is xs k d (omega arith)
 -- an element that was read
 pub entry_at : {A : Type 0} (xs : List A) (k : ℕ) (x : A) → x ≡ slice_index_or xs k x → k < length xs → slice_get xs k ≡ Some x
 entry_at xs k x is h = get_is xs k x h ∙ ap Some (sym is)
+
+-- what was got from a slice of the list
+pub got_some : {A : Type 0} (xs ys : List A) (k : ℕ) (x : A) → xs ≡ ys → x ≡ slice_index_or xs k x → k < length xs → slice_get ys k ≡ Some x
+got_some xs ys k x same is h = ap (λ l. slice_get l k) (sym same) ∙ entry_at xs k x is h
+
+pub got_none : {A : Type 0} (xs ys : List A) (k : ℕ) → xs ≡ ys → length xs ≤ k → slice_get ys k ≡ None
+got_none xs ys k same past = ap (λ l. slice_get l k) (sym same) ∙ slice_get_past xs k past
 
 pub get-set_here : {A : Type 0} (xs : List A) (k : ℕ) (y : A) → k < length xs → slice_get (slice_set xs k y) k ≡ Some y
 get-set_here [] k y h = absurd (omega arith)

@@ -1,5 +1,5 @@
 -- What a caller's write to the items of a written row leaves.
-use Rattle.std.proofs.Common.{◌≡◌, ◌∙◌, ℕ, ◌+◌, ◌-◌, ◌≤◌, List, length, Some, refl, sym, ap, subst, arith}
+use Rattle.std.proofs.Common.{◌≡◌, ◌∙◌, ℕ, ◌+◌, ◌-◌, ◌<◌, ◌≤◌, List, length, Some, refl, sym, ap, subst, arith}
 use Rattle.std.specs.Prelude.{slice_get}
 use Rattle.std.specs.List.{between}
 use Rattle.std.specs.Vec.{with_items}
@@ -7,8 +7,9 @@ use Rattle.std.proofs.lemmas.List.{with_items_is}
 use Rattle.std.proofs.lemmas.List.Edits.{length-between}
 use borrow.Rule.Slice.PartMut.{put_mid, same_len_mid}
 use Rattle.tx_rows.specs.declared.late_rows.LateRows.{LateRows}
-use Rattle.tx_rows.specs.Rows.{change_at}
+use Rattle.tx_rows.specs.Rows.{Row, change_at}
 use Rattle.tx_rows.specs.inner.Kept.{AreRowsKept, IsAt, rows_in}
+use Rattle.tx_rows.proofs.Lists.{some_is}
 use Rattle.tx_rows.proofs.Kept.{Rewrites, rewrites_part, kept_rewritten, seen_rewritten, items_there, seen_at}
 
 module _ {H T A : Type 0} (l : LateRows H T A) (kept : AreRowsKept l) (g a b : ℕ) (is : IsAt l g a b) where
@@ -23,6 +24,13 @@ module _ {H T A : Type 0} (l : LateRows H T A) (kept : AreRowsKept l) (g a b : �
   part_is =
       seen_at l.items.items l.idle l.rows.items g is.at is.is
       ∙ ap (λ xs. Some (record { head = is.at.head; items = xs })) (items_there l.items.items l.idle is.at a is.start ∙ ap (λ n. between a n l.items.items) is.end)
+
+  -- a place of the row
+  pub place_in : (r : Row H T) (place : ℕ) → slice_get (rows_in l) g ≡ Some r → place < length r.items → (place < is.at.count) × (a + place < length l.items.items)
+  place_in r place at lt =
+      let seen : Row H T = record { head = is.at.head; items = between a b l.items.items } in
+      let size : length r.items ≡ b - a = ap (λ (x : Row H T). length x.items) (some_is r seen (sym at ∙ part_is)) ∙ length-between l.items.items a b part_ends.1 in
+      let e = is.end in let i = inside in (omega arith, omega arith)
 
   module _ (now ys : List T) (same : now ≡ l.items.items) (long : length ys ≡ b - a) where
     -- the rows with these items from a to b

@@ -37,11 +37,15 @@ pub(crate) fn answer<B: Allocator, N: Network, W: Sink>(
     ensures answers { EventAnswers plan.now event (N.state net.old) (N.state net.new) (W.taken sink.old) (W.taken sink.new) result }
     ensures mark { W.failed sink.new ≡ mark_with (W.failed sink.old) result }
 {
-    let reply = net.apply(event)?;
-    write_reply(&reply, plan, sink)?;
+    // By reference, so that the reply is not copied.
+    let applied = net.apply(event);
+    let Ok(reply) = &applied else {
+        return Err(RunCause::NoMemory);
+    };
+    write_reply(reply, plan, sink)?;
     let tickets = write_tickets(plan, net, sink)?;
     Ok(Answered {
-        refused: is_refused(&reply),
+        refused: is_refused(reply),
         tickets,
     })
 }

@@ -226,9 +226,10 @@ fn one_word(words: Words<'_>) -> Option<&[u8]>
     ensures { MatchOption result (one_word words.entry ≡ None) (λ w. one_word words.entry ≡ Some w.now) }
 {
     let mut words = words;
-    match (words.next(), words.next()) {
-        (Some(word), None) => Some(word),
-        _ => None,
+    let word = words.next()?;
+    match words.next() {
+        None => Some(word),
+        Some(_) => None,
     }
 }
 
@@ -238,9 +239,11 @@ fn two_words(words: Words<'_>) -> Option<(&[u8], &[u8])>
     ensures { MatchOption result (two_words words.entry ≡ None) (λ w. two_words words.entry ≡ Some (w.0.now, w.1.now)) }
 {
     let mut words = words;
-    match (words.next(), words.next(), words.next()) {
-        (Some(first), Some(second), None) => Some((first, second)),
-        _ => None,
+    let first = words.next()?;
+    let second = words.next()?;
+    match words.next() {
+        None => Some((first, second)),
+        Some(_) => None,
     }
 }
 
@@ -250,8 +253,11 @@ fn three_words(words: Words<'_>) -> Option<(&[u8], &[u8], &[u8])>
     ensures { MatchOption result (three_words words.entry ≡ None) (λ w. three_words words.entry ≡ Some (w.0.now, w.1.now, w.2.now)) }
 {
     let mut words = words;
-    match (words.next(), words.next(), words.next(), words.next()) {
-        (Some(first), Some(second), Some(third), None) => Some((first, second, third)),
-        _ => None,
+    let first = words.next()?;
+    let second = words.next()?;
+    let third = words.next()?;
+    match words.next() {
+        None => Some((first, second, third)),
+        Some(_) => None,
     }
 }

@@ -14,3 +14,4 @@ pub mod Appending
 pub mod RunOn
 pub mod Playing
 pub mod OneCall
+pub mod LastHop

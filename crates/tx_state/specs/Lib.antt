@@ -18,3 +18,5 @@ pub mod Unrefused
 pub mod Invariant
 pub mod Driven
 pub mod Drained
+pub mod Seen
+pub mod inner

@@ -1,16 +1,20 @@
-// The network of exchanges: its events, its replies, its state and the step, and what is promised of every run.
+// The network of exchanges: its events, its replies, its state and the step, what is promised of every run, and what both networks use.
 #![tactic(auto)]
 
 mod cause;
 mod driving;
 mod event;
+mod facts;
 mod headline;
 mod hop;
 mod network;
+mod open_call;
 mod party;
 mod path;
 mod phase;
+mod places;
 mod refusal;
+mod refusals;
 mod reply;
 mod service;
 mod ticket;
@@ -18,16 +22,20 @@ mod ticket;
 pub use cause::Cause;
 pub use driving::drive;
 pub use event::Event;
+pub use facts::Facts;
 pub use headline::{
     certified_is_sound, every_nc_is_excused, hops_join_and_carry_once, lines_take_part_once,
     ranks_fall, routes_are_bounded, spare_groups_suffice, tickets_are_appended,
 };
 pub use hop::Hop;
 pub use network::Network;
+pub use open_call::OpenCall;
 pub use party::Party;
 pub use path::Path;
 pub use phase::Phase;
+pub use places::{far_of, place_of};
 pub use refusal::Refusal;
+pub use refusals::refusal_of;
 pub use reply::Reply;
 pub use service::Service;
 pub use ticket::Ticket;

@@ -25,7 +25,12 @@ static HAPPENS: [(&str, (Mark, bool)); 6] = [
 ];
 
 /// Gives a line a mark, or takes it. Only a new mark takes room: tells whether there was room for it.
-fn set_mark<A: Allocator>(book: &mut LineBook<A>, line: &Line, mark: Mark, to: bool) -> bool {
+fn set_mark<A: Allocator + Copy>(
+    book: &mut LineBook<A>,
+    line: &Line,
+    mark: Mark,
+    to: bool,
+) -> bool {
     if to && book.reserve_one().is_err() {
         return false;
     }
@@ -92,7 +97,7 @@ fn read_asked(line: &[u8]) -> Asked<'_> {
 }
 
 /// Tells what is found, behind what happens to the line, and what is answered.
-fn play_line<A: Allocator, W: Sink>(book: &mut LineBook<A>, line: &[u8], out: &mut W) {
+fn play_line<A: Allocator + Copy, W: Sink>(book: &mut LineBook<A>, line: &[u8], out: &mut W) {
     let Asked {
         code,
         number,
@@ -113,7 +118,11 @@ fn play_line<A: Allocator, W: Sink>(book: &mut LineBook<A>, line: &[u8], out: &m
 }
 
 /// Tells what is found for each line of a case.
-pub(crate) fn play_book<A: Allocator, W: Sink>(book: &mut LineBook<A>, lines: &[u8], out: &mut W) {
+pub(crate) fn play_book<A: Allocator + Copy, W: Sink>(
+    book: &mut LineBook<A>,
+    lines: &[u8],
+    out: &mut W,
+) {
     let mut rest = lines;
     for _ in 0..lines.len() {
         let Some((line, behind)) = next_line(rest) else {

@@ -82,7 +82,7 @@ fn make_table<A: Allocator + Copy>(alloc: A, plan: &Plan<A>) -> Came {
 }
 
 /// Engages a line, again where there was no room for it at first.
-fn engage<A: Allocator>(book: &mut LineBook<A>) -> Came {
+fn engage<A: Allocator + Copy>(book: &mut LineBook<A>) -> Came {
     let code = CodeId::at(0);
     let number = b"10001".as_slice();
     let Some(line) = book.find(code, number) else {

@@ -1,8 +1,10 @@
 pub mod WordLists
 pub mod WordEnds
+pub mod PrintedLines
 pub mod Writing
 pub mod Wrote
 pub mod Places
+pub mod AlikeBytes
 pub mod Blocks
 pub mod LineFaults
 pub mod FeederFields

@@ -182,7 +182,11 @@ impl<A: Allocator> LineFeeder<A> {
             self.fail(fault);
             return Err(fault);
         }
-        self.complete_rest();
+        self.complete = true;
+        self.finished = false;
+        self.number += 1;
+        self.line_start = self.start;
+        self.start += self.held.len();
         Ok(true)
     }
 
@@ -199,20 +203,6 @@ impl<A: Allocator> LineFeeder<A> {
             text: self.held.as_slice(),
             finished: self.finished,
         }
-    }
-
-    /// Completes the line that has begun, at the end of the text.
-    #[inline(always)]
-    fn complete_rest(&mut self)
-        requires begun { self.old.line ≡ None }
-        requires some { 0 < length self.old.begun }
-        ensures { self.new ≡ finished self.old }
-    {
-        self.complete = true;
-        self.finished = false;
-        self.number += 1;
-        self.line_start = self.start;
-        self.start += self.held.len();
     }
 
     /// Completes the line that has begun, at an LF. A CR at its end goes.

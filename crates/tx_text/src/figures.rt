@@ -72,7 +72,7 @@ fn are_all_figures(bytes: &[u8]) -> bool
 
 /// Whether a text is figures. Of 4 to 16 bytes the front and the end are looked at in blocks, which may overlap.
 #[inline(always)]
-fn all_figures(text: &[u8]) -> bool
+pub(crate) fn all_figures(text: &[u8]) -> bool
     ensures { result ≡ list_all is_figure text.now }
 {
     let len = text.len();

@@ -1,5 +1,5 @@
 // The bytes of a line.
-ghost use Rattle.std.specs.Prelude.{◌≡◌, ◌≤◌, map, length, IfSome};
+ghost use Rattle.std.specs.Prelude.{◌≡◌, ◌<◌, ◌≤◌, ◌&&◌, None, not, nat_le, map, length, take, IfSome};
 ghost use Rattle.std.specs.List.{list_all, position_or_len};
 ghost use Rattle.std.specs.Simd.Lanes.{mask_l};
 ghost use Rattle.tx_text.specs.Text.{without_cr, bytes_fault, is_text_byte, is_lf};
@@ -78,48 +78,37 @@ pub fn bytes_fault(line: &[u8]) -> Option<TextFault>
     Some(TextFault::BadByte)
 }
 
-/// A bit for each byte of a block, set where it is an LF.
+/// A bit for each byte of a block, set where it is not printed: outside of 0x20 to 0x7E.
 #[inline(always)]
-fn lfs(block: u8x16) -> u64
-    ensures { result ≡ mask_l (map is_lf block) }
+fn not_printed(block: u8x32) -> u64
+    ensures { result ≡ mask_l (map (λ b. not (nat_le 32 b && nat_le b 126)) block) }
 {
-    block.simd_eq(u8x16::splat(b'\n')).to_bitmask()
+    (block.simd_lt(u8x32::splat(b' ')) | block.simd_gt(u8x32::splat(b'~'))).to_bitmask()
 }
 
-/// Where the first LF stands, if it is looked for and found in the first 32 bytes.
+/// How long the first line is, where it stands whole and each of its bytes is printed. It is looked at in blocks, and not far; other lines are not told.
 #[inline(always)]
-fn near_lf(piece: &[u8]) -> Option<usize>
-    ensures within { IfSome result (λ place. place ≤ length piece.now) }
-    ensures place { IfSome result (λ place. place ≡ position_or_len is_lf piece.now) }
+pub(crate) fn printed_line(piece: &[u8]) -> Option<usize>
+    ensures within { IfSome result (λ len. len < length piece.now) }
+    ensures place { IfSome result (λ len. len ≡ position_or_len is_lf piece.now) }
+    ensures text { IfSome result (λ len. bytes_fault (take len piece.now) ≡ None) }
+    ensures shown { IfSome result (λ len. without_cr (take len piece.now) ≡ take len piece.now) }
 {
-    if piece.len() < 32 {
-        return None;
-    }
-    let front = lfs(u8x16::from_slice(piece));
-    if front != 0 {
-        return Some(front.trailing_zeros() as usize);
-    }
-    let behind = lfs(u8x16::from_slice(&piece[16..]));
-    if behind != 0 {
-        return Some(16 + behind.trailing_zeros() as usize);
+    let mut from = 0;
+    while from <= 480 && piece.len() - from >= 32 {
+        let ends = not_printed(u8x32::from_slice(&piece[from..]));
+        if ends != 0 {
+            let len = from + ends.trailing_zeros() as usize;
+            return if piece[len] == b'\n' { Some(len) } else { None };
+        }
+        from += 32;
     }
     None
 }
 
-/// Where the first LF stands, or the length. Most lines are short, so it is looked for near the front first.
-#[inline(always)]
+/// Where the first LF stands, or the length.
+#[inline(never)]
 pub(crate) fn lf_or_len(piece: &[u8]) -> usize
-    ensures within { result ≤ length piece.now }
-    ensures place { result ≡ position_or_len is_lf piece.now }
-{
-    match near_lf(piece) {
-        Some(place) => place,
-        None => far_lf_or_len(piece),
-    }
-}
-
-/// The same, looked for in all bytes.
-fn far_lf_or_len(piece: &[u8]) -> usize
     ensures within { result ≤ length piece.now }
     ensures place { result ≡ position_or_len is_lf piece.now }
 {

@@ -1,5 +1,5 @@
 // The words of a line, and what a word spells.
-ghost use Rattle.std.specs.Prelude.{◌≡◌, ◌≤◌, ◌∷◌, [], not, true, map, length, MatchOption};
+ghost use Rattle.std.specs.Prelude.{◌≡◌, ◌≤◌, ◌∷◌, [], not, true, map, length, MatchOption, IfSome};
 ghost use Rattle.std.specs.List.{prefix_len};
 ghost use Rattle.std.specs.Iterator.{YieldsFirstBy, item_count};
 ghost use Rattle.std.specs.Simd.Lanes.{mask_l};
@@ -15,25 +15,27 @@ pub(crate) fn is_blank(byte: u8) -> bool
     byte == b' ' || byte == b'\t'
 }
 
-/// Whether one space stands at the front, and no blank behind it.
+/// How many blanks stand at the front, where the first bytes show that there is none or one space.
 #[inline(always)]
-fn begins_one_space(text: &[u8]) -> bool
-    ensures { result ≡ true → (1 ≤ length text.now) × (prefix_len is_blank text.now ≡ 1) }
+fn few_blanks(text: &[u8]) -> Option<usize>
+    ensures within { IfSome result (λ count. count ≤ length text.now) }
+    ensures count { IfSome result (λ count. count ≡ prefix_len is_blank text.now) }
 {
     match text {
-        [first, second, ..] => *first == b' ' && *second > b' ',
-        _ => false,
+        [first, second, ..] if *first == b' ' && *second > b' ' => Some(1),
+        [first, ..] if *first > b' ' => Some(0),
+        _ => None,
     }
 }
 
-/// How many blanks stand at the front: one before most words.
+/// How many blanks stand at the front: none before the first word of most lines, and one before the others.
 #[inline(always)]
 fn count_blanks(text: &[u8]) -> usize
     ensures within { result ≤ length text.now }
     ensures count { result ≡ prefix_len is_blank text.now }
 {
-    if begins_one_space(text) {
-        return 1;
+    if let Some(count) = few_blanks(text) {
+        return count;
     }
     for (i, byte) in text.iter().enumerate() {
         if !is_blank(*byte) {

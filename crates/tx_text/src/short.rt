@@ -1,5 +1,5 @@
 // Short texts that are kept in place.
-ghost use Rattle.std.specs.Prelude.{◌≡◌, ◌≤◌, ◌-◌, ◌++◌, length, replicate};
+ghost use Rattle.std.specs.Prelude.{◌≡◌, ◌≤◌, ◌-◌, ◌++◌, length, replicate, bytes_eq};
 
 use std::hash::{Hash, Hasher};
 use std::marker::Model;
@@ -37,7 +37,7 @@ impl<const N: usize> PartialEq for Short<N> {
 
     #[inline(always)]
     fn eq(&self, other: &Short<N>) -> bool {
-        self.len == other.len && self.bytes == other.bytes
+        self.len == other.len && same_bytes(&self.bytes, &other.bytes)
     }
 }
 
@@ -103,4 +103,16 @@ impl<const N: usize> Short<N> {
     {
         &self.bytes
     }
+}
+
+/// Whether two arrays are alike, looked at several bytes at a time where their number is fixed.
+#[inline(always)]
+fn same_bytes<const N: usize>(one: &[u8; N], other: &[u8; N]) -> bool
+    ensures { result ≡ bytes_eq one.now other.now }
+{
+    let mut same = true;
+    for i in 0..N {
+        same = same & (one[i] == other[i]);
+    }
+    same
 }

@@ -1,5 +1,5 @@
 // Room for the text of one line.
-ghost use Rattle.std.specs.Prelude.{◌≡◌, ◌+◌, ◌≤◌, ◌++◌, [], length, take, decimal};
+ghost use Rattle.std.specs.Prelude.{◌≡◌, ◌+◌, ◌<◌, ◌≤◌, ◌^◌, ◌++◌, [], length, decimal};
 
 use itoa::{Buffer, write_digits};
 use std::marker::Model;
@@ -69,42 +69,71 @@ impl<'a, const N: usize> LineRoom<'a, N> {
         self.len = to;
     }
 
-    /// Appends the front of a text. All of the text is copied, since so many bytes as the caller knows are copied at once.
-    #[inline(always)]
-    fn put_front(&mut self, text: &[u8], len: usize)
-        requires room { length self.old + length text.now ≤ N }
-        requires front { len ≤ length text.now }
-        ensures { self.new ≡ self.old ++ take len text.now }
-    {
-        let end = self.len() + len;
-        self.put(text);
-        self.keep(end);
-    }
-
-    /// Goes back to its front.
-    #[inline(always)]
-    fn keep(&mut self, len: usize)
-        requires { len ≤ length self.old }
-        ensures { self.new ≡ take len self.old }
-    {
-        self.len = len;
-    }
-
-    /// Appends the figures of a number. At most eight are made in a room of their own, and copied as eight.
+    /// Appends the figures of a number. At most eight are made in their place.
+    #[tactic(auto, using(itoa::proofs::Decimal::length_four))]
     #[inline(always)]
     pub(crate) fn put_number(&mut self, number: u64)
         requires { length self.old + 20 ≤ N }
         ensures text { self.new ≡ self.old ++ decimal number }
         ensures width { length (decimal number) ≤ 20 }
     {
-        if number < 100_000_000 {
-            let mut figures = [0; 16];
-            let from = write_digits(number, &mut figures, 8);
-            self.put_front(&figures[from..from + 8], 8 - from);
+        if number < 10_000 {
+            self.put_four(number);
+        } else if number < 100_000_000 {
+            self.put_figures(number, 4 + count_figures(number / 10_000));
         } else {
             let mut figures = Buffer::new();
             self.put(figures.format(number).as_bytes());
         }
+    }
+
+    /// The same for a number of at most four figures. Each count has a branch of its own, where it is known.
+    #[tactic(auto, using(itoa::proofs::Decimal::length_one, itoa::proofs::Decimal::length_two, itoa::proofs::Decimal::length_pair))]
+    #[inline(always)]
+    fn put_four(&mut self, number: u64)
+        requires number { number < 10 ^ 4 }
+        requires room { length self.old + 4 ≤ N }
+        ensures text { self.new ≡ self.old ++ decimal number }
+        ensures width { length (decimal number) ≤ 4 }
+    {
+        if number < 10 {
+            self.put_figures(number, 1);
+        } else if number < 100 {
+            self.put_figures(number, 2);
+        } else if number < 1_000 {
+            self.put_figures(number, 3);
+        } else {
+            self.put_figures(number, 4);
+        }
+    }
+
+    /// Appends the figures of a number, which are so many.
+    #[inline(always)]
+    fn put_figures(&mut self, number: u64, count: usize)
+        requires count { count ≡ length (decimal number) }
+        requires room { length self.old + count ≤ N }
+        ensures { self.new ≡ self.old ++ decimal number }
+    {
+        let to = self.len + count;
+        let _from = write_digits(number, &mut self.room[..], to);
+        self.len = to;
+    }
+}
+
+/// How many figures a number of at most four has.
+#[tactic(auto, using(itoa::proofs::Decimal::length_one, itoa::proofs::Decimal::length_two, itoa::proofs::Decimal::length_pair))]
+#[inline(always)]
+fn count_figures(number: u64) -> usize
+    requires { number < 10 ^ 4 }
+    ensures figures { result ≡ length (decimal number) }
+    ensures most { result ≤ 4 }
+{
+    if number < 100 {
+        if number < 10 { 1 } else { 2 }
+    } else if number < 1_000 {
+        3
+    } else {
+        4
     }
 }
 

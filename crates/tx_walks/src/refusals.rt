@@ -5,7 +5,7 @@ ghost use Rattle.tx_rank.specs.Findings.{IsTrueOf};
 
 use refusing::Refusing;
 use std::alloc::{Allocator, Global};
-use tx_counter::first_counter;
+use tx_audit::first_counter;
 use tx_machine::Event;
 use tx_plan::Plan;
 use tx_plantext::read_plan;

@@ -9,7 +9,7 @@ use crate::refusals::refusals_are_told;
 use crate::replay::{Replay, has_refused, keys_code, run_events};
 use crate::texts::reads_back;
 use std::alloc::Global;
-use tx_counter::{counter, first_counter};
+use tx_audit::{counter, first_counter};
 use tx_machine::{Event, Reply, Service};
 use tx_plan::{CodeId, Direction, ExchangeId, Plan};
 use tx_rank::{Finding, Walk};

@@ -3,8 +3,8 @@ ghost use Rattle.std.specs.List.{AllByRecursion};
 ghost use Rattle.tx_script.specs.Events.{IsWritable};
 
 use std::alloc::Global;
+use tx_audit::write_counter;
 use tx_cases::Judge;
-use tx_counter::write_counter;
 use tx_machine::{Event, Plain};
 use tx_plan::Plan;
 use tx_script::run;

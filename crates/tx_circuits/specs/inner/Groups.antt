@@ -1,5 +1,5 @@
 -- The groups of a plan with the states of their circuits, and how they are kept in rows.
-use Rattle.std.specs.Prelude.{◌≡◌, ℕ, zero, suc, ◌≤◌, Bool, true, false, not, ◌&&◌, ◌==◌, if◌then◌else◌, List, map, length, find, replicate, Option, Some, None, option_and_then, slice_get, slice_set}
+use Rattle.std.specs.Prelude.{◌≡◌, ℕ, zero, suc, ◌≤◌, Bool, true, false, ◌&&◌, ◌==◌, if◌then◌else◌, List, map, length, find, replicate, Option, Some, None, option_and_then, slice_get, slice_set}
 use Rattle.tx_entries.specs.declared.circuit.Circuit.{Circuit}
 use Rattle.tx_plan.specs.Circuits.{is_both}
 use Rattle.tx_circuits.specs.declared.free_lists.End.{End}

@@ -1,33 +1,36 @@
 -- What becomes of a call that is routed, by the states of lines and circuits.
-use Rattle.std.specs.Prelude.{◌≡◌, ℕ, ◌&&◌, ◌==◌, if◌then◌else◌, [], Option, Some, None, unwrap_or}
-use Rattle.tx_plan.specs.Plan.{Plan, home_of, figures_of}
-use Rattle.tx_plan.specs.Codes.{code_of, after}
+use Rattle.std.specs.Prelude.{◌≡◌, ℕ, Bool, true, false, ◌&&◌, ◌==◌, if◌then◌else◌, Option, Some, None}
+use Rattle.tx_plan.specs.Plan.{Plan, home_of}
+use Rattle.tx_plan.specs.Codes.{code_of}
 use Rattle.tx_plan.specs.Routes.{route_list, is_barred}
 use Rattle.tx_entries.specs.declared.circuit.Circuit.{Circuit}
+use Rattle.tx_entries.specs.declared.line.Line.{Line}
+use Rattle.tx_state.specs.declared.service.Service.{Service}
 use Rattle.tx_state.specs.declared.service.Service.TheVariants.{Occ, Nc, Np, Der, Abs, Na}
 use Rattle.tx_state.specs.declared.reply.Reply.{Reply}
-use Rattle.tx_state.specs.declared.reply.Reply.TheVariants.{Seized, Connected as ConnectedTo}
-use Rattle.tx_state.specs.declared.phase.Phase.TheVariants.{Standing, Calling, Connected}
+use Rattle.tx_state.specs.declared.reply.Reply.TheVariants.{Seized}
+use Rattle.tx_state.specs.declared.phase.Phase.TheVariants.{Standing, Calling}
 use Rattle.tx_state.specs.Call.{Call, place_of, is_first}
 use Rattle.tx_state.specs.State.{State}
 use Rattle.tx_state.specs.InUse.{first_in}
-use Rattle.tx_state.specs.Routing.{set_call, in_phase}
+use Rattle.tx_state.specs.Lines.{line_answer}
+use Rattle.tx_state.specs.Routing.{set_call, in_phase, line_of, at_line}
 use Rattle.tx_state.specs.Ending.{answered}
-use Rattle.tx_lines.specs.Book.{Book, answer_of}
-use Rattle.tx_lines.specs.declared.answer.LineAnswer.{LineAnswer}
-use Rattle.tx_lines.specs.declared.answer.LineAnswer.TheVariants.{NoLine, OutOfOrder, Away, Engaged, Free}
+use Rattle.tx_lines.specs.Book.{Book, is_line_of}
 use Rattle.tx_circuits.specs.Table.{Table, first_free}
 use Rattle.tx_calls.specs.Calls.{Kept, kept_at}
 use Rattle.tx_engine.specs.declared.parts.Parts.{Parts}
 use Rattle.tx_engine.specs.declared.decision.Decision.{Decision}
-use Rattle.tx_engine.specs.declared.decision.Decision.TheVariants.{Connect, Seize, Answer}
+use Rattle.tx_engine.specs.declared.decision.Decision.TheVariants.{Reach, Seize, Answer}
 
-abbrev pub by_line : LineAnswer → Decision
-by_line NoLine = Answer Np
-by_line OutOfOrder = Answer Der
-by_line Away = Answer Abs
-by_line Engaged = Answer Occ
-by_line (Free l) = Connect l
+-- at the home of the code the call comes to the line, if there is such a line
+abbrev pub by_line : Bool → Line → Decision
+by_line false l = Answer Np
+by_line true l = Reach l
+
+-- the service code of a line of the plan that is out of order, away or engaged, in this order
+abbrev pub service_of : Bool → Bool → Bool → Option Service
+service_of faulty away engaged = if faulty then Some Der else if away then Some Abs else if engaged then Some Occ else None
 
 abbrev pub by_trunk : ℕ → Option Circuit → Decision
 by_trunk place None = Answer Nc
@@ -37,7 +40,7 @@ abbrev pub decided_for : Plan → Book → Table → Call → Option ℕ → Dec
 decided_for p b t c None = Answer Np
 decided_for p b t c (Some code) =
     if is_first c.hops && is_barred p (place_of p c) code then Answer Na
-    else if home_of p code == place_of p c then by_line (answer_of b code (unwrap_or (after (figures_of p code) c.keyed) []))
+    else if home_of p code == place_of p c then by_line (is_line_of b.ranges code (line_of p code c.keyed).national) (line_of p code c.keyed)
     else by_trunk (place_of p c) (first_in (first_free t (place_of p c)) (route_list p (place_of p c) code))
 
 abbrev pub decided : Plan → Book → Table → Call → Decision
@@ -45,7 +48,7 @@ decided p b t c = decided_for p b t c (code_of p c.keyed)
 
 -- the step that a decision makes
 abbrev pub carry_out : Plan → State → Call → Decision → Reply × State
-carry_out p s c (Connect l) = (ConnectedTo l, record s { calls = set_call c.number (in_phase (Connected l)) s.calls })
+carry_out p s c (Reach l) = at_line p s c l (line_answer p s l)
 carry_out p s c (Seize x place) = (Seized x, record s { calls = set_call c.number (in_phase (Calling x)) s.calls })
 carry_out p s c (Answer service) = answered p c.number service s
 

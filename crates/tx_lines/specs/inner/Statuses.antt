@@ -1,14 +1,14 @@
 -- What the statuses of lines mean as sets.
-use Rattle.std.specs.Prelude.{◌≡◌, ℕ, Bool, false, ◌||◌, Option, Some, None, filter, if◌then◌else◌, refl}
+use Rattle.std.specs.Prelude.{◌≡◌, ℕ, Bool, false, ◌||◌, Option, Some, None, List, filter, if◌then◌else◌, refl}
 use Rattle.std.specs.Option.{option_map_or}
 use Rattle.std.specs.FinSet as set
 use Rattle.std.specs.Coded.{Coded, code_by, coded×, coded_ℕ}
-use Rattle.indexmap.specs.IndexMap as index
-use Rattle.indexmap.specs.IndexMap.{IndexMap}
-use Rattle.tx_plan.specs.Orders.{same_line, line_cmp, coded_line}
+use Rattle.tx_plan.specs.Orders.{line_cmp, coded_line}
 use Rattle.tx_entries.specs.declared.line.Line.{Line}
 use Rattle.tx_lines.specs.Status.{has, is_unmarked}
+use Rattle.tx_lines.specs.inner.Table.{Table, kept_of, lines_in}
 use Rattle.tx_lines.specs.declared.status.Status.{Status}
+use Rattle.tx_lines.specs.declared.line_table.Entry.{Entry}
 use Rattle.tx_lines.specs.declared.status.Mark.{Mark}
 use Rattle.tx_lines.specs.declared.status.Mark.TheVariants.{Faulty, Away, Engaged}
 
@@ -48,23 +48,22 @@ is_marked s l = set.contains s.faulty l || (set.contains s.away l || set.contain
 abbrev pub kept : Status → Option Status
 kept s = if is_unmarked s then None else Some s
 
-module _ {S : Type 0} where
-  -- each line that is kept has a mark
-  abbrev pub AllMarked : IndexMap Line Status S → Type 0
-  AllMarked m = (l : Line) (s : Status) → index.get same_line m l ≡ Some s → is_unmarked s ≡ false
+-- each line that is kept has a mark
+abbrev pub AllMarked : List (Option Entry) → Type 0
+AllMarked cells = (l : Line) (s : Status) → kept_of cells l ≡ Some s → is_unmarked s ≡ false
 
-  -- the line has a status that passes the test
-  abbrev pub passes : (Status → Bool) → IndexMap Line Status S → Line → Bool
-  passes test m l = option_map_or test (index.get same_line m l) false
+-- the line has a status that passes the test
+abbrev pub passes : (Status → Bool) → List (Option Entry) → Line → Bool
+passes test cells l = option_map_or test (kept_of cells l) false
 
-  -- the lines whose status passes the test
-  abbrev pub with_status : (Status → Bool) → IndexMap Line Status S → set.FinSet line_cmp
-  with_status test m = set.from_list (filter (passes test m) (index.keys m))
+-- the lines whose status passes the test
+abbrev pub with_status : (Status → Bool) → List (Option Entry) → set.FinSet line_cmp
+with_status test cells = set.from_list (filter (passes test cells) (lines_in cells))
 
-  abbrev pub sets_of : IndexMap Line Status S → Sets
-  sets_of m = record {
-    faulty = with_status (has Faulty) m;
-    away = with_status (has Away) m;
-    engaged = with_status (has Engaged) m;
-    room = index.spare m;
-  }
+abbrev pub sets_of : Table → Sets
+sets_of t = record {
+  faulty = with_status (has Faulty) t.cells;
+  away = with_status (has Away) t.cells;
+  engaged = with_status (has Engaged) t.cells;
+  room = t.room;
+}

@@ -4,7 +4,7 @@ use Rattle.tx_state.specs.declared.phase.Phase.TheVariants.{Standing}
 use Rattle.tx_state.specs.Call.{Call, is_calling, is_numbered}
 use Rattle.tx_state.specs.Routing.{in_phase}
 use Rattle.tx_state.specs.Confirming.{thrown_back}
-use Rattle.tx_network.specs.declared.open_call.OpenCall.{OpenCall}
+use Rattle.tx_state.specs.declared.open_call.OpenCall.{OpenCall}
 use Rattle.tx_plain_parts.specs.declared.change.Change.{Change}
 use Rattle.tx_plain_parts.specs.declared.change.Change.TheVariants.{To, Carry, ThrowBack}
 

@@ -2,7 +2,7 @@ use Rattle.std.proofs.Common.{◌≡◌, Some, is_some, false, ap, ◌∙◌, sy
 use Rattle.slab.proofs.SlabLemmas.{Updates-with_value}
 use Rattle.tx_state.specs.declared.phase.Phase.TheVariants.{Standing}
 use Rattle.tx_state.specs.Confirming.{carried_on}
-use Rattle.tx_network.specs.Seen.{call_seen}
+use Rattle.tx_state.specs.Seen.{call_seen}
 use Rattle.tx_calls.proofs.open_calls.add_hop.Goals as goal
 
 pub push_reserved-requires : goal.push_reserved-requires

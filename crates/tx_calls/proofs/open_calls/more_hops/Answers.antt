@@ -1,7 +1,7 @@
 use Rattle.std.proofs.Common.{◌≡◌, ◌≤◌, Some, is_some, ap, ◌∙◌, arith, subst, rules}
 use Rattle.slab.proofs.SlabLemmas.{Updates-with_value}
 use Rattle.tx_calls.specs.Calls.{kept_of}
-use Rattle.tx_network.specs.Seen.{call_seen}
+use Rattle.tx_state.specs.Seen.{call_seen}
 use Rattle.tx_calls.proofs.open_calls.more_hops.Goals as goal
 
 pub returns-in_ok-more_room : goal.returns-in_ok-more_room

@@ -1,5 +1,4 @@
-use Rattle.std.proofs.Common.{◌≡◌, ◌∙◌, ◌≤◌, length, sym, subst, arith}
-use Rattle.tx_circuits.specs.declared.free_lists.FreeLists.{FreeLists}
+use Rattle.std.proofs.Common.{◌≡◌, ◌∙◌, length, sym, subst, arith}
 use Rattle.tx_circuits.specs.inner.Groups.{whole_lists}
 use Rattle.tx_circuits.specs.inner.Slots.{IsSound}
 use Rattle.tx_circuits.proofs.Idle.{AreLinkedUntil, idle_linked, linked_more}

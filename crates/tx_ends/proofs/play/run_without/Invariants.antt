@@ -1,4 +1,4 @@
-use Rattle.tx_words.specs.Commands.{IsInRange}
+use Rattle.tx_program.specs.Commands.{IsInRange}
 use Rattle.tx_ends.proofs.play.run_without.Given as goal
 
 abbrev pub invariant-loop-request : goal.invariant-loop-request

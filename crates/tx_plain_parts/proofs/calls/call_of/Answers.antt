@@ -1,6 +1,6 @@
 use Rattle.std.proofs.Common.{◌∙◌, ◌==◌, length, sym, ap, arith, ne_eqb}
 use Rattle.tx_state.specs.Call.{Call}
-use Rattle.tx_network.specs.Seen.{call_seen}
+use Rattle.tx_state.specs.Seen.{call_seen}
 use Rattle.tx_plain_parts.proofs.Finding.{passed, none_left}
 use Rattle.tx_plain_parts.proofs.calls.call_of.Goals as goal
 use borrow.Author.Count.{falls}

@@ -1,6 +1,6 @@
 use Rattle.std.proofs.Common.{◌≡◌, ◌-◌, ◌≤◌, map, drop, length}
 use Rattle.tx_state.specs.Call.{call_of}
-use Rattle.tx_network.specs.Seen.{call_seen}
+use Rattle.tx_state.specs.Seen.{call_seen}
 use Rattle.tx_plain_parts.proofs.calls.call_of.Given as goal
 
 abbrev pub invariant-loop-at : goal.invariant-loop-at

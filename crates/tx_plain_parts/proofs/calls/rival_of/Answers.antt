@@ -1,7 +1,7 @@
 use Rattle.std.proofs.Common.{◌∙◌, not, ◌&&◌, ◌==◌, length, sym, arith}
 use Rattle.tx_state.specs.Call.{Call}
 use Rattle.tx_state.specs.InUse.{seizes_from}
-use Rattle.tx_network.specs.Seen.{call_seen}
+use Rattle.tx_state.specs.Seen.{call_seen}
 use Rattle.tx_plain_parts.proofs.Finding.{passed, none_left}
 use Rattle.tx_plain_parts.proofs.calls.rival_of.Goals as goal
 use borrow.Author.Count.{falls}

@@ -2,7 +2,7 @@ use Rattle.std.proofs.Common.{◌≡◌, ◌-◌, ◌≤◌, not, ◌&&◌, ◌=
 use Rattle.std.specs.Prelude.{find}
 use Rattle.tx_state.specs.Call.{Call}
 use Rattle.tx_state.specs.InUse.{seizes_from}
-use Rattle.tx_network.specs.Seen.{call_seen}
+use Rattle.tx_state.specs.Seen.{call_seen}
 use Rattle.tx_plain_parts.proofs.calls.rival_of.Given as goal
 
 abbrev pub invariant-loop-at : goal.invariant-loop-at

@@ -1,6 +1,6 @@
 use Rattle.std.proofs.Common.{◌≡◌, ◌≤◌, ◌+◌, ◌-◌, length, map, drop}
 use Rattle.std.specs.Prelude.{filter}
-use Rattle.tx_network.specs.Seen.{call_seen}
+use Rattle.tx_state.specs.Seen.{call_seen}
 use Rattle.tx_plain_parts.specs.inner.GivenUp.{ends_by}
 use Rattle.tx_plain_parts.proofs.ending.count_ending.Given as goal
 

@@ -1,5 +1,5 @@
 use Rattle.std.proofs.Common.{ap, ◌∙◌, sym, subst, [], ◌∷◌, map, take, get_or, arith}
-use Rattle.tx_network.specs.Seen.{call_seen}
+use Rattle.tx_state.specs.Seen.{call_seen}
 use Rattle.tx_plain_parts.specs.inner.GivenUp.{is_given, with_more}
 use Rattle.tx_plain_parts.specs.inner.Marks.{Circuits, HasMark}
 use Rattle.tx_state.specs.declared.hop.Hop.{Hop}

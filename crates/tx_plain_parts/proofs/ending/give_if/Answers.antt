@@ -1,5 +1,5 @@
 use Rattle.std.proofs.Common.{ap, ◌∙◌, sym, [], map}
-use Rattle.tx_network.specs.Seen.{call_seen}
+use Rattle.tx_state.specs.Seen.{call_seen}
 use Rattle.tx_plain_parts.specs.inner.GivenUp.{is_given, with_more}
 use Rattle.tx_state.specs.InUse.{circuits_used}
 use Rattle.std.specs.Prelude.{filter, if◌then◌else◌}

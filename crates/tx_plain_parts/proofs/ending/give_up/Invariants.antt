@@ -2,7 +2,7 @@ use Rattle.std.proofs.Common.{◌≡◌, ◌≤◌, ◌-◌, length, map, take}
 use Rattle.std.specs.Prelude.{filter}
 use Rattle.std.specs.List.{flat_map}
 use Rattle.tx_state.specs.InUse.{circuits_used}
-use Rattle.tx_network.specs.Seen.{call_seen}
+use Rattle.tx_state.specs.Seen.{call_seen}
 use Rattle.tx_plain_parts.specs.inner.GivenUp.{is_given, with_more, ends_by}
 use Rattle.tx_plain_parts.proofs.ending.give_up.Given as goal
 

@@ -1,7 +1,7 @@
 use Rattle.std.proofs.Common.{◌∙◌, ◌&&◌, not}
 use Rattle.tx_state.specs.Call.{Call}
 use Rattle.tx_state.specs.InUse.{seizes}
-use Rattle.tx_network.specs.Seen.{call_seen}
+use Rattle.tx_state.specs.Seen.{call_seen}
 use Rattle.tx_plain_parts.specs.inner.GivenUp.{ends_by}
 use Rattle.tx_plain_parts.proofs.Views.{any_map}
 use Rattle.tx_plain_parts.proofs.ending.kept.Goals as goal

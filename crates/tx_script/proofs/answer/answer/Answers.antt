@@ -11,27 +11,27 @@ use Rattle.tx_script.proofs.answer.answer.Goals as goal
 pub write_tickets-requires : goal.write_tickets-requires
 write_tickets-requires g c =
     let s = g.N.Network.state c.args.net.now in
-    let t = g.N.Network.state c.apply.new.self in
-    let a = is_answer c.args.plan.now (g.N.Network.plan c.args.net.now) s c.args.event c.in_ok-reply.reply t c.requires.plan c.requires.taken c.in_ok-reply.ensures.step in
+    let t = g.N.Network.state c.apply-applied.new.self in
+    let a = is_answer c.args.plan.now (g.N.Network.plan c.args.net.now) s c.args.event c.in-Ok.reply t c.requires.plan c.requires.taken (rw c.in-Ok.is at c.apply-applied.ensures.step) in
     record { few = omega (arith, c.requires.few, a.few) }
 
 pub returns-in_err-write_reply-clause-answers : goal.returns-in_err-write_reply-clause-answers
 returns-in_err-write_reply-clause-answers g c =
     let p = c.args.plan.now in
     let s = g.N.Network.state c.args.net.now in
-    let t = g.N.Network.state c.apply.new.self in
-    let reply = c.in_ok-reply.reply in
-    let a = is_answer p (g.N.Network.plan c.args.net.now) s c.args.event reply t c.requires.plan c.requires.taken c.in_ok-reply.ensures.step in
-    let e = err_from_is_err_and c.from_residual-in_err-write_reply.result c.from_residual-in_err-write_reply.ensures.1 in
+    let t = g.N.Network.state c.apply-applied.new.self in
+    let reply = c.in-Ok.reply in
+    let a = is_answer p (g.N.Network.plan c.args.net.now) s c.args.event reply t c.requires.plan c.requires.taken (rw c.in-Ok.is at c.apply-applied.ensures.step) in
+    let e = err_from_is_err_and c.from_residual.result c.from_residual.ensures.1 in
     rw (e.1, e.2) (untold_reply p s c.args.event reply t _ _ a c.in_err-write_reply.ensures.err)
 
 pub returns-in_err-tickets-clause-answers : goal.returns-in_err-tickets-clause-answers
 returns-in_err-tickets-clause-answers g c =
     let p = c.args.plan.now in
     let s = g.N.Network.state c.args.net.now in
-    let t = g.N.Network.state c.apply.new.self in
-    let reply = c.in_ok-reply.reply in
-    let a = is_answer p (g.N.Network.plan c.args.net.now) s c.args.event reply t c.requires.plan c.requires.taken c.in_ok-reply.ensures.step in
+    let t = g.N.Network.state c.apply-applied.new.self in
+    let reply = c.in-Ok.reply in
+    let a = is_answer p (g.N.Network.plan c.args.net.now) s c.args.event reply t c.requires.plan c.requires.taken (rw c.in-Ok.is at c.apply-applied.ensures.step) in
     let e = err_from_is_err_and c.from_residual-in_err-tickets.result c.from_residual-in_err-tickets.ensures.1 in
     rw (e.1, e.2) (untold_tickets p s c.args.event reply t _ _ _ _ a c.in_ok-write_reply.ensures.ok c.in_err-tickets.ensures.err)
 
@@ -39,9 +39,9 @@ pub returns-clause-answers : goal.returns-clause-answers
 returns-clause-answers g c =
     let p = c.args.plan.now in
     let s = g.N.Network.state c.args.net.now in
-    let t = g.N.Network.state c.apply.new.self in
-    let reply = c.in_ok-reply.reply in
-    let a = is_answer p (g.N.Network.plan c.args.net.now) s c.args.event reply t c.requires.plan c.requires.taken c.in_ok-reply.ensures.step in
+    let t = g.N.Network.state c.apply-applied.new.self in
+    let reply = c.in-Ok.reply in
+    let a = is_answer p (g.N.Network.plan c.args.net.now) s c.args.event reply t c.requires.plan c.requires.taken (rw c.in-Ok.is at c.apply-applied.ensures.step) in
     record {
       counted = counted_as p s c.args.event reply t a _ _ c.is_refused.ensures c.in_ok-tickets.ensures.count;
       wrote = then_took _ _ _ (reply_text p reply) _ c.in_ok-write_reply.ensures.ok c.in_ok-tickets.ensures.ok ∙ ap (append_known (g.W.Sink.taken c.args.sink.now)) (sym a.text);

@@ -1,4 +1,5 @@
 use Rattle.std.proofs.Common.{length, take, ap, arith}
+use Rattle.std.proofs.lemmas.Bool.{lt-ltb}
 use Rattle.std.proofs.lemmas.List.{length-take}
 use Rattle.tx_text.proofs.Feeding.{length-without_cr-le}
 use Rattle.tx_text.proofs.reader.whole_line.Goals as goal
@@ -7,3 +8,6 @@ pub returns-in-None-clause-short : goal.returns-in-None-clause-short
 returns-in-None-clause-short c =
     let front = take c.lf_or_len-len.result c.args.piece.now in
     omega (arith, ap length c.without_cr-line.ensures, length-without_cr-le front, length-take c.lf_or_len-len.result c.args.piece.now)
+
+pub returns-in-Some-clause-lf : goal.returns-in-Some-clause-lf
+returns-in-Some-clause-lf c = lt-ltb _ _ (omega (arith, c.in-Some.ensures.place, c.in-Some.ensures.within))

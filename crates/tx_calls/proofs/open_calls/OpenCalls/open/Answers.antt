@@ -3,7 +3,7 @@ use Rattle.std.specs.Option.{option_map}
 use Rattle.tx_state.specs.Call.{Call}
 use Rattle.tx_plan.specs.Among.{Among}
 use Rattle.tx_calls.specs.Calls.{Calls, Changes, kept_at, calls_in, calls_of, kept_of, slots_of}
-use Rattle.tx_network.specs.Seen.{call_seen}
+use Rattle.tx_state.specs.Seen.{call_seen}
 use Rattle.tx_calls.specs.inner.Tied.{IsTied}
 use Rattle.tx_calls.proofs.Sorted.{tied_after_put, after_put, calls_rising}
 use Rattle.tx_calls.proofs.Bridge.{changes_of, kept_is}

@@ -1,22 +1,20 @@
 use Rattle.std.proofs.Common.{sym, ap, ◌∙◌}
 use Rattle.tx_state.specs.declared.event.Event.TheVariants.{Route}
-use Rattle.tx_state.specs.declared.reply.Reply.TheVariants.{Answered}
-use Rattle.tx_state.specs.State.{State}
 use Rattle.tx_state.specs.Step.{counted, accepted, unless_refused}
 use Rattle.tx_calls.specs.Calls.{calls_in}
-use Rattle.tx_engine.specs.declared.decision.Decision.TheVariants.{Connect, Seize, Answer}
+use Rattle.tx_engine.specs.declared.decision.Decision.TheVariants.{Reach, Seize, Answer}
 use Rattle.tx_engine.specs.inner.Sound.{state_of}
 use Rattle.tx_engine.proofs.Deciding.{route_is, if_ok}
 use Rattle.tx_engine.proofs.parts.Parts.route.Goals as goal
 
-pub returns-in-Connect-clause-step : goal.returns-in-Connect-clause-step
-returns-in-Connect-clause-step g c =
+pub returns-in-Reach-clause-step : goal.returns-in-Reach-clause-step
+returns-in-Reach-clause-step g c =
     let n = c.args.self.now in
     let f = c.in-Ok.ensures.found in
     let dec = c.decision.ensures f.0 f.1.kept in
-    if_ok c.connect.result (λ reply done.
+    if_ok c.reach.result (λ reply done.
     ap (λ o. unless_refused o (state_of n) (counted (accepted n.plan.now (state_of n) (Route c.args.number)))) c.in-Ok.ensures.open
-    ∙ ap counted (route_is n.plan.now (calls_in n.calls) n.lines n.circuits n.numbers n.events n.tickets.items c.requires.lines c.requires.together c.args.number f.0.call (Connect c.in-Connect.line) f.1.open' (sym c.in-Connect.is ∙ dec)) ∙ done f.0 f.1.kept) c.connect.ensures.ok
+    ∙ ap counted (route_is n.plan.now (calls_in n.calls) n.lines n.circuits n.numbers n.events n.tickets.items c.requires.lines c.requires.together c.args.number f.0.call (Reach c.in-Reach.line) f.1.open' (sym c.in-Reach.is ∙ dec)) ∙ done f.0 f.1.kept) c.reach.ensures.ok
 
 pub returns-in-Seize-clause-step : goal.returns-in-Seize-clause-step
 returns-in-Seize-clause-step g c =
@@ -34,4 +32,4 @@ returns-in-Answer-clause-step g c =
     let dec = c.decision.ensures f.0 f.1.kept in
     ap (λ o. unless_refused o (state_of n) (counted (accepted n.plan.now (state_of n) (Route c.args.number)))) c.in-Ok.ensures.open
     ∙ ap counted (route_is n.plan.now (calls_in n.calls) n.lines n.circuits n.numbers n.events n.tickets.items c.requires.lines c.requires.together c.args.number f.0.call (Answer c.in-Answer.service) f.1.open' (sym c.in-Answer.is ∙ dec))
-    ∙ ap (λ (s : State). counted (Answered c.in-Answer.service, s)) (sym (c.end_call.ensures.state f.0 f.1.kept))
+    ∙ c.answer.ensures.step f.0 f.1.kept

@@ -4,7 +4,7 @@ use Rattle.tx_state.specs.Call.{is_first, place_of}
 use Rattle.tx_plan.specs.Codes.{code_of}
 use Rattle.tx_plan.specs.Plan.{home_of}
 use Rattle.tx_plan.specs.Routes.{is_barred}
-use Rattle.tx_network.specs.Seen.{call_seen}
+use Rattle.tx_state.specs.Seen.{call_seen}
 use Rattle.tx_machine.proofs.Routed.{routed_home}
 use Rattle.tx_machine.proofs.plain.Plain.decide.Goals as goal
 

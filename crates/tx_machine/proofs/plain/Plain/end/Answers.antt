@@ -5,7 +5,7 @@ use Rattle.tx_plan.proofs.Among.{among_map}
 use Rattle.tx_state.specs.Ending.{end_calls}
 use Rattle.tx_state.specs.State.{Net}
 use Rattle.tx_plain_parts.specs.inner.Marks.{Circuits, HasMark}
-use Rattle.tx_network.specs.Seen.{call_seen}
+use Rattle.tx_state.specs.Seen.{call_seen}
 use Rattle.tx_plain_parts.specs.inner.GivenUp.{ends_by}
 use Rattle.tx_machine.proofs.Whole.{whole_ended, given_same}
 use Rattle.tx_plain_parts.proofs.Views.{filter_map_seen}

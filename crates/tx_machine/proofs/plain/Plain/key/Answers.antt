@@ -1,7 +1,7 @@
 use Rattle.std.proofs.Common.{◌+◌, ap, ◌∙◌, arith, ◌++◌, ◌∷◌, [], false}
 use Rattle.tx_state.specs.declared.phase.Phase.TheVariants.{Standing}
 use Rattle.tx_machine.proofs.Whole.{whole_room, whole_more}
-use Rattle.tx_network.specs.declared.open_call.OpenCall.{OpenCall}
+use Rattle.tx_state.specs.declared.open_call.OpenCall.{OpenCall}
 use Rattle.tx_machine.proofs.plain.Plain.key.Goals as goal
 
 pub invariant_of-self : goal.invariant_of-self

@@ -4,7 +4,7 @@ use Rattle.tx_state.specs.Call.{Call, call_of}
 use Rattle.tx_state.specs.Step.{with_call}
 use Rattle.tx_state.specs.Routing.{routed}
 use Rattle.tx_state.proofs.Lists.{find_mem}
-use Rattle.tx_network.specs.Seen.{call_seen}
+use Rattle.tx_state.specs.Seen.{call_seen}
 use Rattle.tx_machine.specs.inner.Decided.{routing_done}
 use Rattle.tx_machine.proofs.plain.Plain.routing_of.Goals as goal
 

@@ -1,7 +1,7 @@
 use Rattle.std.proofs.Common.{◌≡◌, ◌≤◌, Some, None, ap, take, length, arith, subst}
 use Rattle.std.proofs.lemmas.List.{length-take-le}
 use Rattle.tx_pipe.specs.Parts.{Finds}
-use Rattle.tx_pipe.proofs.Giving.{next_of_script, next_of_plan, next_of_last}
+use Rattle.tx_pipe.proofs.Giving.{next_of_script, next_of_plan, next_of_last, some_taken}
 use Rattle.tx_pipe.proofs.two_texts.TwoTexts.next.Goals as goal
 
 pub returns-in-Script-clause-next : goal.returns-in-Script-clause-next
@@ -26,3 +26,9 @@ returns-in-Some-clause-next g c =
     let le : n ≤ length c.args.self.now.held = omega (arith, c.min.ensures, ap length held) in
     let found : Finds c.args.self.now.line (take n c.bytes-bytes.result.now) c.find_end.new.self (Some c.in-Some.n) = c.in-Some.ensures in
     rw c.in-Plan.is (next_of_last c.args.self.now.line c.find_end.new.self c.args.self.now.held n le c.in-Some.n (subst (λ h. Finds c.args.self.now.line (take n h) c.find_end.new.self (Some c.in-Some.n)) held found))
+
+pub returns-in-Script-clause-some : goal.returns-in-Script-clause-some
+returns-in-Script-clause-some g c going much some = some_taken c.min.result c.args.room c.bytes-bytes.result.now c.args.self.now.held c.bytes-bytes.ensures.bytes c.min.ensures much some
+
+pub returns-in-None-clause-some : goal.returns-in-None-clause-some
+returns-in-None-clause-some g c going much some = some_taken c.min.result c.args.room c.bytes-bytes.result.now c.args.self.now.held c.bytes-bytes.ensures.bytes c.min.ensures much some

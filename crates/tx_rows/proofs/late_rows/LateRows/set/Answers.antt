@@ -1,23 +1,35 @@
-use Rattle.std.proofs.Common.{◌≡◌, ◌∙◌, ◌≤◌, ◌<◌, ◌+◌, ◌-◌, length, set, sym, ap, arith, refl}
+use Rattle.std.proofs.Common.{◌≤◌, ◌+◌, ◌∙◌, length, set, ap, arith, refl}
 use Rattle.std.specs.Prelude.{slice_get}
-use Rattle.std.proofs.lemmas.List.Edits.{length-between}
-use Rattle.tx_rows.specs.Rows.{Row, change_at}
-use Rattle.tx_rows.specs.inner.Kept.{row_seen}
-use Rattle.tx_rows.proofs.Lists.{some_is}
-use Rattle.tx_rows.proofs.Kept.{rewrites_item, seen_rewritten, items_there, seen_at}
+use Rattle.std.proofs.lemmas.Option.{slice_get_within}
+use Rattle.tx_rows.specs.Rows.{change_at}
+use Rattle.tx_rows.proofs.Kept.{rewrites_item, seen_rewritten}
+use Rattle.tx_rows.proofs.Parts.{place_in}
 use Rattle.tx_rows.proofs.late_rows.LateRows.set.Goals as goal
+
+pub written-start-requires-clause-row : goal.written-start-requires-clause-row
+written-start-requires-clause-row g c = slice_get_within _ c.args.row c.requires.there.0 c.requires.there.1
+
+pub overflow_add-start : goal.overflow_add-start
+overflow_add-start g c =
+    let kept = c.written-start.ensures.kept in
+    let row = ap (λ rows. slice_get rows c.args.row) c.written-start.ensures.rows ∙ c.requires.there.1 in
+    let within = (place_in c.written-start.new.self kept c.args.row _ _ c.written-start.ensures.at c.requires.there.0 c.args.place row c.requires.there.2).1 in
+    omega (arith, within, kept.numbers)
+
+pub index_mut-requires : goal.index_mut-requires
+index_mut-requires g c =
+    let row = ap (λ rows. slice_get rows c.args.row) c.written-start.ensures.rows ∙ c.requires.there.1 in
+    let within = (place_in c.written-start.new.self c.written-start.ensures.kept c.args.row _ _ c.written-start.ensures.at c.requires.there.0 c.args.place row c.requires.there.2).1 in
+    omega (arith, within, c.written-start.new.self.items.ok.0)
 
 pub returns-clause-rows : goal.returns-clause-rows
 returns-clause-rows g c =
     let l = c.written-start.new.self in
     let is = c.written-start.ensures.at in
     let a = c.written-start.result.0 in
-    let r = is.at in
     let kept = c.written-start.ensures.kept in
-    let in_it : a + r.count ≤ length l.items.items = kept.within c.args.row r a is.is is.start in
-    let same : c.requires.there.0 ≡ row_seen l.items.items l.idle r = some_is _ _ (sym c.requires.there.1 ∙ ap (λ rows. slice_get rows c.args.row) (sym c.written-start.ensures.rows) ∙ seen_at l.items.items l.idle l.rows.items c.args.row r is.is) in
-    let long : length (c.requires.there.0).items ≡ r.count =
-    ap (λ (x : Row _ _). length x.items) same ∙ ap length (items_there l.items.items l.idle r a is.start) ∙ length-between l.items.items a (a + r.count) in_it ∙ omega arith in
-    let lt : c.args.place < r.count = omega (arith, long, c.requires.there.2) in
-    seen_rewritten l.items.items _ l.late l.idle l.rows.items kept c.args.row r is.is a is.start _ _ (rewrites_item l.items.items a r.count in_it c.args.place c.args.item lt) (λ xs. set xs c.args.place c.args.item) refl
+    let row = ap (λ rows. slice_get rows c.args.row) c.written-start.ensures.rows ∙ c.requires.there.1 in
+    let lt = (place_in l kept c.args.row _ _ is c.requires.there.0 c.args.place row c.requires.there.2).0 in
+    let in_it : a + is.at.count ≤ length l.items.items = kept.within c.args.row is.at a is.is is.start in
+    seen_rewritten l.items.items _ l.late l.idle l.rows.items kept c.args.row is.at is.is a is.start _ _ (rewrites_item l.items.items a is.at.count in_it c.args.place c.args.item lt) (λ xs. set xs c.args.place c.args.item) refl
     ∙ ap (change_at (λ x. record x { items = set x.items c.args.place c.args.item }) c.args.row) c.written-start.ensures.rows

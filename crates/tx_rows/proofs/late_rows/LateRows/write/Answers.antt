@@ -1,4 +1,4 @@
-use Rattle.std.proofs.Common.{◌≡◌, ◌∙◌, ◌+◌, ◌-◌, length, Some, None, subst, ap, arith, refl}
+use Rattle.std.proofs.Common.{◌≡◌, ◌∙◌, ◌+◌, length, Some, None, subst, ap, arith, refl}
 use Rattle.std.specs.Prelude.{IfSome}
 use Rattle.tx_rows.proofs.Lists.{entry_at, get-set_here}
 use Rattle.tx_rows.proofs.Kept.{kept_roomier, kept_written, seen_written, has_room, count_late, resized}

@@ -1,7 +1,8 @@
 use Rattle.std.proofs.Common.{◌≡◌, ◌<◌, ◌++◌, ◌∷◌, [], Some, map, length, subst, ap, sym, ◌∙◌, arith, slice_set}
-use Rattle.std.proofs.lemmas.List.{length-map}
+use Rattle.std.proofs.lemmas.List.{length-map, map_push}
 use Rattle.std.proofs.lemmas.Option.{slice_get_read}
 use Rattle.std.specs.Prelude.{slice_get}
+use Rattle.tx_trie.specs.declared.row.Row.{Row}
 use Rattle.tx_trie.specs.inner.Nodes.{IsTrie, walk, code_of_row}
 use Rattle.tx_trie.proofs.Ways.{walk_within}
 use Rattle.tx_trie.proofs.Longest.{widths}
@@ -35,3 +36,20 @@ invariant_of-self-2 g c =
     (λ i. slice_set grown place (record { code = Some c.at.result; next = d.next })) (slice_get_read grown (length grown) place d (λ i. length grown) low c.index_mut-node.ensures.value) way c.requires.form
     (λ i e at. c.requires.unused i e (ap (λ l. slice_get l i) (sym codes_are) ∙ at))
     (c.at.ensures ∙ (let z : c.len.result ≡ length (map code_of_row rows) = (let e = c.len.ensures in simp length-map (omega arith)) in z)) few (omega (arith, r.len))
+
+pub overflow_cast-len : goal.overflow_cast-len
+overflow_cast-len g c =
+    let rows = c.self.inside.codes.items in
+    let codes_are : map code_of_row rows ≡ c.args.self.now = c.self.view_is in
+    let k = c.reserve.new.self.ok.0 in
+    let same : length c.reserve.new.self.items ≡ length rows = ap length c.reserve.ensures.items in
+    let few : length (map code_of_row rows) < 1100 = (let e = ap length codes_are in let f = c.requires.few in omega arith) in
+    let count : c.len.result ≡ length (map code_of_row rows) = (let e = c.len.ensures in simp length-map (omega arith)) in
+    omega (arith, few, count)
+
+pub returns-clause-ok : goal.returns-clause-ok
+returns-clause-ok g c =
+    let row : Row = record { figures = c.args.figures; home = c.args.home } in
+    ap (map code_of_row) (c.push_reserved.ensures.items ∙ ap (λ l. l ++ row ∷ []) c.reserve.ensures.items)
+    ∙ map_push code_of_row c.self.inside.codes.items row
+    ∙ ap (λ l. l ++ record { figures = c.args.figures; home = c.args.home } ∷ []) c.self.view_is

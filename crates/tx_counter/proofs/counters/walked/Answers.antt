@@ -1,9 +1,0 @@
-use Rattle.std.proofs.Common.{◌∙◌, ap}
-use Rattle.tx_text.specs.Words.{figures_of as keyed_of}
-use Rattle.tx_plan.specs.Plan.{figures_of}
-use Rattle.tx_counter.proofs.Writable.{code_keyed}
-use Rattle.tx_counter.proofs.counters.walked.Goals as goal
-
-pub unreachable-requires : goal.unreachable-requires
-unreachable-requires g c =
-    c.in_default-read.not-Some (figures_of c.args.plan.now c.args.code) (c.read.ensures ∙ ap keyed_of c.code_figures.ensures ∙ code_keyed c.args.plan.now c.rules.ensures c.args.code c.requires)

@@ -1,6 +1,0 @@
-use Rattle.tx_state.specs.declared.event.Event.TheVariants.{Block}
-use Rattle.tx_counter.proofs.Loops.{one_pushed}
-use Rattle.tx_counter.proofs.steps.push_blocks.Goals as goal
-
-pub loop-group-preserved : goal.loop-group-preserved
-loop-group-preserved g c = one_pushed Block c.args.groups.now c.loop-group.group-index c.group-item.result c.args.events.now.items c.loop-group.events.items c.push.new.self.items c.loop-group-test.true c.group-item.is c.loop-group.invariant c.in_ok-push.ensures.items

@@ -1,6 +1,0 @@
-use Rattle.std.proofs.Common.{◌≡◌, ◌++◌, map, take}
-use Rattle.tx_state.specs.declared.event.Event.TheVariants.{Block}
-use Rattle.tx_counter.proofs.steps.push_blocks.Given as goal
-
-abbrev pub invariant-loop-group : goal.invariant-loop-group
-invariant-loop-group g l = l.events.items ≡ l.initial.events.items ++ map Block (take l.group-index l.groups)

@@ -1,0 +1,313 @@
+// Commands, and the words that ask for them.
+ghost use Rattle.std.specs.Prelude.{◌≡◌, ◌≢◌, ◌≤◌, ℕ, List, Option, [], Ok, Some, None, IfOk, IfErr, IfSome, is_some, not, codes, option_map, string_bytes};
+ghost use Rattle.clap.specs.Words.{Row, app_of, first_of, found_of, rows_of, subcommand_rows_of};
+ghost use Rattle.tx_program.specs.Commands.{IsInRange, Names, Gives, Asks, AskFor, IsFoundIn};
+ghost use Rattle.tx_program.specs.Grammar.{program_words};
+ghost use Rattle.tx_program.specs.Faults.{HasNumber, IsRefusalIn, IsRefusalOf, status_of};
+
+use crate::fault::WordsFault;
+use crate::grammar::grammar;
+use crate::{Entry, entry_of};
+use clap::ArgMatches;
+use clap::error::ErrorKind;
+use std::alloc::{AllocError, Global};
+
+/// What the words ask for.
+#[derive(Debug, Drop)]
+pub enum Command {
+    /// No words: a plan and a script on standard input.
+    Pipe,
+    /// `run PLAN SCRIPT`, after a Yes to a certificate if there is one.
+    Run {
+        plan: String,
+        script: String,
+        checked: Option<(String, u8, u8)>,
+    },
+    /// `check PLAN CERT --limit L --spare K`: at most L transits, with K groups to spare.
+    Check {
+        plan: String,
+        cert: String,
+        limit: u8,
+        spare: u8,
+    },
+    /// `codes PLAN`.
+    Codes {
+        plan: String,
+    },
+    /// `audit PLAN --limit L --spare K`: the certificate goes to a file, if one is named, and so does the counter script.
+    Audit {
+        plan: String,
+        limit: u8,
+        spare: u8,
+        cert: Option<String>,
+        counter: Option<String>,
+    },
+    /// `grade PLAN`: with which limits and spare numbers the plan is safe.
+    Grade {
+        plan: String,
+    },
+    /// `draw PLAN [--code C [--limit L --spare K]]`: a picture of the plan, or of the routes for a code, with what an audit finds first if numbers are given.
+    Draw {
+        plan: String,
+        routes: Option<(String, Option<(u8, u8)>)>,
+    },
+    /// `explain [CODE]`: what a code means, or all codes.
+    Explain {
+        entry: Option<&'static Entry>,
+    },
+}
+
+/// The word of an id.
+fn text(alloc: Global, matches: &ArgMatches<'_>, id: &str) -> Result<Option<String>, AllocError>
+    ensures { IfOk result (λ word. first_of id.now (rows_of (found_of matches.now)) ≡ option_map string_bytes word) }
+{
+    match matches.get_str(id) {
+        Some(word) => Ok(Some(String::from_str(alloc, word)?)),
+        None => Ok(None),
+    }
+}
+
+/// Whether no word stands for an id.
+fn is_absent(matches: &ArgMatches<'_>, id: &str) -> bool
+    ensures { result ≡ not (is_some (first_of id.now (rows_of (found_of matches.now)))) }
+{
+    matches.get_str(id).is_none()
+}
+
+/// The number of an option, tested once more against its range.
+fn number(matches: &ArgMatches<'_>, id: &str, most: u8) -> Option<u8>
+    ensures range { IfSome result (λ n. n ≤ most) }
+    ensures given { IfSome result (Gives (rows_of (found_of matches.now)) id.now) }
+    ensures none { result ≡ None → HasNumber (rows_of (found_of matches.now)) id.now most → ⊥ }
+{
+    match matches.get_one::<u8>(id) {
+        Some(n) if n <= most => Some(n),
+        _ => None,
+    }
+}
+
+/// The words of `check` behind the plan.
+fn check_of(
+    alloc: Global,
+    plan: String,
+    matches: &ArgMatches<'_>,
+) -> Result<Option<Command>, WordsFault>
+    requires { Names (rows_of (found_of matches.now)) (codes "plan") plan }
+    ensures range { IfOk result (λ c. IfSome c IsInRange) }
+    ensures asked { IfOk result (λ c. IfSome c (Asks (codes "check") (rows_of (found_of matches.now)))) }
+    ensures refused { IfErr result (IsRefusalIn (Some (codes "check", rows_of (found_of matches.now)))) }
+{
+    let limit = number(matches, "limit", 62);
+    let spare = number(matches, "spare", 15);
+    let cert = text(alloc, matches, "cert")?;
+    match (cert, limit, spare) {
+        (Some(cert), Some(limit), Some(spare)) => Ok(Some(Command::Check {
+            plan,
+            cert,
+            limit,
+            spare,
+        })),
+        _ => Ok(None),
+    }
+}
+
+/// The words of `audit` behind the plan.
+fn audit_of(
+    alloc: Global,
+    plan: String,
+    matches: &ArgMatches<'_>,
+) -> Result<Option<Command>, WordsFault>
+    requires { Names (rows_of (found_of matches.now)) (codes "plan") plan }
+    ensures range { IfOk result (λ c. IfSome c IsInRange) }
+    ensures asked { IfOk result (λ c. IfSome c (Asks (codes "audit") (rows_of (found_of matches.now)))) }
+    ensures refused { IfErr result (IsRefusalIn (Some (codes "audit", rows_of (found_of matches.now)))) }
+{
+    let limit = number(matches, "limit", 62);
+    let spare = number(matches, "spare", 15);
+    let cert = text(alloc, matches, "cert")?;
+    let counter = text(alloc, matches, "counter")?;
+    match (limit, spare) {
+        (Some(limit), Some(spare)) => Ok(Some(Command::Audit {
+            plan,
+            limit,
+            spare,
+            cert,
+            counter,
+        })),
+        _ => Ok(None),
+    }
+}
+
+/// The words of `run` behind the plan.
+fn run_of(
+    alloc: Global,
+    plan: String,
+    matches: &ArgMatches<'_>,
+) -> Result<Option<Command>, WordsFault>
+    requires { Names (rows_of (found_of matches.now)) (codes "plan") plan }
+    ensures range { IfOk result (λ c. IfSome c IsInRange) }
+    ensures asked { IfOk result (λ c. IfSome c (Asks (codes "run") (rows_of (found_of matches.now)))) }
+    ensures refused { IfErr result (IsRefusalIn (Some (codes "run", rows_of (found_of matches.now)))) }
+{
+    let Some(script) = text(alloc, matches, "script")? else {
+        return Ok(None);
+    };
+    let limit = number(matches, "limit", 62);
+    let spare = number(matches, "spare", 15);
+    let cert = text(alloc, matches, "cert")?;
+    let checked = match (cert, limit, spare) {
+        (Some(cert), Some(limit), Some(spare)) => Some((cert, limit, spare)),
+        (None, _, _) if is_absent(matches, "limit") && is_absent(matches, "spare") => None,
+        _ => return Err(WordsFault::Together),
+    };
+    Ok(Some(Command::Run {
+        plan,
+        script,
+        checked,
+    }))
+}
+
+/// The words of `draw` behind the plan.
+fn draw_of(
+    alloc: Global,
+    plan: String,
+    matches: &ArgMatches<'_>,
+) -> Result<Option<Command>, WordsFault>
+    requires { Names (rows_of (found_of matches.now)) (codes "plan") plan }
+    ensures range { IfOk result (λ c. IfSome c IsInRange) }
+    ensures asked { IfOk result (λ c. IfSome c (Asks (codes "draw") (rows_of (found_of matches.now)))) }
+    ensures refused { IfErr result (IsRefusalIn (Some (codes "draw", rows_of (found_of matches.now)))) }
+{
+    let limit = number(matches, "limit", 62);
+    let spare = number(matches, "spare", 15);
+    let no_bounds = is_absent(matches, "limit") && is_absent(matches, "spare");
+    let code = text(alloc, matches, "code")?;
+    let routes = if no_bounds {
+        match code {
+            Some(code) => Some((code, None)),
+            None => None,
+        }
+    } else {
+        match (code, limit, spare) {
+            (Some(code), Some(limit), Some(spare)) => Some((code, Some((limit, spare)))),
+            _ => return Err(WordsFault::DrawTogether),
+        }
+    };
+    Ok(Some(Command::Draw { plan, routes }))
+}
+
+/// The words of `explain`. A word that is no code is refused.
+fn explain_of(alloc: Global, matches: &ArgMatches<'_>) -> Result<Option<Command>, WordsFault>
+    ensures range { IfOk result (λ c. IfSome c IsInRange) }
+    ensures asked { IfOk result (λ c. IfSome c (Asks (codes "explain") (rows_of (found_of matches.now)))) }
+    ensures refused { IfErr result (IsRefusalIn (Some (codes "explain", rows_of (found_of matches.now)))) }
+{
+    let Some(word) = text(alloc, matches, "code")? else {
+        return Ok(Some(Command::Explain { entry: None }));
+    };
+    match entry_of(word.as_str()) {
+        Some(entry) => Ok(Some(Command::Explain { entry: Some(entry) })),
+        None => Err(WordsFault::NoSuchCode(word)),
+    }
+}
+
+/// The command of a subcommand whose first word is a plan, or None where a word that it needs is missing, which the grammar rules out.
+fn plan_command(
+    alloc: Global,
+    name: &str,
+    plan: String,
+    matches: &ArgMatches<'_>,
+) -> Result<Option<Command>, WordsFault>
+    requires { Names (rows_of (found_of matches.now)) (codes "plan") plan }
+    ensures range { IfOk result (λ c. IfSome c IsInRange) }
+    ensures asked { IfOk result (λ c. IfSome c (Asks name.now (rows_of (found_of matches.now)))) }
+    ensures refused { IfErr result (IsRefusalIn (Some (name.now, rows_of (found_of matches.now)))) }
+{
+    match name {
+        "run" => run_of(alloc, plan, matches),
+        "check" => check_of(alloc, plan, matches),
+        "codes" => Ok(Some(Command::Codes { plan })),
+        "audit" => audit_of(alloc, plan, matches),
+        "grade" => Ok(Some(Command::Grade { plan })),
+        "draw" => draw_of(alloc, plan, matches),
+        _ => Ok(None),
+    }
+}
+
+/// The command of a subcommand's words, or None as above.
+fn command_of(
+    alloc: Global,
+    name: &str,
+    matches: &ArgMatches<'_>,
+) -> Result<Option<Command>, WordsFault>
+    ensures range { IfOk result (λ c. IfSome c IsInRange) }
+    ensures asked { IfOk result (λ c. IfSome c (Asks name.now (rows_of (found_of matches.now)))) }
+    ensures refused { IfErr result (IsRefusalIn (Some (name.now, rows_of (found_of matches.now)))) }
+{
+    if name == "explain" {
+        return explain_of(alloc, matches);
+    }
+    match text(alloc, matches, "plan")? {
+        Some(plan) => plan_command(alloc, name, plan, matches),
+        None => Ok(None),
+    }
+}
+
+/// The command that was found in the words.
+fn found_command(alloc: Global, matches: &ArgMatches<'_>) -> Result<Option<Command>, WordsFault>
+    ensures range { IfOk result (λ c. IfSome c IsInRange) }
+    ensures asked { IfOk result (λ c. IfSome c (IsFoundIn (subcommand_rows_of matches.now))) }
+    ensures refused { IfErr result (IsRefusalIn (subcommand_rows_of matches.now)) }
+{
+    match matches.subcommand() {
+        Some((name, matches)) => command_of(alloc, name, matches),
+        None => Ok(None),
+    }
+}
+
+/// Why words without a command are refused.
+fn no_command(grammar: &mut clap::Command<'_>) -> Result<WordsFault, AllocError>
+    ensures status { IfOk result (λ fault. status_of fault ≡ 64) }
+    ensures refused { IfOk result (λ fault. (command : Option (List ℕ × List Row)) → IsRefusalIn command fault) }
+{
+    let e = grammar.error(ErrorKind::MissingSubcommand, "a command is missing")?;
+    Ok(WordsFault::of_clap(e))
+}
+
+/// The command that stands in the words, which are not none, by the grammar of the program.
+fn command_in<'a>(
+    alloc: Global,
+    grammar: &mut clap::Command<'a>,
+    words: &'a [&str],
+) -> Result<Command, WordsFault>
+    requires { app_of grammar.old ≡ program_words }
+    ensures in_range { IfOk result IsInRange }
+    ensures asked { IfOk result (AskFor words.now) }
+    ensures refused { IfErr result (IsRefusalOf words.now) }
+{
+    let matches = match grammar.try_get_matches_from_mut(words) {
+        Ok(matches) => matches,
+        Err(e) => return Err(WordsFault::of_clap(e)),
+    };
+    let found = found_command(alloc, &matches);
+    drop(matches);
+    match found {
+        Ok(Some(command)) => Ok(command),
+        Ok(None) => Err(no_command(grammar)?),
+        Err(fault) => Err(fault),
+    }
+}
+
+/// Reads the words after the program's name. `Err` is refused words, a request for help or for the version, or want of memory.
+pub fn read_command(alloc: Global, words: &[&str]) -> Result<Command, WordsFault>
+    ensures in_range { IfOk result IsInRange }
+    ensures pipe { words.now ≡ [] → result ≡ Ok Command.Pipe }
+    ensures asked { IfOk result (λ c. words.now ≢ [] → AskFor words.now c) }
+    ensures refused { IfErr result (IsRefusalOf words.now) }
+{
+    if words.is_empty() {
+        return Ok(Command::Pipe);
+    }
+    let mut grammar = grammar(alloc)?;
+    command_in(alloc, &mut grammar, words)
+}

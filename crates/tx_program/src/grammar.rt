@@ -1,0 +1,277 @@
+// The words that the program takes, with what it tells of them when asked for help.
+ghost use Rattle.std.specs.Prelude.{◌≡◌, false, Ok, IfOk, codes};
+ghost use Rattle.clap.specs.Words.{AddsArg, AddsSubcommand, app_of, rule_of};
+ghost use Rattle.clap.specs.declared.builder.command.Command.{Command};
+ghost use Rattle.tx_program.specs.Grammar as grammar;
+
+use clap::{Arg, ArgAction, value_parser};
+use std::alloc::{AllocError, Global};
+
+/// The version of the program.
+const VERSION: &str = "1.0.0";
+
+/// A file, which has to be named.
+fn file<'a>(alloc: Global, id: &'a str, shown: &'a str, help: &'a str) -> Arg<'a>
+    ensures rule { rule_of result ≡ grammar.file id.now }
+    ensures local { result.global ≡ false }
+{
+    Arg::new(alloc, id)
+        .value_name(shown)
+        .help(help)
+        .required(true)
+        .action(ArgAction::Set)
+}
+
+fn plan_file<'a>(alloc: Global) -> Arg<'a>
+    ensures rule { rule_of result ≡ grammar.file (codes "plan") }
+    ensures local { result.global ≡ false }
+{
+    file(
+        alloc,
+        "plan",
+        "PLAN",
+        "The route plan: exchanges, codes, lines, groups, routes and bars",
+    )
+}
+
+/// An option with a word.
+fn option<'a>(alloc: Global, id: &'a str, shown: &'a str, help: &'a str) -> Arg<'a>
+    ensures rule { rule_of result ≡ grammar.option id.now }
+    ensures local { result.global ≡ false }
+{
+    Arg::new(alloc, id)
+        .long(id)
+        .value_name(shown)
+        .help(help)
+        .action(ArgAction::Set)
+}
+
+fn limit<'a>(alloc: Global) -> Arg<'a>
+    ensures rule { rule_of result ≡ grammar.limit }
+    ensures local { result.global ≡ false }
+{
+    option(
+        alloc,
+        "limit",
+        "L",
+        "At most how many transits a call may pass: 0 to 62",
+    )
+    .value_parser(value_parser!(u8).range(0..=62))
+}
+
+fn spare<'a>(alloc: Global) -> Arg<'a>
+    ensures rule { rule_of result ≡ grammar.spare }
+    ensures local { result.global ≡ false }
+{
+    option(
+        alloc,
+        "spare",
+        "K",
+        "After YES, a call is answered NC only after a second head-on collision, or where more than K groups are listed and each of them is down or has no free circuit: 0 to 15",
+    )
+    .value_parser(value_parser!(u8).range(0..=15))
+}
+
+/// A command whose first word is a plan.
+fn over_plan<'a>(
+    alloc: Global,
+    name: &'a str,
+    about: &'a str,
+) -> Result<clap::Command<'a>, AllocError>
+    ensures { IfOk result (λ c. app_of c ≡ grammar.plan_words name.now) }
+{
+    clap::Command::new(alloc, name)
+        .about(about)
+        .arg(plan_file(alloc))
+}
+
+/// A command with one argument more, if it could be made so far.
+fn with_arg<'a>(
+    command: Result<clap::Command<'a>, AllocError>,
+    arg: Arg<'a>,
+) -> Result<clap::Command<'a>, AllocError>
+    ensures { IfOk result (λ c. (made : Command) × (command.entry ≡ Ok made) × AddsArg made arg.entry c) }
+{
+    match command {
+        Ok(made) => made.arg(arg),
+        Err(error) => {
+            drop(arg);
+            Err(error)
+        }
+    }
+}
+
+fn run_grammar<'a>(alloc: Global) -> Result<clap::Command<'a>, AllocError>
+    ensures { IfOk result (λ c. app_of c ≡ grammar.run_words) }
+{
+    let script = file(
+        alloc,
+        "script",
+        "SCRIPT",
+        "The script: events, one a line, between SCRIPT 1 and END",
+    );
+    let cert = option(
+        alloc,
+        "cert",
+        "CERT",
+        "Run only if this certificate shows that the plan is safe, else print the verdict; goes with --limit and --spare",
+    );
+    let run = over_plan(
+        alloc,
+        "run",
+        "Run a script of events over a plan, and print each reply and the ticket of each call that ended",
+    );
+    let run = with_arg(run, script);
+    let run = with_arg(run, cert);
+    let run = with_arg(run, limit(alloc));
+    with_arg(run, spare(alloc))
+}
+
+fn check_grammar<'a>(alloc: Global) -> Result<clap::Command<'a>, AllocError>
+    ensures { IfOk result (λ c. app_of c ≡ grammar.check_words) }
+{
+    let cert = file(
+        alloc,
+        "cert",
+        "CERT",
+        "The certificate: ranks of exchanges for each code",
+    );
+    let check = over_plan(
+        alloc,
+        "check",
+        "Say whether a certificate shows that a plan is safe: YES, or NO with the first reason",
+    );
+    let check = with_arg(check, cert);
+    let check = with_arg(check, limit(alloc).required(true));
+    with_arg(check, spare(alloc).required(true))
+}
+
+fn codes_grammar<'a>(alloc: Global) -> Result<clap::Command<'a>, AllocError>
+    ensures { IfOk result (λ c. app_of c ≡ grammar.codes_words) }
+{
+    over_plan(
+        alloc,
+        "codes",
+        "List the destination codes of a plan, and the least pair of a code and a longer one that begins with it",
+    )
+}
+
+fn audit_grammar<'a>(alloc: Global) -> Result<clap::Command<'a>, AllocError>
+    ensures { IfOk result (λ c. app_of c ≡ grammar.audit_words) }
+{
+    let cert = option(
+        alloc,
+        "cert",
+        "CERT",
+        "After YES, write the certificate to this file",
+    );
+    let counter = option(
+        alloc,
+        "counter",
+        "SCRIPT",
+        "After NO, write a script to this file that shows the first finding that has one",
+    );
+    let audit = over_plan(
+        alloc,
+        "audit",
+        "Say whether a plan is safe: YES, or NO with what is wrong, and a walk for each loop, short list and long way",
+    );
+    let audit = with_arg(audit, limit(alloc).required(true));
+    let audit = with_arg(audit, spare(alloc).required(true));
+    let audit = with_arg(audit, cert);
+    with_arg(audit, counter)
+}
+
+fn grade_grammar<'a>(alloc: Global) -> Result<clap::Command<'a>, AllocError>
+    ensures { IfOk result (λ c. app_of c ≡ grammar.grade_words) }
+{
+    over_plan(
+        alloc,
+        "grade",
+        "Say with which transit limits and spare numbers a plan is safe, and each of its codes, or what is wrong whatever they are",
+    )
+}
+
+fn draw_grammar<'a>(alloc: Global) -> Result<clap::Command<'a>, AllocError>
+    ensures { IfOk result (λ c. app_of c ≡ grammar.draw_words) }
+{
+    let code = option(
+        alloc,
+        "code",
+        "CODE",
+        "Draw the routes for this destination code alone; with --limit and --spare, the walk of its first finding is red",
+    );
+    let draw = over_plan(
+        alloc,
+        "draw",
+        "Draw the exchanges and groups of a plan, as a text of Graphviz",
+    );
+    let draw = with_arg(draw, code);
+    let draw = with_arg(draw, limit(alloc));
+    with_arg(draw, spare(alloc))
+}
+
+fn explain_grammar<'a>(alloc: Global) -> Result<clap::Command<'a>, AllocError>
+    ensures { IfOk result (λ c. app_of c ≡ grammar.explain_words) }
+{
+    let code = Arg::new(alloc, "code")
+        .value_name("CODE")
+        .help("A code that was printed, as P11, S6, M5, K7 or F2")
+        .action(ArgAction::Set);
+    clap::Command::new(alloc, "explain")
+        .about(
+            "Say what a code of a fault, a refusal or a finding means, and what to do about it; without one, list all codes",
+        )
+        .arg(code)
+}
+
+/// The program's name, its version and what it does.
+fn top_grammar<'a>(alloc: Global) -> Result<clap::Command<'a>, AllocError>
+    ensures { IfOk result (λ c. app_of c ≡ grammar.top_words) }
+{
+    let named = clap::Command::new(alloc, "telexplan").bin_name("telexplan")?;
+    Ok(
+        named
+            .version(VERSION)
+            .about(
+                "Audit the route plan of an automatic telex network, and simulate calls over it. Without words, a plan and a script are read from standard input.",
+            )
+            .no_binary_name(true),
+    )
+}
+
+/// The program with one command more, if both could be made.
+fn with_command<'a>(
+    program: Result<clap::Command<'a>, AllocError>,
+    command: Result<clap::Command<'a>, AllocError>,
+) -> Result<clap::Command<'a>, AllocError>
+    ensures { IfOk result (λ c. (top : Command) × (words : Command) × (program.entry ≡ Ok top) × (command.entry ≡ Ok words) × AddsSubcommand top words c) }
+{
+    match program {
+        Ok(top) => match command {
+            Ok(words) => top.subcommand(words),
+            Err(error) => {
+                drop(top);
+                Err(error)
+            }
+        },
+        Err(error) => {
+            drop(command);
+            Err(error)
+        }
+    }
+}
+
+/// The words that the program takes.
+pub(crate) fn grammar<'a>(alloc: Global) -> Result<clap::Command<'a>, AllocError>
+    ensures { IfOk result (λ c. app_of c ≡ grammar.program_words) }
+{
+    let program = top_grammar(alloc);
+    let program = with_command(program, audit_grammar(alloc));
+    let program = with_command(program, grade_grammar(alloc));
+    let program = with_command(program, check_grammar(alloc));
+    let program = with_command(program, run_grammar(alloc));
+    let program = with_command(program, codes_grammar(alloc));
+    let program = with_command(program, draw_grammar(alloc));
+    with_command(program, explain_grammar(alloc))
+}

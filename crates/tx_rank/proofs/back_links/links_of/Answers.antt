@@ -1,0 +1,34 @@
+use Rattle.std.proofs.Common.{◌≡◌, ◌∙◌, ◌+◌, ◌++◌, ℕ, List, Option, length, take, drop, sym, ap, subst, arith, rules}
+use Rattle.std.proofs.Math.Seq.{take-append_seam}
+use Rattle.tx_rank.specs.inner.Links.{LinksBelow}
+use Rattle.tx_rank.specs.inner.Marks.{rank_in}
+use Rattle.tx_rank.proofs.Linking.{IsLinkedBelow, none_linked}
+use Rattle.tx_rank.proofs.back_links.links_of.Goals as goal
+
+pub loop-place-init : goal.loop-place-init
+loop-place-init g c =
+    let links = c.in_ok-links.links in
+    none_linked (g.N.Routes.net c.args.net.now) (rank_in c.args.marks.now) links.items _ (omega (arith, c.in_ok-links.ensures.len, links.ok.0)) (c.in_ok-links.ensures.items_if_clones_equal (λ y e. search rules))
+
+pub loop-place-preserved : goal.loop-place-preserved
+loop-place-preserved g c =
+    let links = c.loop-place.links in
+    let new = c.link_from.new.links in
+    let a = c.link_from.auto.links in
+    let v = ap length c.deref_mut.ensures.value in
+    let l = c.loop-place.invariant.long in
+    let k = links.ok.0 in
+    let fits : length new ≡ links.len = omega arith in
+    let rest = drop (length new) links.items in
+    subst (λ (all : List (Option (ℕ × ℕ))). IsLinkedBelow (g.N.Routes.net c.args.net.now) (rank_in c.args.marks.now) all (c.loop-place.place + 1)) (sym (ap (λ k. take k (new ++ rest)) (sym fits) ∙ take-append_seam new rest))
+    (record { long = omega arith; true_of = c.link_from.ensures.links; below = c.link_from.ensures.below })
+
+pub returns : goal.returns
+returns g c =
+    let i = c.loop-place.invariant in
+    let n = g.N.Routes.net c.args.net.now in
+    let t = c.loop-place-test.false in
+    let a = c.loop-place.auto.place-end in
+    let e = c.exchanges-place-end.ensures in
+    let all : c.loop-place.place ≡ n.exchanges = omega arith in
+    record { long = i.long; true_of = i.true_of; all = subst (LinksBelow n (rank_in c.args.marks.now) c.loop-place.links.items) all i.below }
