@@ -1,5 +1,5 @@
 // Keys under numbers.
-ghost use Rattle.std.specs.Prelude.{◌≡◌, ◌<◌, ◌≤◌, ◌++◌, ◌∷◌, ◌⊎◌, [], filter, nat_lt, true, OnOk, IfSome, Some};
+ghost use Rattle.std.specs.Prelude.{◌≡◌, ◌<◌, ◌≤◌, ◌↔◌, ◌++◌, ◌∷◌, ◌⊎◌, [], filter, nat_lt, IsTrue, IsOk, OnOk, IfSome, Some};
 ghost use Rattle.tx_calls.specs.inner.Numbered.{key_under, key_at, is_open};
 
 use slab::Slab;
@@ -107,15 +107,16 @@ impl<A: Allocator> NumberedKeys<A> {
     /// Whether there is room for one more key.
     #[inline(always)]
     pub fn has_room(&self) -> bool
-        ensures { result ≡ true → 0 < self.now.room }
+        ensures { IsTrue result ↔ 0 < self.now.room }
     {
         self.keys.len() < self.keys.capacity()
     }
 
-    /// Makes room for one more key. Where there is none, the keys of calls that have ended are left out first.
+    /// Makes room for one more key. Where there is some, nothing changes. Where there is none, the keys of calls that have ended are left out first.
     pub fn reserve_one(&mut self, calls: &Slab<OpenCall<A>, A>) -> Result<(), NoMemory>
         ensures ok { OnOk result (0 < self.new.room) }
         ensures keys { (self.new.keys ≡ self.old.keys) ⊎ (self.new.keys ≡ filter (is_open calls.now) self.old.keys) }
+        ensures unasked { 0 < self.old.room → IsOk result × (self.new ≡ self.old) }
     {
         if self.has_room() {
             return Ok(());

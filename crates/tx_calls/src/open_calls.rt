@@ -1,5 +1,5 @@
 // The open calls, under keys and by number.
-ghost use Rattle.std.specs.Prelude.{◌≡◌, ◌<◌, ◌≤◌, ◌+◌, ◌^◌, ◌++◌, ◌∷◌, [], ℕ, not, filter, length, OnOk, IfSome, IfNone, Some, None, is_some, true, vec_len, vec_capacity};
+ghost use Rattle.std.specs.Prelude.{◌≡◌, ◌<◌, ◌≤◌, ◌↔◌, ◌+◌, ◌^◌, ◌++◌, ◌∷◌, [], ℕ, not, filter, length, IsTrue, IsOk, OnOk, IfSome, IfNone, Some, None, is_some, true, vec_len, vec_capacity};
 ghost use Rattle.tx_state.specs.Call.{Call, call_of, is_numbered};
 ghost use Rattle.tx_plan.specs.Among.{Among};
 ghost use Rattle.tx_state.specs.Routing.{in_phase, set_call};
@@ -60,17 +60,19 @@ impl<A: Allocator> OpenCalls<A> {
     /// Whether there is room for one more call, and a key of 32 bits for it.
     #[inline(always)]
     pub fn has_room(&self) -> bool
-        ensures { result ≡ true → HasRoom self.now }
+        ensures { IsTrue result ↔ HasRoom self.now }
     {
         self.calls.vacant_key() <= u32::MAX as usize
             && self.calls.len() < self.calls.capacity()
             && self.by_number.has_room()
     }
 
-    /// Makes room for one more call. Where no key of 32 bits is left for it, memory is wanting. Want of memory changes no call.
+    /// Makes room for one more call. Where there is some, no memory is asked for. Where no key of 32 bits is left for it, memory is wanting. Want of memory
+    /// changes no call.
     pub fn reserve_one(&mut self) -> Result<(), NoMemory>
         ensures ok { OnOk result (HasRoom self.new) }
         ensures rest { self.new ≡ record self.old { call_room = self.new.call_room; number_room = self.new.number_room } }
+        ensures unasked { HasRoom self.old → IsOk result × (self.new ≡ self.old) }
     {
         if self.calls.vacant_key() > u32::MAX as usize {
             return Err(NoMemory);
@@ -106,17 +108,15 @@ impl<A: Allocator> OpenCalls<A> {
     }
 
     /// Opens a call of the next number.
-    pub fn open(&mut self, call: OpenCall<A>) -> u32
+    pub fn open(&mut self, call: OpenCall<A>)
         requires room { HasRoom self.old }
         requires next { (d : Call) → Among d (calls_in self.old) → d.number < call.number }
-        ensures vacant { kept_at self.old result ≡ None }
-        ensures changes { Changes self.old self.new result (Some (kept_of call)) }
+        ensures changes { (key : ℕ) × (kept_at self.old key ≡ None) × Changes self.old self.new key (Some (kept_of call)) }
         ensures calls { calls_in self.new ≡ calls_in self.old ++ call_seen call ∷ [] }
     {
         let number = call.number;
         let key = put_in(&mut self.calls, call);
         self.by_number.put_last(number, key);
-        key
     }
 
     /// The call under a key goes to another phase.
@@ -128,10 +128,10 @@ impl<A: Allocator> OpenCalls<A> {
         write_phase(&mut self.calls, key, phase);
     }
 
-    /// Makes room for one more hop of the call under a key.
+    /// Makes room for one more hop of the call under a key. Where there is some, no memory is asked for.
     pub fn reserve_hop(&mut self, key: u32) -> Result<(), NoMemory>
         requires { is_some (kept_at self.old key) ≡ true }
-        ensures changes { (k : Kept) → kept_at self.old key ≡ Some k → (r : ℕ) × Changes self.old self.new key (Some (record k { room = r })) × (k.room ≤ r) × OnOk result (0 < r) }
+        ensures changes { (k : Kept) → kept_at self.old key ≡ Some k → (r : ℕ) × Changes self.old self.new key (Some (record k { room = r })) × (k.room ≤ r) × OnOk result (0 < r) × (0 < k.room → IsOk result × (r ≡ k.room)) }
         ensures calls { calls_in self.new ≡ calls_in self.old }
     {
         more_hops(&mut self.calls, key)
@@ -202,6 +202,7 @@ fn more_room<A: Allocator>(hops: &mut Vec<Hop, A>) -> Result<(), NoMemory>
     ensures len { vec_len hops.new ≡ vec_len hops.old }
     ensures capacity { vec_capacity hops.old ≤ vec_capacity hops.new }
     ensures ok { OnOk result (vec_len hops.new < vec_capacity hops.new) }
+    ensures unasked { vec_len hops.old < vec_capacity hops.old → IsOk result × (vec_capacity hops.new ≡ vec_capacity hops.old) }
 {
     let len = hops.len();
     if len < hops.capacity() {
@@ -214,7 +215,7 @@ fn more_room<A: Allocator>(hops: &mut Vec<Hop, A>) -> Result<(), NoMemory>
 
 /// There is room for one more hop of the call.
 fn more_hops<A: Allocator>(calls: &mut Slab<OpenCall<A>, A>, key: u32) -> Result<(), NoMemory>
-    ensures { (c : OpenCall A) → get calls.old key ≡ Some c → (d : OpenCall A) × Updates calls.old calls.new key (Some d) × (call_seen d ≡ call_seen c) × ((kept_of c).room ≤ (kept_of d).room) × OnOk result (0 < (kept_of d).room) }
+    ensures { (c : OpenCall A) → get calls.old key ≡ Some c → (d : OpenCall A) × Updates calls.old calls.new key (Some d) × (call_seen d ≡ call_seen c) × ((kept_of c).room ≤ (kept_of d).room) × OnOk result (0 < (kept_of d).room) × (0 < (kept_of c).room → IsOk result × ((kept_of d).room ≡ (kept_of c).room)) }
 {
     if let Some(call) = calls.get_mut(key as usize) {
         more_room(&mut call.hops)?;

@@ -1,18 +1,19 @@
 -- The groups stand in rows: one changes, and the others stay.
 use Rattle.std.proofs.Common.{◌≡◌, ◌∙◌, ℕ, zero, suc, ◌-◌, ◌<◌, ◌≤◌, inl, inr, Bool, true, false, List, [], ◌∷◌, ◌++◌, length, map, find, Option, Some, None, slice_set, refl, sym, ap, subst, arith}
-use Rattle.std.specs.Prelude.{slice_get, is_some, option_and_then, replicate, cond}
-use Rattle.std.specs.Option.{IsSome, option_map, option_or}
+use Rattle.std.specs.Prelude.{slice_get, slice_index_or, is_some, option_and_then, replicate, cond}
+use Rattle.std.specs.Option.{option_map, option_or}
 use Rattle.std.specs.List.{between}
 use Rattle.std.proofs.lemmas.Bool.Decides.{eqb_tells}
 use Rattle.std.proofs.lemmas.List.{length-map, length-replicate, map_push}
 use Rattle.std.proofs.lemmas.List.Folds.{find-append}
 use Rattle.std.proofs.lemmas.Option.{slice_get-map}
 use Rattle.tx_entries.specs.declared.circuit.Circuit.{Circuit}
+use Rattle.tx_rows.specs.declared.row_at.RowAt.{RowAt}
 use Rattle.tx_rows.specs.declared.late_rows.LateRows.{LateRows}
 use Rattle.tx_rows.specs.Rows.{Row as RowOf, change_at, item_at}
-use Rattle.tx_rows.specs.inner.Kept.{row_seen, rows_in, AreRowsKept, IsAt}
-use Rattle.tx_rows.proofs.Lists.{get-change_here, get-change_there, pushed_is, some_is, change_twice}
-use Rattle.tx_rows.proofs.Parts.{part_is, with_part, part_rows}
+use Rattle.tx_rows.specs.inner.Kept.{rows_in, AreRowsKept, IsAt}
+use Rattle.tx_rows.proofs.Lists.{get-change_here, get-change_there, pushed_is, some_is}
+use Rattle.tx_rows.proofs.Parts.{part_read, with_row, row_kept, row_rows}
 use Rattle.tx_circuits.specs.declared.slot.Slot.{Slot}
 use Rattle.tx_circuits.specs.declared.state.State.{State}
 use Rattle.tx_circuits.specs.declared.row.Row.{Row}
@@ -73,15 +74,6 @@ row_at rows now g view lt = by_row (slice_get rows g) refl (let e : length now �
 
 pub row_within : (rows : List (RowOf Row Slot)) (now : List GroupState) (g i : ℕ) → map group_state rows ≡ now → i ≡ g → g < length now → i < length rows
 row_within rows now g i view is lt = let e : length now ≡ length rows = ap length (sym view) ∙ length-map rows group_state in omega arith
-
-pub row_some : (rows : List (RowOf Row Slot)) (now : List GroupState) (g i : ℕ) → map group_state rows ≡ now → i ≡ g → g < length now → (o : Option Row) → o ≡ option_map (λ r. r.head) (slice_get rows i) → IsSome o
-row_some rows now g i view is lt o read =
-    let at = row_at rows now g view lt in
-    subst IsSome (sym (read ∙ ap (λ k. option_map (λ (r : RowOf Row Slot). r.head) (slice_get rows k)) is ∙ ap (option_map (λ (r : RowOf Row Slot). r.head)) at.at)) refl
-
--- the rows stay as many whatever is written behind them
-pub still_within : {A : Type 0} (l : LateRows Row Slot A) (slots : List Slot) (idle : Slot) (i : ℕ) → i < length (rows_in l) → i < length (map (row_seen slots idle) l.rows.items)
-still_within l slots idle i lt = subst (λ n. i < n) (length-map l.rows.items (row_seen l.items.items l.idle) ∙ sym (length-map l.rows.items (row_seen slots idle))) lt
 
 -- one row changes
 map_changed : (F : RowOf Row Slot → RowOf Row Slot) (f : GroupState → GroupState) (rows : List (RowOf Row Slot)) (g : ℕ) (r : RowOf Row Slot) → slice_get rows g ≡ Some r
@@ -177,35 +169,36 @@ module _ {A : Type 0} (l0 l : LateRows Row Slot A) (kept0 : AreGroupsKept l0) (k
       let r = row_read (rows_in l0) i row read in
       view_changed l0 l kept0 kept idle_same (λ r. record r { head = row' }) i rows r.0 r.1 f now view (e (map state_of (r.0).items) ∙ ap (λ (h : Row). f (record { head = h.head; states = map state_of (r.0).items })) (sym r.2))
 
--- a row that was read, and what a write to its part of the vector leaves
-module _ {A : Type 0} (l0 l : LateRows Row Slot A) (kept0 : AreGroupsKept l0) (kept : AreRowsKept l) (now : List GroupState) (view : map group_state (rows_in l0) ≡ now) (g i a b : ℕ) (is : i ≡ g) (lt : g < length now)
-    (same : rows_in l ≡ rows_in l0) (idle_same : l.idle ≡ l0.idle) (at : IsAt l i a b) (row : Row) (read : Some row ≡ option_map (λ r. r.head) (slice_get (rows_in l0) i)) where
+-- a row that is written, and what a write to its part of the vector and to its head leaves
+module _ {A : Type 0} (l0 l : LateRows Row Slot A) (kept0 : AreGroupsKept l0) (kept : AreRowsKept l) (now : List GroupState) (view : map group_state (rows_in l0) ≡ now) (g i a b : ℕ) (is : i ≡ g)
+    (same : rows_in l ≡ rows_in l0) (idle_same : l.idle ≡ l0.idle) (at : IsAt l i a b) (r : RowAt Row) (read : r ≡ slice_index_or l.rows.items i r) where
   abbrev pub part : RowOf Row Slot
-  part = record { head = row; items = between a b l.items.items }
+  part = record { head = r.head; items = between a b l.items.items }
 
-  pub part_at : slice_get (rows_in l0) i ≡ Some part
-  part_at =
-      let e : slice_get (rows_in l0) i ≡ Some (record { head = at.at.head; items = between a b l.items.items }) = ap (λ v. slice_get v i) (sym same) ∙ part_is l kept i a b at in
-      let h : row ≡ at.at.head = some_is row at.at.head (read ∙ ap (option_map (λ (r : RowOf Row Slot). r.head)) e) in
-      e ∙ ap (λ (h : Row). Some (record { head = h; items = between a b l.items.items })) (sym h)
+  part_at : slice_get (rows_in l0) i ≡ Some part
+  part_at = ap (λ v. slice_get v i) (sym same) ∙ part_read l kept i a b at r read
 
-  pub part_listed : AreListed (between a b l.items.items) row
+  pub part_listed : AreListed (between a b l.items.items) r.head
   part_listed = kept0.listed i part part_at
 
   pub part_group : slice_get now g ≡ Some (group_state part)
   part_group = (λ j. slice_get (sym view j) (sym is j)) ∙ slice_get-map group_state (rows_in l0) i ∙ ap (option_map group_state) part_at
 
-  -- the part and the head are written
-  module _ (mem ys : List Slot) (mem_is : mem ≡ l.items.items) (long : length ys ≡ b - a) (row' : Row) (l' : LateRows Row Slot A) (kept' : AreRowsKept l') (idle' : l'.idle ≡ l.idle)
-      (rows' : rows_in l' ≡ change_at (λ r. record r { head = row' }) i (rows_in (with_part l kept i a b at mem ys mem_is long))) (listed : AreListed ys row') where
-    written : rows_in l' ≡ change_at (λ r. record { head = row'; items = ys }) i (rows_in l0)
-    written = rows' ∙ ap (change_at (λ r. record r { head = row' }) i) (part_rows l kept i a b at mem ys mem_is long ∙ ap (change_at (λ r. record r { items = ys }) i) same) ∙ change_twice (λ r. record r { items = ys }) (λ r. record r { head = row' }) i (rows_in l0)
+  module _ (mem ys : List Slot) (mem_is : mem ≡ l.items.items) (long : length ys ≡ b - a) (row : Row) (listed : AreListed ys row) where
+    abbrev pub after : LateRows Row Slot A
+    after = with_row l kept i a b at mem ys mem_is long r read row
 
-    pub part_kept_after : AreGroupsKept l'
-    part_kept_after = kept_changed l0 l' kept0 kept' (idle' ∙ idle_same) (λ r. record { head = row'; items = ys }) i written part part_at listed
+    after_kept : AreRowsKept after
+    after_kept = row_kept l kept i a b at mem ys mem_is long r read row
 
-    pub part_view_after : (f : GroupState → GroupState) → group_state (record { head = row'; items = ys }) ≡ f (group_state part) → map group_state (rows_in l') ≡ change_at f g now
-    part_view_after f e = view_changed l0 l' kept0 kept' (idle' ∙ idle_same) (λ r. record { head = row'; items = ys }) i written part part_at f now view e ∙ ap (λ n. change_at f n now) is
+    after_rows : rows_in after ≡ change_at (λ _. record { head = row; items = ys }) i (rows_in l0)
+    after_rows = row_rows l kept i a b at mem ys mem_is long r read row ∙ ap (change_at (λ _. record { head = row; items = ys }) i) same
+
+    pub part_kept_after : AreGroupsKept after
+    part_kept_after = kept_changed l0 after kept0 after_kept idle_same (λ _. record { head = row; items = ys }) i after_rows part part_at listed
+
+    pub part_view_after : (f : GroupState → GroupState) → group_state (record { head = row; items = ys }) ≡ f (group_state part) → map group_state (rows_in after) ≡ change_at f g now
+    part_view_after f e = view_changed l0 after kept0 after_kept idle_same (λ _. record { head = row; items = ys }) i after_rows part part_at f now view e ∙ ap (λ n. change_at f n now) is
 
 -- THE FIRST PLACE
 

@@ -42,11 +42,6 @@ pub last_within : (free : ℕ → Bool) (rank : ℕ → ℕ) (high n : ℕ) → 
 last_within free rank high n inside None l = tt
 last_within free rank high n inside (Some j) l = inside j l.0
 
--- a place of a group fits its byte
-pub fits : (n : ℕ) (r : Option ℕ) → n ≤ 240 → IfSome r (λ k. k < n) → IfSome r (λ k. k < 255)
-fits n None few l = tt
-fits n (Some k) few l = omega arith
-
 -- what follows the begin of a list, or a free place
 pub at : (free : ℕ → Bool) (rank : ℕ → ℕ) (next : Option ℕ → Option ℕ) → IsLinked free rank next → (q : Option ℕ) → IfSome q (λ k. free k ≡ true) → IsFirst free rank (beyond rank q) (next q)
 at free rank next list None on = list.begins

@@ -5,6 +5,7 @@ ghost use Rattle.tx_circuits.specs.inner.Linked.{IsLinked, IsLast, with};
 ghost use Rattle.tx_circuits.specs.inner.Slots.{free_at, link_at, chain, is_free, rank_of, state_of, back, opposite, ahead, IsListed, AreNeighbours};
 
 use crate::free_lists::{End, FreeList, Links, Way};
+use crate::link::Link;
 use crate::slot::Slot;
 use crate::state::State;
 
@@ -19,11 +20,11 @@ fn links(slots: &[Slot], end: End, place: usize) -> Links
 
 // What follows a place in the list of an end, or begins the list.
 #[inline(always)]
-fn follow(slots: &[Slot], list: FreeList, end: End, way: Way, from: Option<u8>) -> Option<u8>
+fn follow(slots: &[Slot], list: &FreeList, end: End, way: Way, from: Link) -> Link
     requires { IfSome from (λ k. k < length slots.now) }
-    ensures { result ≡ chain end way slots.now list from }
+    ensures { result ≡ chain end way slots.now list.now from }
 {
-    match from {
+    match from.place() {
         None => list.begins(way),
         Some(place) => {
             let links = links(slots, end, place as usize);
@@ -33,9 +34,8 @@ fn follow(slots: &[Slot], list: FreeList, end: End, way: Way, from: Option<u8>) 
 }
 
 #[inline(always)]
-fn set_link(slots: &mut [Slot], end: End, way: Way, place: usize, to: Option<u8>)
-    requires place { place < length slots.old }
-    requires fits { IfSome to (λ k. k < 255) }
+fn set_link(slots: &mut [Slot], end: End, way: Way, place: usize, to: Link)
+    requires { place < length slots.old }
     ensures here { link_at end way slots.new place ≡ to }
     ensures apart { (k : ℕ) → k ≢ place → link_at end way slots.new k ≡ link_at end way slots.old k }
     ensures turned { (k : ℕ) → link_at end (back way) slots.new k ≡ link_at end (back way) slots.old k }
@@ -47,50 +47,36 @@ fn set_link(slots: &mut [Slot], end: End, way: Way, place: usize, to: Option<u8>
 
 // After `from`, or at the list's begin, now comes `to`.
 #[inline(always)]
-fn lead(
-    slots: &mut [Slot],
-    list: FreeList,
-    end: End,
-    way: Way,
-    from: Option<u8>,
-    to: Option<u8>,
-) -> FreeList
-    requires from { IfSome from (λ k. k < length slots.old) }
-    requires fits { IfSome to (λ k. k < 255) }
-    ensures here { chain end way slots.new result from ≡ to }
-    ensures apart { (q : Option ℕ) → q ≢ from → chain end way slots.new result q ≡ chain end way slots.old list q }
-    ensures turned { (q : Option ℕ) → chain end (back way) slots.new result q ≡ chain end (back way) slots.old list q }
+fn lead(slots: &mut [Slot], list: &mut FreeList, end: End, way: Way, from: Link, to: Link)
+    requires { IfSome from (λ k. k < length slots.old) }
+    ensures here { chain end way slots.new list.new from ≡ to }
+    ensures apart { (q : Option ℕ) → q ≢ from → chain end way slots.new list.new q ≡ chain end way slots.old list.old q }
+    ensures turned { (q : Option ℕ) → chain end (back way) slots.new list.new q ≡ chain end (back way) slots.old list.old q }
     ensures other { (w : WayValue) (k : ℕ) → link_at (opposite end) w slots.new k ≡ link_at (opposite end) w slots.old k }
     ensures states { map state_of slots.new ≡ map state_of slots.old }
 {
-    match (from, way) {
-        (Some(place), _) => {
-            set_link(slots, end, way, place as usize, to);
-            list
-        }
-        (None, Way::Up) => FreeList { least: to, ..list },
-        (None, Way::Down) => FreeList {
-            greatest: to,
-            ..list
-        },
+    match (from.place(), way) {
+        (Some(place), _) => set_link(slots, end, way, place as usize, to),
+        (None, Way::Up) => list.least = to,
+        (None, Way::Down) => list.greatest = to,
     }
 }
 
 // The last free circuit that comes before the place in a way.
-fn last_before(slots: &[Slot], list: FreeList, end: End, way: Way, place: usize) -> Option<u8>
+fn last_before(slots: &[Slot], list: &FreeList, end: End, way: Way, place: usize) -> Link
     requires short { length slots.now ≤ 240 }
-    requires listed { IsListed (free_at end slots.now) end slots.now list }
+    requires listed { IsListed (free_at end slots.now) end slots.now list.now }
     requires place { place < length slots.now }
     ensures { IsLast (free_at end slots.now) (rank_of way) (rank_of way place) result }
 {
     let limit = way.rank(place);
-    let mut last = None;
+    let mut last = Link::none();
     let mut rest = list.begins(way);
-    while let Some(p) = rest {
+    while let Some(p) = rest.place() {
         if way.rank(p as usize) >= limit {
             break;
         }
-        last = Some(p);
+        last = rest;
         rest = links(slots, end, p as usize).ahead(way);
     }
     last
@@ -98,9 +84,9 @@ fn last_before(slots: &[Slot], list: FreeList, end: End, way: Way, place: usize)
 
 // The neighbours that a circuit would have in the list of an end: looked for from the end of the list that is nearer.
 #[inline(always)]
-fn neighbours(slots: &[Slot], list: FreeList, end: End, place: usize) -> Links
+fn neighbours(slots: &[Slot], list: &FreeList, end: End, place: usize) -> Links
     requires short { length slots.now ≤ 240 }
-    requires listed { IsListed (free_at end slots.now) end slots.now list }
+    requires listed { IsListed (free_at end slots.now) end slots.now list.now }
     requires place { place < length slots.now }
     requires taken { free_at end slots.now place ≡ false }
     ensures { AreNeighbours (free_at end slots.now) place result }
@@ -123,9 +109,7 @@ fn neighbours(slots: &[Slot], list: FreeList, end: End, place: usize) -> Links
 /// The circuit has other links in the list of an end.
 #[inline(always)]
 pub fn set_links(slots: &mut [Slot], end: End, place: usize, links: Links)
-    requires place { place < length slots.old }
-    requires above { IfSome links.above (λ k. k < 255) }
-    requires below { IfSome links.below (λ k. k < 255) }
+    requires { place < length slots.old }
     ensures here { (way : WayValue) → link_at end way slots.new place ≡ ahead way links }
     ensures apart { (way : WayValue) (k : ℕ) → k ≢ place → link_at end way slots.new k ≡ link_at end way slots.old k }
     ensures other { (way : WayValue) (k : ℕ) → link_at (opposite end) way slots.new k ≡ link_at (opposite end) way slots.old k }
@@ -136,71 +120,74 @@ pub fn set_links(slots: &mut [Slot], end: End, place: usize, links: Links)
 
 /// The circuit now stands between two neighbours; all other links are as before.
 #[inline(always)]
-pub fn insert(slots: &mut [Slot], list: FreeList, end: End, place: usize, links: Links) -> FreeList
+pub fn insert(slots: &mut [Slot], list: &mut FreeList, end: End, place: usize, links: Links)
     requires short { length slots.old ≤ 240 }
     requires place { place < length slots.old }
     requires above { IfSome links.above (λ k. k < length slots.old) }
     requires below { IfSome links.below (λ k. k < length slots.old) }
     requires apart { (way : WayValue) → Some place ≢ ahead way links }
-    ensures placed { (way : WayValue) → chain end way slots.new result (Some place) ≡ ahead way links }
-    ensures joined { (way : WayValue) → chain end way slots.new result (ahead (back way) links) ≡ Some place }
-    ensures rest { (way : WayValue) (q : Option ℕ) → q ≢ Some place → q ≢ ahead (back way) links → chain end way slots.new result q ≡ chain end way slots.old list q }
+    ensures placed { (way : WayValue) → chain end way slots.new list.new (Some place) ≡ ahead way links }
+    ensures joined { (way : WayValue) → chain end way slots.new list.new (ahead (back way) links) ≡ Some place }
+    ensures rest { (way : WayValue) (q : Option ℕ) → q ≢ Some place → q ≢ ahead (back way) links → chain end way slots.new list.new q ≡ chain end way slots.old list.old q }
     ensures other { (way : WayValue) (k : ℕ) → link_at (opposite end) way slots.new k ≡ link_at (opposite end) way slots.old k }
     ensures states { map state_of slots.new ≡ map state_of slots.old }
 {
+    let Links { above, below } = links;
+    let here = Link::to(place);
     set_links(slots, end, place, links);
-    let list = lead(slots, list, end, Way::Up, links.below, Some(place as u8));
-    lead(slots, list, end, Way::Down, links.above, Some(place as u8))
+    lead(slots, list, end, Way::Up, below, here);
+    lead(slots, list, end, Way::Down, above, here);
 }
 
-// Puts a circuit on the list of an end, and gives the list. Walks the list.
+// Puts a circuit on the list of an end. Walks the list.
 #[inline(always)]
-fn put(slots: &mut [Slot], list: FreeList, end: End, place: usize) -> FreeList
+fn put(slots: &mut [Slot], list: &mut FreeList, end: End, place: usize)
     requires short { length slots.old ≤ 240 }
-    requires listed { IsListed (free_at end slots.old) end slots.old list }
+    requires listed { IsListed (free_at end slots.old) end slots.old list.old }
     requires place { place < length slots.old }
     requires taken { free_at end slots.old place ≡ false }
-    ensures listed { IsListed (with (free_at end slots.old) place true) end slots.new result }
+    ensures listed { IsListed (with (free_at end slots.old) place true) end slots.new list.new }
     ensures other { (way : WayValue) (k : ℕ) → link_at (opposite end) way slots.new k ≡ link_at (opposite end) way slots.old k }
     ensures states { map state_of slots.new ≡ map state_of slots.old }
 {
     let links = neighbours(slots, list, end, place);
-    insert(slots, list, end, place, links)
+    insert(slots, list, end, place, links);
 }
 
-// Takes a circuit off the list of an end, and gives the list.
+// Takes a circuit off the list of an end.
 #[inline(always)]
-fn take(slots: &mut [Slot], list: FreeList, end: End, place: usize) -> FreeList
+fn take(slots: &mut [Slot], list: &mut FreeList, end: End, place: usize)
     requires short { length slots.old ≤ 240 }
-    requires listed { IsListed (free_at end slots.old) end slots.old list }
+    requires listed { IsListed (free_at end slots.old) end slots.old list.old }
     requires place { place < length slots.old }
     requires free { free_at end slots.old place ≡ true }
-    ensures listed { IsListed (with (free_at end slots.old) place false) end slots.new result }
+    ensures listed { IsListed (with (free_at end slots.old) place false) end slots.new list.new }
     ensures other { (way : WayValue) (k : ℕ) → link_at (opposite end) way slots.new k ≡ link_at (opposite end) way slots.old k }
     ensures states { map state_of slots.new ≡ map state_of slots.old }
 {
     let links = links(slots, end, place);
-    let list = lead(slots, list, end, Way::Up, links.below, links.above);
-    lead(slots, list, end, Way::Down, links.above, links.below)
+    lead(slots, list, end, Way::Up, links.below, links.above);
+    lead(slots, list, end, Way::Down, links.above, links.below);
 }
 
-/// Puts a circuit on the list of an end, takes it off, or leaves the list, as its new state asks; gives the list.
+/// Puts a circuit on the list of an end, takes it off, or leaves the list, as its new state asks.
 #[inline(always)]
-pub fn relink(slots: &mut [Slot], list: FreeList, end: End, place: usize, to: State) -> FreeList
+pub fn relink(slots: &mut [Slot], list: &mut FreeList, end: End, place: usize, to: State)
     requires short { length slots.old ≤ 240 }
-    requires listed { IsListed (free_at end slots.old) end slots.old list }
+    requires listed { IsListed (free_at end slots.old) end slots.old list.old }
     requires place { place < length slots.old }
-    ensures listed { IsListed (with (free_at end slots.old) place (is_free end to)) end slots.new result }
+    ensures listed { IsListed (with (free_at end slots.old) place (is_free end to)) end slots.new list.new }
     ensures other { (way : WayValue) (k : ℕ) → link_at (opposite end) way slots.new k ≡ link_at (opposite end) way slots.old k }
     ensures states { map state_of slots.new ≡ map state_of slots.old }
 {
     let was = slots[place].is_free(end);
     let will = to.is_free(end);
     if was == will {
-        return list;
+        return;
     }
     if will {
-        return put(slots, list, end, place);
+        put(slots, list, end, place);
+    } else {
+        take(slots, list, end, place);
     }
-    take(slots, list, end, place)
 }

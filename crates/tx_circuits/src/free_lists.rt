@@ -5,6 +5,8 @@ ghost use Rattle.tx_circuits.specs.declared.free_lists.End.{End as EndValue};
 ghost use Rattle.tx_circuits.specs.declared.free_lists.Way.{Way as WayValue};
 ghost use Rattle.tx_circuits.specs.inner.Slots.{ahead, back, begins, list_of, rank_of};
 
+use crate::link::Link;
+
 /// An end of a group.
 #[derive(Clone, Copy)]
 pub enum End {
@@ -38,14 +40,24 @@ impl Way {
 /// The circuits beside one in a free list, by their places in the group.
 #[derive(Clone, Copy)]
 pub struct Links {
-    pub above: Option<u8>,
-    pub below: Option<u8>,
+    pub above: Link,
+    pub below: Link,
 }
 
 impl Links {
+    /// Those of a circuit that has no neighbour.
+    pub fn none() -> Links
+        ensures { (way : WayValue) → ahead way result ≡ None }
+    {
+        Links {
+            above: Link::none(),
+            below: Link::none(),
+        }
+    }
+
     /// The neighbour in a way.
     #[inline(always)]
-    pub fn ahead(self, way: Way) -> Option<u8>
+    pub fn ahead(self, way: Way) -> Link
         ensures { result ≡ ahead way self }
     {
         match way {
@@ -56,7 +68,7 @@ impl Links {
 
     /// The links with another neighbour in a way.
     #[inline(always)]
-    pub fn with(self, way: Way, to: Option<u8>) -> Links
+    pub fn with(self, way: Way, to: Link) -> Links
         ensures here { ahead way result ≡ to }
         ensures turned { ahead (back way) result ≡ ahead (back way) self }
     {
@@ -70,32 +82,39 @@ impl Links {
 /// The first and the last place of the circuits that are free at an end.
 #[derive(Clone, Copy)]
 pub struct FreeList {
-    pub least: Option<u8>,
-    pub greatest: Option<u8>,
+    pub least: Link,
+    pub greatest: Link,
 }
 
 impl FreeList {
+    /// The empty list.
+    fn empty() -> FreeList
+        ensures { result ≡ whole_list 0 }
+    {
+        FreeList {
+            least: Link::none(),
+            greatest: Link::none(),
+        }
+    }
+
     /// The list of so many circuits, all of them free.
     fn whole(count: usize) -> FreeList
         requires { count ≤ 240 }
         ensures { result ≡ whole_list count }
     {
         if count == 0 {
-            return FreeList {
-                least: None,
-                greatest: None,
-            };
+            return FreeList::empty();
         }
         FreeList {
-            least: Some(0),
-            greatest: Some((count - 1) as u8),
+            least: Link::to(0),
+            greatest: Link::to(count - 1),
         }
     }
 
     /// Where the list begins in a way.
     #[inline(always)]
-    pub fn begins(self, way: Way) -> Option<u8>
-        ensures { result ≡ begins way self }
+    pub fn begins(&self, way: Way) -> Link
+        ensures { result ≡ begins way self.now }
     {
         match way {
             Way::Up => self.least,
@@ -116,24 +135,20 @@ impl FreeLists {
     pub fn new() -> FreeLists
         ensures { (end : EndValue) (way : WayValue) → begins way (list_of end result) ≡ None }
     {
-        let empty = FreeList {
-            least: None,
-            greatest: None,
-        };
         FreeLists {
-            first: empty,
-            other: empty,
+            first: FreeList::empty(),
+            other: FreeList::empty(),
         }
     }
+
     /// Those of so many circuits, all of them free at both ends.
     pub fn whole(count: usize) -> FreeLists
         requires { count ≤ 240 }
         ensures { result ≡ whole_lists count }
     {
-        let list = FreeList::whole(count);
         FreeLists {
-            first: list,
-            other: list,
+            first: FreeList::whole(count),
+            other: FreeList::whole(count),
         }
     }
 }

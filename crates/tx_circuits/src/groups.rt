@@ -113,13 +113,18 @@ impl<A: Allocator> Groups<A> {
         self.state(circuit).unwrap()
     }
 
-    /// The end at which an exchange seizes, where it may.
+    /// The end at which an exchange seizes, where it may: one comparison tells it.
     #[inline(always)]
     pub fn known_end(&self, group: GroupId, exchange: ExchangeId) -> End
         requires { is_some (end_at self.now group exchange) ≡ true }
         ensures { end_at self.now group exchange ≡ Some result }
     {
-        self.end(group, exchange).unwrap()
+        let row = self.rows.head(group.index()).unwrap();
+        if row.head.a == exchange {
+            End::First
+        } else {
+            End::Other
+        }
     }
 
     /// Whether an end has seized a circuit.
@@ -152,8 +157,8 @@ impl<A: Allocator> Groups<A> {
     {
         let lists = self.rows.head(group.index()).unwrap().lists;
         match end {
-            End::First => lists.first.least,
-            End::Other => lists.other.greatest,
+            End::First => lists.first.least.place(),
+            End::Other => lists.other.greatest.place(),
         }
     }
 
@@ -165,10 +170,9 @@ impl<A: Allocator> Groups<A> {
     {
         let group = circuit.group.index();
         let place = circuit.number as usize - 1;
-        let row = self.rows.head(group).unwrap();
         let (start, end) = self.rows.written(group);
-        let row = row.set_state(&mut self.rows.items[start..end], place, to);
-        self.rows.set_head(group, row);
+        let row = &mut self.rows.rows[group].head;
+        row.set_state(&mut self.rows.items[start..end], place, to);
     }
 
     /// Takes all calls off the circuits of a group.
@@ -177,10 +181,9 @@ impl<A: Allocator> Groups<A> {
         ensures { self.new ≡ change_at (λ t. record t { states = map cleared t.states }) group self.old }
     {
         let place = group.index();
-        let row = self.rows.head(place).unwrap();
         let (start, end) = self.rows.written(place);
-        let row = row.clear(&mut self.rows.items[start..end]);
-        self.rows.set_head(place, row);
+        let row = &mut self.rows.rows[place].head;
+        row.clear(&mut self.rows.items[start..end]);
     }
 
     pub fn set_failed(&mut self, group: GroupId, to: bool)

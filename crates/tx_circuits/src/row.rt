@@ -18,39 +18,30 @@ pub struct Row {
 }
 
 impl Row {
-    /// Gives a circuit another state, and gives the row with its lists.
+    /// Gives a circuit another state.
     #[inline(always)]
-    pub fn set_state(self, slots: &mut [Slot], place: usize, to: State) -> Row
-        requires listed { AreListed slots.old self }
+    pub fn set_state(&mut self, slots: &mut [Slot], place: usize, to: State)
+        requires listed { AreListed slots.old self.old }
         requires place { place < length slots.old }
-        ensures head { result.head ≡ self.head }
-        ensures listed { AreListed slots.new result }
+        ensures head { self.new.head ≡ self.old.head }
+        ensures listed { AreListed slots.new self.new }
         ensures states { map state_of slots.new ≡ slice_set (map state_of slots.old) place to }
     {
-        let Row {
-            head,
-            lists,
-            linked,
-        } = self;
-        let lists = if linked { lists } else { link_idle(slots) };
-        Row {
-            head,
-            lists: set_state(slots, lists, place, to),
-            linked: true,
+        if !self.linked {
+            link_idle(slots);
+            self.linked = true;
         }
+        set_state(slots, &mut self.lists, place, to);
     }
 
-    /// Takes all calls off the circuits, and gives the row with its lists.
-    pub fn clear(self, slots: &mut [Slot]) -> Row
-        requires { AreListed slots.old self }
-        ensures head { result.head ≡ self.head }
-        ensures listed { AreListed slots.new result }
+    /// Takes all calls off the circuits.
+    pub fn clear(&mut self, slots: &mut [Slot])
+        requires { AreListed slots.old self.old }
+        ensures head { self.new.head ≡ self.old.head }
+        ensures listed { AreListed slots.new self.new }
         ensures states { map state_of slots.new ≡ map cleared (map state_of slots.old) }
     {
-        Row {
-            head: self.head,
-            lists: clear(slots),
-            linked: true,
-        }
+        self.lists = clear(slots);
+        self.linked = true;
     }
 }

@@ -3,14 +3,15 @@ ghost use Rattle.std.specs.Prelude.{◌≡◌, IfOk, OnErr, None, true};
 ghost use Rattle.tx_state.specs.Step.{step, takes_memory};
 ghost use Rattle.tx_state.specs.State.{opening};
 ghost use Rattle.tx_state.specs.Refusals.{refusal};
+ghost use Rattle.tx_state.specs.declared.event.Event.TheVariants.{Key};
 
 use crate::parts::Parts;
 use crate::tickets::take_oldest;
 use std::alloc::{Allocator, Global};
 use std::marker::Model;
-use tx_plan::Plan;
+use tx_plan::{Line, Plan};
 use tx_state::{Event, Network, Reply, Ticket, refusal_of};
-use tx_text::NoMemory;
+use tx_text::{Figures, NoMemory};
 
 /// The indexed network. It finds lines and circuits by index, and a call by its number, at worst by a binary search. So the work of an event hardly grows
 /// with the open calls, but where it takes more room: then it may move what it keeps. No clause counts these steps.
@@ -59,6 +60,21 @@ impl<'p, A: Allocator + Copy> Engine<'p, A> {
         Ok(Engine { parts })
     }
 
+    /// A line calls. Where there is room for its call, it is looked up once.
+    #[inline(always)]
+    fn key(&mut self, line: Line, keyed: Figures) -> Result<Reply, NoMemory>
+        ensures plan { self.new.plan ≡ self.old.plan }
+        ensures step { IfOk result (λ reply. step self.old.plan self.old.state (Key line keyed) ≡ (reply, self.new.state)) }
+        ensures err { OnErr result (self.new ≡ self.old) }
+        ensures open { OnErr result (refusal self.old.plan self.old.state (Key line keyed) ≡ None) }
+    {
+        if self.parts.is_ready() {
+            self.parts.key_in_room(line, keyed)
+        } else {
+            self.apply_other(&Event::Key { line, keyed })
+        }
+    }
+
     /// One event that `refusal_of` refuses, or that is carried out.
     #[inline(never)]
     fn apply_other(&mut self, event: &Event) -> Result<Reply, NoMemory>
@@ -73,7 +89,7 @@ impl<'p, A: Allocator + Copy> Engine<'p, A> {
         }
     }
 
-    /// One event that no refusal meets. A match names each event, so the five that `apply` answers itself stand here too.
+    /// One event that no refusal meets. A match names each event, so the four that `apply` answers itself stand here too.
     fn accept(&mut self, event: &Event) -> Result<Reply, NoMemory>
         requires open { refusal self.old.plan self.old.state event.now ≡ None }
         ensures plan { self.new.plan ≡ self.old.plan }
@@ -82,7 +98,7 @@ impl<'p, A: Allocator + Copy> Engine<'p, A> {
         ensures memory { OnErr result (takes_memory event.now ≡ true) }
     {
         match event {
-            Event::Key { line, keyed } => self.parts.key(*line, *keyed),
+            Event::Key { line, keyed } => self.parts.key_making_room(*line, *keyed),
             Event::Route(number) => self.parts.route(*number),
             Event::Confirm(number) => Ok(self.parts.confirm(*number)),
             Event::Clear { call, party } => Ok(self.parts.clear(*call, *party)),
@@ -111,7 +127,7 @@ impl<'p, A: Allocator + Copy> Network for Engine<'p, A> {
     #[inline(always)]
     fn apply(&mut self, event: Event) -> Result<Reply, NoMemory> {
         match event {
-            Event::Key { line, keyed } => self.parts.key(line, keyed),
+            Event::Key { line, keyed } => self.key(line, keyed),
             Event::Route(number) => self.parts.route(number),
             Event::Confirm(number) => Ok(self.parts.confirm(number)),
             Event::Clear { call, party } => Ok(self.parts.clear(call, party)),

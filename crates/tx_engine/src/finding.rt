@@ -1,6 +1,6 @@
 // The call that an event speaks of, or why the event is refused.
 ghost use Rattle.std.specs.Prelude.{◌≡◌, ◌<◌, ◌-◌, ◌^◌, nat_le, IfOk, IfErr, OnOk, Some, None};
-ghost use Rattle.tx_state.specs.declared.event.Event.TheVariants.{Key, Route, Confirm, Clear};
+ghost use Rattle.tx_state.specs.declared.event.Event.TheVariants.{Route, Confirm, Clear};
 ghost use Rattle.tx_state.specs.declared.phase.Phase.TheVariants.{Standing, Calling};
 ghost use Rattle.tx_state.specs.Refusals.{refusal};
 ghost use Rattle.tx_calls.specs.Calls.{Kept};
@@ -8,31 +8,10 @@ ghost use Rattle.tx_engine.specs.inner.Sound.{IsSound, state_of, IsUnder};
 
 use crate::parts::Parts;
 use std::alloc::Allocator;
-use tx_plan::{Circuit, Line};
+use tx_plan::Circuit;
 use tx_state::{Party, Phase, Refusal};
-use tx_text::Figures;
 
 impl<'p, A: Allocator + Copy> Parts<'p, A> {
-    /// Why the line may not call, if so. It is looked up once.
-    pub(crate) fn key_refusal(&self, line: &Line, keyed: &Figures) -> Option<Refusal>
-        requires { IsSound self.now }
-        ensures { result ≡ refusal self.now.plan.now (state_of self.now) (Key line.now keyed.now) }
-    {
-        if !self.lines.has(line) {
-            return Some(Refusal::UnknownLine);
-        }
-        let status = self.lines.status(line);
-        if status.engaged {
-            Some(Refusal::LineEngaged)
-        } else if status.faulty {
-            Some(Refusal::LineOutOfOrder)
-        } else if self.numbers == u32::MAX || self.is_exhausted() {
-            Some(Refusal::Exhausted)
-        } else {
-            None
-        }
-    }
-
     /// The key of the call that is routed.
     pub(crate) fn standing(&self, number: u32) -> Result<u32, Refusal>
         ensures found { IfOk result (λ key. (k : Kept) × IsUnder self.now.calls number key k × (k.call.phase ≡ Standing)) }

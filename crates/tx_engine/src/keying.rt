@@ -1,11 +1,10 @@
 // A line that calls.
-ghost use Rattle.std.specs.Prelude.{◌≡◌, ◌<◌, ◌≤◌, ◌+◌, ◌-◌, ◌^◌, true, IfOk, OnOk, OnErr, None, length};
-ghost use Rattle.std.specs.VecDeque.{deque_len, deque_capacity};
-ghost use Rattle.tx_calls.specs.Calls.{HasRoom, calls_in};
+ghost use Rattle.std.specs.Prelude.{◌≡◌, ◌<◌, ◌-◌, ◌^◌, ◌↔◌, IsTrue, IfOk, IsOk, OnOk, OnErr, None};
+ghost use Rattle.tx_calls.specs.Calls.{HasRoom};
 ghost use Rattle.tx_state.specs.Step.{step};
 ghost use Rattle.tx_state.specs.Refusals.{refusal};
 ghost use Rattle.tx_state.specs.declared.event.Event.TheVariants.{Key};
-ghost use Rattle.tx_engine.specs.inner.Sound.{IsSound, state_of};
+ghost use Rattle.tx_engine.specs.inner.Sound.{IsSound, IsReady, HasTicketRoom, state_of};
 
 use crate::parts::Parts;
 use crate::tickets::{has_ticket_room, reserve_tickets};
@@ -16,48 +15,28 @@ use tx_state::{OpenCall, Phase, Refusal, Reply};
 use tx_text::{Figures, NoMemory};
 
 impl<'p, A: Allocator + Copy> Parts<'p, A> {
-    /// A line calls.
-    #[inline(always)]
-    pub(crate) fn key(&mut self, line: Line, keyed: Figures) -> Result<Reply, NoMemory>
-        requires { IsSound self.old }
-        ensures sound { IsSound self.new }
-        ensures plan { self.new.plan.now ≡ self.old.plan.now }
-        ensures step { IfOk result (λ reply. step self.old.plan.now (state_of self.old) (Key line keyed) ≡ (reply, state_of self.new)) }
-        ensures err { OnErr result (state_of self.new ≡ state_of self.old) }
-        ensures open { OnErr result (refusal self.old.plan.now (state_of self.old) (Key line keyed) ≡ None) }
-    {
-        if self.is_ready() {
-            self.key_in_room(line, keyed)
-        } else {
-            self.key_making_room(line, keyed)
-        }
-    }
-
-    /// A line calls where there may be no room for its call. Room is asked for only where the event is not refused.
+    /// A line that may call does so. Room for its call and for its ticket is made where there is none.
     #[inline(never)]
-    fn key_making_room(&mut self, line: Line, keyed: Figures) -> Result<Reply, NoMemory>
-        requires { IsSound self.old }
+    pub(crate) fn key_making_room(&mut self, line: Line, keyed: Figures) -> Result<Reply, NoMemory>
+        requires sound { IsSound self.old }
+        requires open { refusal self.old.plan.now (state_of self.old) (Key line keyed) ≡ None }
         ensures sound { IsSound self.new }
         ensures plan { self.new.plan.now ≡ self.old.plan.now }
         ensures step { IfOk result (λ reply. step self.old.plan.now (state_of self.old) (Key line keyed) ≡ (reply, state_of self.new)) }
         ensures err { OnErr result (state_of self.new ≡ state_of self.old) }
-        ensures open { OnErr result (refusal self.old.plan.now (state_of self.old) (Key line keyed) ≡ None) }
     {
-        if let Some(refusal) = self.key_refusal(&line, &keyed) {
-            return Ok(Reply::Refused(refusal));
-        }
         self.reserve_call()?;
         self.key_in_room(line, keyed)
     }
 
-    /// A line calls where there is room for its call. It is looked up once.
+    /// A line calls, unless that is refused, where there is room for its call. It is looked up once.
     #[inline(always)]
-    fn key_in_room(&mut self, line: Line, keyed: Figures) -> Result<Reply, NoMemory>
+    pub(crate) fn key_in_room(&mut self, line: Line, keyed: Figures) -> Result<Reply, NoMemory>
         requires sound { IsSound self.old }
         requires numbers { self.old.numbers < 2 ^ 32 - 1 }
         requires events { self.old.events < 2 ^ 64 - 1 }
         requires calls { HasRoom self.old.calls }
-        requires tickets { deque_len self.old.tickets + (length (calls_in self.old.calls) + 1) ≤ deque_capacity self.old.tickets }
+        requires tickets { HasTicketRoom self.old }
         ensures sound { IsSound self.new }
         ensures plan { self.new.plan.now ≡ self.old.plan.now }
         ensures step { IfOk result (λ reply. step self.old.plan.now (state_of self.old) (Key line keyed) ≡ (reply, state_of self.new)) }
@@ -84,7 +63,7 @@ impl<'p, A: Allocator + Copy> Parts<'p, A> {
             phase: Phase::Standing,
             collided: false,
         };
-        let _key = self.calls.open(call);
+        self.calls.open(call);
         self.numbers = number;
         self.events += 1;
         Ok(Reply::Keyed(number))
@@ -92,11 +71,8 @@ impl<'p, A: Allocator + Copy> Parts<'p, A> {
 
     /// Whether a call can be opened at once: neither numbers nor events are spent, and there is room for it and for its ticket.
     #[inline(always)]
-    fn is_ready(&self) -> bool
-        ensures numbers { result ≡ true → self.now.numbers < 2 ^ 32 - 1 }
-        ensures events { result ≡ true → self.now.events < 2 ^ 64 - 1 }
-        ensures calls { result ≡ true → HasRoom self.now.calls }
-        ensures tickets { result ≡ true → deque_len self.now.tickets + (length (calls_in self.now.calls) + 1) ≤ deque_capacity self.now.tickets }
+    pub(crate) fn is_ready(&self) -> bool
+        ensures { IsTrue result ↔ IsReady self.now }
     {
         self.numbers < u32::MAX
             && self.events < u64::MAX
@@ -104,7 +80,7 @@ impl<'p, A: Allocator + Copy> Parts<'p, A> {
             && has_ticket_room(&self.tickets, self.calls.len())
     }
 
-    /// Makes room for one more call and for its ticket.
+    /// Makes room for one more call and for its ticket. Where there is some, no memory is asked for.
     fn reserve_call(&mut self) -> Result<(), NoMemory>
         requires { IsSound self.old }
         ensures sound { IsSound self.new }
@@ -113,7 +89,8 @@ impl<'p, A: Allocator + Copy> Parts<'p, A> {
         ensures events { self.new.events ≡ self.old.events }
         ensures state { state_of self.new ≡ state_of self.old }
         ensures calls { OnOk result (HasRoom self.new.calls) }
-        ensures tickets { OnOk result (deque_len self.new.tickets + (length (calls_in self.new.calls) + 1) ≤ deque_capacity self.new.tickets) }
+        ensures tickets { OnOk result (HasTicketRoom self.new) }
+        ensures unasked { HasRoom self.old.calls → HasTicketRoom self.old → IsOk result × (self.new ≡ self.old) }
     {
         self.calls.reserve_one()?;
         reserve_tickets(&mut self.tickets, self.calls.len())

@@ -1,11 +1,13 @@
 // Events that change the status of one line, circuit or group.
-ghost use Rattle.std.specs.Prelude.{◌≡◌, IfOk, OnErr, None};
+ghost use Rattle.std.specs.Prelude.{◌≡◌, ◌<◌, ◌≤◌, false, IfOk, IsOk, OnOk, OnErr, None};
 ghost use Rattle.tx_state.specs.Step.{step, accepted, counted};
 ghost use Rattle.tx_state.specs.Refusals.{refusal};
+ghost use Rattle.tx_lines.specs.Book.{has_status, place_taken};
 ghost use Rattle.tx_state.specs.declared.event.Event.TheVariants.{LineFault, LineAway, LineMend, LineBack, Released, CircuitOut, CircuitIn, Block, Unblock, Restore};
 
 use crate::engine::Engine;
 use std::alloc::Allocator;
+use tx_lines::LineBook;
 use tx_plan::{Circuit, GroupId, Line};
 use tx_state::{Facts, Refusal, Reply};
 use tx_text::NoMemory;
@@ -110,7 +112,7 @@ impl<'p, A: Allocator + Copy> Engine<'p, A> {
         ensures ok { IfOk result (λ reply. counted (accepted self.old.plan self.old.state (LineFault line.now)) ≡ (reply, self.new.state)) }
         ensures err { OnErr result (self.new ≡ self.old) }
     {
-        self.parts.lines.reserve_one()?;
+        make_room(&mut self.parts.lines, line)?;
         self.parts.lines.set_fault(line, true);
         self.parts.events += 1;
         Ok(Reply::Done)
@@ -134,7 +136,7 @@ impl<'p, A: Allocator + Copy> Engine<'p, A> {
         ensures ok { IfOk result (λ reply. counted (accepted self.old.plan self.old.state (LineAway line.now)) ≡ (reply, self.new.state)) }
         ensures err { OnErr result (self.new ≡ self.old) }
     {
-        self.parts.lines.reserve_one()?;
+        make_room(&mut self.parts.lines, line)?;
         self.parts.lines.set_away(line, true);
         self.parts.events += 1;
         Ok(Reply::Done)
@@ -150,4 +152,18 @@ impl<'p, A: Allocator + Copy> Engine<'p, A> {
         self.parts.events += 1;
         Reply::Done
     }
+}
+
+/// Makes room for a status of the line, where it has none.
+fn make_room<A: Allocator + Copy>(lines: &mut LineBook<A>, line: &Line) -> Result<(), NoMemory>
+    ensures ok { OnOk result (has_status lines.old line.now ≡ false → 0 < lines.new.room) }
+    ensures rest { lines.new ≡ record lines.old { room = lines.new.room } }
+    ensures unasked { place_taken lines.old line.now ≤ lines.old.room → IsOk result × (lines.new ≡ lines.old) }
+    ensures err { OnErr result (lines.new ≡ lines.old) }
+{
+    let status = lines.status(line);
+    if status.faulty || status.away || status.engaged {
+        return Ok(());
+    }
+    lines.reserve_one()
 }

@@ -1,5 +1,5 @@
 // The queue of tickets.
-ghost use Rattle.std.specs.Prelude.{◌≡◌, ◌≤◌, ◌+◌, true, OnOk, drop, slice_get};
+ghost use Rattle.std.specs.Prelude.{◌≡◌, ◌≤◌, ◌+◌, ◌↔◌, IsTrue, IsOk, OnOk, drop, slice_get};
 ghost use Rattle.std.specs.VecDeque.{deque_len, deque_capacity};
 
 use std::alloc::Allocator;
@@ -10,12 +10,12 @@ use tx_text::NoMemory;
 /// Whether there is room for the tickets of so many open calls and of one more.
 #[inline(always)]
 pub(crate) fn has_ticket_room<A: Allocator>(tickets: &VecDeque<Ticket<A>, A>, calls: usize) -> bool
-    ensures { result ≡ true → deque_len tickets.now + (calls + 1) ≤ deque_capacity tickets.now }
+    ensures { IsTrue result ↔ (deque_len tickets.now + (calls + 1) ≤ deque_capacity tickets.now) }
 {
     tickets.capacity() - tickets.len() > calls
 }
 
-/// Makes room for the tickets of so many open calls and of one more. The room at least doubles, so that few calls take any.
+/// Makes room for the tickets of so many open calls and of one more, where there is none. The room at least doubles, so that few calls take any.
 pub(crate) fn reserve_tickets<A: Allocator>(
     tickets: &mut VecDeque<Ticket<A>, A>,
     calls: usize,
@@ -24,6 +24,7 @@ pub(crate) fn reserve_tickets<A: Allocator>(
     ensures items { tickets.new.items ≡ tickets.old.items }
     ensures room { deque_len tickets.new + calls ≤ deque_capacity tickets.new }
     ensures ok { OnOk result (deque_len tickets.new + (calls + 1) ≤ deque_capacity tickets.new) }
+    ensures unasked { deque_len tickets.old + (calls + 1) ≤ deque_capacity tickets.old → IsOk result × (tickets.new ≡ tickets.old) }
 {
     if !has_ticket_room(tickets, calls) {
         tickets.reserve((calls + 1).saturating_add(calls))?;

@@ -1,7 +1,7 @@
 -- What the sets of lines contain, before and after a status is written.
-use Rattle.std.proofs.Common.{◌≡◌, ◌≤◌, arith, inl, inr, Bool, true, false, not, ◌||◌, ◌&&◌, cond, List, [], ◌∷◌, Option, Some, None, refl, sym, ap, subst, ◌∙◌}
+use Rattle.std.proofs.Common.{◌≡◌, ℕ, ◌<◌, ◌≤◌, arith, inl, inr, Bool, true, false, not, ◌||◌, ◌&&◌, cond, List, [], ◌∷◌, Option, Some, None, refl, sym, ap, subst, ◌∙◌}
 use Rattle.std.proofs.lemmas.Bool.{or_cases, and_parts, false≢true}
-use Rattle.std.specs.Prelude.{filter, is_some, unwrap_or, if◌then◌else◌, Result, Ok, Err, OnErr}
+use Rattle.std.specs.Prelude.{filter, is_some, unwrap_or, if◌then◌else◌, Result, Ok, Err, IfOk, IsOk, OnOk, OnErr}
 use Rattle.std.specs.List.{list_any}
 use Rattle.std.specs.Option.{option_map_or}
 use Rattle.std.specs.Ordering.{eq_by_cmp}
@@ -13,11 +13,12 @@ use Rattle.tx_entries.specs.declared.line.Line.{Line}
 use Rattle.tx_lines.specs.declared.status.Status.{Status}
 use Rattle.tx_lines.specs.declared.status.Mark.{Mark}
 use Rattle.tx_lines.specs.declared.status.Side.{Side}
+use Rattle.tx_lines.specs.declared.status.Side.TheVariants.{Caller, Called}
 use Rattle.tx_lines.specs.declared.status.Mark.TheVariants.{Faulty, Away, Engaged}
 use Rattle.tx_lines.specs.Status.{has, with_mark, is_unmarked, unmarked, may_not_join, joined}
 use Rattle.tx_lines.specs.declared.line_table.Entry.{Entry}
-use Rattle.tx_lines.specs.inner.Table.{Table, kept_of, lines_in}
-use Rattle.tx_lines.specs.inner.Statuses.{passes, with_status, sets_of, marked, with_marked, is_marked, kept, AllMarked}
+use Rattle.tx_lines.specs.inner.Table.{Table, kept_of, place_for, lines_in}
+use Rattle.tx_lines.specs.inner.Statuses.{passes, with_status, sets_of, marked, with_marked, is_marked, place_taken, kept, AllMarked}
 
 tie-is : (l m : Line) → eq_by_cmp line_cmp l m ≡ true → l ≡ m
 tie-is l m e = sym (same_line-is m l (sym (line_tie l m) ∙ e))
@@ -145,14 +146,6 @@ no_entry m line none =
     let f : (k : Mark) → set.contains (with_status (has k) m.cells) line ≡ false = λ k. contains_status (has k) m line ∙ ap (λ o. option_map_or (has k) o false) none in
     λ i. f Faulty i || (f Away i || f Engaged i)
 
--- a line of one of the sets has an entry, which takes no place
-pub entry_place : (m : Table) (line : Line) → (if is_some (kept_of m.cells line) then 0 else 1) ≤ (if is_marked (sets_of m) line then 0 else 1)
-entry_place m line = by (kept_of m.cells line) refl
-  where
-    by : (o : Option Status) → kept_of m.cells line ≡ o → (if is_some o then 0 else 1) ≤ (if is_marked (sets_of m) line then 0 else 1)
-    by (Some s) e = omega arith
-    by None e = subst (λ b. 1 ≤ (if b then 0 else 1)) (sym (no_entry m line e)) (omega arith)
-
 -- a mark that is taken from a line without marks
 pub none_left : (mark k : Mark) → false ≡ has k (with_mark mark false unmarked)
 none_left Faulty Faulty = refl
@@ -188,12 +181,6 @@ unmarked_none Faulty = refl
 unmarked_none Away = refl
 unmarked_none Engaged = refl
 
--- a line of which no mark is kept is in none of the sets
-pub no_marks : (m : Table) (line : Line) → unwrap_or (kept_of m.cells line) unmarked ≡ unmarked → is_marked (sets_of m) line ≡ false
-no_marks m line h =
-    let f : (k : Mark) → set.contains (with_status (has k) m.cells) line ≡ false = λ k. sym (marks_of m line (kept_of m.cells line) refl k) ∙ ap (has k) h ∙ unmarked_none k in
-    λ i. f Faulty i || (f Away i || f Engaged i)
-
 -- no marks are taken from a line without one
 pub sets_still : (m : Table) (line : Line) → unwrap_or (kept_of m.cells line) unmarked ≡ unmarked → (mark : Mark) → sets_of m ≡ with_marked mark (set.remove (marked mark (sets_of m)) line) m.room (sets_of m)
 sets_still m line h mark =
@@ -212,6 +199,88 @@ unmarked_is s e =
     let p = and_parts (not s.faulty) (not s.away && not s.engaged) e in
     let q = and_parts (not s.away) (not s.engaged) p.1 in
     λ i. record { faulty = sym (unset s.faulty p.0) i; away = sym (unset s.away q.0) i; engaged = sym (unset s.engaged q.1) i }
+
+-- the place that a line takes, by what is kept of it
+pub place_is : (m : Table) (line : Line) → place_taken (sets_of m) line ≡ (if is_unmarked (unwrap_or (kept_of m.cells line) unmarked) then 1 else 0)
+place_is m line =
+    let s = unwrap_or (kept_of m.cells line) unmarked in
+    let f : (k : Mark) → has k s ≡ set.contains (with_status (has k) m.cells) line = marks_of m line (kept_of m.cells line) refl in
+    ap (λ b. if b then 0 else 1) (sym (λ i. f Faulty i || (f Away i || f Engaged i))) ∙ by s.faulty s.away s.engaged
+  where
+    by : (a b c : Bool) → ◌≡◌ {A = ℕ} (if a || (b || c) then 0 else 1) (if not a && (not b && not c) then 1 else 0)
+    by true b c = refl
+    by false true c = refl
+    by false false true = refl
+    by false false false = refl
+
+-- it is the place of its entry
+pub same_place : (m : Table) (line : Line) → AllMarked m.cells → place_for m line ≡ place_taken (sets_of m) line
+same_place m line all = by (kept_of m.cells line) refl ∙ sym (place_is m line)
+  where
+    by : (o : Option Status) → kept_of m.cells line ≡ o → ◌≡◌ {A = ℕ} (if is_some o then 0 else 1) (if is_unmarked (unwrap_or o unmarked) then 1 else 0)
+    by None e = refl
+    by (Some s) e = ap (λ b. if b then 1 else 0) (sym (all line s e))
+
+pub mark_left : (mark : Mark) (s : Status) → is_unmarked (with_mark mark true s) ≡ false
+mark_left Faulty s = refl
+mark_left Away s = by (not s.faulty)
+  where
+    by : (a : Bool) → (a && (false && not s.engaged)) ≡ false
+    by true = refl
+    by false = refl
+mark_left Engaged s = by (not s.faulty) (not s.away)
+  where
+    by : (a b : Bool) → (a && (b && false)) ≡ false
+    by true true = refl
+    by true false = refl
+    by false b = refl
+
+pub kept_left : (s : Status) → is_unmarked (unwrap_or (kept s) unmarked) ≡ is_unmarked s
+kept_left s = by (is_unmarked s) refl
+  where
+    by : (b : Bool) → is_unmarked s ≡ b → is_unmarked (unwrap_or (if b then None else Some s) unmarked) ≡ b
+    by true e = refl
+    by false e = e
+
+joined_marked : (side : Side) (s : Status) → is_unmarked (joined side s) ≡ false
+joined_marked side s = by (may_not_join side s) refl
+  where
+    none : (side : Side) (s : Status) → is_unmarked s ≡ true → may_not_join side s ≡ false
+    none Caller s u = ap (may_not_join Caller) (unmarked_is s u)
+    none Called s u = ap (may_not_join Called) (unmarked_is s u)
+
+    marked : (b : Bool) → is_unmarked s ≡ b → may_not_join side s ≡ true → b ≡ false
+    marked false u h = refl
+    marked true u h = absurd (false≢true (sym (none side s u) ∙ h))
+
+    by : (b : Bool) → may_not_join side s ≡ b → is_unmarked (if b then s else with_mark Engaged true s) ≡ false
+    by true h = marked (is_unmarked s) refl h
+    by false h = mark_left Engaged s
+
+-- each line that is kept has a mark still, once a line has joined a call
+pub still_marked : {T E : Type 0} (m n : Table) (line : Line) (side : Side) (old : Status) (r : Result T E) → AllMarked m.cells
+    → OnOk r ((q : Line) → kept_of n.cells q ≡ cond (same_line line q) (Some (joined side old)) (kept_of m.cells q)) → OnErr r (n ≡ m) → AllMarked n.cells
+still_marked m n line side old (Ok x) all at same l s h = by (same_line line l) (sym (at l) ∙ h)
+  where
+    by : (b : Bool) → cond b (Some (joined side old)) (kept_of m.cells l) ≡ Some s → is_unmarked s ≡ false
+    by true e = (let is : joined side old ≡ s = cc in subst (λ z. is_unmarked z ≡ false) is (joined_marked side old))
+    by false e = all l s e
+still_marked m n line side old (Err x) all at same l s h = subst (λ (t : Table). AllMarked t.cells) (sym same) all l s h
+
+pub if_both : {T E : Type 0} (r : Result T E) {P Q R : T → Type 0} → ((x : T) → P x → Q x → R x) → IfOk r P → IfOk r Q → IfOk r R
+if_both (Ok x) f p q = f x p q
+if_both (Err e) f p q = tt
+
+-- where memory is wanting there was no room for the line
+pub wanting : {T E : Type 0} (r : Result T E) (b : Bool) (room : ℕ) → ((if b then 0 else 1) ≤ room → IsOk r) → OnErr r (b ≡ false)
+wanting (Ok x) b room f = tt
+wanting (Err e) false room f = refl
+wanting (Err e) true room f = absurd (false≢true (f (omega arith)))
+
+-- a line takes one place at most
+pub place_fits : (b : Bool) (room : ℕ) → 0 < room → (if b then 0 else 1) ≤ room
+place_fits true room h = omega arith
+place_fits false room h = omega (arith, h)
 
 -- no line is kept
 pub none_marked : (cells : List (Option Entry)) → lines_in cells ≡ [] → AllMarked cells

@@ -17,7 +17,8 @@ use tx_text::NoMemory;
 
 /// The lines of a plan, and which of them are faulty (out of order), away (their subscriber is absent) or engaged.
 ///
-/// A line's first status takes a place of the book's room, which `reserve_one` makes, and `join` too; a further one takes none. `build` and these two alone take memory.
+/// A line's first status takes a place of the book's room, which `reserve_one` makes, and `join` too; a further one takes none, and a line that loses its last
+/// status gives the place back. `build` and these two alone take memory.
 #[derive(Drop)]
 pub struct LineBook<A: Allocator = Global> {
     ranges: Ranges<A>,
@@ -49,27 +50,28 @@ impl<A: Allocator + Copy> LineBook<A> {
         })
     }
 
-    /// Makes room for one more line with a status. Want of memory changes no status.
+    /// Makes room for one more line with a status. Where there is some, no memory is asked for. Want of memory changes nothing.
     #[inline(always)]
     pub fn reserve_one(&mut self) -> Result<(), NoMemory>
         ensures ok { OnOk result (0 < self.new.room) }
-        ensures room { self.old.room ≤ self.new.room }
         ensures rest { self.new ≡ record self.old { room = self.new.room } }
+        ensures unasked { 0 < self.old.room → IsOk result × (self.new ≡ self.old) }
+        ensures err { OnErr result (self.new ≡ self.old) }
     {
         self.statuses.reserve_one()
     }
 
     /// The line joins a call, if it may: it is engaged from now on. It may call unless it is engaged or faulty, and be called unless it has any status.
     /// Gives its status up to now, for which it is looked up once. A line without a status takes a place of the room, which is made where there is none.
-    /// Want of memory changes no status.
+    /// Want of memory changes nothing.
     #[inline(always)]
     pub fn join(&mut self, line: &Line, side: Side) -> Result<Status, NoMemory>
         ensures faulty { IfOk result (λ s. s.faulty ≡ set.contains self.old.faulty line.now) }
         ensures away { IfOk result (λ s. s.away ≡ set.contains self.old.away line.now) }
         ensures engaged { IfOk result (λ s. s.engaged ≡ set.contains self.old.engaged line.now) }
         ensures lines { IfOk result (λ s. self.new ≡ record self.old { engaged = if may_not_join side s then self.old.engaged else set.insert self.old.engaged line.now; room = self.new.room }) }
-        ensures room { self.old.room ≤ self.new.room + place_taken self.old line.now }
-        ensures err { OnErr result (self.new ≡ record self.old { room = self.new.room }) }
+        ensures room { place_taken self.old line.now ≤ self.old.room → self.new.room + place_taken self.old line.now ≡ self.old.room }
+        ensures err { OnErr result (self.new ≡ self.old) }
         ensures unmarked { OnErr result (has_status self.old line.now ≡ false) }
         ensures succeeds { 0 < self.old.room → IsOk result }
     {
@@ -113,7 +115,7 @@ impl<A: Allocator> LineBook<A> {
     pub fn set_fault(&mut self, line: &Line, faulty: bool)
         requires { faulty ≡ true → has_status self.old line.now ≡ false → 0 < self.old.room }
         ensures lines { self.new ≡ record self.old { faulty = switched faulty self.old.faulty line.now; room = self.new.room } }
-        ensures room { self.old.room ≤ self.new.room + (if faulty then place_taken self.old line.now else 0) }
+        ensures room { self.new.room + place_taken self.old line.now ≡ self.old.room + place_taken self.new line.now }
     {
         if faulty {
             self.statuses.mark(line, Mark::Faulty);
@@ -126,7 +128,7 @@ impl<A: Allocator> LineBook<A> {
     pub fn set_away(&mut self, line: &Line, away: bool)
         requires { away ≡ true → has_status self.old line.now ≡ false → 0 < self.old.room }
         ensures lines { self.new ≡ record self.old { away = switched away self.old.away line.now; room = self.new.room } }
-        ensures room { self.old.room ≤ self.new.room + (if away then place_taken self.old line.now else 0) }
+        ensures room { self.new.room + place_taken self.old line.now ≡ self.old.room + place_taken self.new line.now }
     {
         if away {
             self.statuses.mark(line, Mark::Away);
@@ -140,7 +142,7 @@ impl<A: Allocator> LineBook<A> {
     pub fn engage(&mut self, line: &Line)
         requires { has_status self.old line.now ≡ false → 0 < self.old.room }
         ensures lines { self.new ≡ record self.old { engaged = set.insert self.old.engaged line.now; room = self.new.room } }
-        ensures room { self.old.room ≤ self.new.room + place_taken self.old line.now }
+        ensures room { self.new.room + place_taken self.old line.now ≡ self.old.room + place_taken self.new line.now }
     {
         self.statuses.mark(line, Mark::Engaged);
     }
@@ -149,7 +151,7 @@ impl<A: Allocator> LineBook<A> {
     #[inline(always)]
     pub fn free(&mut self, line: &Line)
         ensures lines { self.new ≡ record self.old { engaged = set.remove self.old.engaged line.now; room = self.new.room } }
-        ensures room { self.old.room ≤ self.new.room }
+        ensures room { self.new.room + place_taken self.old line.now ≡ self.old.room + place_taken self.new line.now }
     {
         self.statuses.unmark(line, Mark::Engaged);
     }

@@ -1,5 +1,5 @@
 // A hash table of lines with their marks.
-ghost use Rattle.std.specs.Prelude.{◌≡◌, ℕ, ◌+◌, ◌<◌, ◌≤◌, [], length, if◌then◌else◌, Some, None, IsSome, is_some, IfOk, OnOk, OnErr, ◌*◌, ◌^◌, replicate};
+ghost use Rattle.std.specs.Prelude.{◌≡◌, ℕ, ◌+◌, ◌<◌, ◌≤◌, [], length, if◌then◌else◌, not, Some, None, IsSome, is_some, IfOk, OnOk, OnErr, ◌*◌, ◌^◌, replicate};
 ghost use Rattle.tx_plan.specs.Orders.{same_line};
 ghost use Rattle.tx_entries.specs.declared.line.Line.{Line};
 ghost use Rattle.tx_lines.specs.declared.line_table.Entry.{Entry};
@@ -49,6 +49,7 @@ fn home(line: &Line, cells: usize) -> usize
 {
     let mut hasher = FoldHasher::default();
     line.hash(&mut hasher);
+    // There are 2, 4, 8 .. cells, so the mask reaches each of them.
     hasher.finish() as usize & (cells - 1)
 }
 
@@ -165,6 +166,15 @@ impl<A: Allocator> LineTable<A> {
         }
     }
 
+    /// Whether no line stands in a cell.
+    #[inline(always)]
+    pub fn is_free(&self, place: usize) -> bool
+        requires { place < length self.now.cells }
+        ensures { result ≡ not (is_some (at self.now.cells place)) }
+    {
+        self.cells[place].is_none()
+    }
+
     /// Writes a line with its marks into its cell, or into the free cell that was found for it, which takes room.
     #[inline(always)]
     pub fn put(&mut self, place: usize, line: &Line, marks: Marks)
@@ -192,7 +202,7 @@ impl<A: Allocator> LineTable<A> {
     }
 }
 
-/// The cells of a table, and as many free ones, each line where it is found.
+/// Twice as many cells with the lines of a table.
 fn spread<A: Allocator>(alloc: A, old: &[Option<Entry>]) -> Result<Vec<Option<Entry>, A>, NoMemory>
     requires table { IsTable old.now }
     requires size { 2 * length old.now < 2 ^ 64 }
@@ -230,7 +240,7 @@ impl<A: Allocator + Copy> LineTable<A> {
     #[inline(never)]
     pub fn grow(&mut self) -> Result<(), NoMemory>
         ensures ok { OnOk result (0 < self.new.room) }
-        ensures room { self.old.room ≤ self.new.room }
+        ensures cells { OnOk result (length self.new.cells ≡ 2 * length self.old.cells) }
         ensures kept { (l : Line) → kept_of self.new.cells l ≡ kept_of self.old.cells l }
         ensures err { OnErr result (self.new ≡ self.old) }
     {

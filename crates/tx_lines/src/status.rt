@@ -1,6 +1,6 @@
 // What is known of a line.
 ghost use Rattle.std.specs.Prelude.{◌≡◌};
-ghost use Rattle.tx_lines.specs.Status.{has, with_mark, is_unmarked, may_not_join, joined};
+ghost use Rattle.tx_lines.specs.Status.{with_mark, is_unmarked, may_not_join, joined};
 
 /// A mark that a line may have.
 #[derive(Clone, Copy)]
@@ -31,18 +31,6 @@ pub const UNMARKED: Status = Status {
     away: false,
     engaged: false,
 };
-
-/// Whether the status has the mark.
-#[inline(always)]
-pub fn has(status: Status, mark: Mark) -> bool
-    ensures { result ≡ has mark status }
-{
-    match mark {
-        Mark::Faulty => status.faulty,
-        Mark::Away => status.away,
-        Mark::Engaged => status.engaged,
-    }
-}
 
 /// The status with the mark set or taken away.
 #[inline(always)]

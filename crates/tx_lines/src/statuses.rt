@@ -2,9 +2,9 @@
 ghost use Rattle.std.specs.Prelude.{◌≡◌, ℕ, ◌+◌, ◌<◌, ◌≤◌, if◌then◌else◌, Some, None, true, false, is_some, IsSome, unwrap_or, IfOk, IsOk, OnOk, OnErr};
 ghost use Rattle.std.specs.FinSet as set;
 ghost use Rattle.tx_plan.specs.Orders.{same_line};
-ghost use Rattle.tx_lines.specs.Status.{with_mark, unmarked, may_not_join, joined};
-ghost use Rattle.tx_lines.specs.inner.Table.{at, kept_of, IsPlace};
-ghost use Rattle.tx_lines.specs.inner.Statuses.{Sets, marked, with_marked, is_marked, kept};
+ghost use Rattle.tx_lines.specs.Status.{with_mark, is_unmarked, unmarked, may_not_join, joined};
+ghost use Rattle.tx_lines.specs.inner.Table.{at, kept_of, place_for, IsPlace};
+ghost use Rattle.tx_lines.specs.inner.Statuses.{Sets, marked, with_marked, is_marked, place_taken, kept};
 ghost use Rattle.tx_entries.specs.declared.line.Line.{Line};
 ghost use Rattle.tx_lines.specs.declared.status.Status.{Status};
 ghost use Rattle.tx_lines.specs.declared.status.Mark.{Mark};
@@ -46,12 +46,13 @@ impl<A: Allocator + Copy> Statuses<A> {
         Ok(Statuses { table })
     }
 
-    /// Makes room for one more line with a mark.
+    /// Makes room for one more line with a mark. Where there is some, no memory is asked for.
     #[inline(always)]
     pub fn reserve_one(&mut self) -> Result<(), NoMemory>
         ensures ok { OnOk result (0 < self.new.room) }
-        ensures room { self.old.room ≤ self.new.room }
         ensures rest { self.new ≡ record self.old { room = self.new.room } }
+        ensures unasked { 0 < self.old.room → IsOk result × (self.new ≡ self.old) }
+        ensures err { OnErr result (self.new ≡ self.old) }
     {
         if self.table.room() == 0 {
             self.table.grow()?;
@@ -66,13 +67,12 @@ impl<A: Allocator + Copy> Statuses<A> {
         ensures away { IfOk result (λ s. s.away ≡ set.contains self.old.away line.now) }
         ensures engaged { IfOk result (λ s. s.engaged ≡ set.contains self.old.engaged line.now) }
         ensures lines { IfOk result (λ s. self.new ≡ record self.old { engaged = if may_not_join side s then self.old.engaged else set.insert self.old.engaged line.now; room = self.new.room }) }
-        ensures room { self.old.room ≤ self.new.room + (if is_marked self.old line.now then 0 else 1) }
-        ensures err { OnErr result (self.new ≡ record self.old { room = self.new.room }) }
+        ensures room { place_taken self.old line.now ≤ self.old.room → self.new.room + place_taken self.old line.now ≡ self.old.room }
+        ensures err { OnErr result (self.new ≡ self.old) }
         ensures unmarked { OnErr result (is_marked self.old line.now ≡ false) }
         ensures succeeds { 0 < self.old.room → IsOk result }
     {
-        let status = set_joined(&mut self.table, line, side)?;
-        Ok(status)
+        set_joined(&mut self.table, line, side)
     }
 }
 
@@ -92,7 +92,7 @@ impl<A: Allocator> Statuses<A> {
     pub fn mark(&mut self, line: &Line, mark: Mark)
         requires { is_marked self.old line.now ≡ false → 0 < self.old.room }
         ensures lines { self.new ≡ with_marked mark (set.insert (marked mark self.old) line.now) self.new.room self.old }
-        ensures room { self.old.room ≤ self.new.room + (if is_marked self.old line.now then 0 else 1) }
+        ensures room { self.new.room + place_taken self.old line.now ≡ self.old.room + place_taken self.new line.now }
     {
         set_mark(&mut self.table, line, mark);
     }
@@ -101,7 +101,7 @@ impl<A: Allocator> Statuses<A> {
     #[inline(always)]
     pub fn unmark(&mut self, line: &Line, mark: Mark)
         ensures lines { self.new ≡ with_marked mark (set.remove (marked mark self.old) line.now) self.new.room self.old }
-        ensures room { self.old.room ≤ self.new.room }
+        ensures room { self.new.room + place_taken self.old line.now ≡ self.old.room + place_taken self.new line.now }
     {
         let place = self.table.find(line);
         let status = self.table.status(place);
@@ -117,26 +117,24 @@ impl<A: Allocator> Statuses<A> {
 fn set_mark<A: Allocator>(table: &mut LineTable<A>, line: &Line, mark: Mark)
     requires { kept_of table.old.cells line.now ≡ None → 0 < table.old.room }
     ensures kept { (l : Line) → kept_of table.new.cells l ≡ (if same_line line.now l then Some (with_mark mark true (unwrap_or (kept_of table.old.cells line.now) unmarked)) else kept_of table.old.cells l) }
-    ensures room { table.old.room ≤ table.new.room + (if is_some (kept_of table.old.cells line.now) then 0 else 1) }
+    ensures room { table.new.room + place_for table.old line.now ≡ table.old.room }
 {
     let place = table.find(line);
     let status = table.status(place);
     table.put(place, line, Marks::of(with_mark(status, mark, true)));
 }
 
-/// The cell of a line. For a line without a mark there is room then.
+/// The cell of a line. For a line that is not kept there is room then, for which memory is asked only where there is none.
 #[inline(always)]
 fn room_for<A: Allocator + Copy>(table: &mut LineTable<A>, line: &Line) -> Result<usize, NoMemory>
     ensures place { IfOk result (λ p. IsPlace table.new.cells line.now p) }
     ensures fits { IfOk result (λ p. at table.new.cells p ≡ None → 0 < table.new.room) }
     ensures kept { (l : Line) → kept_of table.new.cells l ≡ kept_of table.old.cells l }
-    ensures room { table.old.room ≤ table.new.room }
+    ensures unasked { place_for table.old line.now ≤ table.old.room → IsOk result × (table.new ≡ table.old) }
     ensures err { OnErr result (table.new ≡ table.old) }
-    ensures unmarked { OnErr result (unwrap_or (kept_of table.old.cells line.now) unmarked ≡ unmarked) }
-    ensures succeeds { 0 < table.old.room → IsOk result }
 {
     let place = table.find(line);
-    if table.room() == 0 && is_unmarked(table.status(place)) {
+    if table.room() == 0 && table.is_free(place) {
         table.grow()?;
         return Ok(table.find(line));
     }
@@ -152,10 +150,8 @@ fn set_joined<A: Allocator + Copy>(
 ) -> Result<Status, NoMemory>
     ensures status { IfOk result (λ s. s ≡ unwrap_or (kept_of table.old.cells line.now) unmarked) }
     ensures kept { OnOk result ((l : Line) → kept_of table.new.cells l ≡ (if same_line line.now l then Some (joined side (unwrap_or (kept_of table.old.cells line.now) unmarked)) else kept_of table.old.cells l)) }
-    ensures room { table.old.room ≤ table.new.room + (if is_some (kept_of table.old.cells line.now) then 0 else 1) }
+    ensures unasked { place_for table.old line.now ≤ table.old.room → IsOk result × (table.new.room + place_for table.old line.now ≡ table.old.room) }
     ensures err { OnErr result (table.new ≡ table.old) }
-    ensures unmarked { OnErr result (unwrap_or (kept_of table.old.cells line.now) unmarked ≡ unmarked) }
-    ensures succeeds { 0 < table.old.room → IsOk result }
 {
     let place = room_for(table, line)?;
     let status = table.status(place);
@@ -169,7 +165,7 @@ fn rewrite<A: Allocator>(table: &mut LineTable<A>, place: usize, line: &Line, st
     requires place { IsPlace table.old.cells line.now place }
     requires found { IsSome (kept_of table.old.cells line.now) }
     ensures kept { (l : Line) → kept_of table.new.cells l ≡ (if same_line line.now l then kept status else kept_of table.old.cells l) }
-    ensures room { table.old.room ≤ table.new.room }
+    ensures room { table.new.room ≡ table.old.room + (if is_unmarked status then 1 else 0) }
 {
     if is_unmarked(status) {
         table.take(place);

@@ -9,11 +9,12 @@ use std::alloc::{Allocator, Global};
 use tx_text::NoMemory;
 
 /// Rows of equal items, with room for all of them in one vector. The items of a row are written there when one of them is first changed, behind those of
-/// the rows that were changed before. So the memory of a row that is never changed is never touched.
+/// the rows that were changed before. So the memory of a row that is never changed is never touched. Two fields are open, so that a caller borrows the head
+/// and the items of a row at once.
 #[derive(Drop)]
 pub struct LateRows<H, T, A: Allocator = Global> {
     pub items: Vec<T, A>,
-    rows: Vec<RowAt<H>, A>,
+    pub rows: Vec<RowAt<H>, A>,
     idle: T,
     late: usize,
 }
@@ -42,7 +43,7 @@ fn item<H: Copy, T: Copy>(items: &[T], row: RowAt<H>, idle: T, place: usize) -> 
     requires { (start : ℕ) → row.start ≡ Some start → start + row.count ≤ length items.now }
     ensures { result ≡ slice_get (items_at items.now idle row.start row.count) place }
 {
-    if place >= row.count as usize {
+    if place >= row.count {
         return None;
     }
     match row.start {
@@ -67,7 +68,7 @@ impl<H: Copy, T: Copy, A: Allocator> LateRows<H, T, A> {
         self.items.reserve(self.late + count)?;
         self.rows.push(RowAt {
             head,
-            count: count as u32,
+            count,
             start: None,
         })?;
         self.late += count;
@@ -129,9 +130,9 @@ impl<H: Copy, T: Copy, A: Allocator> LateRows<H, T, A> {
     {
         let at = self.rows[row];
         let start = self.items.len();
-        let end = start + at.count as usize;
+        let end = start + at.count;
         self.items.resize(end, self.idle).unwrap();
-        self.late -= at.count as usize;
+        self.late -= at.count;
         self.rows[row] = RowAt {
             start: Some(start as u32),
             ..at
@@ -151,7 +152,7 @@ impl<H: Copy, T: Copy, A: Allocator> LateRows<H, T, A> {
     {
         let at = self.rows[row];
         match at.start {
-            Some(start) => (start as usize, start as usize + at.count as usize),
+            Some(start) => (start as usize, start as usize + at.count),
             None => self.write(row),
         }
     }

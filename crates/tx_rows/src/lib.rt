@@ -5,3 +5,4 @@ mod late_rows;
 mod row_at;
 
 pub use late_rows::LateRows;
+pub use row_at::RowAt;

@@ -4,6 +4,6 @@
 #[derive(Clone, Copy)]
 pub struct RowAt<H> {
     pub head: H,
-    pub count: u32,
+    pub count: usize,
     pub start: Option<u32>,
 }

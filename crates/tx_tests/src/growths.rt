@@ -4,8 +4,8 @@ use refusing::Refusing;
 use std::alloc::Allocator;
 use tx_cases::{tell_broken, tell_count};
 use tx_circuits::CircuitTable;
-use tx_lines::{LineAnswer, LineBook};
-use tx_plan::{CodeId, Plan, PlanRefusal};
+use tx_lines::{LineAnswer, LineBook, Side};
+use tx_plan::{CodeId, Line, Plan, PlanRefusal};
 use tx_plantext::{PlanWord, read_plan};
 use tx_text::{
     FaultKind, FrameFault, LineFault, LineFeeder, MemorySink, Sink, TextFault, write_bytes,
@@ -81,28 +81,52 @@ fn make_table<A: Allocator + Copy>(alloc: A, plan: &Plan<A>) -> Came {
     }
 }
 
-/// Engages a line, again where there was no room for it at first.
-fn engage<A: Allocator + Copy>(book: &mut LineBook<A>) -> Came {
-    let code = CodeId::at(0);
-    let number = b"10001".as_slice();
-    let Some(line) = book.find(code, number) else {
-        return Came::Wrong;
-    };
-    let refused = book.reserve_one().is_err();
-    if book.answer(code, number) != LineAnswer::Free(line) || book.reserve_one().is_err() {
-        return Came::Wrong;
+/// Engages a free line: it joins a call, or room is made for it first. Where memory is wanting it has to stay free.
+fn engage<A: Allocator + Copy>(book: &mut LineBook<A>, line: &Line, joins: bool) -> Came {
+    let mut came = Came::Right;
+    if joins {
+        came = match book.join(line, Side::Caller) {
+            Ok(status) => judged(!status.faulty && !status.away && !status.engaged),
+            Err(_) => Came::Wanting,
+        };
+    } else if book.reserve_one().is_ok() {
+        book.engage(line);
+    } else {
+        came = Came::Wanting;
     }
-    book.engage(&line);
-    if book.answer(code, number) != LineAnswer::Engaged {
-        return Came::Wrong;
+    let answer = book.answer(line.code, line.national.bytes());
+    match came {
+        Came::Right if answer == LineAnswer::Engaged => Came::Right,
+        Came::Wanting if answer == LineAnswer::Free(*line) => Came::Wanting,
+        _ => Came::Wrong,
     }
-    if refused { Came::Wanting } else { Came::Right }
 }
 
-/// A book of lines, of which one is engaged.
+/// Engages lines until their table has grown twice: at the seventh line, for which room is made, and at the thirteenth, which joins a call. Where memory is
+/// wanting, a line is engaged at the second try.
+fn engage_lines<A: Allocator + Copy>(book: &mut LineBook<A>) -> Came {
+    let mut all = Came::Right;
+    for count in 1..14u8 {
+        let number = [b'1', b'0', b'0', b'0' + count / 10, b'0' + count % 10];
+        let Some(line) = book.find(CodeId::at(0), &number) else {
+            return Came::Wrong;
+        };
+        let mut came = engage(book, &line, count > 7);
+        if came == Came::Wanting {
+            all = Came::Wanting;
+            came = engage(book, &line, count > 7);
+        }
+        if came != Came::Right {
+            return Came::Wrong;
+        }
+    }
+    all
+}
+
+/// A book of lines, of which some are engaged.
 fn make_book<A: Allocator + Copy>(alloc: A, plan: &Plan<A>) -> Came {
     match LineBook::build(alloc, plan) {
-        Ok(mut book) => engage(&mut book),
+        Ok(mut book) => engage_lines(&mut book),
         Err(_) => Came::Wanting,
     }
 }

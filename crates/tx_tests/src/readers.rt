@@ -142,10 +142,15 @@ fn name_of(letter: u8, number: u32) -> [u8; 5] {
     ]
 }
 
-/// Declares more exchanges, groups and ranges than there may be.
+/// Declares more exchanges, groups and ranges than there may be, and all codes.
 fn fill<A: Allocator>(plan: &mut PlanBuilder<A>) {
     for number in 0..300u32 {
         let _ = plan.exchange(&name_of(b'E', number));
+    }
+    for number in 0..1000u32 {
+        let figures = name_of(b'0', number);
+        let _ = plan.code(&figures[2..], b"BETA");
+        let _ = plan.code(&figures[3..], b"BETA");
     }
     for number in 0..4200u32 {
         let name = name_of(b'G', number);

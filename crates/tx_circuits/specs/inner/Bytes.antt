@@ -1,5 +1,5 @@
 -- What is kept of a circuit, and its form in bytes.
-use Rattle.std.specs.Prelude.{◌≡◌, ℕ, zero, suc, ◌+◌, ◌*◌, ◌/◌, ◌%◌, ◌==◌, Bool, true, false, Option, Some, None, refl}
+use Rattle.std.specs.Prelude.{ℕ, ◌+◌, ◌*◌, ◌/◌, ◌%◌, ◌==◌, Bool, true, false}
 use Rattle.tx_circuits.specs.declared.state.State.{State}
 use Rattle.tx_circuits.specs.declared.free_lists.Links.{Links}
 
@@ -8,19 +8,6 @@ pub record Kept : Type 0 where
   pub state : State
   pub first : Links
   pub other : Links
-
--- the place of the circuit of a number, counted from 1; 0 is the number of none
-abbrev pub place_of : ℕ → Option ℕ
-place_of zero = None
-place_of (suc n) = Some n
-
-abbrev pub number_of : Option ℕ → ℕ
-number_of None = zero
-number_of (Some n) = suc n
-
-abbrev pub number_back : (n : ℕ) → number_of (place_of n) ≡ n
-number_back zero = refl
-number_back (suc n) = refl
 
 abbrev pub bit : Bool → ℕ
 bit false = 0

@@ -44,6 +44,10 @@ with_marked Engaged ls n s = record s { engaged = ls; room = n }
 abbrev pub is_marked : Sets → Line → Bool
 is_marked s l = set.contains s.faulty l || (set.contains s.away l || set.contains s.engaged l)
 
+-- the room that a mark takes: a place, unless the line has a mark already
+abbrev pub place_taken : Sets → Line → ℕ
+place_taken s l = if is_marked s l then 0 else 1
+
 -- what is kept of a line: its status, if it has a mark
 abbrev pub kept : Status → Option Status
 kept s = if is_unmarked s then None else Some s

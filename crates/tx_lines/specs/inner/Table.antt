@@ -1,5 +1,5 @@
 -- What the cells of a table of lines hold.
-use Rattle.std.specs.Prelude.{◌≡◌, ℕ, ◌+◌, ◌-◌, ◌*◌, ◌<◌, ◌≤◌, ◌≢◌, nat_le, nat_lt, fold, bit_and, Option, Some, None, IsSome, List, [], ◌∷◌, length, slice_index_or, if◌then◌else◌}
+use Rattle.std.specs.Prelude.{◌≡◌, ℕ, ◌+◌, ◌-◌, ◌*◌, ◌<◌, ◌≤◌, ◌≢◌, nat_le, nat_lt, fold, bit_and, Option, Some, None, IsSome, is_some, List, [], ◌∷◌, length, slice_index_or, if◌then◌else◌}
 use Rattle.std.specs.Option.{option_map, option_map_or}
 use Rattle.std.specs.Hash.FoldHasher as folding
 use Rattle.tx_plan.specs.Orders.{same_line}
@@ -23,6 +23,10 @@ abbrev pub kept_of : List (Option Entry) → Line → Option Status
 kept_of [] l = None
 kept_of (None ∷ cells) l = kept_of cells l
 kept_of (Some e ∷ cells) l = if same_line l e.line then Some e.marks else kept_of cells l
+
+-- the room that a line takes which is put in: a place, unless it is kept already
+abbrev pub place_for : Table → Line → ℕ
+place_for t l = if is_some (kept_of t.cells l) then 0 else 1
 
 -- the lines that are kept
 abbrev pub lines_in : List (Option Entry) → List Line
@@ -61,11 +65,11 @@ pub record IsTableBut (gap : ℕ) (cells : List (Option Entry)) : Type 0 where
 abbrev pub IsTable : List (Option Entry) → Type 0
 IsTable cells = IsTableBut (length cells) cells
 
--- A quarter of the cells at least is free, if the room is taken too.
+-- A quarter of the cells is free, if the room is taken too.
 pub record IsKept (t : Table) : Type 0 where
   pub table : IsTable t.cells
   pub some : 4 ≤ length t.cells
-  pub load : 4 * (taken t.cells + t.room) ≤ 3 * length t.cells
+  pub load : 4 * (taken t.cells + t.room) ≡ 3 * length t.cells
 
 -- The line stands in the cell; or it is not there, and the cell is free, and the first such one from its home onwards.
 pub record IsPlace (cells : List (Option Entry)) (l : Line) (place : ℕ) : Type 0 where

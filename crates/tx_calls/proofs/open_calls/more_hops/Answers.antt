@@ -1,4 +1,5 @@
-use Rattle.std.proofs.Common.{◌≡◌, ◌≤◌, Some, is_some, ap, ◌∙◌, arith, subst, rules}
+use Rattle.std.proofs.Common.{◌≡◌, ◌<◌, ◌≤◌, Some, is_some, refl, ap, sym, ◌∙◌, arith, subst, rules}
+use Rattle.std.proofs.lemmas.Bool.{false≢true}
 use Rattle.slab.proofs.SlabLemmas.{Updates-with_value}
 use Rattle.tx_calls.specs.Calls.{kept_of}
 use Rattle.tx_state.specs.Seen.{call_seen}
@@ -15,6 +16,11 @@ returns-in_ok-more_room g c = λ old was.
           ∙ ap call_seen same,
       subst (λ z. (kept_of z).room ≤ (kept_of (record now { hops = c.more_room.new.hops })).room) same (omega (arith, c.more_room.ensures.capacity, c.more_room.ensures.len)),
       omega (arith, c.in_ok-more_room.ensures.ok, c.more_room.ensures.len),
+      λ some. (
+        refl,
+        (let more : 0 < (kept_of now).room = subst (λ z. 0 < (kept_of z).room) (sym same) some in
+            let kept = (c.more_room.ensures.unasked (omega (arith, more))).1 in subst (λ z. (kept_of (record now { hops = c.more_room.new.hops })).room ≡ (kept_of z).room) same (omega (arith, kept, c.more_room.ensures.len))),
+      ),
     )
 
 pub returns-in_err-more_room : goal.returns-in_err-more_room
@@ -28,4 +34,5 @@ returns-in_err-more_room g c = λ old was.
           ∙ ap call_seen same,
       subst (λ z. (kept_of z).room ≤ (kept_of (record now { hops = c.more_room.new.hops })).room) same (omega (arith, c.more_room.ensures.capacity, c.more_room.ensures.len)),
       search rules,
+      λ some. absurd (let more : 0 < (kept_of now).room = subst (λ z. 0 < (kept_of z).room) (sym same) some in false≢true (c.in_err-more_room.ensures.unasked (omega (arith, more))).0),
     )

@@ -11,7 +11,7 @@ returns-then-place-slots c =
     let short = c.requires.short in
     let i_in : c.args.place < 240 = (let a : c.args.place < length slots = c.requires.place in omega arith) in
     each_way _ c.last_before-below.ensures
-    (beside (free_at end slots) (free_below end slots short) c.args.place i_in c.requires.taken Up (chain end Up slots c.args.list) (c.requires.listed Up)
+    (beside (free_at end slots) (free_below end slots short) c.args.place i_in c.requires.taken Up (chain end Up slots c.args.list.now) (c.requires.listed Up)
     c.last_before-below.result c.follow.result c.follow.ensures c.last_before-below.ensures)
 
 pub returns-else-place-slots : goal.returns-else-place-slots
@@ -21,6 +21,6 @@ returns-else-place-slots c =
     let short = c.requires.short in
     let i_in : c.args.place < 240 = (let a : c.args.place < length slots = c.requires.place in omega arith) in
     each_way _
-    (beside (free_at end slots) (free_below end slots short) c.args.place i_in c.requires.taken Down (chain end Down slots c.args.list) (c.requires.listed Down)
+    (beside (free_at end slots) (free_below end slots short) c.args.place i_in c.requires.taken Down (chain end Down slots c.args.list.now) (c.requires.listed Down)
     c.last_before-above.result c.follow-else-place-slots.result c.follow-else-place-slots.ensures c.last_before-above.ensures)
     c.last_before-above.ensures

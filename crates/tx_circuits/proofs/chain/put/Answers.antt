@@ -37,7 +37,7 @@ returns-clause-listed c =
     let links = c.neighbours-links.result in
     let one = λ (w : Way) (behind : IsLast free (rank_of (back w)) (rank_of (back w) i) (ahead w links)).
     put free (with free i true) (rank_of w) (are_ranked w free inside) i i_in (with_here free i true) c.requires.taken (λ k ne. with_there free i k true ne)
-    (chain end w slots c.args.list) (chain end w c.insert.new.slots c.insert.result) (c.requires.listed w)
+    (chain end w slots c.args.list.now) (chain end w c.insert.new.slots c.insert.new.list) (c.requires.listed w)
     (subst (IsFirst free (rank_of w) (rank_of w i + 1)) (sym (c.insert.ensures.placed w)) (to_first free inside i i_in w (ahead w links) behind))
     (ahead (back w) links) (c.neighbours-links.ensures w) (c.insert.ensures.joined w) (c.insert.ensures.rest w) in
     each_way _ (one Up (c.neighbours-links.ensures Down)) (one Down (c.neighbours-links.ensures Up))

@@ -11,7 +11,7 @@ returns-then-was-will-clause-listed c =
     let slots = c.args.slots.now in
     let i = c.args.place in
     let same = sym c.is_free-will.ensures ∙ sym (same_bool c.is_free-was.result c.is_free-will.result c.if-was-will.true) ∙ c.is_free-was.ensures ∙ sym (free_read end slots i _ c.index-slots-place.is c.requires.place) in
-    subst (λ (f : ℕ → Bool). IsListed f end slots c.args.list) (with_same (free_at end slots) i (is_free end c.args.to) same) c.requires.listed
+    subst (λ (f : ℕ → Bool). IsListed f end slots c.args.list.now) (with_same (free_at end slots) i (is_free end c.args.to) same) c.requires.listed
 
 pub put-requires-clause-taken : goal.put-requires-clause-taken
 put-requires-clause-taken c =
@@ -20,13 +20,13 @@ put-requires-clause-taken c =
 
 pub returns-then-will-clause-listed : goal.returns-then-will-clause-listed
 returns-then-will-clause-listed c =
-    subst (λ b. IsListed (with (free_at c.args.end c.args.slots.now) c.args.place b) c.args.end c.put.new.slots c.put.result) (sym c.if-will.true ∙ c.is_free-will.ensures) c.put.ensures.listed
+    subst (λ b. IsListed (with (free_at c.args.end c.args.slots.now) c.args.place b) c.args.end c.put.new.slots c.put.new.list) (sym c.if-will.true ∙ c.is_free-will.ensures) c.put.ensures.listed
 
 pub take-requires-clause-free : goal.take-requires-clause-free
 take-requires-clause-free c =
     free_read c.args.end c.args.slots.now c.args.place _ c.index-slots-place.is c.requires.place ∙ sym c.is_free-was.ensures
     ∙ other_bool_false c.is_free-was.result c.is_free-will.result c.if-was-will.false c.if-will.false
 
-pub returns-clause-listed : goal.returns-clause-listed
-returns-clause-listed c =
-    subst (λ b. IsListed (with (free_at c.args.end c.args.slots.now) c.args.place b) c.args.end c.take.new.slots c.take.result) (sym c.if-will.false ∙ c.is_free-will.ensures) c.take.ensures.listed
+pub returns-else-will-clause-listed : goal.returns-else-will-clause-listed
+returns-else-will-clause-listed c =
+    subst (λ b. IsListed (with (free_at c.args.end c.args.slots.now) c.args.place b) c.args.end c.take.new.slots c.take.new.list) (sym c.if-will.false ∙ c.is_free-will.ensures) c.take.ensures.listed

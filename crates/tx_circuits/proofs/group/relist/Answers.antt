@@ -10,26 +10,26 @@ use Rattle.tx_circuits.proofs.group.relist.Goals as goal
 pub loop-place-init : goal.loop-place-init
 loop-place-init c = (λ end. empty_listed end c.args.slots.now c.new-lists.result c.new-lists.ensures, λ i. map state_of c.args.slots.now)
 
-pub append-lists-requires-clause-listed : goal.append-lists-requires-clause-listed
-append-lists-requires-clause-listed c = c.loop-place.invariant.0 First
+pub append-requires-clause-listed : goal.append-requires-clause-listed
+append-requires-clause-listed c = c.loop-place.invariant.0 First
 
-pub append-lists-requires-in-loop-place-clause-listed : goal.append-lists-requires-in-loop-place-clause-listed
-append-lists-requires-in-loop-place-clause-listed c =
-    listed_along (until c.loop-place.place (free_at Other c.loop-place.slots)) (until c.loop-place.place (free_at Other c.append-lists.new.slots)) Other c.loop-place.slots c.append-lists.new.slots c.loop-place.lists.other
-    (until_alike c.loop-place.place Other c.loop-place.slots c.append-lists.new.slots c.append-lists.ensures.states) c.append-lists.ensures.other (c.loop-place.invariant.0 Other)
+pub append-requires-in-loop-place-clause-listed : goal.append-requires-in-loop-place-clause-listed
+append-requires-in-loop-place-clause-listed c =
+    listed_along (until c.loop-place.place (free_at Other c.loop-place.slots)) (until c.loop-place.place (free_at Other c.append.new.slots)) Other c.loop-place.slots c.append.new.slots c.loop-place.lists.other
+    (until_alike c.loop-place.place Other c.loop-place.slots c.append.new.slots c.append.ensures.states) c.append.ensures.other (c.loop-place.invariant.0 Other)
 
 pub loop-place-preserved : goal.loop-place-preserved
 loop-place-preserved c =
     let i = c.loop-place.place in
     let zero_ = c.loop-place.slots in
-    let one = c.append-lists.new.slots in
-    let two = c.append-lists-in-loop-place.new.slots in (
+    let one = c.append.new.slots in
+    let two = c.append-in-loop-place.new.slots in (
       each_end _
-          (listed_along (until (i + 1) (free_at First zero_)) (until (i + 1) (free_at First two)) First one two c.append-lists.result
-          (until_alike (i + 1) First zero_ two (c.append-lists-in-loop-place.ensures.states ∙ c.append-lists.ensures.states)) c.append-lists-in-loop-place.ensures.other c.append-lists.ensures.listed)
-          (listed_along (until (i + 1) (free_at Other one)) (until (i + 1) (free_at Other two)) Other two two c.append-lists-in-loop-place.result
-          (until_alike (i + 1) Other one two c.append-lists-in-loop-place.ensures.states) (λ way k j. link_at Other way two k) c.append-lists-in-loop-place.ensures.listed),
-      c.append-lists-in-loop-place.ensures.states ∙ c.append-lists.ensures.states ∙ c.loop-place.invariant.1,
+          (listed_along (until (i + 1) (free_at First zero_)) (until (i + 1) (free_at First two)) First one two c.append.new.list
+          (until_alike (i + 1) First zero_ two (c.append-in-loop-place.ensures.states ∙ c.append.ensures.states)) c.append-in-loop-place.ensures.other c.append.ensures.listed)
+          (listed_along (until (i + 1) (free_at Other one)) (until (i + 1) (free_at Other two)) Other two two c.append-in-loop-place.new.list
+          (until_alike (i + 1) Other one two c.append-in-loop-place.ensures.states) (λ way k j. link_at Other way two k) c.append-in-loop-place.ensures.listed),
+      c.append-in-loop-place.ensures.states ∙ c.append.ensures.states ∙ c.loop-place.invariant.1,
     )
 
 pub returns-clause-sound : goal.returns-clause-sound

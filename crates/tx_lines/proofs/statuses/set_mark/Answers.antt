@@ -1,4 +1,4 @@
-use Rattle.std.proofs.Common.{◌+◌, ◌≤◌, arith, Bool, true, Some, ap, subst, ◌∙◌}
+use Rattle.std.proofs.Common.{◌≡◌, ◌+◌, Bool, true, Some, ap, sym, subst, ◌∙◌}
 use Rattle.std.specs.Prelude.{if◌then◌else◌}
 use Rattle.tx_plan.specs.Orders.{same_line}
 use Rattle.tx_lines.specs.Status.{with_mark}
@@ -19,4 +19,4 @@ returns-clause-kept g c = λ q.
 
 pub returns-clause-room : goal.returns-clause-room
 returns-clause-room g c =
-    subst (λ (b : Bool). c.args.table.now.room ≤ c.put.new.self.room + (if b then 0 else 1)) (some_is c.args.table.now.cells c.args.line.now c.find-place.result c.find-place.ensures) (omega (arith, c.put.ensures.room))
+    subst (λ (b : Bool). c.put.new.self.room + (if b then 0 else 1) ≡ c.args.table.now.room) (some_is c.args.table.now.cells c.args.line.now c.find-place.result c.find-place.ensures) (sym c.put.ensures.room)

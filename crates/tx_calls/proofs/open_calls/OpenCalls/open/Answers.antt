@@ -18,16 +18,15 @@ invariant_of-self g c =
     (tied_after_put (calls_of i.calls i.by_number.room) (calls_of c.put_in-key.new.calls c.put_last.new.self.room) i.by_number.keys c.put_in-key.result (kept_of c.args.call) c.self.invariant next
     (changes_of i.calls c.put_in-key.new.calls i.by_number c.put_last.new.self c.put_in-key.result (Some c.args.call) key.updates))
 
-pub returns-clause-vacant : goal.returns-clause-vacant
-returns-clause-vacant g c =
-    let i = c.self.inside in
-    ap (λ (v : Calls). kept_at v c.put_in-key.result) (sym c.self.view_is) ∙ kept_is i.calls i.by_number c.put_in-key.result ∙ ap (option_map kept_of) c.put_in-key.ensures.was_vacant
-
 pub returns-clause-changes : goal.returns-clause-changes
 returns-clause-changes g c =
     let i = c.self.inside in
-    subst (λ (v : Calls). Changes v (calls_of c.put_in-key.new.calls c.put_last.new.self.room) c.put_in-key.result (Some (kept_of c.args.call))) c.self.view_is
-    (changes_of i.calls c.put_in-key.new.calls i.by_number c.put_last.new.self c.put_in-key.result (Some c.args.call) c.put_in-key.ensures.updates)
+    let key = c.put_in-key.result in (
+      key,
+      ap (λ (v : Calls). kept_at v key) (sym c.self.view_is) ∙ kept_is i.calls i.by_number key ∙ ap (option_map kept_of) c.put_in-key.ensures.was_vacant,
+      subst (λ (v : Calls). Changes v (calls_of c.put_in-key.new.calls c.put_last.new.self.room) key (Some (kept_of c.args.call))) c.self.view_is
+          (changes_of i.calls c.put_in-key.new.calls i.by_number c.put_last.new.self key (Some c.args.call) c.put_in-key.ensures.updates),
+    )
 
 pub returns-clause-calls : goal.returns-clause-calls
 returns-clause-calls g c =

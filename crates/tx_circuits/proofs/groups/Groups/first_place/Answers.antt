@@ -15,14 +15,14 @@ pub returns-in-First : goal.returns-in-First
 returns-in-First g c =
     let rows = rows_in c.self.inside.rows in
     let r = row_at rows c.args.self.now c.args.group c.self.view_is c.requires in
-    let same : c.unwrap.result ≡ (r.row).head = some_is _ _ (sym c.unwrap.ensures ∙ c.head.ensures ∙ ap (λ n. option_map (λ (r : RowOf Row Slot). r.head) (slice_get rows n)) c.index.ensures ∙ ap (option_map (λ (r : RowOf Row Slot). r.head)) r.at) in
-    subst (λ (o : Option GroupState). IfSome o (λ t. c.unwrap.result.lists.first.least ≡ first_place t c.args.end)) (sym r.group)
-    (ap (λ (h : Row). h.lists.first.least) same ∙ first_listed r.row First (c.self.invariant.listed c.args.group r.row r.at) ∙ ap (first_place (group_state r.row)) (sym c.in-First.is))
+    let same : c.unwrap-lists.result ≡ (r.row).head = some_is _ _ (sym c.unwrap-lists.ensures ∙ c.head.ensures ∙ ap (λ n. option_map (λ (r : RowOf Row Slot). r.head) (slice_get rows n)) c.index.ensures ∙ ap (option_map (λ (r : RowOf Row Slot). r.head)) r.at) in
+    subst (λ (o : Option GroupState). IfSome o (λ t. c.place.result ≡ first_place t c.args.end)) (sym r.group)
+    (c.place.ensures ∙ ap (λ (h : Row). h.lists.first.least) same ∙ first_listed r.row First (c.self.invariant.listed c.args.group r.row r.at) ∙ ap (first_place (group_state r.row)) (sym c.in-First.is))
 
 pub returns-in-Other : goal.returns-in-Other
 returns-in-Other g c =
     let rows = rows_in c.self.inside.rows in
     let r = row_at rows c.args.self.now c.args.group c.self.view_is c.requires in
-    let same : c.unwrap.result ≡ (r.row).head = some_is _ _ (sym c.unwrap.ensures ∙ c.head.ensures ∙ ap (λ n. option_map (λ (r : RowOf Row Slot). r.head) (slice_get rows n)) c.index.ensures ∙ ap (option_map (λ (r : RowOf Row Slot). r.head)) r.at) in
-    subst (λ (o : Option GroupState). IfSome o (λ t. c.unwrap.result.lists.other.greatest ≡ first_place t c.args.end)) (sym r.group)
-    (ap (λ (h : Row). h.lists.other.greatest) same ∙ first_listed r.row Other (c.self.invariant.listed c.args.group r.row r.at) ∙ ap (first_place (group_state r.row)) (sym c.in-Other.is))
+    let same : c.unwrap-lists.result ≡ (r.row).head = some_is _ _ (sym c.unwrap-lists.ensures ∙ c.head.ensures ∙ ap (λ n. option_map (λ (r : RowOf Row Slot). r.head) (slice_get rows n)) c.index.ensures ∙ ap (option_map (λ (r : RowOf Row Slot). r.head)) r.at) in
+    subst (λ (o : Option GroupState). IfSome o (λ t. c.place-in-Other.result ≡ first_place t c.args.end)) (sym r.group)
+    (c.place-in-Other.ensures ∙ ap (λ (h : Row). h.lists.other.greatest) same ∙ first_listed r.row Other (c.self.invariant.listed c.args.group r.row r.at) ∙ ap (first_place (group_state r.row)) (sym c.in-Other.is))

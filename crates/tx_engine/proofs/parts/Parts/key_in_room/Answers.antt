@@ -47,8 +47,8 @@ returns-then-status-2-clause-sound g c =
     sound_room n.plan.now n.codes n.calls n.keys n.lines n.circuits n.numbers (deque_len n.tickets) (deque_capacity n.tickets) c.requires.sound n.calls c.join.new.self (deque_len n.tickets) (deque_capacity n.tickets) refl (ap (λ (b : Book). b.ranges) lines)
     (ap (λ (b : Book). b.engaged) lines ∙ (λ i. if c.if-status.false i || c.if-status-2.true i then n.lines.engaged else set.insert n.lines.engaged line)) c.requires.sound.ticket_room
 
-pub open-key-requires-clause-next : goal.open-key-requires-clause-next
-open-key-requires-clause-next g c = λ d m. let given = c.requires.sound.together.inv.given d m in omega (arith, given)
+pub open-requires-clause-next : goal.open-requires-clause-next
+open-requires-clause-next g c = λ d m. let given = c.requires.sound.together.inv.given d m in omega (arith, given)
 
 pub returns-clause-sound : goal.returns-clause-sound
 returns-clause-sound g c =
@@ -57,11 +57,12 @@ returns-clause-sound g c =
     let lines = c.in_ok-status.ensures.lines in
     let line = c.args.line in
     let call = λ (h : List Hop). keyed_with (n.numbers + 1) line c.args.keyed (n.events + 1) h in
+    let added = c.«open».ensures.changes in
     sound_key n.plan.now n.codes n.calls n.keys n.lines n.circuits n.numbers (deque_len n.tickets) (deque_capacity n.tickets) sound
-    c.open-key.new.self c.join.new.self c.open-key.result _ line c.args.keyed (n.events + 1)
+    c.«open».new.self c.join.new.self added.0 _ line c.args.keyed (n.events + 1)
     (sym (c.has.ensures ∙ sound.lines line.code line.national) ∙ c.if-not-has.false)
     (sym c.in_ok-status.ensures.engaged ∙ c.if-status.false)
-    c.open-key.ensures.changes (ap call c.new.ensures.items) (c.open-key.ensures.calls ∙ ap (λ (h : List Hop). calls_in n.calls ++ call h ∷ []) c.new.ensures.items)
+    added.2 (ap call c.new.ensures.items) (c.«open».ensures.calls ∙ ap (λ (h : List Hop). calls_in n.calls ++ call h ∷ []) c.new.ensures.items)
     (ap (λ (b : Book). b.ranges) lines) (ap (λ (b : Book). b.engaged) lines ∙ (λ i. if c.if-status.false i || c.if-status-2.false i then n.lines.engaged else set.insert n.lines.engaged line)) c.requires.tickets
 
 pub returns-clause-step : goal.returns-clause-step
@@ -71,10 +72,10 @@ returns-clause-step g c =
     let line = c.args.line in
     let keyed = c.args.keyed in
     let call = λ (h : List Hop). keyed_with (n.numbers + 1) line keyed (n.events + 1) h in
-    let calls = c.open-key.ensures.calls ∙ ap (λ (h : List Hop). calls_in n.calls ++ call h ∷ []) c.new.ensures.items in
+    let calls = c.«open».ensures.calls ∙ ap (λ (h : List Hop). calls_in n.calls ++ call h ∷ []) c.new.ensures.items in
     let known = sym (c.has.ensures ∙ sound.lines line.code line.national) ∙ c.if-not-has.false in
     let idle = sym (sound.together.engaged line) ∙ sym c.in_ok-status.ensures.engaged ∙ c.if-status.false in
     let mended = sym c.in_ok-status.ensures.faulty ∙ c.if-status-2.false in
     ap (λ o. unless_refused o (state_of n) (counted (accepted n.plan.now (state_of n) (Key line keyed)))) (key_open n.plan.now (state_of n) line keyed known idle mended c.requires.numbers c.requires.events)
     ∙ ap (λ (cs : List Call). (Keyed (n.numbers + 1), state_seen cs n.circuits n.lines (n.numbers + 1) (n.events + 1) n.tickets.items)) (sym calls)
-    ∙ ap (λ (b : Book). (Keyed (n.numbers + 1), state_seen (calls_in c.open-key.new.self) n.circuits b (n.numbers + 1) (n.events + 1) n.tickets.items)) (sym c.in_ok-status.ensures.lines)
+    ∙ ap (λ (b : Book). (Keyed (n.numbers + 1), state_seen (calls_in c.«open».new.self) n.circuits b (n.numbers + 1) (n.events + 1) n.tickets.items)) (sym c.in_ok-status.ensures.lines)

@@ -1,9 +1,8 @@
-use Rattle.std.proofs.Common.{◌≤◌, ◌+◌, ◌∙◌, length, set, ap, arith, refl}
+use Rattle.std.proofs.Common.{◌∙◌, set, ap, arith}
 use Rattle.std.specs.Prelude.{slice_get}
 use Rattle.std.proofs.lemmas.Option.{slice_get_within}
 use Rattle.tx_rows.specs.Rows.{change_at}
-use Rattle.tx_rows.proofs.Kept.{rewrites_item, seen_rewritten}
-use Rattle.tx_rows.proofs.Parts.{place_in}
+use Rattle.tx_rows.proofs.Parts.{place_in, place_rows}
 use Rattle.tx_rows.proofs.late_rows.LateRows.set.Goals as goal
 
 pub written-start-requires-clause-row : goal.written-start-requires-clause-row
@@ -24,12 +23,6 @@ index_mut-requires g c =
 
 pub returns-clause-rows : goal.returns-clause-rows
 returns-clause-rows g c =
-    let l = c.written-start.new.self in
-    let is = c.written-start.ensures.at in
-    let a = c.written-start.result.0 in
-    let kept = c.written-start.ensures.kept in
     let row = ap (λ rows. slice_get rows c.args.row) c.written-start.ensures.rows ∙ c.requires.there.1 in
-    let lt = (place_in l kept c.args.row _ _ is c.requires.there.0 c.args.place row c.requires.there.2).0 in
-    let in_it : a + is.at.count ≤ length l.items.items = kept.within c.args.row is.at a is.is is.start in
-    seen_rewritten l.items.items _ l.late l.idle l.rows.items kept c.args.row is.at is.is a is.start _ _ (rewrites_item l.items.items a is.at.count in_it c.args.place c.args.item lt) (λ xs. set xs c.args.place c.args.item) refl
+    place_rows c.written-start.new.self c.written-start.ensures.kept c.args.row _ _ c.written-start.ensures.at c.requires.there.0 row c.args.place c.requires.there.2 c.args.item
     ∙ ap (change_at (λ x. record x { items = set x.items c.args.place c.args.item }) c.args.row) c.written-start.ensures.rows

@@ -12,14 +12,6 @@ unwrap-requires g c =
     let room = has_room l.items.items _ l.late l.idle l.rows.items c.requires.kept c.args.row c.index-at.result.now at none in
     c.resize.ensures.succeeds (omega (arith, room, l.items.ok.0, c.len-start.ensures))
 
-pub overflow_cast-end : goal.overflow_cast-end
-overflow_cast-end g c =
-    let l = c.args.self.now in
-    let at = entry_at l.rows.items c.args.row c.index-at.result.now c.index-at.ensures c.requires.row in
-    let none : c.index-at.result.now.start ≡ None = subst (λ o. IfSome o (λ r. r.start ≡ None)) at c.requires.late in
-    let late = count_late l.items.items _ l.late l.idle l.rows.items c.requires.kept c.args.row c.index-at.result.now at none in
-    omega (arith, late, c.requires.kept.numbers)
-
 pub overflow_add-end : goal.overflow_add-end
 overflow_add-end g c =
     let l = c.args.self.now in

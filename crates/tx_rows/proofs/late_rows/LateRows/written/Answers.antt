@@ -5,13 +5,6 @@ use Rattle.tx_rows.specs.inner.Kept.{row_seen}
 use Rattle.tx_rows.proofs.Lists.{entry_at}
 use Rattle.tx_rows.proofs.late_rows.LateRows.written.Goals as goal
 
-pub overflow_cast-result-in-Some-2 : goal.overflow_cast-result-in-Some-2
-overflow_cast-result-in-Some-2 g c =
-    let l = c.args.self.now in
-    let lt : c.args.row < length l.rows.items = omega (arith, length-map l.rows.items (row_seen l.items.items l.idle), c.requires.row) in
-    let at = entry_at l.rows.items c.args.row c.index-at.result.now c.index-at.ensures lt in
-    omega (arith, c.requires.kept.within c.args.row c.index-at.result.now c.in-Some.start at c.in-Some.is, c.requires.kept.numbers)
-
 pub overflow_add-result : goal.overflow_add-result
 overflow_add-result g c =
     let l = c.args.self.now in
