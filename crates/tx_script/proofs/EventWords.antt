@@ -1,0 +1,101 @@
+-- Words that are found where a line has single spaces.
+use Rattle.std.proofs.Common.{◌≡◌, ℕ, ◌^◌, ◌-◌, ◌<◌, ◌≤◌, ◌==◌, ◌&&◌, ◌||◌, Bool, not, true, false, List, [], ◌∷◌, ◌++◌, drop, length, get_or, Option, Some, None, Ok, refl, sym, ap, ◌∙◌, append_assoc, arith}
+use Rattle.std.specs.Prelude.{if◌then◌else◌, nat_le}
+use Rattle.std.specs.List.{list_all}
+use Rattle.std.specs.Str.Parse.{digits_value}
+use Rattle.std.proofs.Math.Seq.{drop-append_seam}
+use Rattle.std.proofs.lemmas.Bool.{and_parts, eqb-true, leb-le}
+use Rattle.std.proofs.lemmas.Bool.Decides.{nat_tests}
+use Rattle.std.proofs.lemmas.List.Prefix.{front_from_reads}
+use Rattle.std.proofs.lemmas.Option.{none-some}
+use Rattle.tx_text.specs.Words.{words_of, is_word_byte, is_figure, is_numeral, are_figures, number_of}
+use Rattle.tx_text.proofs.WordLists.{blank_behind, blank_before, word_alone}
+use Rattle.tx_text.proofs.WrittenWords.{all_stronger}
+use Rattle.tx_state.specs.declared.event.Event.TheVariants.{Clear}
+use Rattle.tx_state.specs.declared.party.Party.{Party}
+use Rattle.tx_state.specs.declared.party.Party.TheVariants.{Caller, Called}
+use Rattle.tx_script.specs.declared.verb.Verb.{Verb}
+use Rattle.tx_script.specs.Events.{verb_of, event_of, event_for, BeginsWith, call_number, call_in, clear_event, spelt, party_word}
+
+-- a verb at the front of a line, and a space behind it
+pub verb_first : (verb : Verb) (word text : List ℕ) → verb_of word ≡ Some verb → list_all is_word_byte word ≡ true → 0 < length word → length (word ++ 32 ∷ []) ≤ length text → ((i : ℕ) → i < length (word ++ 32 ∷ []) → get_or text i 0 ≡ get_or (word ++ 32 ∷ []) i 0) → BeginsWith (words_of text) (Some verb) (words_of (drop (length word) text))
+unfolding event_of
+verb_first verb word text is all some long reads p =
+    let rest = drop (length (word ++ 32 ∷ [])) text in
+    let e : text ≡ word ++ 32 ∷ rest = front_from_reads 0 text (word ++ 32 ∷ []) long reads ∙ append_assoc word (32 ∷ []) rest in
+    let d : drop (length word) text ≡ 32 ∷ rest = ap (drop (length word)) e ∙ drop-append_seam word (32 ∷ rest) in
+    let w : words_of text ≡ word ∷ words_of (drop (length word) text) = ap words_of e ∙ blank_behind word rest 32 all some refl ∙ ap (λ l. word ∷ words_of l) (sym d) in
+    ap (event_of p) w ∙ ap (λ v. event_for p v (words_of (drop (length word) text))) is
+
+figure_in_word : (b : ℕ) → is_figure b ≡ true → is_word_byte b ≡ true
+figure_in_word b h = grind (arith, nat_tests)
+
+-- what spells a call's number is figures
+record Figures (w : List ℕ) : Type 0 where
+  pub all : list_all is_word_byte w ≡ true
+  pub some : 0 < length w
+
+true_where_some : {A : Type 0} (b : Bool) (v n : A) → (if b then Some v else None) ≡ Some n → b ≡ true
+true_where_some true v n h = refl
+true_where_some false v n h = absurd (none-some n h)
+
+figures_of_number : (max n : ℕ) (w : List ℕ) → number_of max w ≡ Some n → Figures w
+figures_of_number max n w h =
+    let numeral = and_parts (is_numeral w) (nat_le (digits_value 10 w) max) (true_where_some _ (digits_value 10 w) n h) in
+    let figures = and_parts (are_figures 1 10 w) (length w == 1 || not (get_or w 0 0 == 48)) numeral.0 in
+    let parts = and_parts (nat_le 1 (length w) && nat_le (length w) 10) (list_all is_figure w) figures.0 in
+    let least = and_parts (nat_le 1 (length w)) (nat_le (length w) 10) parts.0 in
+    record { all = all_stronger is_figure is_word_byte figure_in_word w parts.1; some = leb-le 1 (length w) least.0 }
+
+true_then : (b : Bool) (o : Option ℕ) (n : ℕ) → (if b then o else None) ≡ Some n → b ≡ true
+true_then true o n h = refl
+true_then false o n h = absurd (none-some n h)
+
+some_then : (b : Bool) (o : Option ℕ) (n : ℕ) → b ≡ true → (if b then o else None) ≡ Some n → o ≡ Some n
+some_then true o n _ h = h
+some_then false o n _ h = absurd (none-some n h)
+
+-- the number behind one space, where nothing else is left
+abbrev pub number_left : List ℕ → Option ℕ
+number_left text = if get_or text 0 0 == 32 then call_number (drop 1 text) else None
+
+-- a text that has a number left is a space and the word that spells it
+record Left (text : List ℕ) (n : ℕ) : Type 0 where
+  pub spells : call_number (drop 1 text) ≡ Some n
+  pub spaced : text ≡ 32 ∷ drop 1 text
+
+left_from : (text : List ℕ) (n : ℕ) → number_left text ≡ Some n → Left text n
+left_from [] n h = absurd (none-some n h)
+left_from (b ∷ text) n h =
+    let e : (b == 32) ≡ true = true_then (b == 32) (call_number text) n h in
+    record { spells = some_then (b == 32) (call_number text) n e h; spaced = ap (λ x. x ∷ text) (eqb-true b 32 e) }
+
+-- the words of a text that has a number left
+pub number_alone : (text : List ℕ) (n : ℕ) → number_left text ≡ Some n → call_in (words_of text) ≡ Ok n
+number_alone text n h =
+    let l = left_from text n h in
+    let f = figures_of_number (2 ^ 32 - 1) n (drop 1 text) l.spells in
+    let w : words_of text ≡ drop 1 text ∷ [] = ap words_of l.spaced ∙ blank_before 32 (drop 1 text) refl ∙ word_alone (drop 1 text) f.all f.some in
+    ap call_in w ∙ ap (λ o. spelt o (λ k. Ok k)) l.spells
+
+party_bytes : (party : Party) → list_all is_word_byte (party_word party) ≡ true
+party_bytes Caller = refl
+party_bytes Called = refl
+
+party_some : (party : Party) → 0 < length (party_word party)
+party_some Caller = omega arith
+party_some Called = omega arith
+
+read_party : (party : Party) (n : ℕ) (w : List ℕ) → call_number w ≡ Some n → clear_event (w ∷ party_word party ∷ []) ≡ Ok (Clear n party)
+read_party Caller n w h = ap (λ o. spelt o (λ k. Ok (Clear k Caller))) h
+read_party Called n w h = ap (λ o. spelt o (λ k. Ok (Clear k Called))) h
+
+-- a number and a party are left
+pub number_and_party : (front text : List ℕ) (n : ℕ) (party : Party) → number_left front ≡ Some n → text ≡ front ++ 32 ∷ party_word party → clear_event (words_of text) ≡ Ok (Clear n party)
+number_and_party front text n party h e =
+    let l = left_from front n h in
+    let f = figures_of_number (2 ^ 32 - 1) n (drop 1 front) l.spells in
+    let behind : words_of (32 ∷ party_word party) ≡ party_word party ∷ [] = blank_before 32 (party_word party) refl ∙ word_alone (party_word party) (party_bytes party) (party_some party) in
+    let w : words_of text ≡ drop 1 front ∷ party_word party ∷ [] =
+        ap words_of (e ∙ ap (λ x. x ++ 32 ∷ party_word party) l.spaced) ∙ blank_before 32 (drop 1 front ++ 32 ∷ party_word party) refl ∙ blank_behind (drop 1 front) (party_word party) 32 f.all f.some refl ∙ ap (λ ws. drop 1 front ∷ ws) behind in
+    ap clear_event w ∙ read_party party n (drop 1 front) l.spells
