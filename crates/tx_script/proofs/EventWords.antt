@@ -1,12 +1,13 @@
 -- Words that are found where a line has single spaces.
-use Rattle.std.proofs.Common.{◌≡◌, ℕ, ◌^◌, ◌-◌, ◌<◌, ◌≤◌, ◌==◌, ◌&&◌, ◌||◌, Bool, not, true, false, List, [], ◌∷◌, ◌++◌, drop, length, get_or, Option, Some, None, Ok, refl, sym, ap, ◌∙◌, append_assoc, arith}
+use Rattle.std.proofs.Common.{◌≡◌, ℕ, zero, suc, ◌+◌, ◌^◌, ◌-◌, ◌<◌, ◌≤◌, ◌==◌, ◌&&◌, ◌||◌, Bool, not, true, false, List, [], ◌∷◌, ◌++◌, drop, take, length, get_or, slice_index, Option, Some, None, Ok, refl, sym, ap, ◌∙◌, append_assoc, arith}
 use Rattle.std.specs.Prelude.{if◌then◌else◌, nat_le}
 use Rattle.std.specs.List.{list_all}
 use Rattle.std.specs.Str.Parse.{digits_value}
 use Rattle.std.proofs.Math.Seq.{drop-append_seam}
-use Rattle.std.proofs.lemmas.Bool.{and_parts, eqb-true, leb-le}
+use Rattle.std.proofs.lemmas.Bool.{and_parts, eqb-true, leb-true}
 use Rattle.std.proofs.lemmas.Bool.Decides.{nat_tests}
-use Rattle.std.proofs.lemmas.List.Prefix.{front_from_reads}
+use Rattle.std.proofs.lemmas.List.Prefix.{front_from_reads, end_from_reads}
+use Rattle.std.proofs.lemmas.Slice.Eq.{HasBytesAt}
 use Rattle.std.proofs.lemmas.Option.{none-some}
 use Rattle.tx_text.specs.Words.{words_of, is_word_byte, is_figure, is_numeral, are_figures, number_of}
 use Rattle.tx_text.proofs.WordLists.{blank_behind, blank_before, word_alone}
@@ -17,12 +18,18 @@ use Rattle.tx_state.specs.declared.party.Party.TheVariants.{Caller, Called}
 use Rattle.tx_script.specs.declared.verb.Verb.{Verb}
 use Rattle.tx_script.specs.Events.{verb_of, event_of, event_for, BeginsWith, call_number, call_in, clear_event, spelt, party_word}
 
+-- what code that tests each byte has read
+read_at : (s p : List ℕ) (i : ℕ) → HasBytesAt s i p → (k : ℕ) → k < length p → get_or s (i + k) 0 ≡ get_or p k 0
+read_at s [] i h k l = absurd (omega (arith, l))
+read_at s (c ∷ p) i h zero l = ap (λ j. get_or s j 0) (omega arith) ∙ h.0
+read_at s (c ∷ p) i h (suc k) l = ap (λ j. get_or s j 0) (omega arith) ∙ read_at s p (suc i) h.1 k (omega (arith, l))
+
 -- a verb at the front of a line, and a space behind it
-pub verb_first : (verb : Verb) (word text : List ℕ) → verb_of word ≡ Some verb → list_all is_word_byte word ≡ true → 0 < length word → length (word ++ 32 ∷ []) ≤ length text → ((i : ℕ) → i < length (word ++ 32 ∷ []) → get_or text i 0 ≡ get_or (word ++ 32 ∷ []) i 0) → BeginsWith (words_of text) (Some verb) (words_of (drop (length word) text))
+pub verb_first : (verb : Verb) (word text : List ℕ) → verb_of word ≡ Some verb → list_all is_word_byte word ≡ true → 0 < length word → length (word ++ 32 ∷ []) ≤ length text → HasBytesAt text 0 (word ++ 32 ∷ []) → BeginsWith (words_of text) (Some verb) (words_of (drop (length word) text))
 unfolding event_of
 verb_first verb word text is all some long reads p =
     let rest = drop (length (word ++ 32 ∷ [])) text in
-    let e : text ≡ word ++ 32 ∷ rest = front_from_reads 0 text (word ++ 32 ∷ []) long reads ∙ append_assoc word (32 ∷ []) rest in
+    let e : text ≡ word ++ 32 ∷ rest = front_from_reads 0 text (word ++ 32 ∷ []) long (λ i l. ap (λ k. get_or text k 0) (omega arith) ∙ read_at text (word ++ 32 ∷ []) 0 reads i l) ∙ append_assoc word (32 ∷ []) rest in
     let d : drop (length word) text ≡ 32 ∷ rest = ap (drop (length word)) e ∙ drop-append_seam word (32 ∷ rest) in
     let w : words_of text ≡ word ∷ words_of (drop (length word) text) = ap words_of e ∙ blank_behind word rest 32 all some refl ∙ ap (λ l. word ∷ words_of l) (sym d) in
     ap (event_of p) w ∙ ap (λ v. event_for p v (words_of (drop (length word) text))) is
@@ -45,7 +52,7 @@ figures_of_number max n w h =
     let figures = and_parts (are_figures 1 10 w) (length w == 1 || not (get_or w 0 0 == 48)) numeral.0 in
     let parts = and_parts (nat_le 1 (length w) && nat_le (length w) 10) (list_all is_figure w) figures.0 in
     let least = and_parts (nat_le 1 (length w)) (nat_le (length w) 10) parts.0 in
-    record { all = all_stronger is_figure is_word_byte figure_in_word w parts.1; some = leb-le 1 (length w) least.0 }
+    record { all = all_stronger is_figure is_word_byte figure_in_word w parts.1; some = leb-true 1 (length w) least.0 }
 
 true_then : (b : Bool) (o : Option ℕ) (n : ℕ) → (if b then o else None) ≡ Some n → b ≡ true
 true_then true o n h = refl
@@ -57,7 +64,7 @@ some_then false o n _ h = absurd (none-some n h)
 
 -- the number behind one space, where nothing else is left
 abbrev pub number_left : List ℕ → Option ℕ
-number_left text = if get_or text 0 0 == 32 then call_number (drop 1 text) else None
+number_left text = if slice_index text 0 == 32 then call_number (drop 1 text) else None
 
 -- a text that has a number left is a space and the word that spells it
 record Left (text : List ℕ) (n : ℕ) : Type 0 where
@@ -90,8 +97,7 @@ read_party : (party : Party) (n : ℕ) (w : List ℕ) → call_number w ≡ Some
 read_party Caller n w h = ap (λ o. spelt o (λ k. Ok (Clear k Caller))) h
 read_party Called n w h = ap (λ o. spelt o (λ k. Ok (Clear k Called))) h
 
--- a number and a party are left
-pub number_and_party : (front text : List ℕ) (n : ℕ) (party : Party) → number_left front ≡ Some n → text ≡ front ++ 32 ∷ party_word party → clear_event (words_of text) ≡ Ok (Clear n party)
+number_and_party : (front text : List ℕ) (n : ℕ) (party : Party) → number_left front ≡ Some n → text ≡ front ++ 32 ∷ party_word party → clear_event (words_of text) ≡ Ok (Clear n party)
 number_and_party front text n party h e =
     let l = left_from front n h in
     let f = figures_of_number (2 ^ 32 - 1) n (drop 1 front) l.spells in
@@ -99,3 +105,9 @@ number_and_party front text n party h e =
     let w : words_of text ≡ drop 1 front ∷ party_word party ∷ [] =
         ap words_of (e ∙ ap (λ x. x ++ 32 ∷ party_word party) l.spaced) ∙ blank_before 32 (drop 1 front ++ 32 ∷ party_word party) refl ∙ blank_behind (drop 1 front) (party_word party) 32 f.all f.some refl ∙ ap (λ ws. drop 1 front ∷ ws) behind in
     ap clear_event w ∙ read_party party n (drop 1 front) l.spells
+
+-- a number and a party are left
+pub party_last : (text : List ℕ) (n : ℕ) (party : Party) → 7 ≤ length text → length (party_word party) ≡ 6 → number_left (take (length text - 7) text) ≡ Some n → HasBytesAt text (length text - 7) (32 ∷ party_word party) → clear_event (words_of text) ≡ Ok (Clear n party)
+party_last text n party long six h reads =
+    let e = end_from_reads 0 text (32 ∷ party_word party) (omega (arith, six)) (λ i l. ap (λ k. get_or text (k + i) 0) (omega (arith, six)) ∙ read_at text (32 ∷ party_word party) (length text - 7) reads i l) in
+    number_and_party (take (length text - 7) text) text n party h (e ∙ ap (λ k. take k text ++ 32 ∷ party_word party) (omega (arith, six)))
