@@ -25,14 +25,11 @@ read_at s (c ∷ p) i h zero l = ap (λ j. get_or s j 0) (omega arith) ∙ h.0
 read_at s (c ∷ p) i h (suc k) l = ap (λ j. get_or s j 0) (omega arith) ∙ read_at s p (suc i) h.1 k (omega (arith, l))
 
 -- a verb at the front of a line, and a space behind it
-pub verb_first : (verb : Verb) (word text : List ℕ) → verb_of word ≡ Some verb → list_all is_word_byte word ≡ true → 0 < length word → length (word ++ 32 ∷ []) ≤ length text → HasBytesAt text 0 (word ++ 32 ∷ []) → BeginsWith (words_of text) (Some verb) (words_of (drop (length word) text))
+pub verb_first : (verb : Verb) (word rest text : List ℕ) → verb_of word ≡ Some verb → list_all is_word_byte word ≡ true → 0 < length word → text ≡ word ++ 32 ∷ rest → BeginsWith (words_of text) (Some verb) (words_of rest)
 unfolding event_of
-verb_first verb word text is all some long reads p =
-    let rest = drop (length (word ++ 32 ∷ [])) text in
-    let e : text ≡ word ++ 32 ∷ rest = front_from_reads 0 text (word ++ 32 ∷ []) long (λ i l. ap (λ k. get_or text k 0) (omega arith) ∙ read_at text (word ++ 32 ∷ []) 0 reads i l) ∙ append_assoc word (32 ∷ []) rest in
-    let d : drop (length word) text ≡ 32 ∷ rest = ap (drop (length word)) e ∙ drop-append_seam word (32 ∷ rest) in
-    let w : words_of text ≡ word ∷ words_of (drop (length word) text) = ap words_of e ∙ blank_behind word rest 32 all some refl ∙ ap (λ l. word ∷ words_of l) (sym d) in
-    ap (event_of p) w ∙ ap (λ v. event_for p v (words_of (drop (length word) text))) is
+verb_first verb word rest text is all some e p =
+    let w : words_of text ≡ word ∷ words_of rest = ap words_of e ∙ blank_behind word rest 32 all some refl ∙ ap (λ l. word ∷ l) (blank_before 32 rest refl) in
+    ap (event_of p) w ∙ ap (λ v. event_for p v (words_of rest)) is
 
 figure_in_word : (b : ℕ) → is_figure b ≡ true → is_word_byte b ≡ true
 figure_in_word b h = grind (arith, nat_tests)
@@ -54,36 +51,11 @@ figures_of_number max n w h =
     let least = and_parts (nat_le 1 (length w)) (nat_le (length w) 10) parts.0 in
     record { all = all_stronger is_figure is_word_byte figure_in_word w parts.1; some = leb-true 1 (length w) least.0 }
 
-true_then : (b : Bool) (o : Option ℕ) (n : ℕ) → (if b then o else None) ≡ Some n → b ≡ true
-true_then true o n h = refl
-true_then false o n h = absurd (none-some n h)
-
-some_then : (b : Bool) (o : Option ℕ) (n : ℕ) → b ≡ true → (if b then o else None) ≡ Some n → o ≡ Some n
-some_then true o n _ h = h
-some_then false o n _ h = absurd (none-some n h)
-
--- the number behind one space, where nothing else is left
-abbrev pub number_left : List ℕ → Option ℕ
-number_left text = if slice_index text 0 == 32 then call_number (drop 1 text) else None
-
--- a text that has a number left is a space and the word that spells it
-record Left (text : List ℕ) (n : ℕ) : Type 0 where
-  pub spells : call_number (drop 1 text) ≡ Some n
-  pub spaced : text ≡ 32 ∷ drop 1 text
-
-left_from : (text : List ℕ) (n : ℕ) → number_left text ≡ Some n → Left text n
-left_from [] n h = absurd (none-some n h)
-left_from (b ∷ text) n h =
-    let e : (b == 32) ≡ true = true_then (b == 32) (call_number text) n h in
-    record { spells = some_then (b == 32) (call_number text) n e h; spaced = ap (λ x. x ∷ text) (eqb-true b 32 e) }
-
--- the words of a text that has a number left
-pub number_alone : (text : List ℕ) (n : ℕ) → number_left text ≡ Some n → call_in (words_of text) ≡ Ok n
+-- the words of a text that spells a number
+pub number_alone : (text : List ℕ) (n : ℕ) → call_number text ≡ Some n → call_in (words_of text) ≡ Ok n
 number_alone text n h =
-    let l = left_from text n h in
-    let f = figures_of_number (2 ^ 32 - 1) n (drop 1 text) l.spells in
-    let w : words_of text ≡ drop 1 text ∷ [] = ap words_of l.spaced ∙ blank_before 32 (drop 1 text) refl ∙ word_alone (drop 1 text) f.all f.some in
-    ap call_in w ∙ ap (λ o. spelt o (λ k. Ok k)) l.spells
+    let f = figures_of_number (2 ^ 32 - 1) n text h in
+    ap call_in (word_alone text f.all f.some) ∙ ap (λ o. spelt o (λ k. Ok k)) h
 
 party_bytes : (party : Party) → list_all is_word_byte (party_word party) ≡ true
 party_bytes Caller = refl
@@ -97,17 +69,15 @@ read_party : (party : Party) (n : ℕ) (w : List ℕ) → call_number w ≡ Some
 read_party Caller n w h = ap (λ o. spelt o (λ k. Ok (Clear k Caller))) h
 read_party Called n w h = ap (λ o. spelt o (λ k. Ok (Clear k Called))) h
 
-number_and_party : (front text : List ℕ) (n : ℕ) (party : Party) → number_left front ≡ Some n → text ≡ front ++ 32 ∷ party_word party → clear_event (words_of text) ≡ Ok (Clear n party)
+number_and_party : (front text : List ℕ) (n : ℕ) (party : Party) → call_number front ≡ Some n → text ≡ front ++ 32 ∷ party_word party → clear_event (words_of text) ≡ Ok (Clear n party)
 number_and_party front text n party h e =
-    let l = left_from front n h in
-    let f = figures_of_number (2 ^ 32 - 1) n (drop 1 front) l.spells in
+    let f = figures_of_number (2 ^ 32 - 1) n front h in
     let behind : words_of (32 ∷ party_word party) ≡ party_word party ∷ [] = blank_before 32 (party_word party) refl ∙ word_alone (party_word party) (party_bytes party) (party_some party) in
-    let w : words_of text ≡ drop 1 front ∷ party_word party ∷ [] =
-        ap words_of (e ∙ ap (λ x. x ++ 32 ∷ party_word party) l.spaced) ∙ blank_before 32 (drop 1 front ++ 32 ∷ party_word party) refl ∙ blank_behind (drop 1 front) (party_word party) 32 f.all f.some refl ∙ ap (λ ws. drop 1 front ∷ ws) behind in
-    ap clear_event w ∙ read_party party n (drop 1 front) l.spells
+    let w : words_of text ≡ front ∷ party_word party ∷ [] = ap words_of e ∙ blank_behind front (party_word party) 32 f.all f.some refl ∙ ap (λ ws. front ∷ ws) behind in
+    ap clear_event w ∙ read_party party n front h
 
 -- a number and a party are left
-pub party_last : (text : List ℕ) (n : ℕ) (party : Party) → 7 ≤ length text → length (party_word party) ≡ 6 → number_left (take (length text - 7) text) ≡ Some n → HasBytesAt text (length text - 7) (32 ∷ party_word party) → clear_event (words_of text) ≡ Ok (Clear n party)
+pub party_last : (text : List ℕ) (n : ℕ) (party : Party) → 7 ≤ length text → length (party_word party) ≡ 6 → call_number (take (length text - 7) text) ≡ Some n → HasBytesAt text (length text - 7) (32 ∷ party_word party) → clear_event (words_of text) ≡ Ok (Clear n party)
 party_last text n party long six h reads =
     let e = end_from_reads 0 text (32 ∷ party_word party) (omega (arith, six)) (λ i l. ap (λ k. get_or text (k + i) 0) (omega (arith, six)) ∙ read_at text (32 ∷ party_word party) (length text - 7) reads i l) in
     number_and_party (take (length text - 7) text) text n party h (e ∙ ap (λ k. take k text ++ 32 ∷ party_word party) (omega (arith, six)))

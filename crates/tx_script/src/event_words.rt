@@ -1,9 +1,9 @@
 // The event that the words of a line say.
-ghost use Rattle.std.specs.Prelude.{◌≡◌, ◌<◌, ◌==◌, None, Some, Ok, MatchOption, IfSome, length, drop, slice_index, if◌then◌else◌};
+ghost use Rattle.std.specs.Prelude.{◌≡◌, ◌<◌, ◌++◌, None, Some, Ok, MatchOption, IfSome, length};
 ghost use Rattle.std.specs.List.{position};
 ghost use Rattle.tx_text.specs.Words.{words_of};
 ghost use Rattle.tx_state.specs.declared.event.Event.TheVariants.{Route, Confirm, Released};
-ghost use Rattle.tx_script.specs.Events.{event_of, event_by, BeginsWith, said_of, key_event, call_number, call_in, clear_event, circuit_in, circuit_of, circuit_number, is_dot, cut_at_dot, group_in, line_in, line_of, party_of, end_event, one_word, two_words, three_words};
+ghost use Rattle.tx_script.specs.Events.{event_of, event_by, BeginsWith, said_of, key_event, call_in, clear_event, circuit_in, circuit_of, circuit_number, is_dot, cut_at_dot, group_in, line_in, line_of, party_of, end_event, one_word, two_words, three_words};
 
 use crate::script_word::ScriptWord;
 use crate::verb::Verb;
@@ -37,40 +37,50 @@ pub(crate) fn verb_in(words: &mut Words<'_>) -> Option<Verb>
     Verb::read(first)
 }
 
+/// What is left behind these bytes, where the text begins with them.
+#[inline(always)]
+fn behind<'a, const N: usize>(text: &'a [u8], front: &[u8; N]) -> Option<&'a [u8]>
+    ensures { IfSome result (λ rest. text.now ≡ front.now ++ rest.now) }
+{
+    if text.len() < N {
+        return None;
+    }
+    for i in 0..N {
+        if text[i] != front[i] {
+            return None;
+        }
+    }
+    Some(&text[N..])
+}
+
 /// The verb of an event of calls where it stands at the front with a space behind it, and what is left of the line.
 #[inline(always)]
 fn verb_at(text: &[u8]) -> Option<(Verb, &[u8])>
     ensures { IfSome result (λ v. BeginsWith (words_of text.now) (Some v.0) (words_of v.1.now)) }
 {
-    match text {
-        [b'R', b'O', b'U', b'T', b'E', b' ', ..] => Some((Verb::Route, &text[5..])),
-        [b'C', b'O', b'N', b'F', b'I', b'R', b'M', b' ', ..] => Some((Verb::Confirm, &text[7..])),
-        [b'C', b'L', b'E', b'A', b'R', b' ', ..] => Some((Verb::Clear, &text[5..])),
-        [b'K', b'E', b'Y', b' ', ..] => Some((Verb::Key, &text[3..])),
-        [b'R', b'E', b'L', b'E', b'A', b'S', b'E', b'D', b' ', ..] => Some((Verb::Released, &text[8..])),
-        _ => None,
+    if let Some(rest) = behind(text, b"ROUTE ") {
+        Some((Verb::Route, rest))
+    } else if let Some(rest) = behind(text, b"CONFIRM ") {
+        Some((Verb::Confirm, rest))
+    } else if let Some(rest) = behind(text, b"CLEAR ") {
+        Some((Verb::Clear, rest))
+    } else if let Some(rest) = behind(text, b"KEY ") {
+        Some((Verb::Key, rest))
+    } else if let Some(rest) = behind(text, b"RELEASED ") {
+        Some((Verb::Released, rest))
+    } else {
+        None
     }
 }
 
-/// A call's number behind one space, where nothing else is left of a line.
-#[inline(always)]
-fn number_left(text: &[u8]) -> Option<u32>
-    ensures { result ≡ (if slice_index text.now 0 == 32 then call_number (drop 1 text.now) else None) }
-{
-    match text {
-        [b' ', figures @ ..] => number(figures, u32::MAX),
-        _ => None,
-    }
-}
-
-/// A call's number and a party, each behind one space, where nothing else is left of a line.
+/// A call's number, a space and a party, where nothing else is left of a line.
 #[inline(always)]
 fn clear_left(text: &[u8]) -> Option<Event>
     ensures { IfSome result (λ e. clear_event (words_of text.now) ≡ Ok e) }
 {
     match text {
-        [front @ .., b' ', b'C', b'A', b'L', b'L', b'E', b'R'] => Some(Event::Clear { call: number_left(front)?, party: Party::Caller }),
-        [front @ .., b' ', b'C', b'A', b'L', b'L', b'E', b'D'] => Some(Event::Clear { call: number_left(front)?, party: Party::Called }),
+        [front @ .., b' ', b'C', b'A', b'L', b'L', b'E', b'R'] => Some(Event::Clear { call: number(front, u32::MAX)?, party: Party::Caller }),
+        [front @ .., b' ', b'C', b'A', b'L', b'L', b'E', b'D'] => Some(Event::Clear { call: number(front, u32::MAX)?, party: Party::Called }),
         _ => None,
     }
 }
@@ -136,7 +146,8 @@ pub(crate) fn confirm_event(words: Words<'_>) -> Result<Event, ScriptWord>
 fn call_in(words: Words<'_>) -> Result<u32, ScriptWord>
     ensures { result ≡ call_in words.entry }
 {
-    if let Some(call) = number_left(words.rest()) {
+    // Mostly the number is all that is left.
+    if let Some(call) = number(words.rest(), u32::MAX) {
         return Ok(call);
     }
     let call = one_word(words).ok_or(ScriptWord::WrongCount)?;

@@ -4,4 +4,4 @@ use Rattle.tx_script.proofs.EventWords.{number_alone}
 use Rattle.tx_script.proofs.event_words.call_in.Goals as goal
 
 pub returns-in-Some : goal.returns-in-Some
-returns-in-Some c = sym (number_alone c.rest.result.now c.in-Some.call (sym c.number_left.ensures ∙ c.in-Some.is)) ∙ ap call_in c.rest.ensures
+returns-in-Some c = sym (number_alone c.rest.result.now c.in-Some.call (sym c.number.ensures ∙ c.in-Some.is)) ∙ ap call_in c.rest.ensures
