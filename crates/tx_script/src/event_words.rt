@@ -79,8 +79,14 @@ fn clear_left(text: &[u8]) -> Option<Event>
     ensures { IfSome result (λ e. clear_event (words_of text.now) ≡ Ok e) }
 {
     match text {
-        [front @ .., b' ', b'C', b'A', b'L', b'L', b'E', b'R'] => Some(Event::Clear { call: number(front, u32::MAX)?, party: Party::Caller }),
-        [front @ .., b' ', b'C', b'A', b'L', b'L', b'E', b'D'] => Some(Event::Clear { call: number(front, u32::MAX)?, party: Party::Called }),
+        [front @ .., b' ', b'C', b'A', b'L', b'L', b'E', b'R'] => Some(Event::Clear {
+            call: number(front, u32::MAX)?,
+            party: Party::Caller,
+        }),
+        [front @ .., b' ', b'C', b'A', b'L', b'L', b'E', b'D'] => Some(Event::Clear {
+            call: number(front, u32::MAX)?,
+            party: Party::Called,
+        }),
         _ => None,
     }
 }
