@@ -1,3 +1,4 @@
+pub mod EventWords
 pub mod EventLines
 pub mod Writable
 pub mod Balance

@@ -1,5 +1,5 @@
 -- The event that a line of a script says, and the line that is written for an event.
-use Rattle.std.specs.Prelude.{◌≡◌, ℕ, ◌+◌, ◌-◌, ◌^◌, ◌<◌, ◌≤◌, ◌==◌, Bool, true, List, [], ◌∷◌, Option, None, Some, Result, Ok, Err, codes, decimal, length, take, drop, position, if◌then◌else◌}
+use Rattle.std.specs.Prelude.{◌≡◌, ℕ, ◌+◌, ◌-◌, ◌^◌, ◌<◌, ◌≤◌, ◌==◌, Bool, true, List, [], ◌∷◌, Option, None, Some, Result, Ok, Err, codes, decimal, length, take, drop, find, position, if◌then◌else◌}
 use Rattle.std.specs.Option.{option_map}
 use Rattle.std.specs.Str.{bytes_eq}
 use Rattle.tx_text.specs.Words.{words_of, number_of, figures_of, are_figures}
@@ -142,26 +142,31 @@ end_event (w ∷ ws) = Err WrongCount
 
 -- THE EVENT OF A LINE'S WORDS
 
--- what a first word says
+-- the word of a verb
+abbrev pub verb_word : Verb → List ℕ
+verb_word KeyVerb = codes "KEY"
+verb_word RouteVerb = codes "ROUTE"
+verb_word ConfirmVerb = codes "CONFIRM"
+verb_word ClearVerb = codes "CLEAR"
+verb_word ReleasedVerb = codes "RELEASED"
+verb_word FailVerb = codes "FAIL"
+verb_word RestoreVerb = codes "RESTORE"
+verb_word BlockVerb = codes "BLOCK"
+verb_word UnblockVerb = codes "UNBLOCK"
+verb_word OutVerb = codes "OUT"
+verb_word InVerb = codes "IN"
+verb_word FaultVerb = codes "FAULT"
+verb_word MendVerb = codes "MEND"
+verb_word AwayVerb = codes "AWAY"
+verb_word BackVerb = codes "BACK"
+verb_word EndVerb = codes "END"
+
+abbrev pub verbs : List Verb
+verbs = KeyVerb ∷ RouteVerb ∷ ConfirmVerb ∷ ClearVerb ∷ ReleasedVerb ∷ FailVerb ∷ RestoreVerb ∷ BlockVerb ∷ UnblockVerb ∷ OutVerb ∷ InVerb ∷ FaultVerb ∷ MendVerb ∷ AwayVerb ∷ BackVerb ∷ EndVerb ∷ []
+
+-- the verb whose word it is
 abbrev pub verb_of : List ℕ → Option Verb
-verb_of w =
-    if bytes_eq w (codes "KEY") then Some KeyVerb
-    else if bytes_eq w (codes "ROUTE") then Some RouteVerb
-    else if bytes_eq w (codes "CONFIRM") then Some ConfirmVerb
-    else if bytes_eq w (codes "CLEAR") then Some ClearVerb
-    else if bytes_eq w (codes "RELEASED") then Some ReleasedVerb
-    else if bytes_eq w (codes "FAIL") then Some FailVerb
-    else if bytes_eq w (codes "RESTORE") then Some RestoreVerb
-    else if bytes_eq w (codes "BLOCK") then Some BlockVerb
-    else if bytes_eq w (codes "UNBLOCK") then Some UnblockVerb
-    else if bytes_eq w (codes "OUT") then Some OutVerb
-    else if bytes_eq w (codes "IN") then Some InVerb
-    else if bytes_eq w (codes "FAULT") then Some FaultVerb
-    else if bytes_eq w (codes "MEND") then Some MendVerb
-    else if bytes_eq w (codes "AWAY") then Some AwayVerb
-    else if bytes_eq w (codes "BACK") then Some BackVerb
-    else if bytes_eq w (codes "END") then Some EndVerb
-    else None
+verb_of w = find (λ v. bytes_eq w (verb_word v)) verbs
 
 -- what a first word and those that follow it say together
 abbrev pub event_by : Plan → Verb → List (List ℕ) → Said

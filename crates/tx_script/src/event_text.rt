@@ -6,7 +6,7 @@ ghost use Rattle.tx_text.specs.Words.{are_figures};
 ghost use Rattle.tx_plan.specs.Plan.{group_name};
 ghost use Rattle.tx_plan.specs.Rules.{is_national};
 ghost use Rattle.tx_tickets.specs.Texts.{line_text};
-ghost use Rattle.tx_script.specs.Events.{IsWritable, event_in, event_line, event_text, party_word};
+ghost use Rattle.tx_script.specs.Events.{IsWritable, IsEvent, event_in, event_line, event_text, party_word};
 
 use itoa::Buffer;
 use std::alloc::Allocator;
@@ -17,7 +17,6 @@ use tx_tickets::write_circuit;
 
 /// Writes the line of an event, as `KEY 41 10001 4110002`, with its LF. The plan has the event's ids, and its circuit has a number from 1 to 240. The line
 /// reads back as the event. Where the sink fails, a front of the line was taken.
-#[tactic(auto, using(crate::proofs::EventLines::events_back))]
 pub fn write_event<A: Allocator, W: Sink>(
     event: &Event,
     plan: &Plan<A>,
@@ -31,6 +30,21 @@ pub fn write_event<A: Allocator, W: Sink>(
     ensures unmarked { OnOk result (W.failed sink.new ≡ W.failed sink.old) }
 {
     plan.rules();
+    write_said(event, plan, sink)
+}
+
+/// The same for any event: of an id that the plan has not, no name is written.
+fn write_said<A: Allocator, W: Sink>(
+    event: &Event,
+    plan: &Plan<A>,
+    sink: &mut W,
+) -> Result<(), WriteFault>
+    ensures event { IsEvent event.now }
+    ensures ok { OnOk result (W.taken sink.new ≡ append_known (W.taken sink.old) (event_text plan.now event.now)) }
+    ensures err { OnErr result (StopsIn (W.taken sink.old) (W.taken sink.new) (event_text plan.now event.now)) }
+    ensures mark { OnErr result (W.failed sink.new ≡ true) }
+    ensures unmarked { OnOk result (W.failed sink.new ≡ W.failed sink.old) }
+{
     match event {
         Event::Key { line, keyed } => write_key(line, keyed, plan, sink),
         Event::Route(call) => write_call(b"ROUTE ", *call, b"\n", sink),

@@ -1,6 +1,7 @@
 // The event that the words of a line say.
-ghost use Rattle.std.specs.Prelude.{◌≡◌, ◌<◌, None, Some, MatchOption, IfSome, length};
+ghost use Rattle.std.specs.Prelude.{◌≡◌, ◌<◌, ◌++◌, None, Some, Ok, MatchOption, IfSome, length};
 ghost use Rattle.std.specs.List.{position};
+ghost use Rattle.tx_text.specs.Words.{words_of};
 ghost use Rattle.tx_state.specs.declared.event.Event.TheVariants.{Route, Confirm, Released};
 ghost use Rattle.tx_script.specs.Events.{event_of, event_by, BeginsWith, said_of, key_event, call_in, clear_event, circuit_in, circuit_of, circuit_number, is_dot, cut_at_dot, group_in, line_in, line_of, party_of, end_event, one_word, two_words, three_words};
 
@@ -28,8 +29,66 @@ pub(crate) fn event_of<A: Allocator>(words: Words<'_>, plan: &Plan<A>) -> Result
 pub(crate) fn verb_in(words: &mut Words<'_>) -> Option<Verb>
     ensures { BeginsWith words.old result words.new }
 {
+    if let Some((verb, rest)) = verb_at(words.rest()) {
+        *words = Words::new(rest);
+        return Some(verb);
+    }
     let first = words.next()?;
     Verb::read(first)
+}
+
+/// What is left behind these bytes, where the text begins with them.
+#[inline(always)]
+fn behind<'a, const N: usize>(text: &'a [u8], front: &[u8; N]) -> Option<&'a [u8]>
+    ensures { IfSome result (λ rest. text.now ≡ front.now ++ rest.now) }
+{
+    if text.len() < N {
+        return None;
+    }
+    for i in 0..N {
+        if text[i] != front[i] {
+            return None;
+        }
+    }
+    Some(&text[N..])
+}
+
+/// The verb of an event of calls where it stands at the front with a space behind it, and what is left of the line.
+#[inline(always)]
+fn verb_at(text: &[u8]) -> Option<(Verb, &[u8])>
+    ensures { IfSome result (λ v. BeginsWith (words_of text.now) (Some v.0) (words_of v.1.now)) }
+{
+    if let Some(rest) = behind(text, b"ROUTE ") {
+        Some((Verb::Route, rest))
+    } else if let Some(rest) = behind(text, b"CONFIRM ") {
+        Some((Verb::Confirm, rest))
+    } else if let Some(rest) = behind(text, b"CLEAR ") {
+        Some((Verb::Clear, rest))
+    } else if let Some(rest) = behind(text, b"KEY ") {
+        Some((Verb::Key, rest))
+    } else if let Some(rest) = behind(text, b"RELEASED ") {
+        Some((Verb::Released, rest))
+    } else {
+        None
+    }
+}
+
+/// A call's number, a space and a party, where nothing else is left of a line.
+#[inline(always)]
+fn clear_left(text: &[u8]) -> Option<Event>
+    ensures { IfSome result (λ e. clear_event (words_of text.now) ≡ Ok e) }
+{
+    match text {
+        [front @ .., b' ', b'C', b'A', b'L', b'L', b'E', b'R'] => Some(Event::Clear {
+            call: number(front, u32::MAX)?,
+            party: Party::Caller,
+        }),
+        [front @ .., b' ', b'C', b'A', b'L', b'L', b'E', b'D'] => Some(Event::Clear {
+            call: number(front, u32::MAX)?,
+            party: Party::Called,
+        }),
+        _ => None,
+    }
 }
 
 /// The event of a first word and the words that follow it.
@@ -93,6 +152,10 @@ pub(crate) fn confirm_event(words: Words<'_>) -> Result<Event, ScriptWord>
 fn call_in(words: Words<'_>) -> Result<u32, ScriptWord>
     ensures { result ≡ call_in words.entry }
 {
+    // Mostly the number is all that is left.
+    if let Some(call) = number(words.rest(), u32::MAX) {
+        return Ok(call);
+    }
     let call = one_word(words).ok_or(ScriptWord::WrongCount)?;
     number(call, u32::MAX).ok_or(ScriptWord::BadNumber)
 }
@@ -102,6 +165,9 @@ fn call_in(words: Words<'_>) -> Result<u32, ScriptWord>
 pub(crate) fn clear_event(words: Words<'_>) -> Result<Event, ScriptWord>
     ensures { result ≡ clear_event words.entry }
 {
+    if let Some(event) = clear_left(words.rest()) {
+        return Ok(event);
+    }
     let (call, party) = two_words(words).ok_or(ScriptWord::WrongCount)?;
     let party = party_of(party).ok_or(ScriptWord::UnknownWord)?;
     let call = number(call, u32::MAX).ok_or(ScriptWord::BadNumber)?;

@@ -61,11 +61,20 @@ impl<'a> Model for Words<'a> {
 }
 
 impl<'a> Words<'a> {
+    /// The words of a line, or of what is left of one.
     #[inline(always)]
-    pub(crate) fn new(line: &'a [u8]) -> Words<'a>
+    pub fn new(line: &'a [u8]) -> Words<'a>
         ensures { result ≡ words_of line.now }
     {
         Words { rest: line }
+    }
+
+    /// What is left of the line: these words, and what stands around them.
+    #[inline(always)]
+    pub fn rest(&self) -> &'a [u8]
+        ensures { words_of result.now ≡ self.now }
+    {
+        self.rest
     }
 
     /// The same words once more.
