@@ -6,7 +6,6 @@ ghost use Rattle.tx_lines.specs.declared.line_table.Entry.{Entry};
 ghost use Rattle.tx_lines.specs.inner.Table.{at, home, next, distance, kept_of, lines_in, taken, status_at, IsTable, IsTableBut, IsPlace};
 
 use crate::marks::Marks;
-use crate::status::{Status, UNMARKED};
 use std::alloc::{Allocator, Global};
 use std::hash::{FoldHasher, Hash, Hasher};
 use std::marker::Model;
@@ -156,13 +155,13 @@ impl<A: Allocator> LineTable<A> {
 
     /// What is known of the line in a cell.
     #[inline(always)]
-    pub fn status(&self, place: usize) -> Status
+    pub fn marks(&self, place: usize) -> Marks
         requires { place < length self.now.cells }
         ensures { result ≡ status_at self.now.cells place }
     {
         match &self.cells[place] {
-            Some(entry) => entry.marks.status(),
-            None => UNMARKED,
+            Some(entry) => entry.marks,
+            None => Marks::none(),
         }
     }
 
