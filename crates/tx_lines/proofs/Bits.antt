@@ -53,6 +53,7 @@ sets m s = of m
   where
     marks : (sets_bit Faulty s && (sets_bit Away s && sets_bit Engaged s)) ≡ true
     marks = (and_parts _ (tells Caller s && tells Called s) (does_all s.faulty s.away s.engaged)).0
+
     of : (m : Mark) → sets_bit m s ≡ true
     of Faulty = (and_parts (sets_bit Faulty s) _ marks).0
     of Away = (and_parts (sets_bit Away s) _ (and_parts (sets_bit Faulty s) _ marks).1).0
@@ -63,6 +64,7 @@ told side s = of side
   where
     sides : (tells Caller s && tells Called s) ≡ true
     sides = (and_parts _ (tells Caller s && tells Called s) (does_all s.faulty s.away s.engaged)).1
+
     of : (side : Side) → tells side s ≡ true
     of Caller = (and_parts (tells Caller s) (tells Called s) sides).0
     of Called = (and_parts (tells Caller s) (tells Called s) sides).1
