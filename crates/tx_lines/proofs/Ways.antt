@@ -3,7 +3,7 @@ use Rattle.std.proofs.Common.{◌≡◌, ◌≢◌, ℕ, suc, ◌+◌, ◌-◌, 
 use Rattle.std.proofs.lemmas.Bool.Decides.{leb_tells}
 use Rattle.std.proofs.lemmas.Nat.{and_le_r}
 use Rattle.std.specs.Prelude.{if◌then◌else◌, fold}
-use Rattle.std.specs.Hash.FoldHasher as folding
+use Rattle.tx_lines.specs.inner.Hashing.{start, written, spread}
 use Rattle.tx_entries.specs.Orders.{line_bytes}
 use Rattle.tx_entries.specs.declared.line.Line.{Line}
 use Rattle.tx_lines.specs.inner.Table.{next, distance, home}
@@ -29,7 +29,7 @@ step n a la = elim (leb_tells (suc (a + 1)) n) [
 
 pub home_in : (l : Line) (n : ℕ) → 0 < n → home l n < n
 unfolding home
-home_in l n h = let r = and_le_r (folding.finish (fold folding.write folding.initial (line_bytes l))) (n - 1) in omega (arith, r)
+home_in l n h = let r = and_le_r (spread (fold written start (line_bytes l))) (n - 1) in omega (arith, r)
 
 pub next_in : (n a : ℕ) → a < n → next n a < n
 next_in n a la = let s = step n a la in elim s [ inl t ↦ omega (arith, t.0, t.1) | inr t ↦ omega (arith, t.1) ]

@@ -1,4 +1,5 @@
 pub mod Ordered
 pub mod Table
 pub mod Statuses
+pub mod Hashing
 pub mod Marks

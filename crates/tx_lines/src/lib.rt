@@ -3,6 +3,7 @@
 
 mod answer;
 mod book;
+mod line_hasher;
 mod line_table;
 mod marks;
 mod ranges;

@@ -5,10 +5,10 @@ ghost use Rattle.tx_entries.specs.declared.line.Line.{Line};
 ghost use Rattle.tx_lines.specs.declared.line_table.Entry.{Entry};
 ghost use Rattle.tx_lines.specs.inner.Table.{at, home, next, distance, kept_of, lines_in, taken, status_at, IsTable, IsTableBut, IsPlace};
 
+use crate::line_hasher::LineHasher;
 use crate::marks::Marks;
-use crate::status::{Status, UNMARKED};
 use std::alloc::{Allocator, Global};
-use std::hash::{FoldHasher, Hash, Hasher};
+use std::hash::{Hash, Hasher};
 use std::marker::Model;
 use tx_plan::Line;
 use tx_text::NoMemory;
@@ -47,7 +47,7 @@ fn home(line: &Line, cells: usize) -> usize
     ensures value { result ≡ home line.now cells }
     ensures within { result < cells }
 {
-    let mut hasher = FoldHasher::default();
+    let mut hasher = LineHasher::new();
     line.hash(&mut hasher);
     // There are 2, 4, 8 .. cells, so the mask reaches each of them.
     hasher.finish() as usize & (cells - 1)
@@ -156,13 +156,13 @@ impl<A: Allocator> LineTable<A> {
 
     /// What is known of the line in a cell.
     #[inline(always)]
-    pub fn status(&self, place: usize) -> Status
+    pub fn marks(&self, place: usize) -> Marks
         requires { place < length self.now.cells }
         ensures { result ≡ status_at self.now.cells place }
     {
         match &self.cells[place] {
-            Some(entry) => entry.marks.status(),
-            None => UNMARKED,
+            Some(entry) => entry.marks,
+            None => Marks::none(),
         }
     }
 

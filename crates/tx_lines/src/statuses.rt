@@ -11,7 +11,7 @@ ghost use Rattle.tx_lines.specs.declared.status.Mark.{Mark};
 
 use crate::line_table::LineTable;
 use crate::marks::Marks;
-use crate::status::{Mark, Side, Status, is_unmarked, joined, with_mark};
+use crate::status::{Mark, Side, Status};
 use std::alloc::{Allocator, Global};
 use std::marker::Model;
 use tx_plan::Line;
@@ -84,7 +84,7 @@ impl<A: Allocator> Statuses<A> {
         ensures away { result.away ≡ set.contains self.now.away line.now }
         ensures engaged { result.engaged ≡ set.contains self.now.engaged line.now }
     {
-        self.table.status(self.table.find(line))
+        self.table.marks(self.table.find(line)).status()
     }
 
     /// Sets a mark of a line. Its first mark takes room.
@@ -104,10 +104,9 @@ impl<A: Allocator> Statuses<A> {
         ensures room { self.new.room + place_taken self.old line.now ≡ self.old.room + place_taken self.new line.now }
     {
         let place = self.table.find(line);
-        let status = self.table.status(place);
-        if !is_unmarked(status) {
-            let left = with_mark(status, mark, false);
-            rewrite(&mut self.table, place, line, left);
+        let marks = self.table.marks(place);
+        if !marks.is_none() {
+            rewrite(&mut self.table, place, line, marks.without(mark));
         }
     }
 }
@@ -120,8 +119,8 @@ fn set_mark<A: Allocator>(table: &mut LineTable<A>, line: &Line, mark: Mark)
     ensures room { table.new.room + place_for table.old line.now ≡ table.old.room }
 {
     let place = table.find(line);
-    let status = table.status(place);
-    table.put(place, line, Marks::of(with_mark(status, mark, true)));
+    let marks = table.marks(place);
+    table.put(place, line, marks.with(mark));
 }
 
 /// The cell of a line. For a line that is not kept there is room then, for which memory is asked only where there is none.
@@ -154,22 +153,22 @@ fn set_joined<A: Allocator + Copy>(
     ensures err { OnErr result (table.new ≡ table.old) }
 {
     let place = room_for(table, line)?;
-    let status = table.status(place);
-    table.put(place, line, Marks::of(joined(side, status)));
-    Ok(status)
+    let marks = table.marks(place);
+    table.put(place, line, marks.joined(side));
+    Ok(marks.status())
 }
 
-/// Writes the status of a line in its cell, or takes the line out where it has no mark.
+/// Writes the marks of a line in its cell, or takes the line out where it has none.
 #[inline(always)]
-fn rewrite<A: Allocator>(table: &mut LineTable<A>, place: usize, line: &Line, status: Status)
+fn rewrite<A: Allocator>(table: &mut LineTable<A>, place: usize, line: &Line, marks: Marks)
     requires place { IsPlace table.old.cells line.now place }
     requires found { IsSome (kept_of table.old.cells line.now) }
-    ensures kept { (l : Line) → kept_of table.new.cells l ≡ (if same_line line.now l then kept status else kept_of table.old.cells l) }
-    ensures room { table.new.room ≡ table.old.room + (if is_unmarked status then 1 else 0) }
+    ensures kept { (l : Line) → kept_of table.new.cells l ≡ (if same_line line.now l then kept marks else kept_of table.old.cells l) }
+    ensures room { table.new.room ≡ table.old.room + (if is_unmarked marks then 1 else 0) }
 {
-    if is_unmarked(status) {
+    if marks.is_none() {
         table.take(place);
     } else {
-        table.put(place, line, Marks::of(status));
+        table.put(place, line, marks);
     }
 }

@@ -1,7 +1,7 @@
 -- What the cells of a table of lines hold.
 use Rattle.std.specs.Prelude.{◌≡◌, ℕ, ◌+◌, ◌-◌, ◌*◌, ◌<◌, ◌≤◌, ◌≢◌, nat_le, nat_lt, fold, bit_and, Option, Some, None, IsSome, is_some, List, [], ◌∷◌, length, slice_index_or, if◌then◌else◌}
 use Rattle.std.specs.Option.{option_map, option_map_or}
-use Rattle.std.specs.Hash.FoldHasher as folding
+use Rattle.tx_lines.specs.inner.Hashing.{start, written, spread}
 use Rattle.tx_plan.specs.Orders.{same_line}
 use Rattle.tx_entries.specs.Orders.{line_bytes}
 use Rattle.tx_entries.specs.declared.line.Line.{Line}
@@ -50,7 +50,7 @@ distance n from to = if nat_le from to then to - from else n - from + to
 
 -- the cell where a line is looked for first
 unfoldable pub home : Line → ℕ → ℕ
-home l n = bit_and (folding.finish (fold folding.write folding.initial (line_bytes l))) (n - 1)
+home l n = bit_and (spread (fold written start (line_bytes l))) (n - 1)
 
 -- what is known of the line in a cell
 abbrev pub status_at : List (Option Entry) → ℕ → Status

@@ -15,7 +15,7 @@ returns-clause-kept g c = λ q.
     let m = c.args.table.now in
     let line = c.args.line.now in
     c.put.ensures.kept q
-    ∙ ap (λ (s : Status). if same_line line q then Some s else kept_of m.cells q) (c.of.ensures ∙ c.with_mark.ensures ∙ ap (with_mark c.args.mark true) (c.status-status.ensures ∙ status_is m.cells line c.find-place.result c.find-place.ensures))
+    ∙ ap (λ (s : Status). if same_line line q then Some s else kept_of m.cells q) (c.with.ensures ∙ ap (with_mark c.args.mark true) (c.marks-marks.ensures ∙ status_is m.cells line c.find-place.result c.find-place.ensures))
 
 pub returns-clause-room : goal.returns-clause-room
 returns-clause-room g c =

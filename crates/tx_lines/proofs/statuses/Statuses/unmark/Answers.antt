@@ -10,35 +10,35 @@ use Rattle.tx_lines.proofs.Places.{status_is}
 use Rattle.tx_lines.proofs.Sets.{sets_unmarked, sets_still, marks_of, kept_has, unmarked_is, place_is, kept_left}
 use Rattle.tx_lines.proofs.statuses.Statuses.unmark.Goals as goal
 
-pub returns-then-not-is_unmarked-clause-lines : goal.returns-then-not-is_unmarked-clause-lines
-returns-then-not-is_unmarked-clause-lines g c =
+pub returns-then-not-is_none-clause-lines : goal.returns-then-not-is_none-clause-lines
+returns-then-not-is_none-clause-lines g c =
     let m = c.self.inside.table in
     let n = c.rewrite.new.table in
     let line = c.args.line.now in
-    let old = c.status-status.result in
-    let left = c.with_mark-left.result in
-    let is : old ≡ unwrap_or (kept_of m.cells line) unmarked = c.status-status.ensures ∙ status_is m.cells line c.find-place.result c.find-place.ensures in
-    sets_unmarked m n line (kept left) c.rewrite.ensures.kept old (λ k. ap (has k) is ∙ marks_of m line (kept_of m.cells line) refl k) c.args.mark (λ k. kept_has left k ∙ ap (has k) c.with_mark-left.ensures)
+    let old = c.marks-marks.result in
+    let left = c.without.result in
+    let is : old ≡ unwrap_or (kept_of m.cells line) unmarked = c.marks-marks.ensures ∙ status_is m.cells line c.find-place.result c.find-place.ensures in
+    sets_unmarked m n line (kept left) c.rewrite.ensures.kept old (λ k. ap (has k) is ∙ marks_of m line (kept_of m.cells line) refl k) c.args.mark (λ k. kept_has left k ∙ ap (has k) c.without.ensures)
     ∙ ap (λ (s : Sets). with_marked c.args.mark (set.remove (marked c.args.mark s) line) n.room s) c.self.view_is
 
-pub returns-else-not-is_unmarked-clause-lines : goal.returns-else-not-is_unmarked-clause-lines
-returns-else-not-is_unmarked-clause-lines g c =
+pub returns-else-not-is_none-clause-lines : goal.returns-else-not-is_none-clause-lines
+returns-else-not-is_none-clause-lines g c =
     let m = c.self.inside.table in
     let line = c.args.line.now in
-    let old = c.status-status.result in
-    let is : old ≡ unwrap_or (kept_of m.cells line) unmarked = c.status-status.ensures ∙ status_is m.cells line c.find-place.result c.find-place.ensures in
+    let old = c.marks-marks.result in
+    let is : old ≡ unwrap_or (kept_of m.cells line) unmarked = c.marks-marks.ensures ∙ status_is m.cells line c.find-place.result c.find-place.ensures in
     let none : is_unmarked old ≡ true = first_of (cc, grind (arith, common_steps)) in
     sym c.self.view_is ∙ sets_still m line (sym is ∙ unmarked_is old none) c.args.mark
     ∙ ap (λ (s : Sets). with_marked c.args.mark (set.remove (marked c.args.mark s) line) s.room s) c.self.view_is
 
-pub returns-then-not-is_unmarked-clause-room : goal.returns-then-not-is_unmarked-clause-room
-returns-then-not-is_unmarked-clause-room g c =
+pub returns-then-not-is_none-clause-room : goal.returns-then-not-is_none-clause-room
+returns-then-not-is_none-clause-room g c =
     let m = c.self.inside.table in
     let n = c.rewrite.new.table in
     let line = c.args.line.now in
-    let old = c.status-status.result in
-    let left = c.with_mark-left.result in
-    let is : old ≡ unwrap_or (kept_of m.cells line) unmarked = c.status-status.ensures ∙ status_is m.cells line c.find-place.result c.find-place.ensures in
+    let old = c.marks-marks.result in
+    let left = c.without.result in
+    let is : old ≡ unwrap_or (kept_of m.cells line) unmarked = c.marks-marks.ensures ∙ status_is m.cells line c.find-place.result c.find-place.ensures in
     let some : is_unmarked old ≡ false = first_of (cc, grind (arith, common_steps)) in
     let was : place_taken (sets_of m) line ≡ 0 = place_is m line ∙ ap (λ s. if is_unmarked s then 1 else 0) (sym is) ∙ ap (λ b. if b then 1 else 0) some in
     let kept_now : kept_of n.cells line ≡ kept left = c.rewrite.ensures.kept line ∙ ap (λ b. if b then kept left else kept_of m.cells line) (same_line-itself line) in

@@ -1,0 +1,23 @@
+-- What a hash of a line computes.
+use Rattle.std.specs.Prelude.{ℕ, ◌*◌, ◌/◌, ◌%◌, ◌^◌, ◌==◌, List, length, take, slice_index, if◌then◌else◌, nat_le, bit_xor}
+use Rattle.std.specs.Int.{w16, w64, from_le_bytes}
+use Rattle.tx_lines.specs.declared.line_hasher.LineHasher.{LineHasher}
+
+-- nothing is written yet
+abbrev pub start : LineHasher
+start = record { word = 0 }
+
+-- the first eight bytes as a number, or two that are all
+abbrev pub first_word : List ℕ → ℕ
+first_word bs = if nat_le 8 (length bs) then from_le_bytes w64 (take 8 bs) else if length bs == 2 then from_le_bytes w16 bs else 0
+
+-- times an odd number
+abbrev pub multiplied : ℕ → ℕ
+multiplied n = (n * 0x9e37_79b9_7f4a_7c15) % 2 ^ 64
+
+-- what is written goes into the word of before
+unfoldable pub written : LineHasher → List ℕ → LineHasher
+written h bs = record { word = bit_xor (bit_xor (multiplied h.word) (first_word bs)) ((slice_index bs 8 * 2 ^ 56) % 2 ^ 64) }
+
+unfoldable pub spread : LineHasher → ℕ
+spread h = multiplied h.word / 2 ^ 32
