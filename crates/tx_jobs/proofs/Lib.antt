@@ -5,3 +5,6 @@ mod CheckedRun
 mod Simulating
 mod Grading
 mod Drawing
+pub mod Before
+pub mod Choices
+pub mod Marking

@@ -9,3 +9,8 @@ pub mod GradeJobs
 pub mod Writables
 pub mod Evidences
 pub mod CheckedJobs
+pub mod Drawing
+pub mod Shown
+pub mod CodeDrawing
+pub mod Reached
+pub mod inner
