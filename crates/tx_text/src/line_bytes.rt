@@ -22,13 +22,6 @@ pub fn without_cr(line: &[u8]) -> &[u8]
     }
 }
 
-#[inline(always)]
-fn is_text_byte(byte: u8) -> bool
-    ensures { result ≡ is_text_byte byte }
-{
-    byte == b'\t' || (b' ' <= byte && byte <= b'~')
-}
-
 /// Whether all these bytes are text, looked at several at a time where their number is fixed.
 #[inline(always)]
 fn are_text(bytes: &[u8]) -> bool
@@ -36,7 +29,7 @@ fn are_text(bytes: &[u8]) -> bool
 {
     let mut all = true;
     for byte in bytes {
-        all = all & is_text_byte(*byte);
+        all = all & (*byte == b'\t' || (b' ' <= *byte && *byte <= b'~'));
     }
     all
 }
