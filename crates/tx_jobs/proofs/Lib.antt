@@ -1,10 +1,10 @@
-mod Marks
+mod RefusedTexts
 mod Piping
 mod Breaking
 mod CheckedRun
 mod Simulating
 mod Grading
-mod Drawing
+mod DrawnCode
 pub mod Before
 pub mod Choices
 pub mod Marking

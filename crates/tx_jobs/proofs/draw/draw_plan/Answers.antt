@@ -1,4 +1,4 @@
-use Rattle.tx_jobs.proofs.Drawing.{named_within}
+use Rattle.tx_jobs.proofs.DrawnCode.{named_within}
 use Rattle.tx_jobs.proofs.draw.draw_plan.Goals as goal
 
 pub draw_code-requires-clause-code : goal.draw_code-requires-clause-code

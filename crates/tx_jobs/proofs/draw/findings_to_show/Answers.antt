@@ -4,7 +4,7 @@ use Rattle.tx_rank.specs.Findings.{IsTrueOf, AreFindings}
 use Rattle.tx_rank.specs.Rankings.{IsFound, OnFails}
 use Rattle.tx_audit.specs.Audits.{IsAllFound}
 use Rattle.tx_jobs.specs.DrawJobs.{AreToShow}
-use Rattle.tx_jobs.proofs.Drawing.{all_found}
+use Rattle.tx_jobs.proofs.DrawnCode.{all_found}
 use Rattle.tx_jobs.proofs.draw.findings_to_show.Goals as goal
 
 pub returns-in-Found : goal.returns-in-Found
