@@ -15,7 +15,7 @@ use tx_text::{Sink, Source};
 
 /// Reads a plan, and writes the report of its audit for at most `limit` transits (0 to 62) and `spare` groups to spare (0 to 15). Answers the plan, with a
 /// certificate or with the findings. `Err` is the fault of the first call that failed.
-#[tactic(auto, using(crate::proofs::Marks::plan_unmarked))]
+#[tactic(auto, using(crate::proofs::RefusedTexts::plan_unmarked))]
 pub fn audit_job<A: Allocator + Copy, P: Source, W: Sink>(
     alloc: A,
     plan: &mut P,
