@@ -1,14 +1,12 @@
 -- A status comes back from its bits.
-use Rattle.std.proofs.Common.{◌≡◌, ℕ, ◌/◌, ◌%◌, ◌-◌, ◌≤◌, ◌==◌, ◌&&◌, Bool, true, false, not, refl, ap, sym, ◌∙◌, arith}
-use Rattle.std.proofs.lemmas.Bool.{and_parts, eqb-true, false≢true}
-use Rattle.std.specs.Prelude.{if◌then◌else◌, bit_and, bit_or}
-use Rattle.tx_lines.specs.Status.{with_mark, may_not_join}
+use Rattle.std.proofs.Common.{◌≡◌, ℕ, ◌/◌, ◌%◌, ◌-◌, ◌≤◌, ◌==◌, ◌&&◌, Bool, true, false, refl, ap, sym, ◌∙◌, arith}
+use Rattle.std.proofs.lemmas.Bool.{and_parts, eqb-true}
+use Rattle.std.specs.Prelude.{bit_and, bit_or}
+use Rattle.tx_lines.specs.Status.{with_mark}
 use Rattle.tx_lines.specs.declared.status.Mark.{Mark}
 use Rattle.tx_lines.specs.declared.status.Mark.TheVariants.{Faulty, Away, Engaged}
-use Rattle.tx_lines.specs.declared.status.Side.{Side}
-use Rattle.tx_lines.specs.declared.status.Side.TheVariants.{Caller, Called}
 use Rattle.tx_lines.specs.declared.status.Status.{Status}
-use Rattle.tx_lines.specs.inner.Marks.{bit, bits_of, status_in, bit_of, hindering}
+use Rattle.tx_lines.specs.inner.Marks.{bit, bits_of, status_in, bit_of}
 
 is_one : (b : Bool) (n : ℕ) → n ≡ bit b → (n == 1) ≡ b
 is_one true n e = ap (λ (k : ℕ). k == 1) e
@@ -32,11 +30,8 @@ bits_back s = ap bits_of (status_back s)
 abbrev sets_bit : Mark → Status → Bool
 sets_bit m s = (bit_or (bits_of s) (bit_of m) == bits_of (with_mark m true s)) && (bit_and (bits_of s) (255 - bit_of m) == bits_of (with_mark m false s))
 
-abbrev tells : Side → Status → Bool
-tells side s = if may_not_join side s then not (bit_and (bits_of s) (hindering side) == 0) else bit_and (bits_of s) (hindering side) == 0
-
 abbrev does : Status → Bool
-does s = (sets_bit Faulty s && (sets_bit Away s && sets_bit Engaged s)) && (tells Caller s && tells Called s)
+does s = sets_bit Faulty s && (sets_bit Away s && sets_bit Engaged s)
 
 does_all : (f a e : Bool) → does (record { faulty = f; away = a; engaged = e }) ≡ true
 does_all false false false = refl
@@ -51,23 +46,13 @@ does_all true true true = refl
 sets : (m : Mark) (s : Status) → sets_bit m s ≡ true
 sets m s = of m
   where
-    marks : (sets_bit Faulty s && (sets_bit Away s && sets_bit Engaged s)) ≡ true
-    marks = (and_parts _ (tells Caller s && tells Called s) (does_all s.faulty s.away s.engaged)).0
+    all : does s ≡ true
+    all = does_all s.faulty s.away s.engaged
 
     of : (m : Mark) → sets_bit m s ≡ true
-    of Faulty = (and_parts (sets_bit Faulty s) _ marks).0
-    of Away = (and_parts (sets_bit Away s) _ (and_parts (sets_bit Faulty s) _ marks).1).0
-    of Engaged = (and_parts _ (sets_bit Engaged s) (and_parts (sets_bit Faulty s) _ marks).1).1
-
-told : (side : Side) (s : Status) → tells side s ≡ true
-told side s = of side
-  where
-    sides : (tells Caller s && tells Called s) ≡ true
-    sides = (and_parts _ (tells Caller s && tells Called s) (does_all s.faulty s.away s.engaged)).1
-
-    of : (side : Side) → tells side s ≡ true
-    of Caller = (and_parts (tells Caller s) (tells Called s) sides).0
-    of Called = (and_parts (tells Caller s) (tells Called s) sides).1
+    of Faulty = (and_parts (sets_bit Faulty s) _ all).0
+    of Away = (and_parts (sets_bit Away s) _ (and_parts (sets_bit Faulty s) _ all).1).0
+    of Engaged = (and_parts _ (sets_bit Engaged s) (and_parts (sets_bit Faulty s) _ all).1).1
 
 -- a number that is the digits of its status: the digits with a mark, and without it
 pub with_bit : (m : Mark) (n : ℕ) → bits_of (status_in n) ≡ n → bit_or n (bit_of m) ≡ bits_of (with_mark m true (status_in n))
@@ -75,16 +60,6 @@ with_bit m n h = ap (λ k. bit_or k (bit_of m)) (sym h) ∙ eqb-true _ _ (and_pa
 
 pub without_bit : (m : Mark) (n : ℕ) → bits_of (status_in n) ≡ n → bit_and n (255 - bit_of m) ≡ bits_of (with_mark m false (status_in n))
 without_bit m n h = ap (λ k. bit_and k (255 - bit_of m)) (sym h) ∙ eqb-true _ _ (and_parts _ _ (sets m (status_in n))).1
-
--- whether none of them hinders
-pub hinders : (side : Side) (n : ℕ) → bits_of (status_in n) ≡ n → (bit_and n (hindering side) == 0) ≡ not (may_not_join side (status_in n))
-hinders side n h = ap (λ k. bit_and k (hindering side) == 0) (sym h) ∙ by (may_not_join side (status_in n)) (bit_and (bits_of (status_in n)) (hindering side) == 0) (told side (status_in n))
-  where
-    by : (may none : Bool) → (if may then not none else none) ≡ true → none ≡ not may
-    by true false h = refl
-    by true true h = absurd (false≢true h)
-    by false true h = refl
-    by false false h = absurd (false≢true h)
 
 -- the status of digits that are those of a status
 pub status_of : (s : Status) (n : ℕ) → n ≡ bits_of s → status_in n ≡ s
