@@ -33,7 +33,7 @@ pub(crate) fn audit_file<A: Allocator + Copy, R: Read + Drop, F: Folder, O: Writ
     let status = evidence.status();
     let kept = keep_evidence(alloc, &evidence, keep, folder, output);
     drop(evidence);
-    kept.map(|()| status)
+    kept.and(Ok(status))
 }
 
 /// Once the report is out, makes the file of the certificate after a Yes, and the file of the script after a No that has one.

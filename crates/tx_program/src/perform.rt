@@ -69,7 +69,7 @@ fn run_input<A: Allocator + Copy, I: Read + Drop, O: Write + Drop>(
     output: &Output<O, A>,
 ) -> Result<u8, JobFault> {
     let input = output.source(alloc, input)?;
-    pipe_job(alloc, input, &mut output.sink()).map(|_| 0)
+    pipe_job(alloc, input, &mut output.sink()).and(Ok(0))
 }
 
 /// `run PLAN SCRIPT`.
@@ -81,7 +81,7 @@ fn run_files<A: Allocator + Copy, R: Read + Drop, O: Write + Drop>(
 ) -> Result<u8, JobFault> {
     let mut plan = output.source(alloc, plan)?;
     let mut script = output.source(alloc, script)?;
-    run_job(alloc, &mut plan, &mut script, &mut output.sink()).map(|_| 0)
+    run_job(alloc, &mut plan, &mut script, &mut output.sink()).and(Ok(0))
 }
 
 /// `run PLAN SCRIPT --cert CERT --limit L --spare K`.
@@ -155,7 +155,7 @@ fn draw_file<A: Allocator + Copy, R: Read + Drop, O: Write + Drop>(
             draw_job(alloc, &mut plan, code, numbers(bounds), &mut sink)
         }
     };
-    drawn.map(|()| 0)
+    drawn.and(Ok(0))
 }
 
 /// A limit and a spare number, if there are any.
