@@ -10,5 +10,4 @@ pub mod HeadOn
 pub mod Lost
 pub mod Taken
 pub mod Marking
-pub mod Accepting
 pub mod Behind
