@@ -9,6 +9,4 @@ pub mod Confirming
 pub mod HeadOn
 pub mod Lost
 pub mod Taken
-pub mod Marking
-pub mod Accepting
 pub mod Behind

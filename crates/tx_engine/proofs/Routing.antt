@@ -1,5 +1,5 @@
 -- A Route that connects a call, and one that seizes a circuit.
-use Rattle.std.proofs.Common.{◌≡◌, ℕ, ◌<◌, ◌==◌, Bool, true, false, ◌&&◌, List, Option, Some, None, refl, sym, ap, subst, ◌∙◌, eqb-true, deque_len, deque_capacity}
+use Rattle.std.proofs.Common.{◌≡◌, ℕ, ◌<◌, ◌==◌, Bool, true, false, ◌&&◌, ◌||◌, List, Option, Some, None, refl, sym, ap, subst, ◌∙◌, eqb-true, deque_len, deque_capacity}
 use Rattle.std.specs.Prelude.{if◌then◌else◌, find}
 use Rattle.std.specs.Option.{option_map}
 use Rattle.std.specs.FinSet as set
@@ -15,6 +15,7 @@ use Rattle.tx_plan.specs.Among.{Among}
 use Rattle.tx_entries.specs.declared.circuit.Circuit.{Circuit}
 use Rattle.tx_entries.specs.declared.line.Line.{Line}
 use Rattle.tx_state.specs.declared.phase.Phase.TheVariants.{Calling, Connected}
+use Rattle.tx_state.specs.declared.service.Service.{Service}
 use Rattle.tx_state.specs.declared.service.Service.TheVariants.{Na}
 use Rattle.tx_state.specs.Call.{Call, place_of, is_first}
 use Rattle.tx_state.specs.InUse.{circuits_carried, first_in}
@@ -68,6 +69,13 @@ answers_none true a e h = absurd (let bad : ⊥ = cc in bad)
 answers_none false true e h = absurd (let bad : ⊥ = cc in bad)
 answers_none false false true h = absurd (let bad : ⊥ = cc in bad)
 answers_none false false false h = (refl, refl, refl)
+
+-- one that answers is out of order, away or engaged
+pub answers_some : (f a e : Bool) (s : Service) → service_of f a e ≡ Some s → (f || (a || e)) ≡ true
+answers_some true a e s h = refl
+answers_some false true e s h = refl
+answers_some false false true s h = refl
+answers_some false false false s h = absurd (let bad : ⊥ = cc in bad)
 
 -- WHAT A DECISION TO SEIZE TELLS
 by_line-seize : (b : Bool) (l : Line) (x : Circuit) (pl : ℕ) → by_line b l ≡ Seize x pl → ⊥

@@ -1,3 +1,4 @@
 pub mod Decided
 pub mod Meeting
 pub mod Sound
+pub mod Marked

@@ -27,7 +27,8 @@ impl<'p, A: Allocator + Copy> Parts<'p, A> {
             Err(refusal) => return Reply::Refused(refusal),
         };
         let far = far_of(self.plan, self.calls.at(key), &circuit);
-        if self.circuits.is_seized(&circuit, far) {
+        let meets = self.circuits.is_seized(&circuit, far);
+        if meets {
             self.meet(number, key, &circuit, far)
         } else {
             self.go_on(number, key, &circuit, far)

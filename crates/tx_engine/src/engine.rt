@@ -4,6 +4,7 @@ ghost use Rattle.tx_state.specs.Step.{step, takes_memory};
 ghost use Rattle.tx_state.specs.State.{opening};
 ghost use Rattle.tx_state.specs.Refusals.{refusal};
 ghost use Rattle.tx_state.specs.declared.event.Event.TheVariants.{Key};
+ghost use Rattle.tx_engine.specs.inner.Marked.{is_other};
 
 use crate::parts::Parts;
 use crate::tickets::take_oldest;
@@ -75,44 +76,22 @@ impl<'p, A: Allocator + Copy> Engine<'p, A> {
         }
     }
 
-    /// One event that `refusal_of` refuses, or that is carried out.
+    /// One event that `apply` has no look-up for: refused by `refusal_of`, or carried out.
     #[inline(never)]
     fn apply_other(&mut self, event: &Event) -> Result<Reply, NoMemory>
+        requires other { is_other event.now ≡ true }
         ensures plan { self.new.plan ≡ self.old.plan }
         ensures step { IfOk result (λ reply. step self.old.plan self.old.state event.now ≡ (reply, self.new.state)) }
         ensures err { OnErr result (self.new ≡ self.old) }
         ensures memory { OnErr result ((takes_memory event.now ≡ true) × (refusal self.old.plan self.old.state event.now ≡ None)) }
     {
-        match refusal_of(self, event) {
-            Some(refusal) => Ok(Reply::Refused(refusal)),
-            None => self.accept(event),
+        if let Some(refusal) = refusal_of(self, event) {
+            return Ok(Reply::Refused(refusal));
         }
-    }
-
-    /// One event that no refusal meets. A match names each event, so the four that `apply` answers itself stand here too.
-    fn accept(&mut self, event: &Event) -> Result<Reply, NoMemory>
-        requires open { refusal self.old.plan self.old.state event.now ≡ None }
-        ensures plan { self.new.plan ≡ self.old.plan }
-        ensures step { IfOk result (λ reply. step self.old.plan self.old.state event.now ≡ (reply, self.new.state)) }
-        ensures err { OnErr result (self.new ≡ self.old) }
-        ensures memory { OnErr result (takes_memory event.now ≡ true) }
-    {
         match event {
             Event::Key { line, keyed } => self.parts.key_making_room(*line, *keyed),
-            Event::Route(number) => self.parts.route(*number),
-            Event::Confirm(number) => Ok(self.parts.confirm(*number)),
-            Event::Clear { call, party } => Ok(self.parts.clear(*call, *party)),
-            Event::Released(circuit) => Ok(self.release(circuit)),
             Event::Fail(group) => Ok(self.parts.fail(*group)),
-            Event::Restore(group) => Ok(self.restore(*group)),
-            Event::Block(group) => Ok(self.block(*group)),
-            Event::Unblock(group) => Ok(self.unblock(*group)),
-            Event::CircuitOut(circuit) => Ok(self.put_out(circuit)),
-            Event::CircuitIn(circuit) => Ok(self.put_in(circuit)),
-            Event::LineFault(line) => self.line_fault(line),
-            Event::LineMend(line) => Ok(self.line_mend(line)),
-            Event::LineAway(line) => self.line_away(line),
-            Event::LineBack(line) => Ok(self.line_back(line)),
+            _ => self.mark(event),
         }
     }
 }

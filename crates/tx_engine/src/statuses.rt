@@ -1,29 +1,20 @@
-// Events that change the status of one line, circuit or group.
-ghost use Rattle.std.specs.Prelude.{◌≡◌, ◌<◌, ◌≤◌, false, IfOk, IsOk, OnOk, OnErr, None};
-ghost use Rattle.tx_state.specs.Step.{step, accepted, counted};
+// Events that change a mark of one line, circuit or group.
+ghost use Rattle.std.specs.Prelude.{◌≡◌, ◌<◌, ◌≤◌, true, false, IfOk, IsOk, OnOk, OnErr, None};
+ghost use Rattle.tx_state.specs.Step.{step, takes_memory};
 ghost use Rattle.tx_state.specs.Refusals.{refusal};
 ghost use Rattle.tx_lines.specs.Book.{has_status, place_taken};
-ghost use Rattle.tx_state.specs.declared.event.Event.TheVariants.{LineFault, LineAway, LineMend, LineBack, Released, CircuitOut, CircuitIn, Block, Unblock, Restore};
+ghost use Rattle.tx_state.specs.declared.event.Event.TheVariants.{Released};
+ghost use Rattle.tx_engine.specs.inner.Marked.{is_mark, marked_book, marked_table, CanMark};
 
 use crate::engine::Engine;
 use std::alloc::Allocator;
+use tx_circuits::CircuitTable;
 use tx_lines::LineBook;
-use tx_plan::{Circuit, GroupId, Line};
-use tx_state::{Facts, Refusal, Reply};
+use tx_plan::{Circuit, Line};
+use tx_state::{Event, Facts, Refusal, Reply};
 use tx_text::NoMemory;
 
 impl<'p, A: Allocator + Copy> Engine<'p, A> {
-    /// A circuit is released.
-    pub(crate) fn release(&mut self, circuit: &Circuit) -> Reply
-        requires { refusal self.old.plan self.old.state (Released circuit.now) ≡ None }
-        ensures step { counted (accepted self.old.plan self.old.state (Released circuit.now)) ≡ (result, self.new.state) }
-        ensures plan { self.new.plan ≡ self.old.plan }
-    {
-        self.parts.circuits.released(circuit);
-        self.parts.events += 1;
-        Reply::Done
-    }
-
     /// A circuit is released, unless that is refused. Its state is read once.
     pub(crate) fn released(&mut self, circuit: &Circuit) -> Reply
         ensures step { step self.old.plan self.old.state (Released circuit.now) ≡ (result, self.new.state) }
@@ -31,7 +22,11 @@ impl<'p, A: Allocator + Copy> Engine<'p, A> {
     {
         match self.released_refusal(circuit) {
             Some(refusal) => Reply::Refused(refusal),
-            None => self.release(circuit),
+            None => {
+                self.parts.circuits.released(circuit);
+                self.parts.events += 1;
+                Reply::Done
+            }
         }
     }
 
@@ -50,107 +45,63 @@ impl<'p, A: Allocator + Copy> Engine<'p, A> {
         }
     }
 
-    /// A group is restored.
-    pub(crate) fn restore(&mut self, group: GroupId) -> Reply
-        requires { refusal self.old.plan self.old.state (Restore group) ≡ None }
-        ensures step { counted (accepted self.old.plan self.old.state (Restore group)) ≡ (result, self.new.state) }
+    /// An event sets a mark of a line, a circuit or a group, or takes it away.
+    pub(crate) fn mark(&mut self, event: &Event) -> Result<Reply, NoMemory>
+        requires open { refusal self.old.plan self.old.state event.now ≡ None }
+        requires marks { is_mark event.now ≡ true }
         ensures plan { self.new.plan ≡ self.old.plan }
-    {
-        self.parts.circuits.restore(group);
-        self.parts.events += 1;
-        Reply::Done
-    }
-
-    /// A group is blocked.
-    pub(crate) fn block(&mut self, group: GroupId) -> Reply
-        requires { refusal self.old.plan self.old.state (Block group) ≡ None }
-        ensures step { counted (accepted self.old.plan self.old.state (Block group)) ≡ (result, self.new.state) }
-        ensures plan { self.new.plan ≡ self.old.plan }
-    {
-        self.parts.circuits.block(group);
-        self.parts.events += 1;
-        Reply::Done
-    }
-
-    /// A group is unblocked.
-    pub(crate) fn unblock(&mut self, group: GroupId) -> Reply
-        requires { refusal self.old.plan self.old.state (Unblock group) ≡ None }
-        ensures step { counted (accepted self.old.plan self.old.state (Unblock group)) ≡ (result, self.new.state) }
-        ensures plan { self.new.plan ≡ self.old.plan }
-    {
-        self.parts.circuits.unblock(group);
-        self.parts.events += 1;
-        Reply::Done
-    }
-
-    /// A circuit is put out of service.
-    pub(crate) fn put_out(&mut self, circuit: &Circuit) -> Reply
-        requires { refusal self.old.plan self.old.state (CircuitOut circuit.now) ≡ None }
-        ensures step { counted (accepted self.old.plan self.old.state (CircuitOut circuit.now)) ≡ (result, self.new.state) }
-        ensures plan { self.new.plan ≡ self.old.plan }
-    {
-        self.parts.circuits.put_out(circuit);
-        self.parts.events += 1;
-        Reply::Done
-    }
-
-    /// A circuit is put in service.
-    pub(crate) fn put_in(&mut self, circuit: &Circuit) -> Reply
-        requires { refusal self.old.plan self.old.state (CircuitIn circuit.now) ≡ None }
-        ensures step { counted (accepted self.old.plan self.old.state (CircuitIn circuit.now)) ≡ (result, self.new.state) }
-        ensures plan { self.new.plan ≡ self.old.plan }
-    {
-        self.parts.circuits.put_in(circuit);
-        self.parts.events += 1;
-        Reply::Done
-    }
-
-    /// A line goes out of order.
-    pub(crate) fn line_fault(&mut self, line: &Line) -> Result<Reply, NoMemory>
-        requires { refusal self.old.plan self.old.state (LineFault line.now) ≡ None }
-        ensures plan { self.new.plan ≡ self.old.plan }
-        ensures ok { IfOk result (λ reply. counted (accepted self.old.plan self.old.state (LineFault line.now)) ≡ (reply, self.new.state)) }
+        ensures step { IfOk result (λ reply. step self.old.plan self.old.state event.now ≡ (reply, self.new.state)) }
         ensures err { OnErr result (self.new ≡ self.old) }
+        ensures memory { OnErr result (takes_memory event.now ≡ true) }
     {
-        make_room(&mut self.parts.lines, line)?;
-        self.parts.lines.set_fault(line, true);
+        mark_line(&mut self.parts.lines, event)?;
+        mark_circuits(&mut self.parts.circuits, event);
         self.parts.events += 1;
         Ok(Reply::Done)
     }
+}
 
-    /// A line is mended.
-    pub(crate) fn line_mend(&mut self, line: &Line) -> Reply
-        requires { refusal self.old.plan self.old.state (LineMend line.now) ≡ None }
-        ensures step { counted (accepted self.old.plan self.old.state (LineMend line.now)) ≡ (result, self.new.state) }
-        ensures plan { self.new.plan ≡ self.old.plan }
-    {
-        self.parts.lines.set_fault(line, false);
-        self.parts.events += 1;
-        Reply::Done
+/// The mark of a line that an event sets or takes away.
+fn mark_line<A: Allocator + Copy>(lines: &mut LineBook<A>, event: &Event) -> Result<(), NoMemory>
+    ensures ok { OnOk result (lines.new ≡ record (marked_book event.now lines.old) { room = lines.new.room }) }
+    ensures err { OnErr result (lines.new ≡ lines.old) }
+    ensures memory { OnErr result (takes_memory event.now ≡ true) }
+{
+    match event {
+        Event::LineFault(line) => {
+            make_room(lines, line)?;
+            lines.set_fault(line, true);
+            Ok(())
+        }
+        Event::LineMend(line) => {
+            lines.set_fault(line, false);
+            Ok(())
+        }
+        Event::LineAway(line) => {
+            make_room(lines, line)?;
+            lines.set_away(line, true);
+            Ok(())
+        }
+        Event::LineBack(line) => {
+            lines.set_away(line, false);
+            Ok(())
+        }
+        _ => Ok(()),
     }
+}
 
-    /// A line goes away.
-    pub(crate) fn line_away(&mut self, line: &Line) -> Result<Reply, NoMemory>
-        requires { refusal self.old.plan self.old.state (LineAway line.now) ≡ None }
-        ensures plan { self.new.plan ≡ self.old.plan }
-        ensures ok { IfOk result (λ reply. counted (accepted self.old.plan self.old.state (LineAway line.now)) ≡ (reply, self.new.state)) }
-        ensures err { OnErr result (self.new ≡ self.old) }
-    {
-        make_room(&mut self.parts.lines, line)?;
-        self.parts.lines.set_away(line, true);
-        self.parts.events += 1;
-        Ok(Reply::Done)
-    }
-
-    /// A line is back.
-    pub(crate) fn line_back(&mut self, line: &Line) -> Reply
-        requires { refusal self.old.plan self.old.state (LineBack line.now) ≡ None }
-        ensures step { counted (accepted self.old.plan self.old.state (LineBack line.now)) ≡ (result, self.new.state) }
-        ensures plan { self.new.plan ≡ self.old.plan }
-    {
-        self.parts.lines.set_away(line, false);
-        self.parts.events += 1;
-        Reply::Done
+/// The mark of a circuit or a group that an event sets or takes away.
+fn mark_circuits<A: Allocator>(circuits: &mut CircuitTable<A>, event: &Event)
+    requires { CanMark event.now circuits.old }
+    ensures { circuits.new ≡ marked_table event.now circuits.old }
+{
+    match event {
+        Event::Restore(group) => circuits.restore(*group),
+        Event::Block(group) => circuits.block(*group),
+        Event::Unblock(group) => circuits.unblock(*group),
+        Event::CircuitOut(circuit) => circuits.put_out(circuit),
+        Event::CircuitIn(circuit) => circuits.put_in(circuit),
+        _ => {}
     }
 }
 

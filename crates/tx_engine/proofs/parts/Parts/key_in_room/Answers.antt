@@ -4,7 +4,8 @@ use Rattle.std.specs.Prelude.{if◌then◌else◌}
 use Rattle.std.specs.FinSet as set
 use Rattle.tx_state.specs.declared.event.Event.TheVariants.{Key}
 use Rattle.tx_state.specs.declared.hop.Hop.{Hop}
-use Rattle.tx_state.specs.declared.reply.Reply.TheVariants.{Keyed}
+use Rattle.tx_state.specs.declared.reply.Reply.TheVariants.{Keyed, Refused}
+use Rattle.tx_state.specs.declared.refusal.Refusal.TheVariants.{UnknownLine, LineEngaged, LineOutOfOrder}
 use Rattle.tx_state.specs.Call.{Call}
 use Rattle.tx_state.specs.Step.{accepted, counted, unless_refused}
 use Rattle.tx_lines.proofs.Sets.{on_err}
@@ -13,7 +14,7 @@ use Rattle.tx_calls.specs.Calls.{calls_in}
 use Rattle.tx_endings.specs.inner.Seen.{state_seen}
 use Rattle.tx_engine.specs.inner.Sound.{state_of}
 use Rattle.tx_engine.proofs.Changing.{sound_room, sound_key, keyed_with}
-use Rattle.tx_engine.proofs.Refused.{key_open}
+use Rattle.tx_engine.proofs.Refused.{key_open, key_unknown, key_engaged, key_faulty}
 use Rattle.tx_engine.proofs.parts.Parts.key_in_room.Goals as goal
 
 pub returns-in_err-status-clause-sound : goal.returns-in_err-status-clause-sound
@@ -79,3 +80,38 @@ returns-clause-step g c =
     ap (λ o. unless_refused o (state_of n) (counted (accepted n.plan.now (state_of n) (Key line keyed)))) (key_open n.plan.now (state_of n) line keyed known idle mended c.requires.numbers c.requires.events)
     ∙ ap (λ (cs : List Call). (Keyed (n.numbers + 1), state_seen cs n.circuits n.lines (n.numbers + 1) (n.events + 1) n.tickets.items)) (sym calls)
     ∙ ap (λ (b : Book). (Keyed (n.numbers + 1), state_seen (calls_in c.«open».new.self) n.circuits b (n.numbers + 1) (n.events + 1) n.tickets.items)) (sym c.in_ok-status.ensures.lines)
+
+pub returns-then-not-has-clause-sound : goal.returns-then-not-has-clause-sound
+returns-then-not-has-clause-sound g c = c.requires.sound
+
+pub returns-then-not-has-clause-step : goal.returns-then-not-has-clause-step
+returns-then-not-has-clause-step g c =
+    let n = c.args.self.now in
+    let line = c.args.line in
+    ap (λ o. unless_refused o (state_of n) (counted (accepted n.plan.now (state_of n) (Key line c.args.keyed)))) (key_unknown n.plan.now (state_of n) line c.args.keyed (sym (c.has.ensures ∙ c.requires.sound.lines line.code line.national) ∙ c.if-not-has.true))
+
+pub returns-in_err-status-clause-err : goal.returns-in_err-status-clause-err
+returns-in_err-status-clause-err g c =
+    let n = c.args.self.now in
+    on_err c.from_residual.result (ap (λ (b : Book). state_seen (calls_in n.calls) n.circuits b n.numbers n.events n.tickets.items) c.in_err-status.ensures.err)
+
+pub returns-then-status-clause-step : goal.returns-then-status-clause-step
+returns-then-status-clause-step g c =
+    let n = c.args.self.now in
+    let sound = c.requires.sound in
+    let line = c.args.line in
+    let known = sym (c.has.ensures ∙ sound.lines line.code line.national) ∙ c.if-not-has.false in
+    let engaged = sym (sound.together.engaged line) ∙ sym c.in_ok-status.ensures.engaged ∙ c.if-status.true in
+    ap (λ o. unless_refused o (state_of n) (counted (accepted n.plan.now (state_of n) (Key line c.args.keyed)))) (key_engaged n.plan.now (state_of n) line c.args.keyed known engaged)
+    ∙ ap (λ (b : Book). (Refused LineEngaged, state_seen (calls_in n.calls) n.circuits b n.numbers n.events n.tickets.items)) (sym c.in_ok-status.ensures.lines)
+
+pub returns-then-status-2-clause-step : goal.returns-then-status-2-clause-step
+returns-then-status-2-clause-step g c =
+    let n = c.args.self.now in
+    let sound = c.requires.sound in
+    let line = c.args.line in
+    let known = sym (c.has.ensures ∙ sound.lines line.code line.national) ∙ c.if-not-has.false in
+    let idle = sym (sound.together.engaged line) ∙ sym c.in_ok-status.ensures.engaged ∙ c.if-status.false in
+    let faulty = sym c.in_ok-status.ensures.faulty ∙ c.if-status-2.true in
+    ap (λ o. unless_refused o (state_of n) (counted (accepted n.plan.now (state_of n) (Key line c.args.keyed)))) (key_faulty n.plan.now (state_of n) line c.args.keyed known idle faulty)
+    ∙ ap (λ (b : Book). (Refused LineOutOfOrder, state_seen (calls_in n.calls) n.circuits b n.numbers n.events n.tickets.items)) (sym c.in_ok-status.ensures.lines)

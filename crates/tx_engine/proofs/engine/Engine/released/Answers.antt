@@ -1,20 +1,12 @@
 use Rattle.std.proofs.Common.{refl, sym, subst, deque_len, deque_capacity}
-use Rattle.std.specs.FinSet as set
-use Rattle.tx_state.specs.State.{State}
 use Rattle.tx_calls.specs.Calls.{calls_in}
 use Rattle.tx_endings.specs.inner.Seen.{AreTogether}
 use Rattle.tx_endings.proofs.Parts.{released_together}
 use Rattle.tx_engine.proofs.Changing.{sound_table}
-use Rattle.tx_engine.proofs.Marking.{marked_step}
-use Rattle.tx_engine.proofs.engine.Engine.release.Goals as goal
+use Rattle.tx_engine.proofs.engine.Engine.released.Goals as goal
 
 pub invariant_of-self : goal.invariant_of-self
 invariant_of-self g c =
     let n = c.self.inside.parts in
     sound_table n.plan.now n.codes n.calls n.keys n.lines n.circuits n.numbers (deque_len n.tickets) (deque_capacity n.tickets) c.self.invariant c.released.new.self
     (subst (λ z. AreTogether n.plan.now (calls_in n.calls) z n.lines n.numbers) (sym c.released.ensures) (released_together n.plan.now (calls_in n.calls) n.circuits n.lines n.numbers c.self.invariant.together c.args.circuit.now))
-
-pub returns-clause-step : goal.returns-clause-step
-returns-clause-step g c =
-    let n = c.self.inside.parts in
-    marked_step (λ (s : State). record s { releasing = set.remove s.releasing c.args.circuit.now }) c.args.self.now n.plan.now (calls_in n.calls) n.circuits (record n.circuits { releasing = set.remove n.circuits.releasing c.args.circuit.now }) n.lines n.numbers n.events n.tickets.items c.released.new.self c.self.view_is c.released.ensures refl
