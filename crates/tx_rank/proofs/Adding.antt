@@ -11,18 +11,9 @@ use Rattle.tx_rank.specs.declared.finding.Finding.TheVariants.{Short}
 use Rattle.tx_rank.specs.Walks.{Net, Walk, end_of, IsWalk, IsShort}
 use Rattle.tx_rank.specs.Findings.{end_at}
 use Rattle.tx_rank.specs.inner.Marks.{AreSettled}
-use Rattle.tx_rank.specs.inner.Judged.{IsShortAt, AddsShorts}
+use Rattle.tx_rank.specs.inner.Judged.{IsShortAt, AddsShorts, AddsBelow}
 use Rattle.tx_rank.proofs.Ways.{among_all}
 use Rattle.tx_rank.proofs.Walked.{short_true, short_at}
-
--- those to the exchanges before place i
-pub record AddsBelow {A : Type 0} (n : Net) (code spare i : ℕ) (old new : List (Finding A)) : Type 0 where
-  pub walks : List Walk
-  pub added : new ≡ old ++ map (Short code) walks
-  pub each : (w : Walk) → Among w walks → IsShort n spare w.start w.steps
-  pub order : EachPair (λ x y. x < y) (map end_at walks)
-  pub below : (y : ℕ) → Among y (map end_at walks) → y < i
-  pub all : (x : ℕ) (steps : List (ℕ × ℕ)) → IsShort n spare x steps → end_of x steps < i → Among (end_of x steps) (map end_at walks)
 
 module _ {A : Type 0} (n : Net) (code spare : ℕ) where
   module _ (ranks : ℕ → Option ℕ) (done : AreSettled n ranks) where
@@ -59,6 +50,10 @@ module _ {A : Type 0} (n : Net) (code spare : ℕ) where
               ] refl
               );
         }
+
+    -- before the first exchange
+    pub below_none : (old : List (Finding A)) → AddsBelow n code spare 0 old old
+    below_none old = record { walks = []; added = sym (append-nil old); each = λ w m. absurd m; order = tt; below = λ y m. absurd m; all = λ x steps s h. absurd (omega arith) }
 
     pub below_all : (old new : List (Finding A)) (i : ℕ) → i ≡ n.exchanges → AddsBelow n code spare i old new → AddsShorts n code spare old new
     below_all old new i e b =

@@ -17,3 +17,4 @@ pub mod Certifying
 pub mod Listing
 pub mod Bounding
 pub mod Unmended
+pub mod Graded

@@ -1,5 +1,5 @@
 -- The findings of a plan, code after code.
-use Rattle.std.proofs.Common.{◌≡◌, ◌≢◌, ℕ, zero, suc, ◌+◌, ◌*◌, ◌<◌, ◌≤◌, true, false, eqb, eqb-true, List, [], ◌∷◌, ◌++◌, length, map, replicate, inl, inr, Option, Some, None, unwrap_or, refl, sym, ap, subst, ◌∙◌, arith, append_assoc}
+use Rattle.std.proofs.Common.{◌≡◌, ◌≢◌, ℕ, zero, suc, ◌+◌, ◌*◌, ◌<◌, ◌≤◌, true, false, eqb, eqb-true, List, [], ◌∷◌, ◌++◌, length, map, replicate, inl, inr, Option, Some, None, unwrap_or, refl, sym, ap, subst, ◌∙◌, arith, append_assoc, append-nil}
 use Rattle.std.specs.Prelude.{slice_get, if◌then◌else◌}
 use Rattle.std.proofs.lemmas.Bool.{eqb-false}
 use Rattle.std.specs.List.{AllByRecursion}
@@ -7,7 +7,7 @@ use Rattle.tx_plan.specs.Plan.{Plan}
 use Rattle.tx_plan.specs.Ambiguous.{ambiguous_of}
 use Rattle.tx_plan.specs.Certified.{IsCertified}
 use Rattle.tx_plan.specs.Among.{Among}
-use Rattle.tx_cert.specs.Certificate.{Certificate, rank_at, has_pair, no_ranks, ranks_of}
+use Rattle.tx_cert.specs.Certificate.{Certificate, rank_at, has_pair, no_ranks, no_ranks_for, ranks_of}
 use Rattle.tx_rank.specs.declared.finding.Finding.{Finding}
 use Rattle.tx_rank.specs.declared.finding.Finding.TheVariants.{Short}
 use Rattle.tx_rank.specs.Walks.{Walk, net_of, IsShort}
@@ -15,7 +15,7 @@ use Rattle.tx_rank.specs.Heights.{RanksByHeight, AreHeights}
 use Rattle.tx_rank.specs.Findings.{IsTrueOf, IsLongIfAny, long_findings, AreFindingsOfCode, AreFindingsBelow, pair_findings, AreFindings}
 use Rattle.tx_rank.specs.Findings.AreFindingsOfCode.{looped, straight}
 use Rattle.tx_rank.specs.Nets.{Certifies}
-use Rattle.tx_rank.specs.inner.Judged.{IsJudged}
+use Rattle.tx_rank.specs.inner.Judged.{IsJudged, IsRankedBelow}
 use Rattle.tx_rank.proofs.Certifying.{none_distinct, certified_codes}
 
 -- NOTHING IN FRONT AND NOTHING BEHIND
@@ -72,17 +72,6 @@ module _ {A : Type 0} (p : Plan) (limit spare : ℕ) where
 
 -- CODE AFTER CODE
 
--- the codes before c were ranked
-pub record IsRankedBelow {A : Type 0} (p : Plan) (limit spare c : ℕ) (cert : Certificate) (findings : List (Finding A)) : Type 0 where
-  pub rest : List (Finding A)
-  pub joined : findings ≡ pair_findings (ambiguous_of p.codes) ++ rest
-  pub listed : AreFindingsBelow p limit spare c rest
-  pub heights : rest ≡ [] → (d : ℕ) → d < c → RanksByHeight (net_of p d) (rank_at cert d)
-  pub certified : rest ≡ [] → (d : ℕ) → d < c → Certifies (net_of p d) (rank_at cert d) limit spare
-  pub blank : (d x : ℕ) → c ≤ d → rank_at cert d x ≡ None
-  pub codes : cert.codes ≡ length p.codes
-  pub exchanges : cert.exchanges ≡ length p.exchanges
-
 blank_ranks : (k i : ℕ) → unwrap_or (slice_get (replicate {A = Option ℕ} k None) i) None ≡ None
 blank_ranks zero i = refl
 blank_ranks (suc k) zero = refl
@@ -96,6 +85,20 @@ none_ranked codes exchanges d x =
     ]
 
 module _ {A : Type 0} (p : Plan) (limit spare : ℕ) where
+  -- before the first code
+  pub ranked_first : (cert : Certificate) (findings : List (Finding A)) → cert ≡ no_ranks_for p → findings ≡ pair_findings (ambiguous_of p.codes) → IsRankedBelow p limit spare 0 cert findings
+  ranked_first cert findings e f =
+      record {
+        rest = [];
+        joined = f ∙ sym (append-nil (pair_findings (ambiguous_of p.codes)));
+        listed = refl;
+        heights = λ _ d h. absurd (omega arith);
+        certified = λ _ d h. absurd (omega arith);
+        blank = λ d x h. ap (λ t. rank_at t d x) e ∙ none_ranked (length p.codes) (length p.exchanges) d x;
+        codes = ap (λ t. t.codes) e;
+        exchanges = ap (λ t. t.exchanges) e;
+      }
+
   module _ (c : ℕ) (cert cert' : Certificate) (old new : List (Finding A))
       (r : IsRankedBelow p limit spare c cert old) (j : IsJudged (net_of p c) c limit spare old new (rank_at cert' c))
       (others : (d x : ℕ) → d ≢ c → rank_at cert' d x ≡ rank_at cert d x) where

@@ -1,8 +1,10 @@
 -- Whether calls may start at each exchange, one exchange after another.
-use Rattle.std.proofs.Common.{◌≡◌, ℕ, zero, suc, Bool, List, [], ◌∷◌, ◌++◌, length, ◌⊎◌, inl, inr, Some, ap}
+use Rattle.std.proofs.Common.{◌≡◌, ℕ, zero, suc, ◌+◌, Bool, List, [], ◌∷◌, ◌++◌, length, ◌⊎◌, inl, inr, Some, sym, ap, ◌∙◌, arith}
 use Rattle.std.specs.Prelude.{slice_get}
+use Rattle.std.proofs.lemmas.List.{length_push}
 use Rattle.tx_plan.specs.Plan.{Plan}
 use Rattle.tx_plan.specs.Routes.{is_origin}
+use Rattle.tx_rank.specs.inner.Judged.{AreOrigins}
 
 pub record AreOriginsBelow (p : Plan) (i : ℕ) (origins : List Bool) : Type 0 where
   pub long : length origins ≡ i
@@ -13,3 +15,13 @@ at_push [] y z zero h = inr (cc, cc)
 at_push [] y z (suc i) h = absurd (let bad : ⊥ = cc in bad)
 at_push (x ∷ xs) y z zero h = inl h
 at_push (x ∷ xs) y z (suc i) h = elim (at_push xs y z i h) [ inl a ↦ inl a | inr b ↦ inr (ap suc b.0, b.1) ]
+
+pub origins_next : (p : Plan) (i : ℕ) (origins : List Bool) (b : Bool) → AreOriginsBelow p i origins → b ≡ is_origin p i → AreOriginsBelow p (i + 1) (origins ++ b ∷ [])
+origins_next p i origins b o e =
+    record {
+      long = let n = length_push origins b in let l = o.long in omega arith;
+      each = λ x z h. elim (at_push origins b z x h) [ inl a ↦ o.each x z a | inr q ↦ q.1 ∙ e ∙ ap (is_origin p) (sym (q.0 ∙ o.long)) ];
+    }
+
+pub origins_all : (p : Plan) (i : ℕ) (origins : List Bool) → AreOriginsBelow p i origins → i ≡ length p.exchanges → AreOrigins p origins
+origins_all p i origins o e = record { long = o.long ∙ e; each = o.each }

@@ -11,7 +11,7 @@ use Rattle.tx_rank.proofs.Turns.{set_same, set_other, cost_set}
 use Rattle.std.proofs.Math.ListN.{set, length-set}
 use Rattle.tx_rank.specs.Walks.{Net}
 use Rattle.tx_rank.specs.Nets.{IsNet}
-use Rattle.tx_rank.specs.inner.Marks.{rank_of, rank_in, cost, IsMarked, IsInHand, Grew, NoneOpen, IsStep, IsEnd, IsPassing}
+use Rattle.tx_rank.specs.inner.Marks.{rank_of, rank_in, cost, IsMarked, IsInHand, Grew, NoneOpen, IsStep, IsEnd, IsPassing, IsPassed}
 use Rattle.tx_rank.specs.declared.mark.Mark.{Mark}
 use Rattle.tx_rank.specs.declared.mark.Mark.TheVariants.{Unseen, Open, Ranked}
 
@@ -56,6 +56,20 @@ passing_skip n marks i p here =
 pub passing_end : (n : Net) (marks marks' : List Mark) (i : ℕ) → IsPassing n marks i → IsEnd n i marks marks' → IsPassing n marks' (i + 1)
 passing_end n marks marks' i p e =
     passing_skip n marks' i (record { marked = e.marked; none = e.none; origins = λ x h origin. let o = p.origins x h origin in (o.0, e.grew x o.0 o.1) }) (λ _. (e.rank, e.ranked))
+
+pub passed_all : (n : Net) (marks : List Mark) (i : ℕ) → IsNet n → i ≡ n.exchanges → IsPassing n marks i → IsPassed n marks
+passed_all n marks i net e p =
+    record {
+      long = p.marked.long;
+      ranks = record {
+        home = p.marked.home;
+        origins = λ x o. p.origins x (let w = net.origins x o in omega arith) o;
+        settled = p.marked.settled;
+        ranked = p.marked.ranked;
+        low = λ x r h. let s = p.marked.small x r h in omega arith;
+        within = λ x r h. let w = rank_within marks x r h in let l = p.marked.long in omega arith;
+      };
+    }
 
 pub unseen_at : (marks : List Mark) (x : ℕ) → x < length marks → NoneOpen marks → rank_in marks x ≡ None → slice_get marks x ≡ Some Unseen
 unseen_at marks x h none free =

@@ -30,6 +30,9 @@ pub record IsDown (n : Net) (ranks : ℕ → Option ℕ) (origin rank here : ℕ
   pub sum : high + length steps ≡ rank
 
 module _ (n : Net) (ranks : ℕ → Option ℕ) where
+  pub down_none : (origin rank : ℕ) → ranks origin ≡ Some rank → IsDown n ranks origin rank origin []
+  down_none origin rank ranked = record { goes = tt; ends = refl; high = rank; ranked = ranked; sum = omega arith }
+
   pub lower_more : (x i rank g y : ℕ) → slice_get (n.list x) i ≡ Some g → n.far g x ≡ Some y → (ranks y ≡ Some rank → ⊥) → IsLower n ranks x (take i (n.list x)) rank None → IsLower n ranks x (take (i + 1) (n.list x)) rank None
   lower_more x i rank g y got leads other none h z m leads' ranked =
       let m' = subst (λ (l : List ℕ). Among h l) (take_next (n.list x) i g got) m in

@@ -1,15 +1,15 @@
 -- The ranks of a code, as they are written into a certificate.
-use Rattle.std.proofs.Common.{◌≡◌, ◌≢◌, ℕ, ◌+◌, ◌<◌, ◌≤◌, true, false, nat_lt, eqb, eqb-true, ltb, List, length, Some, None, unwrap_or, refl, sym, ap, ◌∙◌, arith}
+use Rattle.std.proofs.Common.{◌≡◌, ◌≢◌, ℕ, ◌+◌, ◌<◌, ◌≤◌, true, false, nat_lt, eqb, eqb-true, ltb, List, length, get_or, Some, None, unwrap_or, refl, sym, ap, ◌∙◌, arith}
 use Rattle.std.specs.Prelude.{slice_get, slice_set, if◌then◌else◌}
 use Rattle.std.specs.Option.{option_and_then}
 use Rattle.std.proofs.lemmas.Bool.{eqb-false, lt-ltb, ltb-true, and_from, and_parts}
-use Rattle.std.proofs.lemmas.Option.{slice_get_past}
+use Rattle.std.proofs.lemmas.Option.{slice_get_past, slice_get-get_or}
 use Rattle.std.proofs.lemmas.Nat.{mul-add-lt, same_from_place}
 use borrow.Author.Tests.{ltb-false}
 use Rattle.tx_cert.specs.Certificate.{Certificate, IsWhole, rank_at, with_rank, has_pair, place_of}
 use Rattle.tx_rank.specs.inner.Marks.{rank_of, rank_in}
 use Rattle.tx_rank.specs.declared.mark.Mark.{Mark}
-use Rattle.tx_rank.proofs.Turns.{set_other}
+use Rattle.tx_rank.proofs.Turns.{set_same, set_other}
 
 -- ONE RANK
 
@@ -29,6 +29,11 @@ module _ (t : Certificate) (c x r : ℕ) (whole : IsWhole t) (code : c < t.codes
             ap (λ o. unwrap_or o None) (set_other t.ranks (place_of t c x) (place_of t d y) (Some r) other)
         | false ↦ λ e. refl
       ] refl
+
+  pub rank_here : rank_at (with_rank t c x r) c x ≡ Some r
+  rank_here =
+      ap (λ b. if b then unwrap_or (slice_get (slice_set t.ranks (place_of t c x) (Some r)) (place_of t c x)) None else None) known
+      ∙ ap (λ o. unwrap_or o None) (set_same t.ranks (place_of t c x) (get_or t.ranks (place_of t c x) None) (Some r) (slice_get-get_or t.ranks (place_of t c x) None within))
 
 -- ALL RANKS OF A CODE
 

@@ -4,13 +4,12 @@ ghost use Rattle.tx_cert.specs.Certificate.{rank_at as ranked_at};
 ghost use Rattle.tx_rank.specs.inner.Marks.{IsPassed};
 ghost use Rattle.tx_rank.specs.inner.Judged.{IsJudged};
 
-use crate::explore::{pass, unseen};
+use crate::explore::{pass, unseen, walk_in_hand};
 use crate::finding::Finding;
 use crate::long_walk::long_walk;
 use crate::mark::Mark;
 use crate::routes::Routes;
 use crate::short_walks::add_shorts;
-use crate::walk::{Steps, Walk};
 use crate::written::put_ranks;
 use std::alloc::Allocator;
 use tx_cert::Cert;
@@ -69,11 +68,7 @@ pub fn rank_code<A: Allocator + Copy, N: Routes>(
     let mut search = unseen(alloc, net)?;
     let closed = pass(net, &mut search)?;
     if closed {
-        let walk = Walk {
-            start: search.start,
-            steps: Steps::of(search.steps),
-        };
-        findings.push(Finding::Loop(code, walk))?;
+        findings.push(Finding::Loop(code, walk_in_hand(search)))?;
         return Ok(());
     }
     judge_ranked(

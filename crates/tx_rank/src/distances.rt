@@ -19,6 +19,19 @@ pub fn distances_of<A: Allocator + Copy, N: Routes>(
 {
     let mut distances = vec![in alloc; FAR; net.exchanges()]?;
     let mut reached = Vec::new(alloc);
+    reach_all(net, &mut distances, &mut reached)?;
+    Ok(distances)
+}
+
+/// Reaches the exchanges where calls may start, and then those to which they lead.
+fn reach_all<A: Allocator, N: Routes>(
+    net: &N,
+    distances: &mut [u16],
+    reached: &mut Vec<ExchangeId, A>,
+) -> Result<(), NoMemory>
+    requires { length distances.old ≡ (N.net net.now).exchanges }
+    ensures { length distances.new ≡ (N.net net.now).exchanges }
+{
     for place in 0..net.exchanges() {
         let exchange = net.exchange(place);
         if net.is_origin(exchange) {
@@ -30,9 +43,9 @@ pub fn distances_of<A: Allocator + Copy, N: Routes>(
         let Some(exchange) = reached.get(turn) else {
             break;
         };
-        reach_on(net, *exchange, &mut distances, &mut reached)?;
+        reach_on(net, *exchange, distances, reached)?;
     }
-    Ok(distances)
+    Ok(())
 }
 
 /// Reaches the exchanges to which one leads.

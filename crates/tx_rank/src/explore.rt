@@ -8,6 +8,7 @@ ghost use Rattle.tx_rank.specs.inner.Marks.{IsMarked, IsInHand, IsTrail, IsOnwar
 use crate::list_scan::{Look, Tried, look_on, rank_at, untried};
 use crate::mark::Mark;
 use crate::routes::Routes;
+use crate::walk::{Steps, Walk};
 use std::alloc::Allocator;
 use tx_plan::{ExchangeId, GroupId};
 use tx_text::NoMemory;
@@ -48,6 +49,16 @@ pub fn unseen<'a, A: Allocator + Copy, N: Routes>(
         last: untried(net, net.home()),
         marks,
     })
+}
+
+/// The walk in hand.
+pub fn walk_in_hand<A: Allocator>(search: Search<'_, A>) -> Walk<A>
+    ensures { result ≡ record { start = search.entry.start; steps = search.entry.steps.items } }
+{
+    Walk {
+        start: search.start,
+        steps: Steps::of(search.steps),
+    }
 }
 
 /// Where the walk in hand ends.

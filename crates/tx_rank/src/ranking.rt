@@ -3,10 +3,11 @@ ghost use Rattle.std.specs.Prelude.{◌≡◌, ◌≢◌, ◌≤◌, ◌↔◌, 
 ghost use Rattle.std.specs.List.{AllByRecursion};
 ghost use Rattle.tx_plan.specs.Certified.{Ranks, IsCertified};
 ghost use Rattle.tx_plan.specs.Ambiguous.{ambiguous_of};
-ghost use Rattle.tx_cert.specs.Certificate.{ranks_of, IsCertificateOf};
+ghost use Rattle.tx_cert.specs.Certificate.{ranks_of, no_ranks_for, IsCertificateOf};
 ghost use Rattle.tx_rank.specs.Heights.{AreHeights};
 ghost use Rattle.tx_rank.specs.Findings.{IsTrueOf, AreFindings, pair_findings};
 ghost use Rattle.tx_rank.specs.Rankings.{IsFound, OnFound, OnFails};
+ghost use Rattle.tx_rank.specs.inner.Judged.{AreOrigins, IsRankedBelow};
 
 use crate::code_ranking::rank_code;
 use crate::code_routes::{CodeRoutes, origins_of};
@@ -56,18 +57,38 @@ pub fn rank_codes<A: Allocator + Copy>(
     ensures heights { IfOk result (λ cert. findings.new.items ≡ [] → AreHeights plan.now (ranks_of cert)) }
     ensures certified { IfOk result (λ cert. findings.new.items ≡ [] → IsCertified plan.now (ranks_of cert) limit spare) }
 {
-    plan.rules();
-    let mut cert = Cert::new(alloc, plan)?;
     let origins = origins_of(alloc, plan)?;
+    let mut cert = Cert::new(alloc, plan)?;
+    rank_each(alloc, plan, &origins, limit, spare, &mut cert, findings)?;
+    Ok(cert)
+}
+
+/// The same, into a certificate without ranks, where it is known at which exchanges calls may start.
+fn rank_each<A: Allocator + Copy>(
+    alloc: A,
+    plan: &Plan<A>,
+    origins: &[bool],
+    limit: u8,
+    spare: u8,
+    cert: &mut Cert<A>,
+    findings: &mut Vec<Finding<A>, A>,
+) -> Result<(), NoMemory>
+    requires origins { AreOrigins plan.now origins.now }
+    requires blank { cert.old ≡ no_ranks_for plan.now }
+    requires pair { findings.old.items ≡ pair_findings (ambiguous_of plan.now.codes) }
+    ensures { IfOk result (λ _. IsRankedBelow plan.now limit spare (length plan.now.codes) cert.new findings.new.items) }
+{
+    plan.rules();
     for place in 0..plan.codes() {
+        let code = CodeId::at(place as u16);
         let net = CodeRoutes {
             plan,
-            origins: &origins,
-            code: CodeId::at(place as u16),
+            origins,
+            code,
         };
-        rank_code(alloc, &net, net.code, limit, spare, &mut cert, findings)?;
+        rank_code(alloc, &net, code, limit, spare, cert, findings)?;
     }
-    Ok(cert)
+    Ok(())
 }
 
 /// Ranks the exchanges for each code by their heights above its home, for at most `limit` transits (0 to 62, ITU-T F.68) and `spare` groups to spare (0 to

@@ -1,9 +1,9 @@
 // Walks to exchanges with too few groups in their lists.
-ghost use Rattle.std.specs.Prelude.{◌≡◌, ◌≢◌, ◌<◌, ◌+◌, ℕ, length, slice_get, true, false, Some, IfOk};
+ghost use Rattle.std.specs.Prelude.{◌≡◌, ◌≢◌, ◌<◌, ◌+◌, ℕ, List, length, slice_get, true, false, Some, IfOk};
 ghost use Rattle.tx_rank.specs.Walks.{IsWalk, end_of};
 ghost use Rattle.tx_rank.specs.inner.Marks.{IsPassed, rank_in};
 ghost use Rattle.tx_rank.specs.inner.Links.{IsLinked};
-ghost use Rattle.tx_rank.specs.inner.Judged.{IsShortAt, AddsShorts};
+ghost use Rattle.tx_rank.specs.inner.Judged.{IsShortAt, AddsBelow, AddsShorts};
 
 use crate::back_links::{Link, link_at, links_of};
 use crate::finding::Finding;
@@ -76,6 +76,31 @@ fn walk_to<A: Allocator + Copy, N: Routes>(
     })
 }
 
+/// Adds a walk to the exchange at a place, if its list is too short.
+fn add_short<A: Allocator + Copy, N: Routes>(
+    alloc: A,
+    net: &N,
+    marks: &[Mark],
+    links: &[Link],
+    place: usize,
+    code: CodeId,
+    spare: u8,
+    findings: &mut Vec<Finding<A>, A>,
+) -> Result<(), NoMemory>
+    requires place { place < (N.net net.now).exchanges }
+    requires passed { IsPassed (N.net net.now) marks.now }
+    requires linked { IsLinked (N.net net.now) (rank_in marks.now) links.now }
+    ensures { IfOk result (λ _. (first : List (Finding A)) → AddsBelow (N.net net.now) code spare place first findings.old.items → AddsBelow (N.net net.now) code spare (place + 1) first findings.new.items) }
+{
+    let exchange = net.exchange(place);
+    if !is_short(net, marks, exchange, spare) {
+        return Ok(());
+    }
+    let walk = walk_to(alloc, net, marks, links, exchange)?;
+    findings.push(Finding::Short(code, walk))?;
+    Ok(())
+}
+
 /// Adds a walk to each exchange whose list is too short, in order of the exchanges.
 pub fn add_shorts<A: Allocator + Copy, N: Routes>(
     alloc: A,
@@ -94,12 +119,7 @@ pub fn add_shorts<A: Allocator + Copy, N: Routes>(
     }
     let links = links_of(alloc, net, marks)?;
     for place in 0..net.exchanges() {
-        let exchange = net.exchange(place);
-        if !is_short(net, marks, exchange, spare) {
-            continue;
-        }
-        let walk = walk_to(alloc, net, marks, &links, exchange)?;
-        findings.push(Finding::Short(code, walk))?;
+        add_short(alloc, net, marks, &links, place, code, spare, findings)?;
     }
     Ok(())
 }

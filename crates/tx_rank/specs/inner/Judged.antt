@@ -1,12 +1,16 @@
 -- What the ranking of one code adds to the findings, and the parts of this.
-use Rattle.std.specs.Prelude.{◌≡◌, ◌≢◌, ℕ, ◌+◌, ◌≤◌, Bool, true, List, [], ◌++◌, length, map, Option, Some, None, slice_get}
+use Rattle.std.specs.Prelude.{◌≡◌, ◌≢◌, ℕ, ◌+◌, ◌<◌, ◌≤◌, Bool, true, List, [], ◌++◌, length, map, Option, Some, None, slice_get}
 use Rattle.tx_plan.specs.Plan.{Plan}
 use Rattle.tx_plan.specs.Routes.{is_origin}
+use Rattle.tx_plan.specs.Ambiguous.{ambiguous_of}
+use Rattle.tx_plan.specs.Rules.{EachPair}
+use Rattle.tx_plan.specs.Among.{Among}
+use Rattle.tx_cert.specs.Certificate.{Certificate, rank_at}
 use Rattle.tx_rank.specs.declared.finding.Finding.{Finding}
 use Rattle.tx_rank.specs.declared.finding.Finding.TheVariants.{Short}
-use Rattle.tx_rank.specs.Walks.{Net, Walk, IsLong}
+use Rattle.tx_rank.specs.Walks.{Net, Walk, net_of, end_of, IsShort, IsLong}
 use Rattle.tx_rank.specs.Heights.{RanksByHeight}
-use Rattle.tx_rank.specs.Findings.{AreShorts, AreFindingsOfCode}
+use Rattle.tx_rank.specs.Findings.{end_at, AreShorts, AreFindingsOfCode, AreFindingsBelow, pair_findings}
 use Rattle.tx_rank.specs.Nets.{Certifies}
 
 -- a walk ends at x, which is not the home and lists no more than spare groups
@@ -42,6 +46,15 @@ module _ {A : Type 0} where
     pub added : new ≡ old ++ map (Short code) walks
     pub found : AreShorts n spare walks
 
+  -- the same for the exchanges before place i
+  pub record AddsBelow (n : Net) (code spare i : ℕ) (old new : List (Finding A)) : Type 0 where
+    pub walks : List Walk
+    pub added : new ≡ old ++ map (Short code) walks
+    pub each : (w : Walk) → Among w walks → IsShort n spare w.start w.steps
+    pub order : EachPair (λ x y. x < y) (map end_at walks)
+    pub below : (y : ℕ) → Among y (map end_at walks) → y < i
+    pub all : (x : ℕ) (steps : List (ℕ × ℕ)) → IsShort n spare x steps → end_of x steps < i → Among (end_of x steps) (map end_at walks)
+
   -- the findings of a code were added, and where there are none its ranks are heights and certify it
   pub record IsJudged (n : Net) (code limit spare : ℕ) (old new : List (Finding A)) (ranks : ℕ → Option ℕ) : Type 0 where
     pub mine : List (Finding A)
@@ -49,3 +62,14 @@ module _ {A : Type 0} where
     pub listed : AreFindingsOfCode n code limit spare mine
     pub heights : mine ≡ [] → RanksByHeight n ranks
     pub certified : mine ≡ [] → Certifies n ranks limit spare
+
+  -- the codes before c were ranked
+  pub record IsRankedBelow (p : Plan) (limit spare c : ℕ) (cert : Certificate) (findings : List (Finding A)) : Type 0 where
+    pub rest : List (Finding A)
+    pub joined : findings ≡ pair_findings (ambiguous_of p.codes) ++ rest
+    pub listed : AreFindingsBelow p limit spare c rest
+    pub heights : rest ≡ [] → (d : ℕ) → d < c → RanksByHeight (net_of p d) (rank_at cert d)
+    pub certified : rest ≡ [] → (d : ℕ) → d < c → Certifies (net_of p d) (rank_at cert d) limit spare
+    pub blank : (d x : ℕ) → c ≤ d → rank_at cert d x ≡ None
+    pub codes : cert.codes ≡ length p.codes
+    pub exchanges : cert.exchanges ≡ length p.exchanges

@@ -1,6 +1,6 @@
 use Rattle.std.proofs.Common.{◌≡◌, ◌∙◌, ◌+◌, ◌++◌, ℕ, List, Option, length, take, drop, sym, ap, subst, arith, rules}
 use Rattle.std.proofs.Math.Seq.{take-append_seam}
-use Rattle.tx_rank.specs.inner.Links.{LinksBelow}
+use Rattle.tx_rank.specs.inner.Links.{LinksBelow, AreLinks}
 use Rattle.tx_rank.specs.inner.Marks.{rank_in}
 use Rattle.tx_rank.proofs.Linking.{IsLinkedBelow, none_linked}
 use Rattle.tx_rank.proofs.back_links.links_of.Goals as goal
@@ -32,3 +32,18 @@ returns g c =
     let e = c.exchanges-place-end.ensures in
     let all : c.loop-place.place ≡ n.exchanges = omega arith in
     record { long = i.long; true_of = i.true_of; all = subst (LinksBelow n (rank_in c.args.marks.now) c.loop-place.links.items) all i.below }
+
+pub link_from-requires-clause-place : goal.link_from-requires-clause-place
+link_from-requires-clause-place g c = let e = c.exchanges-place-end.ensures in let t = c.loop-place-test.true in omega arith
+
+pub link_from-requires-clause-marks : goal.link_from-requires-clause-marks
+link_from-requires-clause-marks g c = c.requires.long
+
+pub link_from-requires-clause-long : goal.link_from-requires-clause-long
+link_from-requires-clause-long g c = ap length c.deref_mut.ensures.value ∙ c.loop-place.invariant.long
+
+pub link_from-requires-clause-links : goal.link_from-requires-clause-links
+link_from-requires-clause-links g c = subst (AreLinks (g.N.Routes.net c.args.net.now) (rank_in c.args.marks.now)) (sym c.deref_mut.ensures.value) c.loop-place.invariant.true_of
+
+pub link_from-requires-clause-below : goal.link_from-requires-clause-below
+link_from-requires-clause-below g c = subst (λ (l : List (Option (ℕ × ℕ))). LinksBelow (g.N.Routes.net c.args.net.now) (rank_in c.args.marks.now) l c.loop-place.place) (sym c.deref_mut.ensures.value) c.loop-place.invariant.below

@@ -29,3 +29,39 @@ returns-in-None-clause-judged g c =
     let low = subst (IsLongFound n ranks c.args.limit) c.in-None.is c.in_ok-walk.ensures in
     let j = judged_none n c.args.code c.args.limit c.args.spare ranks c.requires.passed.ranks old c.add_shorts.new.findings.items c.in_ok-add_shorts.ensures low in
     subst (IsJudged n c.args.code c.args.limit c.args.spare old c.add_shorts.new.findings.items) same j
+
+pub put_ranks-requires-clause-long : goal.put_ranks-requires-clause-long
+put_ranks-requires-clause-long g c = c.requires.passed.long
+
+pub put_ranks-requires-clause-code : goal.put_ranks-requires-clause-code
+put_ranks-requires-clause-code g c = c.requires.code
+
+pub put_ranks-requires-clause-exchanges : goal.put_ranks-requires-clause-exchanges
+put_ranks-requires-clause-exchanges g c = c.requires.exchanges
+
+pub put_ranks-requires-clause-blank : goal.put_ranks-requires-clause-blank
+put_ranks-requires-clause-blank g c = c.requires.blank
+
+pub add_shorts-requires : goal.add_shorts-requires
+add_shorts-requires g c = c.requires.passed
+
+pub long_walk-requires : goal.long_walk-requires
+long_walk-requires g c = c.requires.passed
+
+pub returns-in-None-clause-others : goal.returns-in-None-clause-others
+returns-in-None-clause-others g c = c.put_ranks.ensures.others
+
+pub returns-in-None-clause-codes : goal.returns-in-None-clause-codes
+returns-in-None-clause-codes g c = c.put_ranks.ensures.codes
+
+pub returns-in-None-clause-exchanges : goal.returns-in-None-clause-exchanges
+returns-in-None-clause-exchanges g c = c.put_ranks.ensures.exchanges
+
+pub returns-in_ok-push-in-Some-clause-others : goal.returns-in_ok-push-in-Some-clause-others
+returns-in_ok-push-in-Some-clause-others g c = c.put_ranks.ensures.others
+
+pub returns-in_ok-push-in-Some-clause-codes : goal.returns-in_ok-push-in-Some-clause-codes
+returns-in_ok-push-in-Some-clause-codes g c = c.put_ranks.ensures.codes
+
+pub returns-in_ok-push-in-Some-clause-exchanges : goal.returns-in_ok-push-in-Some-clause-exchanges
+returns-in_ok-push-in-Some-clause-exchanges g c = c.put_ranks.ensures.exchanges

@@ -1,7 +1,8 @@
-use Rattle.std.proofs.Common.{subst, sym, List}
+use Rattle.std.proofs.Common.{◌∙◌, ◌++◌, ◌∷◌, [], ap, subst, sym, List}
 use Rattle.tx_cert.specs.Certificate.{rank_at as ranked_at}
 use Rattle.tx_rank.specs.declared.finding.Finding.{Finding}
-use Rattle.tx_rank.specs.Walks.{Walk, IsLoop}
+use Rattle.tx_rank.specs.declared.finding.Finding.TheVariants.{Loop}
+use Rattle.tx_rank.specs.Walks.{Walk}
 use Rattle.tx_rank.specs.inner.Judged.{IsJudged}
 use Rattle.tx_rank.proofs.Judging.{judged_loop}
 use Rattle.tx_rank.proofs.code_ranking.rank_code.Goals as goal
@@ -11,7 +12,19 @@ returns-then-closed-clause-judged g c =
     let n = g.N.Routes.net c.args.net.now in
     let ranks = ranked_at c.args.cert.now c.args.code in
     let old = c.args.findings.now.items in
-    let start = c.pass.new.search.start in
-    let w : Walk = record { start = start; steps = c.of.result } in
-    let l = subst (IsLoop n start) (sym c.of.ensures) (c.in_ok-closed.ensures.closed c.if-closed.true) in
-    subst (λ (fs : List (Finding g.row.A.Denot)). IsJudged n c.args.code c.args.limit c.args.spare old fs ranks) (sym c.in_ok-push.ensures.items) (judged_loop n c.args.code c.args.limit c.args.spare old ranks w l)
+    let search = c.pass.new.search in
+    let w : Walk = record { start = search.start; steps = search.steps.items } in
+    let added = c.in_ok-push.ensures.items ∙ ap (λ (v : Walk). old ++ Loop c.args.code v ∷ []) c.walk_in_hand.ensures in
+    subst (λ (fs : List (Finding g.row.A.Denot)). IsJudged n c.args.code c.args.limit c.args.spare old fs ranks) (sym added) (judged_loop n c.args.code c.args.limit c.args.spare old ranks w (c.in_ok-closed.ensures.closed c.if-closed.true))
+
+pub returns-clause-judged : goal.returns-clause-judged
+returns-clause-judged g c = c.judge_ranked.ensures.judged
+
+pub returns-clause-others : goal.returns-clause-others
+returns-clause-others g c = c.judge_ranked.ensures.others
+
+pub returns-clause-codes : goal.returns-clause-codes
+returns-clause-codes g c = c.judge_ranked.ensures.codes
+
+pub returns-clause-exchanges : goal.returns-clause-exchanges
+returns-clause-exchanges g c = c.judge_ranked.ensures.exchanges

@@ -44,3 +44,14 @@ returns-clause-wherever g c = λ ranks cert.
     let some : findings.items ≢ [] = λ e. let l = ap length e in full (omega arith) in
     let each = all_true c.args.plan.now c.args.limit c.args.spare findings.items c.in_ok-cert.ensures.listed in
     some_true c.args.plan.now c.args.limit c.args.spare findings.items each some (none_true c.args.plan.now ranks c.args.limit c.args.spare cert)
+
+pub returns-then-is_empty-clause-fits : goal.returns-then-is_empty-clause-fits
+returns-then-is_empty-clause-fits g c = record { codes = c.in_ok-cert.ensures.codes; exchanges = c.in_ok-cert.ensures.exchanges; whole = c.whole.ensures }
+
+pub returns-then-is_empty-clause-wherever : goal.returns-then-is_empty-clause-wherever
+returns-then-is_empty-clause-wherever g c = λ ranks cert. tt
+
+pub returns-clause-fails : goal.returns-clause-fails
+returns-clause-fails g c = λ e.
+    let full = eqb-false (vec_len c.rank_codes.new.findings) 0 (sym c.is_empty.ensures ∙ c.if-is_empty.false) in
+    let l = ap length e in full (omega arith)

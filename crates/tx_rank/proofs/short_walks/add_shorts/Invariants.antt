@@ -1,4 +1,4 @@
-use Rattle.tx_rank.proofs.Adding.{AddsBelow}
+use Rattle.tx_rank.specs.inner.Judged.{AddsBelow}
 use Rattle.tx_rank.proofs.short_walks.add_shorts.Given as goal
 
 abbrev pub invariant-loop-place : goal.invariant-loop-place

@@ -1,6 +1,6 @@
 use Rattle.std.proofs.Common.{sym, ◌∙◌, subst, List, ℕ, arith}
 use Rattle.tx_rank.specs.inner.Marks.{rank_in}
-use Rattle.tx_rank.proofs.Tracing.{IsBack, back_within, back_more, back_smaller, is_linked, no_link}
+use Rattle.tx_rank.proofs.Tracing.{IsBack, back_within, back_more, back_smaller, is_linked, no_link, back_none}
 use Rattle.tx_rank.proofs.short_walks.walk_to.Goals as goal
 
 pub loop-link-smaller : goal.loop-link-smaller
@@ -30,3 +30,8 @@ link_at-requires g c =
     let w = back_within (g.N.Routes.net c.args.net.now) (rank_in c.args.marks.now) c.requires.passed.ranks c.args.exchange c.loop-link.at c.loop-link.steps.items c.loop-link.invariant in
     let l = c.requires.linked.long in
     omega arith
+
+pub loop-link-init : goal.loop-link-init
+loop-link-init g c = 
+    let n = g.N.Routes.net c.args.net.now in
+    subst (λ (s : List (ℕ × ℕ)). IsBack n (rank_in c.args.marks.now) c.args.exchange c.args.exchange s) (sym c.new-steps.ensures.items) (back_none n (rank_in c.args.marks.now) c.requires.passed.ranks c.args.exchange c.requires.ranked c.requires.away)

@@ -1,4 +1,4 @@
-use Rattle.std.proofs.Common.{◌≡◌, arith, length}
+use Rattle.std.proofs.Common.{◌≡◌, arith, length, ◌∙◌, refl}
 use Rattle.tx_rank.proofs.Writing.{writing_more, writing_all}
 use Rattle.tx_rank.proofs.written.put_ranks.Goals as goal
 
@@ -11,3 +11,27 @@ pub returns-clause-here : goal.returns-clause-here
 returns-clause-here g c =
     let at : c.loop-place.place ≡ length c.args.marks.now = let t = c.loop-place-test.false in let a = c.loop-place.auto.place-end in let e = c.exchanges-place-end.ensures in let l = c.requires.long in omega arith in
     writing_all c.args.cert.now c.loop-place.cert c.args.marks.now c.args.code c.loop-place.place c.loop-place.invariant at
+
+pub loop-place-init : goal.loop-place-init
+loop-place-init g c = record { here = λ x h. absurd (omega arith); blank = λ x h. c.requires.blank x; others = λ d x h. refl; codes = refl; exchanges = refl }
+
+pub put_rank-requires-clause-place : goal.put_rank-requires-clause-place
+put_rank-requires-clause-place g c = let e = c.exchanges-place-end.ensures in let t = c.loop-place-test.true in omega arith
+
+pub put_rank-requires-clause-long : goal.put_rank-requires-clause-long
+put_rank-requires-clause-long g c = c.requires.long
+
+pub put_rank-requires-clause-exchanges : goal.put_rank-requires-clause-exchanges
+put_rank-requires-clause-exchanges g c = c.loop-place.invariant.exchanges ∙ c.requires.exchanges
+
+pub put_rank-requires-clause-blank : goal.put_rank-requires-clause-blank
+put_rank-requires-clause-blank g c = c.loop-place.invariant.blank c.loop-place.place (omega arith)
+
+pub returns-clause-others : goal.returns-clause-others
+returns-clause-others g c = c.loop-place.invariant.others
+
+pub returns-clause-codes : goal.returns-clause-codes
+returns-clause-codes g c = c.loop-place.invariant.codes
+
+pub returns-clause-exchanges : goal.returns-clause-exchanges
+returns-clause-exchanges g c = c.loop-place.invariant.exchanges
