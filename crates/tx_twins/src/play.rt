@@ -120,7 +120,7 @@ fn play_cases<W: Sink>(
 }
 
 fn play_and_count<W: Sink>(alloc: Global, text: &[u8], out: &mut W) -> Result<(), WriteFault> {
-    let mut tallies = Tallies::default();
+    let mut tallies = Tallies::new();
     let played = play_cases(alloc, text, &mut tallies, out);
     write_tallies(&tallies, out)?;
     match played {
