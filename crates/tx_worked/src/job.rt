@@ -5,106 +5,13 @@ use itoa::Buffer;
 use refusing::Refusing;
 use std::alloc::{Allocator, Global};
 use tx_audit::write_counter;
-use tx_cases::{tell, tell_broken, two_texts};
+use tx_cases::{End, Ends, Job, ROOM, Task, tell, tell_broken};
 use tx_cert::write_cert;
 use tx_jobs::{
     Evidence, JobFault, check_status, codes_job, draw_job, evidence_job, grade_status, pipe_job,
     run_checked_status, run_job,
 };
-use tx_text::{MemorySink, MemorySource, NoMemory, Sink, Source};
-
-/// Room enough for what any job of the cases writes.
-pub(crate) const ROOM: usize = 20_000;
-
-/// Which job.
-#[derive(Clone, Copy)]
-pub(crate) enum Job {
-    Pipe,
-    Run,
-    Codes,
-    Grade,
-    Check { limit: u8, spare: u8 },
-    /// An audit, with its certificate or its counter script behind the report.
-    Audit { limit: u8, spare: u8 },
-    /// A run after a Yes of the checker.
-    Checked { limit: u8, spare: u8 },
-    /// The picture of a plan.
-    Draw,
-    /// The picture of a code.
-    DrawCode { code: u16 },
-    /// The picture of a code, with the walk of its first finding.
-    DrawFinding { code: u16, limit: u8, spare: u8 },
-}
-
-/// A job and its texts, in the order in which they are read.
-#[derive(Clone, Copy)]
-pub(crate) struct Task<'a> {
-    pub job: Job,
-    pub first: &'a [u8],
-    pub second: &'a [u8],
-    pub third: &'a [u8],
-}
-
-/// A job and its texts. That of a checked run has its second and third text in one.
-pub(crate) fn task_of<'a>(job: Job, first: &'a [u8], rest: &'a [u8]) -> Task<'a> {
-    let (second, third) = match job {
-        Job::Checked { .. } => two_texts(rest),
-        _ => (rest, b"".as_slice()),
-    };
-    Task {
-        job,
-        first,
-        second,
-        third,
-    }
-}
-
-/// One of the sources of a task.
-#[derive(Clone, Copy)]
-pub(crate) enum End {
-    First,
-    Second,
-    Third,
-}
-
-/// What a task or a run is given: how many bytes a call of a source gives, the call of a source that fails, the request for memory that is refused, or 0 for
-/// none, and the room for what is written.
-#[derive(Clone, Copy)]
-pub(crate) struct Ends {
-    pub piece: usize,
-    pub fails: Option<(End, u64)>,
-    pub refused: u64,
-    pub room: usize,
-}
-
-impl Ends {
-    /// Sources that never fail, and room enough.
-    pub(crate) fn pieces(piece: usize) -> Ends {
-        Ends {
-            piece,
-            fails: None,
-            refused: 0,
-            room: ROOM,
-        }
-    }
-
-    /// Sources of one byte a call of which one fails at a call.
-    pub(crate) fn failing(end: End, call: u64) -> Ends {
-        Ends {
-            fails: Some((end, call)),
-            ..Ends::pieces(1)
-        }
-    }
-
-    /// A source over one of the texts.
-    pub(crate) fn source<'a>(&self, end: End, text: &'a [u8]) -> MemorySource<'a> {
-        let fails_at = match self.fails {
-            Some((failing, call)) if failing == end => Some(call),
-            _ => None,
-        };
-        MemorySource::new(text, self.piece.max(1), fails_at)
-    }
-}
+use tx_text::{MemorySink, NoMemory, Sink, Source};
 
 /// What a whole job does, beside which others are judged: its exit status or its fault, and what it writes.
 #[derive(Clone, Copy)]

@@ -1,13 +1,12 @@
 // Runs and jobs at each room, at each failing call and for each prefix.
-use crate::job::{End, Ends, Task, Whole, done};
+use crate::job::{Whole, done};
 use crate::runs::{Ran, Script, WholeRun, run_beside, run_text, told_cause};
 use crate::stretches::{Happens, Stretches};
-use crate::trials::sources;
 use refusing::Refusing;
 use std::alloc::Global;
-use tx_cases::{tell, tell_broken, tell_count};
+use tx_cases::{End, Ends, Task, calls_left, sources, tell, tell_broken, tell_count, with_last};
 use tx_jobs::write_fault;
-use tx_text::{MemorySink, MemorySource, Sink, Source};
+use tx_text::{MemorySink, MemorySource, Sink};
 
 /// More than any case has of anything.
 const MANY: u64 = 1_000_000;
@@ -71,18 +70,6 @@ pub(crate) fn list_calls<W: Sink>(
     stretches.end(out);
 }
 
-/// How many of the first thousand calls of a source are left, where the next one fails.
-fn calls_left<R: Source>(source: &mut R) -> u64 {
-    let mut left = 0u64;
-    for _ in 0..1000u32 {
-        if source.read(&mut [0]).is_err() {
-            break;
-        }
-        left = left.saturating_add(1);
-    }
-    left
-}
-
 /// Tells what a run writes, where it stops, and how many calls of the script's source it makes, at one byte a call, where the writer takes so many
 /// bytes.
 pub(crate) fn count_calls<W: Sink>(alloc: Global, text: Script<'_>, room: usize, out: &mut W) {
@@ -100,24 +87,6 @@ pub(crate) fn count_calls<W: Sink>(alloc: Global, text: Script<'_>, room: usize,
     let calls = 1000u64.saturating_sub(calls_left(&mut source));
     tell_count(b"", calls, b" reads\n", out);
     drop(written);
-}
-
-/// The task with another last text.
-fn with_last<'a>(task: Task<'a>, text: &'a [u8]) -> Task<'a> {
-    match sources(task.job) {
-        1 => Task {
-            first: text,
-            ..task
-        },
-        2 => Task {
-            second: text,
-            ..task
-        },
-        _ => Task {
-            third: text,
-            ..task
-        },
-    }
 }
 
 /// What a job does with each front of its last text, from none of it to the whole.

@@ -1,8 +1,7 @@
 // All pictures of a plan.
-use crate::head::{Head, drawing_of};
-use crate::job::{Job, task_of, tell_task};
+use crate::job::tell_task;
 use std::alloc::Global;
-use tx_cases::tell_broken;
+use tx_cases::{Head, Job, drawing_of, task_of, tell_broken};
 use tx_plan::{CodeId, Plan};
 use tx_plantext::read_plan;
 use tx_text::Sink;

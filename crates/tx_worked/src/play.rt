@@ -1,7 +1,6 @@
 // Plays cases by their kinds.
 use crate::checked::play_certified;
-use crate::head::{Driven, Head, Kind, Mode, head_of, job_of, limit_and_spare};
-use crate::job::{Ends, Job, ROOM, Task, Whole, do_in_room, task_of};
+use crate::job::{Whole, do_in_room};
 use crate::listings::{count_calls, list_prefixes};
 use crate::pictures::play_pictures;
 use crate::runs::{Over, Script, run_beside};
@@ -11,7 +10,8 @@ use crate::written::{play_cert, play_plan};
 use memchr::memmem;
 use std::alloc::Global;
 use tx_cases::{
-    Case, Judge, long_number, next_case, number_of, spell, tell, tell_broken, tell_parts, two_texts,
+    Case, Driven, Ends, Head, Job, Judge, Kind, Mode, ROOM, Task, head_of, job_of, limit_and_spare,
+    long_number, next_case, number_of, spell, task_of, tell, tell_broken, tell_parts, two_texts,
 };
 use tx_jobs::write_fault;
 use tx_text::{MemorySink, Sink};

@@ -1,8 +1,7 @@
 // The laws of a run: what is written, and which event is told, wherever an end fails or memory is refused.
-use crate::job::{End, Ends};
 use crate::runs::{Ran, Script, WholeRun, run_beside, told_cause};
 use std::alloc::Global;
-use tx_cases::{event_word, takes_memory, tell, tell_broken, tell_count, written_after};
+use tx_cases::{End, Ends, event_word, takes_memory, tell, tell_broken, tell_count, written_after};
 use tx_jobs::JobFault;
 use tx_script::{RunCause, RunFault, Summary};
 use tx_text::Sink;

@@ -1,7 +1,7 @@
 // Runs of a script, with the event at which they stop.
-use crate::job::{End, Ends};
 use refusing::Refusing;
 use std::alloc::{Allocator, Global};
+use tx_cases::{End, Ends};
 use tx_engine::Engine;
 use tx_jobs::JobFault;
 use tx_machine::Plain;

@@ -1,7 +1,7 @@
 // The laws of a job: however its sources cut the text, wherever an end fails, and whichever request for memory is refused.
-use crate::job::{End, Ends, Job, Task, Whole, done, tell_task};
+use crate::job::{Whole, done, tell_task};
 use std::alloc::Global;
-use tx_cases::{tell_broken, tell_count, tell_parts};
+use tx_cases::{End, Ends, Task, job_name, sources, tell_broken, tell_count, tell_parts};
 use tx_jobs::JobFault;
 use tx_text::Sink;
 
@@ -75,35 +75,6 @@ pub(crate) fn try_refusals<W: Sink>(alloc: Global, task: Task<'_>, whole: Whole<
     }
 }
 
-/// The name of a job.
-fn name(job: Job) -> &'static [u8] {
-    match job {
-        Job::Pipe => b"pipe",
-        Job::Run => b"run",
-        Job::Codes => b"codes",
-        Job::Grade => b"grade",
-        Job::Check { .. } => b"check",
-        Job::Audit { .. } => b"audit",
-        Job::Checked { .. } => b"checked",
-        Job::Draw | Job::DrawCode { .. } | Job::DrawFinding { .. } => b"draw",
-    }
-}
-
-/// How many sources a job has.
-pub(crate) fn sources(job: Job) -> u8 {
-    match job {
-        Job::Pipe
-        | Job::Codes
-        | Job::Grade
-        | Job::Audit { .. }
-        | Job::Draw
-        | Job::DrawCode { .. }
-        | Job::DrawFinding { .. } => 1,
-        Job::Run | Job::Check { .. } => 2,
-        Job::Checked { .. } => 3,
-    }
-}
-
 /// Gives each room, and makes each call of each source fail. Tells a task's status, how many calls of its sources it makes and how many bytes it writes.
 pub(crate) fn try_ends<W: Sink>(alloc: Global, task: Task<'_>, whole: Whole<'_>, out: &mut W) {
     try_rooms(alloc, task, whole, out);
@@ -111,7 +82,7 @@ pub(crate) fn try_ends<W: Sink>(alloc: Global, task: Task<'_>, whole: Whole<'_>,
         Ok(status) => status,
         Err(fault) => fault.status(),
     };
-    tell_parts(&[b"-- ", name(task.job)], out);
+    tell_parts(&[b"-- ", job_name(task.job)], out);
     tell_count(b": status ", u64::from(status), b"", out);
     let first = reads(alloc, task, End::First, whole, out);
     tell_count(b", ", first, b"", out);
