@@ -48,3 +48,11 @@ pub fn takes_memory(word: &[u8]) -> bool {
         || word == b"FAULT".as_slice()
         || word == b"AWAY".as_slice()
 }
+
+/// Whether a line of a script says no event: it has no words, or is the header or END.
+pub fn says_no_event(line: &[u8]) -> bool {
+    match words(line).next() {
+        Some(word) => word == b"SCRIPT".as_slice() || word == b"END".as_slice(),
+        None => true,
+    }
+}

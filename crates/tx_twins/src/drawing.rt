@@ -116,20 +116,24 @@ fn is_for(kind: Kind, call: &KnownCall) -> bool {
     }
 }
 
-/// The number of a call for an event of this kind: the first from any place on, or else the first.
-fn number_for(kind: Kind, picture: &Picture, chance: &mut Chance) -> Option<u32> {
-    let start = chance.below(picture.calls.len());
-    for call in picture.calls.iter().skip(start) {
-        if is_for(kind, call) {
-            return Some(call.number);
-        }
-    }
-    for call in &picture.calls {
+/// The number of the first call for an event of this kind.
+fn first_for(kind: Kind, calls: &[KnownCall]) -> Option<u32> {
+    for call in calls {
         if is_for(kind, call) {
             return Some(call.number);
         }
     }
     None
+}
+
+/// The number of a call for an event of this kind: the first from any place on, or else the first.
+fn number_for(kind: Kind, picture: &Picture, chance: &mut Chance) -> Option<u32> {
+    let calls = picture.calls.as_slice();
+    let start = chance.below(calls.len());
+    match first_for(kind, calls.split_at(start.min(calls.len())).1) {
+        Some(number) => Some(number),
+        None => first_for(kind, calls),
+    }
 }
 
 /// Mostly the called party clears a connected call, and the caller any other.

@@ -3,7 +3,7 @@ use crate::script::{Script, play};
 use crate::stop::Stop;
 use crate::tally::Tally;
 use refusing::Refusing;
-use std::alloc::{Allocator, Global};
+use std::alloc::Global;
 use tx_engine::Engine;
 use tx_machine::Plain;
 use tx_plan::Plan;
@@ -12,18 +12,18 @@ use tx_state::Network;
 use tx_text::NoMemory;
 
 /// Plays a script through a network and a new engine, whose plan says the same and whose memory is another's.
-fn play_engine<M: Network, A: Allocator + Copy>(
+fn play_engine<'m, M: Network>(
     alloc: Global,
     plan: &Plan,
     script: Script,
     plain: &mut M,
-    (engine_alloc, engine_plan): (A, &Plan<A>),
-    memory: &Refusing<Global>,
+    memory: &'m Refusing<Global>,
+    engine_plan: &Plan<&'m Refusing<Global>>,
     tally: &mut Tally,
 ) -> Result<(), Stop> {
     let made = match (script.numbers, script.events) {
-        (0, 0) => Engine::new(engine_alloc, engine_plan),
-        (numbers, events) => Engine::starting_at(engine_alloc, engine_plan, numbers, events),
+        (0, 0) => Engine::new(memory, engine_plan),
+        (numbers, events) => Engine::starting_at(memory, engine_plan, numbers, events),
     };
     match made {
         Ok(mut engine) => {
@@ -36,35 +36,22 @@ fn play_engine<M: Network, A: Allocator + Copy>(
 }
 
 /// Plays a script through a new plain network and a new engine.
-fn play_both<A: Allocator + Copy>(
+fn play_both<'m>(
     alloc: Global,
     plan: &Plan,
     script: Script,
-    engine: (A, &Plan<A>),
-    memory: &Refusing<Global>,
+    memory: &'m Refusing<Global>,
+    engine_plan: &Plan<&'m Refusing<Global>>,
     tally: &mut Tally,
 ) -> Result<(), Stop> {
     match Plain::starting_at(alloc, plan, script.numbers, script.events) {
         Ok(mut plain) => {
-            let played = play_engine(alloc, plan, script, &mut plain, engine, memory, tally);
+            let played = play_engine(alloc, plan, script, &mut plain, memory, engine_plan, tally);
             drop(plain);
             played
         }
         Err(NoMemory) => Err(Stop::NoMemory),
     }
-}
-
-/// Plays a script through both networks.
-pub fn play_script(
-    alloc: Global,
-    plan: &Plan,
-    script: Script,
-    tally: &mut Tally,
-) -> Result<(), Stop> {
-    let memory = Refusing::new(alloc, 0);
-    let played = play_both(alloc, plan, script, (alloc, plan), &memory, tally);
-    drop(memory);
-    played
 }
 
 /// Plays a script through both networks, of which the engine has its plan read with its own memory.
@@ -78,12 +65,26 @@ fn play_reading(
 ) -> Result<(), Stop> {
     match read_plan(memory, text) {
         Ok(engine_plan) => {
-            let played = play_both(alloc, plan, script, (memory, &engine_plan), memory, tally);
+            let played = play_both(alloc, plan, script, memory, &engine_plan, tally);
             drop(engine_plan);
             played
         }
         Err(_) => Err(Stop::NoMemory),
     }
+}
+
+/// Plays a script through both networks, with no request refused.
+pub fn play_script(
+    alloc: Global,
+    plan: &Plan,
+    script: Script,
+    text: &[u8],
+    tally: &mut Tally,
+) -> Result<(), Stop> {
+    let memory = Refusing::new(alloc, 0);
+    let played = play_reading(alloc, plan, script, &memory, text, tally);
+    drop(memory);
+    played
 }
 
 /// Plays a script with one request for memory refused to the engine: false where there are fewer requests.

@@ -27,24 +27,25 @@ fn opening_script(seed: u64, length: u32, most: usize) -> Script {
 fn play_whole(
     alloc: Global,
     plan: &Plan,
+    text: &[u8],
     most: usize,
     seed: u64,
     tally: &mut Tally,
 ) -> Result<(), Stop> {
     for more in 0..4u64 {
         let seed = seed.wrapping_add(more.wrapping_mul(1000));
-        play_script(alloc, plan, opening_script(seed, LENGTH, most), tally)?;
+        play_script(alloc, plan, opening_script(seed, LENGTH, most), text, tally)?;
     }
     let last_number = Script {
         numbers: u32::MAX - 60,
         ..opening_script(seed, 400, most)
     };
-    play_script(alloc, plan, last_number, tally)?;
+    play_script(alloc, plan, last_number, text, tally)?;
     let last_event = Script {
         events: u64::MAX - 200,
         ..opening_script(seed, 300, most)
     };
-    play_script(alloc, plan, last_event, tally)
+    play_script(alloc, plan, last_event, text, tally)
 }
 
 /// Plays the scripts of a plan, and short ones with memory refused.
@@ -56,7 +57,7 @@ fn play_plan(
     seed: u64,
     tallies: &mut Tallies,
 ) -> Result<(), Stop> {
-    play_whole(alloc, plan, most, seed, &mut tallies.whole)?;
+    play_whole(alloc, plan, text, most, seed, &mut tallies.whole)?;
     for seed in 0..4u64 {
         let script = opening_script(seed, 100, most);
         play_refusing_each(alloc, plan, script, text, &mut tallies.refusing)?;
@@ -120,7 +121,7 @@ fn play_cases<W: Sink>(
 }
 
 fn play_and_count<W: Sink>(alloc: Global, text: &[u8], out: &mut W) -> Result<(), WriteFault> {
-    let mut tallies = Tallies::default();
+    let mut tallies = Tallies::new();
     let played = play_cases(alloc, text, &mut tallies, out);
     write_tallies(&tallies, out)?;
     match played {

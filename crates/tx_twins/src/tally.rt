@@ -4,28 +4,196 @@ use tx_cases::write_count;
 use tx_state::{Cause, Event, Refusal, Reply, Service};
 use tx_text::{Sink, WriteFault, write_bytes, write_parts};
 
-/// Counts of events and of tickets.
-#[derive(Clone, Copy, Default)]
+/// The names of what is counted, in the order in which the counts are written.
+static REPLIES: [&str; 12] = [
+    "keyed",
+    "seized",
+    "at",
+    "connected",
+    "head_on_both_stand",
+    "head_on_one_stands",
+    "head_on_none_stands",
+    "cleared",
+    "done",
+    "lost_none",
+    "lost_one",
+    "lost_several",
+];
+
+static SERVICES: [&str; 6] = ["occ", "nc", "np", "der", "abs", "na"];
+
+static REFUSALS: [&str; 12] = [
+    "unknown_call",
+    "not_standing",
+    "not_calling",
+    "not_connected",
+    "unknown_line",
+    "line_engaged",
+    "line_out_of_order",
+    "already_so",
+    "not_so",
+    "not_releasing",
+    "unknown_circuit",
+    "exhausted",
+];
+
+static CAUSES: [&str; 4] = ["answered", "cleared_by_caller", "cleared_by_called", "lost"];
+
+/// Which events met a request for memory that was refused. The last are those that have no need of memory.
+static WANTS: [&str; 5] = ["key", "route", "line_fault", "line_away", "other"];
+
+/// Counts of events and of tickets, each at the place of its name.
+#[derive(Clone, Copy)]
 pub struct Tally {
     pub events: u64,
     pub accepted: u64,
-    replies: Replies,
-    answers: Services,
-    refusals: Refusals,
-    causes: Causes,
-    wants: Wants,
+    replies: [u64; 12],
+    answers: [u64; 6],
+    refusals: [u64; 12],
+    causes: [u64; 4],
+    wants: [u64; 5],
     /// How the networks differ, where they do.
     pub differs: Option<Differs>,
 }
 
 /// Counts of the scripts that are played with all memory there, and of those that are played with memory refused.
-#[derive(Clone, Copy, Default)]
+#[derive(Clone, Copy)]
 pub struct Tallies {
     pub whole: Tally,
     pub refusing: Tally,
 }
 
+fn add_one(count: &mut u64) {
+    *count = count.saturating_add(1);
+}
+
+/// Adds one to the count at a place, if there is one.
+fn count_at(counts: &mut [u64], place: usize) {
+    if let Some(count) = counts.get_mut(place) {
+        add_one(count);
+    }
+}
+
+/// The place of a reply in `REPLIES`, of which an answer and a refusal have none: these are counted by what they say.
+fn reply_place(reply: &Reply) -> usize {
+    match reply {
+        Reply::Keyed(_) => 0,
+        Reply::Seized(_) => 1,
+        Reply::At(_) => 2,
+        Reply::Connected(_) => 3,
+        Reply::HeadOn {
+            a_stands,
+            b_stands,
+            ..
+        } => match (*a_stands, *b_stands) {
+            (true, true) => 4,
+            (false, false) => 6,
+            _ => 5,
+        },
+        Reply::Cleared => 7,
+        Reply::Done => 8,
+        Reply::Lost(0) => 9,
+        Reply::Lost(1) => 10,
+        Reply::Lost(_) => 11,
+        Reply::Answered(_) | Reply::Refused(_) => REPLIES.len(),
+    }
+}
+
+/// The place of a service code in `SERVICES`.
+fn service_place(service: Service) -> usize {
+    match service {
+        Service::Occ => 0,
+        Service::Nc => 1,
+        Service::Np => 2,
+        Service::Der => 3,
+        Service::Abs => 4,
+        Service::Na => 5,
+    }
+}
+
+/// The place of a refusal in `REFUSALS`.
+fn refusal_place(refusal: Refusal) -> usize {
+    match refusal {
+        Refusal::UnknownCall => 0,
+        Refusal::NotStanding => 1,
+        Refusal::NotCalling => 2,
+        Refusal::NotConnected => 3,
+        Refusal::UnknownLine => 4,
+        Refusal::LineEngaged => 5,
+        Refusal::LineOutOfOrder => 6,
+        Refusal::AlreadySo => 7,
+        Refusal::NotSo => 8,
+        Refusal::NotReleasing => 9,
+        Refusal::UnknownCircuit => 10,
+        Refusal::Exhausted => 11,
+    }
+}
+
+/// The place of a cause in `CAUSES`.
+fn cause_place(cause: Cause) -> usize {
+    match cause {
+        Cause::Service(_) => 0,
+        Cause::ClearedByCaller => 1,
+        Cause::ClearedByCalled => 2,
+        Cause::Lost => 3,
+    }
+}
+
+/// The place of an event in `WANTS`.
+fn want_place(event: &Event) -> usize {
+    match event {
+        Event::Key { .. } => 0,
+        Event::Route(_) => 1,
+        Event::LineFault(_) => 2,
+        Event::LineAway(_) => 3,
+        _ => 4,
+    }
+}
+
+impl Tally {
+    fn new() -> Tally {
+        Tally {
+            events: 0,
+            accepted: 0,
+            replies: [0; 12],
+            answers: [0; 6],
+            refusals: [0; 12],
+            causes: [0; 4],
+            wants: [0; 5],
+            differs: None,
+        }
+    }
+
+    pub fn note_reply(&mut self, reply: &Reply) {
+        add_one(&mut self.events);
+        match reply {
+            Reply::Refused(refusal) => {
+                return count_at(&mut self.refusals, refusal_place(*refusal));
+            }
+            Reply::Answered(service) => count_at(&mut self.answers, service_place(*service)),
+            _ => count_at(&mut self.replies, reply_place(reply)),
+        }
+        add_one(&mut self.accepted);
+    }
+
+    pub fn note_cause(&mut self, cause: Cause) {
+        count_at(&mut self.causes, cause_place(cause));
+    }
+
+    /// Takes in that an event met a request for memory that was refused.
+    pub fn note_want(&mut self, event: &Event) {
+        count_at(&mut self.wants, want_place(event));
+    }
+}
+
 impl Tallies {
+    pub fn new() -> Tallies {
+        Tallies {
+            whole: Tally::new(),
+            refusing: Tally::new(),
+        }
+    }
+
     /// How the networks differ, where they do.
     pub fn difference(&self) -> Option<Differs> {
         match self.whole.differs {
@@ -35,291 +203,33 @@ impl Tallies {
     }
 }
 
-/// Counts of replies.
-#[derive(Clone, Copy, Default)]
-struct Replies {
-    keyed: u64,
-    seized: u64,
-    at: u64,
-    connected: u64,
-    head_on_both_stand: u64,
-    head_on_one_stands: u64,
-    head_on_none_stands: u64,
-    cleared: u64,
-    done: u64,
-    lost_none: u64,
-    lost_one: u64,
-    lost_several: u64,
-}
-
-/// Counts of service codes.
-#[derive(Clone, Copy, Default)]
-struct Services {
-    occ: u64,
-    nc: u64,
-    np: u64,
-    der: u64,
-    abs: u64,
-    na: u64,
-}
-
-/// Counts of refusals.
-#[derive(Clone, Copy, Default)]
-struct Refusals {
-    unknown_call: u64,
-    not_standing: u64,
-    not_calling: u64,
-    not_connected: u64,
-    unknown_line: u64,
-    line_engaged: u64,
-    line_out_of_order: u64,
-    already_so: u64,
-    not_so: u64,
-    not_releasing: u64,
-    unknown_circuit: u64,
-    exhausted: u64,
-}
-
-/// Counts of tickets.
-#[derive(Clone, Copy, Default)]
-struct Causes {
-    answered: u64,
-    cleared_by_caller: u64,
-    cleared_by_called: u64,
-    lost: u64,
-}
-
-/// Which events met a request for memory that was refused.
-#[derive(Clone, Copy, Default)]
-struct Wants {
-    key: bool,
-    route: bool,
-    line_fault: bool,
-    line_away: bool,
-    /// An event that has no need of memory.
-    other: bool,
-}
-
-fn add_one(count: &mut u64) {
-    *count = count.saturating_add(1);
-}
-
-impl Tally {
-    pub fn note_reply(&mut self, reply: &Reply) {
-        add_one(&mut self.events);
-        match reply {
-            Reply::Refused(refusal) => return self.refusals.note(*refusal),
-            Reply::Answered(service) => self.answers.note(*service),
-            _ => self.replies.note(reply),
-        }
-        add_one(&mut self.accepted);
-    }
-
-    pub fn note_cause(&mut self, cause: Cause) {
-        self.causes.note(cause);
-    }
-
-    /// Takes in that an event met a request for memory that was refused.
-    pub fn note_want(&mut self, event: &Event) {
-        self.wants.note(event);
-    }
-}
-
-impl Replies {
-    fn note(&mut self, reply: &Reply) {
-        match reply {
-            Reply::Keyed(_) => add_one(&mut self.keyed),
-            Reply::Seized(_) => add_one(&mut self.seized),
-            Reply::At(_) => add_one(&mut self.at),
-            Reply::Connected(_) => add_one(&mut self.connected),
-            Reply::HeadOn {
-                a_stands,
-                b_stands,
-                ..
-            } => match (*a_stands, *b_stands) {
-                (true, true) => add_one(&mut self.head_on_both_stand),
-                (false, false) => add_one(&mut self.head_on_none_stands),
-                _ => add_one(&mut self.head_on_one_stands),
-            },
-            Reply::Cleared => add_one(&mut self.cleared),
-            Reply::Done => add_one(&mut self.done),
-            Reply::Lost(lost) => match *lost {
-                0 => add_one(&mut self.lost_none),
-                1 => add_one(&mut self.lost_one),
-                _ => add_one(&mut self.lost_several),
-            },
-            Reply::Answered(_) => {}
-            Reply::Refused(_) => {}
-        }
-    }
-}
-
-impl Services {
-    fn note(&mut self, service: Service) {
-        match service {
-            Service::Occ => add_one(&mut self.occ),
-            Service::Nc => add_one(&mut self.nc),
-            Service::Np => add_one(&mut self.np),
-            Service::Der => add_one(&mut self.der),
-            Service::Abs => add_one(&mut self.abs),
-            Service::Na => add_one(&mut self.na),
-        }
-    }
-}
-
-impl Refusals {
-    fn note(&mut self, refusal: Refusal) {
-        match refusal {
-            Refusal::UnknownCall => add_one(&mut self.unknown_call),
-            Refusal::NotStanding => add_one(&mut self.not_standing),
-            Refusal::NotCalling => add_one(&mut self.not_calling),
-            Refusal::NotConnected => add_one(&mut self.not_connected),
-            Refusal::UnknownLine => add_one(&mut self.unknown_line),
-            Refusal::LineEngaged => add_one(&mut self.line_engaged),
-            Refusal::LineOutOfOrder => add_one(&mut self.line_out_of_order),
-            Refusal::AlreadySo => add_one(&mut self.already_so),
-            Refusal::NotSo => add_one(&mut self.not_so),
-            Refusal::NotReleasing => add_one(&mut self.not_releasing),
-            Refusal::UnknownCircuit => add_one(&mut self.unknown_circuit),
-            Refusal::Exhausted => add_one(&mut self.exhausted),
-        }
-    }
-}
-
-impl Causes {
-    fn note(&mut self, cause: Cause) {
-        match cause {
-            Cause::Service(_) => add_one(&mut self.answered),
-            Cause::ClearedByCaller => add_one(&mut self.cleared_by_caller),
-            Cause::ClearedByCalled => add_one(&mut self.cleared_by_called),
-            Cause::Lost => add_one(&mut self.lost),
-        }
-    }
-}
-
-impl Wants {
-    fn note(&mut self, event: &Event) {
-        match event {
-            Event::Key { .. } => self.key = true,
-            Event::Route(_) => self.route = true,
-            Event::LineFault(_) => self.line_fault = true,
-            Event::LineAway(_) => self.line_away = true,
-            _ => self.other = true,
-        }
-    }
-}
-
 /// Writes counts under a name, each in a line behind its own name.
 fn write_counts<W: Sink>(
     name: &[u8],
-    counts: &[(&'static str, u64)],
+    names: &[&'static str],
+    counts: &[u64],
     out: &mut W,
 ) -> Result<(), WriteFault> {
     write_parts(&[name, b" {\n"], out)?;
-    for (name, count) in counts {
+    for (name, count) in names.iter().zip(counts) {
         write_parts(&[b"    ", name.as_bytes()], out)?;
         write_count(b": ", *count, b",\n", out)?;
     }
     write_bytes(b"}\n", out)
 }
 
-impl Replies {
-    fn write<W: Sink>(&self, out: &mut W) -> Result<(), WriteFault> {
-        write_counts(
-            b"Replies",
-            &[
-                ("keyed", self.keyed),
-                ("seized", self.seized),
-                ("at", self.at),
-                ("connected", self.connected),
-                ("head_on_both_stand", self.head_on_both_stand),
-                ("head_on_one_stands", self.head_on_one_stands),
-                ("head_on_none_stands", self.head_on_none_stands),
-                ("cleared", self.cleared),
-                ("done", self.done),
-                ("lost_none", self.lost_none),
-                ("lost_one", self.lost_one),
-                ("lost_several", self.lost_several),
-            ],
-            out,
-        )
+/// Writes which events met a refused request.
+fn write_wants<W: Sink>(wants: &[u64], out: &mut W) -> Result<(), WriteFault> {
+    write_bytes(b"Wants {\n", out)?;
+    for (name, count) in WANTS.iter().zip(wants) {
+        let met = if *count > 0 {
+            b": true,\n".as_slice()
+        } else {
+            b": false,\n"
+        };
+        write_parts(&[b"    ", name.as_bytes(), met], out)?;
     }
-}
-
-impl Services {
-    fn write<W: Sink>(&self, out: &mut W) -> Result<(), WriteFault> {
-        write_counts(
-            b"Services",
-            &[
-                ("occ", self.occ),
-                ("nc", self.nc),
-                ("np", self.np),
-                ("der", self.der),
-                ("abs", self.abs),
-                ("na", self.na),
-            ],
-            out,
-        )
-    }
-}
-
-impl Refusals {
-    fn write<W: Sink>(&self, out: &mut W) -> Result<(), WriteFault> {
-        write_counts(
-            b"Refusals",
-            &[
-                ("unknown_call", self.unknown_call),
-                ("not_standing", self.not_standing),
-                ("not_calling", self.not_calling),
-                ("not_connected", self.not_connected),
-                ("unknown_line", self.unknown_line),
-                ("line_engaged", self.line_engaged),
-                ("line_out_of_order", self.line_out_of_order),
-                ("already_so", self.already_so),
-                ("not_so", self.not_so),
-                ("not_releasing", self.not_releasing),
-                ("unknown_circuit", self.unknown_circuit),
-                ("exhausted", self.exhausted),
-            ],
-            out,
-        )
-    }
-}
-
-impl Causes {
-    fn write<W: Sink>(&self, out: &mut W) -> Result<(), WriteFault> {
-        write_counts(
-            b"Causes",
-            &[
-                ("answered", self.answered),
-                ("cleared_by_caller", self.cleared_by_caller),
-                ("cleared_by_called", self.cleared_by_called),
-                ("lost", self.lost),
-            ],
-            out,
-        )
-    }
-}
-
-fn write_want<W: Sink>(name: &[u8], met: bool, out: &mut W) -> Result<(), WriteFault> {
-    let met = if met {
-        b": true,\n".as_slice()
-    } else {
-        b": false,\n".as_slice()
-    };
-    write_parts(&[b"    ", name, met], out)
-}
-
-impl Wants {
-    fn write<W: Sink>(&self, out: &mut W) -> Result<(), WriteFault> {
-        write_bytes(b"Wants {\n", out)?;
-        write_want(b"key", self.key, out)?;
-        write_want(b"route", self.route, out)?;
-        write_want(b"line_fault", self.line_fault, out)?;
-        write_want(b"line_away", self.line_away, out)?;
-        write_want(b"other", self.other, out)?;
-        write_bytes(b"}\n", out)
-    }
+    write_bytes(b"}\n", out)
 }
 
 /// Writes how many events there were, and how many of them were accepted.
@@ -338,9 +248,9 @@ pub fn write_events<W: Sink>(
 pub fn write_tallies<W: Sink>(tallies: &Tallies, out: &mut W) -> Result<(), WriteFault> {
     let tally = &tallies.whole;
     write_events(b"in all", tally.events, tally.accepted, out)?;
-    tally.replies.write(out)?;
-    tally.answers.write(out)?;
-    tally.refusals.write(out)?;
-    tally.causes.write(out)?;
-    tallies.refusing.wants.write(out)
+    write_counts(b"Replies", &REPLIES, &tally.replies, out)?;
+    write_counts(b"Services", &SERVICES, &tally.answers, out)?;
+    write_counts(b"Refusals", &REFUSALS, &tally.refusals, out)?;
+    write_counts(b"Causes", &CAUSES, &tally.causes, out)?;
+    write_wants(&tallies.refusing.wants, out)
 }

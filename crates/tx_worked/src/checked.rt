@@ -2,7 +2,7 @@
 use crate::driven::try_drives;
 use crate::runs::Over;
 use std::alloc::Allocator;
-use tx_cases::{next_line, tell, tell_broken, tell_count, two_texts};
+use tx_cases::{next_line, says_no_event, tell, tell_broken, tell_count, two_texts};
 use tx_cert::read_cert;
 use tx_check::{Verdict, check};
 use tx_engine::{Played, play};
@@ -11,16 +11,8 @@ use tx_plan::Plan;
 use tx_plantext::read_plan;
 use tx_script::read_event;
 use tx_state::{Event, Network, Reply, drive};
-use tx_text::{NoMemory, Sink, words};
+use tx_text::{NoMemory, Sink};
 use tx_tickets::{write_reply, write_ticket};
-
-/// Whether a line of a script says no event: it has no words, or is the header or END.
-fn says_no_event(line: &[u8]) -> bool {
-    match words(line).next() {
-        Some(word) => word == b"SCRIPT".as_slice() || word == b"END".as_slice(),
-        None => true,
-    }
-}
 
 /// Adds the event that a line of a script says, if it says one.
 fn put_event<A: Allocator, B: Allocator, W: Sink>(

@@ -3,100 +3,15 @@ ghost use Rattle.std.specs.Prelude.{◌≤◌, IfSome};
 
 use itoa::Buffer;
 use refusing::Refusing;
-use std::alloc::Allocator;
+use std::alloc::{Allocator, Global};
 use tx_audit::write_counter;
-use tx_cases::{Judge, two_texts};
+use tx_cases::{End, Ends, Job, ROOM, Task, tell, tell_broken};
 use tx_cert::write_cert;
 use tx_jobs::{
     Evidence, JobFault, check_status, codes_job, draw_job, evidence_job, grade_status, pipe_job,
     run_checked_status, run_job,
 };
-use tx_text::{MemorySource, Sink, Source};
-
-/// Room enough for what any job of the cases writes.
-pub(crate) const ROOM: usize = 20_000;
-
-/// Which job.
-#[derive(Clone, Copy)]
-pub(crate) enum Job {
-    Pipe,
-    Run,
-    Codes,
-    Grade,
-    Check { limit: u8, spare: u8 },
-    /// An audit, with its certificate or its counter script behind the report.
-    Audit { limit: u8, spare: u8 },
-    /// A run after a Yes of the checker.
-    Checked { limit: u8, spare: u8 },
-    /// The picture of a plan.
-    Draw,
-    /// The picture of a code.
-    DrawCode { code: u16 },
-    /// The picture of a code, with the walk of its first finding.
-    DrawFinding { code: u16, limit: u8, spare: u8 },
-}
-
-/// A job and its texts, in the order in which they are read.
-#[derive(Clone, Copy)]
-pub(crate) struct Task<'a> {
-    pub job: Job,
-    pub first: &'a [u8],
-    pub second: &'a [u8],
-    pub third: &'a [u8],
-}
-
-/// A job and its texts. That of a checked run has its second and third text in one.
-pub(crate) fn task_of<'a>(job: Job, first: &'a [u8], rest: &'a [u8]) -> Task<'a> {
-    let (second, third) = match job {
-        Job::Checked { .. } => two_texts(rest),
-        _ => (rest, b"".as_slice()),
-    };
-    Task {
-        job,
-        first,
-        second,
-        third,
-    }
-}
-
-/// One of the sources of a task.
-#[derive(Clone, Copy)]
-pub(crate) enum End {
-    First,
-    Second,
-    Third,
-}
-
-/// How the sources of a task give their bytes: so many a call, and the call of one of them that fails.
-#[derive(Clone, Copy)]
-pub(crate) struct Ends {
-    pub piece: usize,
-    pub fails: Option<(End, u64)>,
-}
-
-impl Ends {
-    /// Sources that never fail.
-    pub(crate) fn pieces(piece: usize) -> Ends {
-        Ends { piece, fails: None }
-    }
-
-    /// Sources of one byte a call of which one fails at a call.
-    pub(crate) fn failing(end: End, call: u64) -> Ends {
-        Ends {
-            piece: 1,
-            fails: Some((end, call)),
-        }
-    }
-
-    /// A source over one of the texts.
-    fn source<'a>(&self, end: End, text: &'a [u8]) -> MemorySource<'a> {
-        let fails_at = match self.fails {
-            Some((failing, call)) if failing == end => Some(call),
-            _ => None,
-        };
-        MemorySource::new(text, self.piece.max(1), fails_at)
-    }
-}
+use tx_text::{MemorySink, NoMemory, Sink, Source};
 
 /// What a whole job does, beside which others are judged: its exit status or its fault, and what it writes.
 #[derive(Clone, Copy)]
@@ -105,12 +20,14 @@ pub(crate) struct Whole<'a> {
     pub text: &'a [u8],
 }
 
-/// What a job did: its exit status or its fault, how many bytes it wrote, and whether these are a front of what the whole job writes.
+/// What a job did: its exit status or its fault, how many bytes it wrote, whether these are a front of what the whole job writes, and whether the request for
+/// memory came that was to be refused.
 #[derive(Clone, Copy)]
 pub(crate) struct Did {
     pub answer: Result<u8, JobFault>,
     pub written: usize,
     pub is_front: bool,
+    pub came: bool,
 }
 
 impl Did {
@@ -235,31 +152,49 @@ pub(crate) fn do_task<A: Allocator + Copy, W: Sink>(
     do_job(alloc, task.job, &mut first, &mut second, &mut third, out)
 }
 
-/// What a task does in a room, beside what is to be written.
-pub(crate) fn done<A: Allocator + Copy>(
-    alloc: A,
+/// Does a task into a room, and tells what it did beside what is to be written. The allocator is the same for each task, so that each job is built once.
+pub(crate) fn do_in_room(
+    alloc: Global,
     task: Task<'_>,
     ends: Ends,
-    text: &[u8],
-    room: usize,
+    whole: &[u8],
+    room: &mut MemorySink,
 ) -> Did {
-    let mut judge = Judge::new(text, room);
-    let answer = do_task(alloc, task, ends, &mut judge);
+    let memory = Refusing::new(alloc, ends.refused);
+    let answer = do_task(&memory, task, ends, room);
     Did {
         answer,
-        written: judge.taken(),
-        is_front: judge.is_front(),
+        written: room.taken().len(),
+        is_front: whole.starts_with(room.taken()),
+        came: memory.has_refused(),
     }
 }
 
-/// What a task does where a request for memory is refused, and whether that request came.
-pub(crate) fn done_without<A: Allocator + Copy>(
-    alloc: A,
-    task: Task<'_>,
-    request: u64,
-    text: &[u8],
-) -> (Did, bool) {
-    let refusing = Refusing::new(alloc, request);
-    let did = done(&refusing, task, Ends::pieces(4096), text, ROOM);
-    (did, refusing.has_refused())
+/// What a task does, beside what is to be written.
+pub(crate) fn done(alloc: Global, task: Task<'_>, ends: Ends, whole: &[u8]) -> Did {
+    match MemorySink::new(alloc, ends.room) {
+        Ok(mut room) => {
+            let did = do_in_room(alloc, task, ends, whole, &mut room);
+            drop(room);
+            did
+        }
+        Err(NoMemory) => Did {
+            answer: Err(JobFault::NoMemory),
+            written: 0,
+            is_front: false,
+            came: false,
+        },
+    }
+}
+
+/// Does a task, and tells what it writes.
+pub(crate) fn tell_task<W: Sink>(alloc: Global, task: Task<'_>, piece: usize, out: &mut W) {
+    match MemorySink::new(alloc, ROOM) {
+        Ok(mut room) => {
+            let _ = do_in_room(alloc, task, Ends::pieces(piece), b"", &mut room);
+            tell(room.taken(), out);
+            drop(room);
+        }
+        Err(NoMemory) => tell_broken(b"no memory", 0, out),
+    }
 }

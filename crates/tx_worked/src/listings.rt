@@ -1,12 +1,12 @@
 // Runs and jobs at each room, at each failing call and for each prefix.
-use crate::job::{Ends, ROOM, Task, Whole, done};
+use crate::job::{Whole, done};
 use crate::runs::{Ran, Script, WholeRun, run_beside, run_text, told_cause};
 use crate::stretches::{Happens, Stretches};
-use crate::trials::sources;
-use std::alloc::Allocator;
-use tx_cases::{tell, tell_broken, tell_count};
+use refusing::Refusing;
+use std::alloc::Global;
+use tx_cases::{End, Ends, Task, calls_left, sources, tell, tell_broken, tell_count, with_last};
 use tx_jobs::write_fault;
-use tx_text::{MemorySink, MemorySource, Sink, Source};
+use tx_text::{MemorySink, MemorySource, Sink};
 
 /// More than any case has of anything.
 const MANY: u64 = 1_000_000;
@@ -28,15 +28,14 @@ fn happens(ran: &Ran, bytes: Option<u64>) -> Happens {
 }
 
 /// What a run does in each room, from none to the one that suffices.
-pub(crate) fn list_rooms<A: Allocator + Copy, W: Sink>(
-    alloc: A,
-    text: Script<'_>,
-    whole: &[u8],
-    out: &mut W,
-) {
+pub(crate) fn list_rooms<W: Sink>(alloc: Global, text: Script<'_>, whole: &[u8], out: &mut W) {
     let mut stretches = Stretches::new();
     for room in 0..=whole.len() {
-        let ran = run_beside(alloc, text, 7, None, whole, room);
+        let ends = Ends {
+            room,
+            ..Ends::pieces(7)
+        };
+        let ran = run_beside(alloc, text, ends, whole);
         if ran.written != room || !ran.is_front {
             tell_broken(b"not the front of the output in room", room as u64, out);
         }
@@ -46,8 +45,8 @@ pub(crate) fn list_rooms<A: Allocator + Copy, W: Sink>(
 }
 
 /// What a run does where each call of its source fails in turn, until none fails.
-pub(crate) fn list_calls<A: Allocator + Copy, W: Sink>(
-    alloc: A,
+pub(crate) fn list_calls<W: Sink>(
+    alloc: Global,
     text: Script<'_>,
     piece: usize,
     whole: WholeRun<'_>,
@@ -55,7 +54,11 @@ pub(crate) fn list_calls<A: Allocator + Copy, W: Sink>(
 ) {
     let mut stretches = Stretches::new();
     for call in 1..MANY {
-        let ran = run_beside(alloc, text, piece, Some(call), whole.text, ROOM);
+        let ends = Ends {
+            piece,
+            ..Ends::failing(End::Second, call)
+        };
+        let ran = run_beside(alloc, text, ends, whole.text);
         if !ran.is_front {
             tell_broken(b"not a front of the output at call", call, out);
         }
@@ -67,31 +70,15 @@ pub(crate) fn list_calls<A: Allocator + Copy, W: Sink>(
     stretches.end(out);
 }
 
-/// How many of the first thousand calls of a source are left, where the next one fails.
-fn calls_left<R: Source>(source: &mut R) -> u64 {
-    let mut left = 0u64;
-    for _ in 0..1000u32 {
-        if source.read(&mut [0]).is_err() {
-            break;
-        }
-        left = left.saturating_add(1);
-    }
-    left
-}
-
 /// Tells what a run writes, where it stops, and how many calls of the script's source it makes, at one byte a call, where the writer takes so many
 /// bytes.
-pub(crate) fn count_calls<A: Allocator + Copy, W: Sink>(
-    alloc: A,
-    text: Script<'_>,
-    room: usize,
-    out: &mut W,
-) {
+pub(crate) fn count_calls<W: Sink>(alloc: Global, text: Script<'_>, room: usize, out: &mut W) {
     let mut source = MemorySource::new(text.script, 1, Some(1001));
     let Ok(mut written) = MemorySink::new(alloc, room) else {
         return tell_broken(b"no memory", 0, out);
     };
-    let end = run_text(alloc, text, &mut source, &mut written);
+    let memory = Refusing::new(alloc, 0);
+    let end = run_text(&memory, text, &mut source, &mut written);
     tell(written.taken(), out);
     if let Err(fault) = end {
         tell_count(b"\nevent ", fault.event, b": ", out);
@@ -102,31 +89,8 @@ pub(crate) fn count_calls<A: Allocator + Copy, W: Sink>(
     drop(written);
 }
 
-/// The task with another last text.
-fn with_last<'a>(task: Task<'a>, text: &'a [u8]) -> Task<'a> {
-    match sources(task.job) {
-        1 => Task {
-            first: text,
-            ..task
-        },
-        2 => Task {
-            second: text,
-            ..task
-        },
-        _ => Task {
-            third: text,
-            ..task
-        },
-    }
-}
-
 /// What a job does with each front of its last text, from none of it to the whole.
-pub(crate) fn list_prefixes<A: Allocator + Copy, W: Sink>(
-    alloc: A,
-    task: Task<'_>,
-    whole: Whole<'_>,
-    out: &mut W,
-) {
+pub(crate) fn list_prefixes<W: Sink>(alloc: Global, task: Task<'_>, whole: Whole<'_>, out: &mut W) {
     let mut stretches = Stretches::new();
     let last = match sources(task.job) {
         1 => task.first,
@@ -135,7 +99,7 @@ pub(crate) fn list_prefixes<A: Allocator + Copy, W: Sink>(
     };
     for length in 0..=last.len() {
         let cut = with_last(task, last.split_at(length.min(last.len())).0);
-        let did = done(alloc, cut, Ends::pieces(4096), whole.text, ROOM);
+        let did = done(alloc, cut, Ends::pieces(4096), whole.text);
         if !did.is_front {
             tell_broken(b"not a front of the output, prefix", length as u64, out);
         }

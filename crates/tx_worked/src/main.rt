@@ -1,6 +1,6 @@
 //! The player of the gate. It judges the ranking over the plans of the file `families` (`tx_walks`), plays the engine beside the plain network over the plans of
-//! the file `plans` (`tx_twins`), and plays the cases of the files `calls` (`tx_tests`), `cases`, and `ends` (`tx_ends`, over the other files), and prints what
-//! each of them tells. One program links them all, since the gate proves, builds and links each program anew.
+//! the file `plans` (`tx_twins`), and plays the cases of the files `calls` (`tx_tests`), `cases`, and `ends`, and prints what each of them tells. One program links
+//! them all, since the gate proves, builds and links each program anew. The cases of `ends` play the program at its ends, over the other files.
 //!
 //! The file `cases` has worked examples, and what each writes and tells is printed. Where a law is broken, a line with `BROKEN` says so.
 //!
@@ -23,22 +23,24 @@
 
 mod checked;
 mod driven;
-mod head;
+mod end_cases;
+mod end_play;
 mod job;
 mod listings;
 mod pictures;
 mod play;
 mod run_laws;
 mod runs;
+mod stage;
 mod stretches;
 mod trials;
 mod whole_runs;
 mod written;
 
+use crate::end_cases::play_ends;
 use crate::play::play_cases;
 use std::io::{BufWriter, Write};
 use std::{fs, io};
-use tx_ends::play_ends;
 use tx_tests::play_cases as play_calls;
 use tx_text::{Sink, ToWrite};
 use tx_twins::play_all;

@@ -1,21 +1,14 @@
 // All pictures of a plan.
-use crate::head::{Head, drawing_of};
-use crate::job::{Ends, Job, do_task, task_of};
-use std::alloc::Allocator;
-use tx_cases::tell_broken;
+use crate::job::tell_task;
+use std::alloc::Global;
+use tx_cases::{Head, Job, drawing_of, task_of, tell_broken};
 use tx_plan::{CodeId, Plan};
 use tx_plantext::read_plan;
 use tx_text::Sink;
 
 /// Draws a plan and each of its codes, with the walk of the code's first finding where the head says a limit and a spare number.
-pub(crate) fn play_pictures<A: Allocator + Copy, W: Sink>(
-    alloc: A,
-    head: Head<'_>,
-    text: &[u8],
-    out: &mut W,
-) {
-    let whole = task_of(Job::Draw, text, b"");
-    let _ = do_task(alloc, whole, Ends::pieces(4096), out);
+pub(crate) fn play_pictures<W: Sink>(alloc: Global, head: Head<'_>, text: &[u8], out: &mut W) {
+    tell_task(alloc, task_of(Job::Draw, text, b""), 4096, out);
     match read_plan(alloc, text) {
         Ok(plan) => {
             draw_codes(alloc, &plan, head, text, out);
@@ -25,17 +18,11 @@ pub(crate) fn play_pictures<A: Allocator + Copy, W: Sink>(
     }
 }
 
-fn draw_codes<A: Allocator + Copy, W: Sink>(
-    alloc: A,
-    plan: &Plan<A>,
-    head: Head<'_>,
-    text: &[u8],
-    out: &mut W,
-) {
+fn draw_codes<W: Sink>(alloc: Global, plan: &Plan, head: Head<'_>, text: &[u8], out: &mut W) {
     plan.rules();
     for place in 0..plan.codes() {
         let code = plan.code_figures(CodeId::at(place as u16));
         let job = drawing_of(code, head.first, head.second);
-        let _ = do_task(alloc, task_of(job, text, b""), Ends::pieces(4096), out);
+        tell_task(alloc, task_of(job, text, b""), 4096, out);
     }
 }

@@ -1,7 +1,6 @@
 // Plays cases by their kinds.
 use crate::checked::play_certified;
-use crate::head::{Driven, Head, Kind, Mode, head_of, job_of, limit_and_spare};
-use crate::job::{Ends, Job, ROOM, Task, Whole, do_task, task_of};
+use crate::job::{Whole, do_in_room};
 use crate::listings::{count_calls, list_prefixes};
 use crate::pictures::play_pictures;
 use crate::runs::{Over, Script, run_beside};
@@ -9,15 +8,16 @@ use crate::trials::{try_ends, try_pieces, try_refusals};
 use crate::whole_runs::{Told, play_run};
 use crate::written::{play_cert, play_plan};
 use memchr::memmem;
-use std::alloc::Allocator;
+use std::alloc::Global;
 use tx_cases::{
-    Case, Judge, long_number, next_case, number_of, spell, tell, tell_broken, tell_parts, two_texts,
+    Case, Driven, Ends, Head, Job, Judge, Kind, Mode, ROOM, Task, head_of, job_of, limit_and_spare,
+    long_number, next_case, number_of, spell, task_of, tell, tell_broken, tell_parts, two_texts,
 };
 use tx_jobs::write_fault;
 use tx_text::{MemorySink, Sink};
 
 /// Plays each case of a text, and writes its line, and what its kind tells.
-pub(crate) fn play_cases<A: Allocator + Copy, W: Sink>(alloc: A, cases: &[u8], out: &mut W) {
+pub(crate) fn play_cases<W: Sink>(alloc: Global, cases: &[u8], out: &mut W) {
     let mut rest = cases;
     for _ in 0..10_000u32 {
         let Some((case, more)) = next_case(rest) else {
@@ -28,7 +28,7 @@ pub(crate) fn play_cases<A: Allocator + Copy, W: Sink>(alloc: A, cases: &[u8], o
     }
 }
 
-fn play<A: Allocator + Copy, W: Sink>(alloc: A, case: Case<'_>, out: &mut W) {
+fn play<W: Sink>(alloc: Global, case: Case<'_>, out: &mut W) {
     tell_parts(&[b"=== ", case.head, b"\n"], out);
     let mut texts = Vec::new(alloc);
     match spell(case.texts, &mut texts) {
@@ -39,7 +39,7 @@ fn play<A: Allocator + Copy, W: Sink>(alloc: A, case: Case<'_>, out: &mut W) {
 }
 
 /// Plays a case's texts by its kind: as a job, or by writing and reading back, or over both networks.
-fn play_texts<A: Allocator + Copy, W: Sink>(alloc: A, head: Head<'_>, texts: &[u8], out: &mut W) {
+fn play_texts<W: Sink>(alloc: Global, head: Head<'_>, texts: &[u8], out: &mut W) {
     let (first, second) = two_texts(texts);
     match head.kind {
         Some(Kind::Job(kind)) => {
@@ -56,8 +56,8 @@ fn play_texts<A: Allocator + Copy, W: Sink>(alloc: A, head: Head<'_>, texts: &[u
 }
 
 /// Plays the kinds that drive events or run a script, over the plain network and then over the engine, which has to tell the same.
-fn play_over_both<A: Allocator + Copy, W: Sink>(
-    alloc: A,
+fn play_over_both<W: Sink>(
+    alloc: Global,
     driven: Driven,
     head: Head<'_>,
     plan: &[u8],
@@ -87,8 +87,8 @@ fn play_over_both<A: Allocator + Copy, W: Sink>(
 }
 
 /// Plays such a kind over one of them.
-fn play_over<A: Allocator + Copy, W: Sink>(
-    alloc: A,
+fn play_over<W: Sink>(
+    alloc: Global,
     driven: Driven,
     head: Head<'_>,
     text: Script<'_>,
@@ -127,9 +127,9 @@ fn opening<'a>(over: Over, plan: &'a [u8], script: &'a [u8]) -> Script<'a> {
 }
 
 /// Tries that a script writes over the plain network what the job writes, which runs it over the engine.
-fn try_plain<A: Allocator + Copy, W: Sink>(alloc: A, run: Task<'_>, job: &[u8], out: &mut W) {
+fn try_plain<W: Sink>(alloc: Global, run: Task<'_>, job: &[u8], out: &mut W) {
     let text = opening(Over::Plain, run.first, run.second);
-    let ran = run_beside(alloc, text, 4096, None, job, ROOM);
+    let ran = run_beside(alloc, text, Ends::pieces(4096), job);
     if !ran.is_front || ran.written != job.len() {
         tell_broken(
             b"not the same over the plain network, bytes",
@@ -140,13 +140,7 @@ fn try_plain<A: Allocator + Copy, W: Sink>(alloc: A, run: Task<'_>, job: &[u8], 
 }
 
 /// Tells a task that was done whole, and tries its laws, or plays each front of its last text.
-fn play_whole<A: Allocator + Copy, W: Sink>(
-    alloc: A,
-    task: Task<'_>,
-    whole: Whole<'_>,
-    mode: Mode,
-    out: &mut W,
-) {
+fn play_whole<W: Sink>(alloc: Global, task: Task<'_>, whole: Whole<'_>, mode: Mode, out: &mut W) {
     if matches!(task.job, Job::Run) {
         try_plain(alloc, task, whole.text, out);
     }
@@ -165,13 +159,13 @@ fn play_whole<A: Allocator + Copy, W: Sink>(
 }
 
 /// Does a task whole, and plays it.
-fn play_task<A: Allocator + Copy, W: Sink>(alloc: A, task: Task<'_>, mode: Mode, out: &mut W) {
+fn play_task<W: Sink>(alloc: Global, task: Task<'_>, mode: Mode, out: &mut W) {
     let Ok(mut written) = MemorySink::new(alloc, ROOM) else {
         return tell_broken(b"no memory", 0, out);
     };
-    let answer = do_task(alloc, task, Ends::pieces(7), &mut written);
+    let did = do_in_room(alloc, task, Ends::pieces(7), b"", &mut written);
     let whole = Whole {
-        answer,
+        answer: did.answer,
         text: written.taken(),
     };
     play_whole(alloc, task, whole, mode, out);
@@ -179,8 +173,8 @@ fn play_task<A: Allocator + Copy, W: Sink>(alloc: A, task: Task<'_>, mode: Mode,
 }
 
 /// Tries that a plan and a script in two texts and in one do the same, and the laws of the run.
-fn try_both<A: Allocator + Copy, W: Sink>(
-    alloc: A,
+fn try_both<W: Sink>(
+    alloc: Global,
     run: Task<'_>,
     pipe: Task<'_>,
     whole: Whole<'_>,
@@ -201,7 +195,7 @@ fn try_both<A: Allocator + Copy, W: Sink>(
 }
 
 /// Plays an input as a pipe, and as a plan and a script, which have to do the same.
-fn play_both<A: Allocator + Copy, W: Sink>(alloc: A, head: Head<'_>, input: &[u8], out: &mut W) {
+fn play_both<W: Sink>(alloc: Global, head: Head<'_>, input: &[u8], out: &mut W) {
     // The plan goes up to and with its first line END.
     let (first, second) = match memmem::find(input, b"\nEND\n") {
         Some(end) => input.split_at(end.saturating_add(5).min(input.len())),
@@ -213,9 +207,9 @@ fn play_both<A: Allocator + Copy, W: Sink>(alloc: A, head: Head<'_>, input: &[u8
     let Ok(mut written) = MemorySink::new(alloc, ROOM) else {
         return tell_broken(b"no memory", 0, out);
     };
-    let answer = do_task(alloc, run, Ends::pieces(7), &mut written);
+    let did = do_in_room(alloc, run, Ends::pieces(7), b"", &mut written);
     let whole = Whole {
-        answer,
+        answer: did.answer,
         text: written.taken(),
     };
     try_both(alloc, run, pipe, whole, head, out);

@@ -1,8 +1,7 @@
 // The laws of a run: what is written, and which event is told, wherever an end fails or memory is refused.
-use crate::job::ROOM;
-use crate::runs::{Ran, Script, WholeRun, run_beside, run_without, told_cause};
-use std::alloc::Allocator;
-use tx_cases::{event_word, takes_memory, tell, tell_broken, tell_count, written_after};
+use crate::runs::{Ran, Script, WholeRun, run_beside, told_cause};
+use std::alloc::Global;
+use tx_cases::{End, Ends, event_word, takes_memory, tell, tell_broken, tell_count, written_after};
 use tx_jobs::JobFault;
 use tx_script::{RunCause, RunFault, Summary};
 use tx_text::Sink;
@@ -37,14 +36,9 @@ fn is_in_event(event: u64, fault: JobFault, whole: &[u8], written: usize) -> boo
 }
 
 /// Makes each call of the script's source fail in turn, at one byte a call, until none fails.
-fn try_reads<A: Allocator + Copy, W: Sink>(
-    alloc: A,
-    text: Script<'_>,
-    whole: WholeRun<'_>,
-    out: &mut W,
-) {
+fn try_reads<W: Sink>(alloc: Global, text: Script<'_>, whole: WholeRun<'_>, out: &mut W) {
     for call in 1..MANY {
-        let ran = run_beside(alloc, text, 1, Some(call), whole.text, ROOM);
+        let ran = run_beside(alloc, text, Ends::failing(End::Second, call), whole.text);
         if !stopped(&ran, JobFault::Read, whole.text) {
             if !ran.is_as(whole) {
                 tell_broken(b"run, failing call", call, out);
@@ -55,14 +49,13 @@ fn try_reads<A: Allocator + Copy, W: Sink>(
 }
 
 /// Gives the run each room that is too small.
-fn try_rooms<A: Allocator + Copy, W: Sink>(
-    alloc: A,
-    text: Script<'_>,
-    whole: WholeRun<'_>,
-    out: &mut W,
-) {
+fn try_rooms<W: Sink>(alloc: Global, text: Script<'_>, whole: WholeRun<'_>, out: &mut W) {
     for room in 0..whole.text.len() {
-        let ran = run_beside(alloc, text, 4096, None, whole.text, room);
+        let ends = Ends {
+            room,
+            ..Ends::pieces(4096)
+        };
+        let ran = run_beside(alloc, text, ends, whole.text);
         if ran.written != room || !stopped(&ran, JobFault::Write, whole.text) {
             tell_broken(b"run, room", room as u64, out);
             break;
@@ -85,23 +78,22 @@ fn wanted_memory(ran: &Ran, script: &[u8], whole: &[u8]) -> bool {
 }
 
 /// Refuses each request for memory in turn, until none is refused.
-fn try_refusals<A: Allocator + Copy, W: Sink>(
-    alloc: A,
-    text: Script<'_>,
-    whole: WholeRun<'_>,
-    out: &mut W,
-) {
-    for request in 1..MANY {
-        let (ran, came) = run_without(alloc, text, request, whole.text);
-        let keeps = if came {
+fn try_refusals<W: Sink>(alloc: Global, text: Script<'_>, whole: WholeRun<'_>, out: &mut W) {
+    for refused in 1..MANY {
+        let ends = Ends {
+            refused,
+            ..Ends::pieces(4096)
+        };
+        let ran = run_beside(alloc, text, ends, whole.text);
+        let keeps = if ran.came {
             wanted_memory(&ran, text.script, whole.text)
         } else {
             ran.is_as(whole)
         };
         if !keeps {
-            tell_broken(b"run, refused request", request, out);
+            tell_broken(b"run, refused request", refused, out);
         }
-        if !came || !keeps {
+        if !ran.came || !keeps {
             break;
         }
     }
@@ -116,8 +108,8 @@ pub(crate) fn tell_summary<W: Sink>(summary: &Summary, out: &mut W) {
 }
 
 /// Tries the laws of a run, and tells what it counted or where it stopped.
-pub(crate) fn try_run_laws<A: Allocator + Copy, W: Sink>(
-    alloc: A,
+pub(crate) fn try_run_laws<W: Sink>(
+    alloc: Global,
     text: Script<'_>,
     whole: WholeRun<'_>,
     out: &mut W,

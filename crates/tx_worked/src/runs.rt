@@ -1,15 +1,14 @@
 // Runs of a script, with the event at which they stop.
-use crate::job::ROOM;
 use refusing::Refusing;
-use std::alloc::Allocator;
-use tx_cases::Judge;
+use std::alloc::{Allocator, Global};
+use tx_cases::{End, Ends};
 use tx_engine::Engine;
 use tx_jobs::JobFault;
 use tx_machine::Plain;
 use tx_plan::Plan;
 use tx_plantext::read_plan;
 use tx_script::{RunCause, RunFault, Summary, run};
-use tx_text::{FaultKind, FrameFault, LineFault, MemorySource, NoMemory, Sink, Source, TextFault};
+use tx_text::{FaultKind, FrameFault, LineFault, MemorySink, NoMemory, Sink, Source, TextFault};
 
 /// The network that runs a script.
 #[derive(Clone, Copy)]
@@ -35,12 +34,14 @@ pub(crate) struct WholeRun<'a> {
     pub text: &'a [u8],
 }
 
-/// How a run ended, how many bytes it wrote, and whether these are a front of what the whole run writes.
+/// How a run ended, how many bytes it wrote, whether these are a front of what the whole run writes, and whether the request for memory came that was to be
+/// refused.
 #[derive(Clone, Copy)]
 pub(crate) struct Ran {
     pub end: Result<Summary, RunFault>,
     pub written: usize,
     pub is_front: bool,
+    pub came: bool,
 }
 
 impl Ran {
@@ -123,46 +124,40 @@ pub(crate) fn run_text<A: Allocator + Copy, R: Source, W: Sink>(
     }
 }
 
-/// Runs a script that comes in pieces, from a source that may fail at a call.
-pub(crate) fn run_pieces<A: Allocator + Copy, W: Sink>(
-    alloc: A,
+/// Runs a script into a room, and tells how it ran beside what is to be written.
+pub(crate) fn run_in_room(
+    alloc: Global,
     text: Script<'_>,
-    piece: usize,
-    fails_at: Option<u64>,
-    out: &mut W,
-) -> Result<Summary, RunFault> {
-    let mut source = MemorySource::new(text.script, piece.max(1), fails_at);
-    run_text(alloc, text, &mut source, out)
-}
-
-/// The same in a room, beside what is to be written.
-pub(crate) fn run_beside<A: Allocator + Copy>(
-    alloc: A,
-    text: Script<'_>,
-    piece: usize,
-    fails_at: Option<u64>,
+    ends: Ends,
     whole: &[u8],
-    room: usize,
+    room: &mut MemorySink,
 ) -> Ran {
-    let mut judge = Judge::new(whole, room);
-    let end = run_pieces(alloc, text, piece, fails_at, &mut judge);
+    let memory = Refusing::new(alloc, ends.refused);
+    let mut source = ends.source(End::Second, text.script);
+    let end = run_text(&memory, text, &mut source, room);
     Ran {
         end,
-        written: judge.taken(),
-        is_front: judge.is_front(),
+        written: room.taken().len(),
+        is_front: whole.starts_with(room.taken()),
+        came: memory.has_refused(),
     }
 }
 
-/// Runs a script where a request for memory is refused, and tells whether that request came.
-pub(crate) fn run_without<A: Allocator + Copy>(
-    alloc: A,
-    text: Script<'_>,
-    request: u64,
-    whole: &[u8],
-) -> (Ran, bool) {
-    let refusing = Refusing::new(alloc, request);
-    let ran = run_beside(&refusing, text, 4096, None, whole, ROOM);
-    (ran, refusing.has_refused())
+/// How a script runs, beside what is to be written.
+pub(crate) fn run_beside(alloc: Global, text: Script<'_>, ends: Ends, whole: &[u8]) -> Ran {
+    match MemorySink::new(alloc, ends.room) {
+        Ok(mut room) => {
+            let ran = run_in_room(alloc, text, ends, whole, &mut room);
+            drop(room);
+            ran
+        }
+        Err(NoMemory) => Ran {
+            end: Err(NOT_BEGUN),
+            written: 0,
+            is_front: false,
+            came: false,
+        },
+    }
 }
 
 /// A cause as a job tells it.

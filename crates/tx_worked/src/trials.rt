@@ -1,7 +1,7 @@
 // The laws of a job: however its sources cut the text, wherever an end fails, and whichever request for memory is refused.
-use crate::job::{End, Ends, Job, ROOM, Task, Whole, do_task, done, done_without};
-use std::alloc::Allocator;
-use tx_cases::{tell_broken, tell_count, tell_parts};
+use crate::job::{Whole, done, tell_task};
+use std::alloc::Global;
+use tx_cases::{End, Ends, Task, job_name, sources, tell_broken, tell_count, tell_parts};
 use tx_jobs::JobFault;
 use tx_text::Sink;
 
@@ -9,31 +9,20 @@ use tx_text::Sink;
 const MANY: u64 = 1_000_000;
 
 /// Plays a task by sources of 1, 2, 7 and 4,096 bytes a call, which has to make no difference.
-pub(crate) fn try_pieces<A: Allocator + Copy, W: Sink>(
-    alloc: A,
-    task: Task<'_>,
-    whole: Whole<'_>,
-    out: &mut W,
-) {
+pub(crate) fn try_pieces<W: Sink>(alloc: Global, task: Task<'_>, whole: Whole<'_>, out: &mut W) {
     for piece in [1usize, 2, 7, 4096] {
-        if !done(alloc, task, Ends::pieces(piece), whole.text, ROOM).is_as(whole) {
+        if !done(alloc, task, Ends::pieces(piece), whole.text).is_as(whole) {
             tell_broken(b"not the same in pieces of", piece as u64, out);
-            let _ = do_task(alloc, task, Ends::pieces(piece), out);
+            tell_task(alloc, task, piece, out);
         }
     }
 }
 
 /// How many calls of a source a task makes, at one byte a call. Each of them, where it fails, has to make it a read fault.
-fn reads<A: Allocator + Copy, W: Sink>(
-    alloc: A,
-    task: Task<'_>,
-    end: End,
-    whole: Whole<'_>,
-    out: &mut W,
-) -> u64 {
+fn reads<W: Sink>(alloc: Global, task: Task<'_>, end: End, whole: Whole<'_>, out: &mut W) -> u64 {
     for made in 0..MANY {
         let ends = Ends::failing(end, made.saturating_add(1));
-        let did = done(alloc, task, ends, whole.text, ROOM);
+        let did = done(alloc, task, ends, whole.text);
         if !did.stopped(JobFault::Read) {
             if !did.is_as(whole) {
                 tell_broken(b"calls of a source before it fails:", made, out);
@@ -45,14 +34,13 @@ fn reads<A: Allocator + Copy, W: Sink>(
 }
 
 /// Gives a task each room, up to one for all: where it is too small, the task has to stop with a write fault behind so many bytes.
-fn try_rooms<A: Allocator + Copy, W: Sink>(
-    alloc: A,
-    task: Task<'_>,
-    whole: Whole<'_>,
-    out: &mut W,
-) {
+fn try_rooms<W: Sink>(alloc: Global, task: Task<'_>, whole: Whole<'_>, out: &mut W) {
     for room in 0..=whole.text.len() {
-        let did = done(alloc, task, Ends::pieces(4096), whole.text, room);
+        let ends = Ends {
+            room,
+            ..Ends::pieces(4096)
+        };
+        let did = done(alloc, task, ends, whole.text);
         let keeps = if room < whole.text.len() {
             did.stopped(JobFault::Write) && did.written == room
         } else {
@@ -66,70 +54,35 @@ fn try_rooms<A: Allocator + Copy, W: Sink>(
 }
 
 /// Refuses each request for memory in turn, which has to make the task want memory, until none is refused.
-pub(crate) fn try_refusals<A: Allocator + Copy, W: Sink>(
-    alloc: A,
-    task: Task<'_>,
-    whole: Whole<'_>,
-    out: &mut W,
-) {
-    for request in 1..MANY {
-        let (did, came) = done_without(alloc, task, request, whole.text);
-        let keeps = if came {
+pub(crate) fn try_refusals<W: Sink>(alloc: Global, task: Task<'_>, whole: Whole<'_>, out: &mut W) {
+    for refused in 1..MANY {
+        let ends = Ends {
+            refused,
+            ..Ends::pieces(4096)
+        };
+        let did = done(alloc, task, ends, whole.text);
+        let keeps = if did.came {
             did.stopped(JobFault::NoMemory)
         } else {
-            did.is_as(whole) && request > 1
+            did.is_as(whole) && refused > 1
         };
         if !keeps {
-            tell_broken(b"refused request", request, out);
+            tell_broken(b"refused request", refused, out);
         }
-        if !came || !keeps {
+        if !did.came || !keeps {
             break;
         }
     }
 }
 
-/// The name of a job.
-fn name(job: Job) -> &'static [u8] {
-    match job {
-        Job::Pipe => b"pipe",
-        Job::Run => b"run",
-        Job::Codes => b"codes",
-        Job::Grade => b"grade",
-        Job::Check { .. } => b"check",
-        Job::Audit { .. } => b"audit",
-        Job::Checked { .. } => b"checked",
-        Job::Draw | Job::DrawCode { .. } | Job::DrawFinding { .. } => b"draw",
-    }
-}
-
-/// How many sources a job has.
-pub(crate) fn sources(job: Job) -> u8 {
-    match job {
-        Job::Pipe
-        | Job::Codes
-        | Job::Grade
-        | Job::Audit { .. }
-        | Job::Draw
-        | Job::DrawCode { .. }
-        | Job::DrawFinding { .. } => 1,
-        Job::Run | Job::Check { .. } => 2,
-        Job::Checked { .. } => 3,
-    }
-}
-
 /// Gives each room, and makes each call of each source fail. Tells a task's status, how many calls of its sources it makes and how many bytes it writes.
-pub(crate) fn try_ends<A: Allocator + Copy, W: Sink>(
-    alloc: A,
-    task: Task<'_>,
-    whole: Whole<'_>,
-    out: &mut W,
-) {
+pub(crate) fn try_ends<W: Sink>(alloc: Global, task: Task<'_>, whole: Whole<'_>, out: &mut W) {
     try_rooms(alloc, task, whole, out);
     let status = match whole.answer {
         Ok(status) => status,
         Err(fault) => fault.status(),
     };
-    tell_parts(&[b"-- ", name(task.job)], out);
+    tell_parts(&[b"-- ", job_name(task.job)], out);
     tell_count(b": status ", u64::from(status), b"", out);
     let first = reads(alloc, task, End::First, whole, out);
     tell_count(b", ", first, b"", out);

@@ -1,10 +1,9 @@
 // Cases that run a script whole, and what is told beside that.
-use crate::job::ROOM;
 use crate::listings::{list_calls, list_rooms};
 use crate::run_laws::{tell_summary, try_run_laws};
-use crate::runs::{Script, WholeRun, run_pieces, told_cause};
-use std::alloc::Allocator;
-use tx_cases::{tell, tell_broken, tell_count};
+use crate::runs::{Script, WholeRun, run_in_room, told_cause};
+use std::alloc::Global;
+use tx_cases::{Ends, ROOM, tell, tell_broken, tell_count};
 use tx_jobs::write_fault;
 use tx_text::{MemorySink, Sink};
 
@@ -34,18 +33,13 @@ fn tell_run<W: Sink>(whole: WholeRun<'_>, out: &mut W) {
 }
 
 /// Runs a script whole, and tells something of the run.
-pub(crate) fn play_run<A: Allocator + Copy, W: Sink>(
-    alloc: A,
-    told: Told,
-    text: Script<'_>,
-    out: &mut W,
-) {
+pub(crate) fn play_run<W: Sink>(alloc: Global, told: Told, text: Script<'_>, out: &mut W) {
     let Ok(mut written) = MemorySink::new(alloc, ROOM) else {
         return tell_broken(b"no memory", 0, out);
     };
-    let end = run_pieces(alloc, text, 7, None, &mut written);
+    let ran = run_in_room(alloc, text, Ends::pieces(7), b"", &mut written);
     let whole = WholeRun {
-        end,
+        end: ran.end,
         text: written.taken(),
     };
     match told {

@@ -1,8 +1,7 @@
 // Certificates and plans that are written and read back.
-use crate::job::ROOM;
 use refusing::Refusing;
 use std::alloc::Allocator;
-use tx_cases::{Judge, tell, tell_broken};
+use tx_cases::{Judge, ROOM, tell, tell_broken};
 use tx_cert::{Cert, CertFault, CertWord, read_cert, write_cert};
 use tx_plan::{CodeId, ExchangeId, Plan};
 use tx_plantext::{read_plan, write_plan};

@@ -1,15 +1,14 @@
-// Plays a case.
+// Plays the program at its ends.
 ghost use Rattle.tx_program.specs.Commands.{IsInRange};
 
-use crate::case::{Case, What};
-use crate::log::Log;
 use crate::stage::Stage;
 use refusing::Refusing;
-use std::{fs, io};
+use std::io;
+use tx_cases::{EndCase, Log, What};
 use tx_program::{Command, WordsFault, read_command, run_command, run_words};
 
 /// Plays a case, and tells what happens.
-pub(crate) fn play(rt: &HostRuntime, case: &Case<'_>, log: &Log) -> io::Result<()> {
+pub(crate) fn play(rt: &HostRuntime, case: &EndCase<'_>, log: &Log) -> io::Result<()> {
     if case.is_bad {
         log.tell("BROKEN:", "no such setting");
     }
@@ -19,12 +18,12 @@ pub(crate) fn play(rt: &HostRuntime, case: &Case<'_>, log: &Log) -> io::Result<(
         What::Read => tell_command(&read_command(rt.alloc(), case.words.as_slice()), log),
     }
     if let Some(name) = case.shows {
-        show(rt, name, log);
+        log.tell_file(rt, name);
     }
     Ok(())
 }
 
-fn run(rt: &HostRuntime, case: &Case<'_>, log: &Log) -> io::Result<()> {
+fn run(rt: &HostRuntime, case: &EndCase<'_>, log: &Log) -> io::Result<()> {
     let stage = Stage { rt, case, log };
     let status = run_words(rt.alloc(), case.words.as_slice(), stage.ends()?);
     log.tell_number("status", u64::from(status));
@@ -32,7 +31,7 @@ fn run(rt: &HostRuntime, case: &Case<'_>, log: &Log) -> io::Result<()> {
 }
 
 /// Runs the command with each of its requests for memory refused in turn, and then with none refused. What happens alike at several requests is told once.
-fn run_without(rt: &HostRuntime, case: &Case<'_>, log: &Log) -> io::Result<()> {
+fn run_without(rt: &HostRuntime, case: &EndCase<'_>, log: &Log) -> io::Result<()> {
     let Ok(command) = read_command(rt.alloc(), case.words.as_slice()) else {
         log.tell("BROKEN:", "no command");
         return Ok(());
@@ -61,7 +60,7 @@ fn run_without(rt: &HostRuntime, case: &Case<'_>, log: &Log) -> io::Result<()> {
 /// Runs a command with one request refused, and tells whether that request came.
 fn run_refused(
     rt: &HostRuntime,
-    case: &Case<'_>,
+    case: &EndCase<'_>,
     command: &Command,
     request: u64,
     log: &Log,
@@ -89,13 +88,5 @@ fn tell_command(read: &Result<Command, WordsFault>, log: &Log) {
             }
             log.tell_number("status", u64::from(fault.status()));
         }
-    }
-}
-
-/// Tells what a file holds.
-fn show(rt: &HostRuntime, name: &str, log: &Log) {
-    match fs::read(rt, name) {
-        Ok(bytes) => log.tell_bytes(name, bytes.as_slice()),
-        Err(_) => log.tell("no file", name),
     }
 }

@@ -8,7 +8,7 @@ use std::io::Read;
 
 /// A file whose reads are told, of which one may fail.
 #[derive(Drop)]
-pub(crate) struct Reader<'a> {
+pub struct Reader<'a> {
     pub file: File,
     pub name: String,
     pub log: &'a Log,

@@ -1,17 +1,14 @@
 // The ends of the program, watched.
-use crate::case::Case;
-use crate::log::Log;
-use crate::reader::Reader;
-use crate::writer::Writer;
 use std::fs::File;
 use std::io;
+use tx_cases::{EndCase, Log, Reader, Writer};
 use tx_program::{Ends, Folder};
 
 /// The folder of a case, and its settings.
 #[derive(Drop)]
 pub(crate) struct Stage<'a> {
     pub rt: &'a HostRuntime,
-    pub case: &'a Case<'a>,
+    pub case: &'a EndCase<'a>,
     pub log: &'a Log,
 }
 

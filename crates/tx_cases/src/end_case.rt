@@ -1,9 +1,9 @@
-// The cases of the file.
+// The cases of the program at its ends.
 use std::alloc::{AllocError, Global};
 
 /// A case: how the ends behave, and the words of the program.
 #[derive(Drop)]
-pub(crate) struct Case<'a> {
+pub struct EndCase<'a> {
     /// The file that stands for standard input.
     pub input: &'a str,
     /// How many bytes a read gives at most.
@@ -22,7 +22,7 @@ pub(crate) struct Case<'a> {
 
 /// What is done with the words.
 #[derive(Clone, Copy)]
-pub(crate) enum What {
+pub enum What {
     Run,
     /// Run with each request for memory refused in turn.
     RunWithout,
@@ -30,9 +30,9 @@ pub(crate) enum What {
     Read,
 }
 
-impl<'a> Case<'a> {
-    pub(crate) fn read(alloc: Global, line: &'a str) -> Result<Case<'a>, AllocError> {
-        let mut case = Case {
+impl<'a> EndCase<'a> {
+    pub fn read(alloc: Global, line: &'a str) -> Result<EndCase<'a>, AllocError> {
+        let mut case = EndCase {
             input: "empty",
             piece: 4096,
             fails: None,
@@ -89,7 +89,7 @@ impl<'a> Case<'a> {
     }
 
     /// Which read of a file fails, or 0.
-    pub(crate) fn failing_read(&self, name: &str) -> u64 {
+    pub fn failing_read(&self, name: &str) -> u64 {
         match self.fails {
             Some((failing, read)) if failing == name => read,
             _ => 0,
@@ -97,7 +97,7 @@ impl<'a> Case<'a> {
     }
 
     /// How many bytes a file takes.
-    pub(crate) fn room(&self, name: &str) -> usize {
+    pub fn room(&self, name: &str) -> usize {
         match self.room {
             Some((full, room)) if full == name => room,
             _ => usize::MAX,

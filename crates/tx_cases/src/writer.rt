@@ -6,7 +6,7 @@ use std::io::Write;
 
 /// A writer whose writes and flushes are told, and which fails when it has taken so many bytes.
 #[derive(Drop)]
-pub(crate) struct Writer<'a> {
+pub struct Writer<'a> {
     /// Where the bytes go; those of a standard end are only told.
     pub file: Option<File>,
     pub name: String,

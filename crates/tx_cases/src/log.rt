@@ -1,10 +1,11 @@
 // What happened, in order.
+use crate::told::tell;
 use itoa::Buffer;
 use std::alloc::Global;
 use std::cell::RefCell;
 use std::fmt::Debug;
+use std::fs;
 use std::io::Write;
-use tx_cases::tell;
 use tx_text::Sink;
 
 /// Lines, of which the last may have no LF yet.
@@ -43,12 +44,12 @@ impl Lines {
 
 /// Lines that tell what happened.
 #[derive(Drop)]
-pub(crate) struct Log {
+pub struct Log {
     lines: RefCell<Lines>,
 }
 
 impl Log {
-    pub(crate) fn new(alloc: Global) -> Log {
+    pub fn new(alloc: Global) -> Log {
         Log {
             lines: RefCell::new(Lines {
                 text: Vec::new(alloc),
@@ -58,7 +59,7 @@ impl Log {
     }
 
     /// Adds a line of two texts.
-    pub(crate) fn tell(&self, what: &str, name: &str) {
+    pub fn tell(&self, what: &str, name: &str) {
         if let Ok(mut lines) = self.lines.try_borrow_mut() {
             lines.close();
             lines.put(what.as_bytes());
@@ -69,12 +70,12 @@ impl Log {
     }
 
     /// Adds a line of a text and a number.
-    pub(crate) fn tell_number(&self, what: &str, number: u64) {
+    pub fn tell_number(&self, what: &str, number: u64) {
         self.tell(what, Buffer::new().format(number));
     }
 
     /// Adds a line with all of a value.
-    pub(crate) fn tell_value(&self, value: &impl Debug) {
+    pub fn tell_value(&self, value: &impl Debug) {
         if let Ok(mut lines) = self.lines.try_borrow_mut() {
             lines.close();
             let _ = writeln!(lines.text, "{value:?}");
@@ -82,14 +83,22 @@ impl Log {
     }
 
     /// Adds the bytes that a file took, or has.
-    pub(crate) fn tell_bytes(&self, name: &str, bytes: &[u8]) {
+    pub fn tell_bytes(&self, name: &str, bytes: &[u8]) {
         if let Ok(mut lines) = self.lines.try_borrow_mut() {
             lines.put_bytes(name, bytes);
         }
     }
 
+    /// Adds what a file holds.
+    pub fn tell_file(&self, rt: &HostRuntime, name: &str) {
+        match fs::read(rt, name) {
+            Ok(bytes) => self.tell_bytes(name, bytes.as_slice()),
+            Err(_) => self.tell("no file", name),
+        }
+    }
+
     /// Adds what another log tells.
-    pub(crate) fn tell_all(&self, other: &Log) {
+    pub fn tell_all(&self, other: &Log) {
         if let Ok(mut lines) = self.lines.try_borrow_mut() {
             if let Ok(other) = other.lines.try_borrow() {
                 lines.close();
@@ -99,14 +108,14 @@ impl Log {
     }
 
     /// Whether two logs tell the same.
-    pub(crate) fn is_as(&self, other: &Log) -> bool {
+    pub fn is_as(&self, other: &Log) -> bool {
         match (self.lines.try_borrow(), other.lines.try_borrow()) {
             (Ok(lines), Ok(other)) => lines.text.as_slice() == other.text.as_slice(),
             _ => false,
         }
     }
 
-    pub(crate) fn print<W: Sink>(&self, out: &mut W) {
+    pub fn print<W: Sink>(&self, out: &mut W) {
         if let Ok(mut lines) = self.lines.try_borrow_mut() {
             lines.close();
             tell(lines.text.as_slice(), out);

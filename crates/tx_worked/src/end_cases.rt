@@ -1,10 +1,9 @@
-// Plays cases, one a line.
-use crate::case::Case;
-use crate::log::Log;
-use crate::play::play;
+// The program at its ends: plays each case of a text over the files of the folder, and tells all that happens at the ends in order: files opened and made, each
+// read and what it gave, what each write took, each flush, and then the exit status. A case is a line. The head of the file `ends` says how it is written.
+use crate::end_play::play;
 use std::alloc::Global;
 use std::io;
-use tx_cases::{tell, tell_broken, tell_count, tell_parts};
+use tx_cases::{EndCase, Log, tell, tell_broken, tell_count, tell_parts};
 use tx_program::refuse_arguments;
 use tx_text::Sink;
 
@@ -19,7 +18,7 @@ fn tell_arguments<W: Sink>(alloc: Global, kind: io::ErrorKind, out: &mut W) {
 
 /// Plays the case of a line.
 fn play_line(rt: &HostRuntime, line: &str, log: &Log) -> io::Result<()> {
-    let case = Case::read(rt.alloc(), line)?;
+    let case = EndCase::read(rt.alloc(), line)?;
     let played = play(rt, &case, log);
     drop(case);
     played
@@ -37,7 +36,7 @@ fn tell_line<W: Sink>(rt: &HostRuntime, line: &str, out: &mut W) {
 }
 
 /// Tells how the program refuses its arguments, and then plays each case of a text. Empty lines and lines with # at their head are passed over.
-pub fn play_ends<W: Sink>(rt: &HostRuntime, text: &[u8], out: &mut W) {
+pub(crate) fn play_ends<W: Sink>(rt: &HostRuntime, text: &[u8], out: &mut W) {
     tell_arguments(rt.alloc(), io::ErrorKind::InvalidData, out);
     tell_arguments(rt.alloc(), io::ErrorKind::OutOfMemory, out);
     let Ok(text) = str::from_utf8(text) else {

@@ -1,11 +1,11 @@
 // What the head of a case says.
+use crate::case::{named, number_of};
 use crate::job::Job;
-use tx_cases::{named, number_of};
 use tx_text::words;
 
 /// What is done with a job.
 #[derive(Clone, Copy)]
-pub(crate) enum Mode {
+pub enum Mode {
     Plain,
     EachEnd,
     Prefixes,
@@ -15,7 +15,7 @@ static MODES: [(&str, Mode); 2] = [("each-end", Mode::EachEnd), ("prefixes", Mod
 
 /// What is done with the texts of a case.
 #[derive(Clone, Copy)]
-pub(crate) enum Kind {
+pub enum Kind {
     Job(JobKind),
     /// A plan and a script in one text, as a pipe and as a run.
     Both,
@@ -27,7 +27,7 @@ pub(crate) enum Kind {
 
 /// Which job, without its numbers.
 #[derive(Clone, Copy)]
-pub(crate) enum JobKind {
+pub enum JobKind {
     Pipe,
     Run,
     Codes,
@@ -40,7 +40,7 @@ pub(crate) enum JobKind {
 
 /// What is played over both networks.
 #[derive(Clone, Copy)]
-pub(crate) enum Driven {
+pub enum Driven {
     /// The events of a script, after a Yes of the checker.
     Certified,
     /// A run that is tried by its laws.
@@ -73,7 +73,7 @@ static KINDS: [(&str, Kind); 17] = [
 
 /// What the head of a case says behind its name. It has no kind where the word is none.
 #[derive(Clone, Copy)]
-pub(crate) struct Head<'a> {
+pub struct Head<'a> {
     pub mode: Mode,
     pub kind: Option<Kind>,
     pub first: &'a [u8],
@@ -81,7 +81,7 @@ pub(crate) struct Head<'a> {
     pub third: &'a [u8],
 }
 
-pub(crate) fn head_of(head: &[u8]) -> Head<'_> {
+pub fn head_of(head: &[u8]) -> Head<'_> {
     let mut rest = words(head);
     let _name = rest.next();
     let word = rest.next().unwrap_or(b"".as_slice());
@@ -100,14 +100,14 @@ pub(crate) fn head_of(head: &[u8]) -> Head<'_> {
 }
 
 /// The limit and the spare number of a case.
-pub(crate) fn limit_and_spare(head: Head<'_>) -> (u8, u8) {
+pub fn limit_and_spare(head: Head<'_>) -> (u8, u8) {
     let limit = number_of(head.first, 62).min(62) as u8;
     let spare = number_of(head.second, 15).min(15) as u8;
     (limit, spare)
 }
 
 /// A picture: of a plan, or of a code, with a limit and a spare number behind it or without.
-pub(crate) fn drawing_of(code: &[u8], limit: &[u8], spare: &[u8]) -> Job {
+pub fn drawing_of(code: &[u8], limit: &[u8], spare: &[u8]) -> Job {
     if code.is_empty() {
         return Job::Draw;
     }
@@ -123,7 +123,7 @@ pub(crate) fn drawing_of(code: &[u8], limit: &[u8], spare: &[u8]) -> Job {
 }
 
 /// The job of a case.
-pub(crate) fn job_of(kind: JobKind, head: Head<'_>) -> Job {
+pub fn job_of(kind: JobKind, head: Head<'_>) -> Job {
     let (limit, spare) = limit_and_spare(head);
     match kind {
         JobKind::Pipe => Job::Pipe,

@@ -1,0 +1,64 @@
+// What a job or a run is given beside its texts.
+use tx_text::{MemorySource, Source};
+
+/// Room enough for what any job of the cases writes.
+pub const ROOM: usize = 20_000;
+
+/// One of the sources of a task.
+#[derive(Clone, Copy)]
+pub enum End {
+    First,
+    Second,
+    Third,
+}
+
+/// What a task or a run is given: how many bytes a call of a source gives, the call of a source that fails, the request for memory that is refused, or 0 for
+/// none, and the room for what is written.
+#[derive(Clone, Copy)]
+pub struct Ends {
+    pub piece: usize,
+    pub fails: Option<(End, u64)>,
+    pub refused: u64,
+    pub room: usize,
+}
+
+impl Ends {
+    /// Sources that never fail, and room enough.
+    pub fn pieces(piece: usize) -> Ends {
+        Ends {
+            piece,
+            fails: None,
+            refused: 0,
+            room: ROOM,
+        }
+    }
+
+    /// Sources of one byte a call of which one fails at a call.
+    pub fn failing(end: End, call: u64) -> Ends {
+        Ends {
+            fails: Some((end, call)),
+            ..Ends::pieces(1)
+        }
+    }
+
+    /// A source over one of the texts.
+    pub fn source<'a>(&self, end: End, text: &'a [u8]) -> MemorySource<'a> {
+        let fails_at = match self.fails {
+            Some((failing, call)) if failing == end => Some(call),
+            _ => None,
+        };
+        MemorySource::new(text, self.piece.max(1), fails_at)
+    }
+}
+
+/// How many of the first thousand calls of a source are left, where the next one fails.
+pub fn calls_left<R: Source>(source: &mut R) -> u64 {
+    let mut left = 0u64;
+    for _ in 0..1000u32 {
+        if source.read(&mut [0]).is_err() {
+            break;
+        }
+        left = left.saturating_add(1);
+    }
+    left
+}
