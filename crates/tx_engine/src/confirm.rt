@@ -27,8 +27,7 @@ impl<'p, A: Allocator + Copy> Parts<'p, A> {
             Err(refusal) => return Reply::Refused(refusal),
         };
         let far = far_of(self.plan, self.calls.at(key), &circuit);
-        let meets = self.circuits.is_seized(&circuit, far);
-        if meets {
+        if self.circuits.is_seized(&circuit, far) {
             self.meet(number, key, &circuit, far)
         } else {
             self.go_on(number, key, &circuit, far)

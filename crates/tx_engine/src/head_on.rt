@@ -100,6 +100,7 @@ impl<'p, A: Allocator + Copy> Parts<'p, A> {
         requires other { IsMet self.old.calls other.now }
         ensures sound { IsSound self.new }
         ensures plan { self.new.plan.now ≡ self.old.plan.now }
+        ensures events { self.new.events ≡ self.old.events }
         ensures state { state_of self.new ≡ pair_ended self.old.plan.now (ByService Nc) one.now.number one.now.collided other.now.number other.now.collided (state_of self.old) }
     {
         if one.number < other.number {
@@ -118,6 +119,7 @@ impl<'p, A: Allocator + Copy> Parts<'p, A> {
         requires met { IsMet self.old.calls met.now }
         ensures sound { IsSound self.new }
         ensures plan { self.new.plan.now ≡ self.old.plan.now }
+        ensures events { self.new.events ≡ self.old.events }
         ensures others { (key : ℕ) → key ≢ met.now.key → kept_at self.new.calls key ≡ kept_at self.old.calls key }
         ensures state { state_of self.new ≡ ended_if self.old.plan.now (ByService Nc) met.now.collided met.now.number (state_of self.old) }
     {

@@ -29,7 +29,7 @@ meet-requires-clause-calls g c =
     (f.0, f.1, f.2, c.far_of-far.ensures ∙ ap (λ (z : Kept). far_of n.plan.now z.call c.in-Ok.found.1) (sym same))
 
 pub meet-requires-clause-met : goal.meet-requires-clause-met
-meet-requires-clause-met g c = sym c.is_seized-meets.ensures ∙ c.if-meets.true
+meet-requires-clause-met g c = sym c.is_seized.ensures ∙ c.if-is_seized.true
 
 pub go_on-requires-clause-calls : goal.go_on-requires-clause-calls
 go_on-requires-clause-calls g c =
@@ -40,14 +40,14 @@ go_on-requires-clause-calls g c =
     (f.0, f.1, f.2, c.far_of-far.ensures ∙ ap (λ (z : Kept). far_of n.plan.now z.call c.in-Ok.found.1) (sym same))
 
 pub go_on-requires-clause-alone : goal.go_on-requires-clause-alone
-go_on-requires-clause-alone g c = sym c.is_seized-meets.ensures ∙ c.if-meets.false
+go_on-requires-clause-alone g c = sym c.is_seized.ensures ∙ c.if-is_seized.false
 
-pub returns-then-meets-clause-step : goal.returns-then-meets-clause-step
-returns-then-meets-clause-step g c =
+pub returns-then-is_seized-clause-step : goal.returns-then-is_seized-clause-step
+returns-then-is_seized-clause-step g c =
     let n = c.args.self.now in
     ap (λ o. unless_refused o (state_of n) (counted (accepted n.plan.now (state_of n) (Confirm c.args.number)))) c.in-Ok.ensures.«open» ∙ c.meet.ensures.step
 
-pub returns-else-meets-clause-step : goal.returns-else-meets-clause-step
-returns-else-meets-clause-step g c =
+pub returns-else-is_seized-clause-step : goal.returns-else-is_seized-clause-step
+returns-else-is_seized-clause-step g c =
     let n = c.args.self.now in
     ap (λ o. unless_refused o (state_of n) (counted (accepted n.plan.now (state_of n) (Confirm c.args.number)))) c.in-Ok.ensures.«open» ∙ c.go_on.ensures.step
