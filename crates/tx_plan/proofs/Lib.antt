@@ -9,4 +9,3 @@ pub mod Made
 pub mod SeenWords
 pub mod Fronts
 pub mod Longest
-pub mod Refusing
