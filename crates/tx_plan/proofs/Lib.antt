@@ -9,3 +9,4 @@ pub mod Made
 pub mod SeenWords
 pub mod Fronts
 pub mod Longest
+pub mod Refusing

@@ -18,59 +18,63 @@ pub fn distances_of<A: Allocator + Copy, N: Routes>(
     ensures { IfOk result (λ d. length d.items ≡ (N.net net.now).exchanges) }
 {
     let mut distances = vec![in alloc; FAR; net.exchanges()]?;
-    let mut reached = Vec::new(alloc);
-    reach_all(net, &mut distances, &mut reached)?;
+    measure(net, &mut distances);
     Ok(distances)
 }
 
-/// Reaches the exchanges where calls may start, and then those to which they lead.
-fn reach_all<A: Allocator, N: Routes>(
-    net: &N,
-    distances: &mut [u16],
-    reached: &mut Vec<ExchangeId, A>,
-) -> Result<(), NoMemory>
+/// Measures step by step, from where calls may start, until nothing more is reached.
+fn measure<N: Routes>(net: &N, distances: &mut [u16])
     requires { length distances.old ≡ (N.net net.now).exchanges }
-    ensures { length distances.new ≡ (N.net net.now).exchanges }
 {
-    for place in 0..net.exchanges() {
-        let exchange = net.exchange(place);
-        if net.is_origin(exchange) {
-            distances[place] = 0;
-            reached.push(exchange)?;
+    start(net, distances);
+    for steps in 0..FAR {
+        if !reach_on(net, steps, distances) {
+            return;
         }
     }
-    for turn in 0..net.exchanges() {
-        let Some(exchange) = reached.get(turn) else {
-            break;
-        };
-        reach_on(net, *exchange, distances, reached)?;
-    }
-    Ok(())
 }
 
-/// Reaches the exchanges to which one leads.
-fn reach_on<A: Allocator, N: Routes>(
-    net: &N,
-    exchange: ExchangeId,
-    distances: &mut [u16],
-    reached: &mut Vec<ExchangeId, A>,
-) -> Result<(), NoMemory>
+/// No step leads to where calls may start.
+fn start<N: Routes>(net: &N, distances: &mut [u16])
     requires { length distances.old ≡ (N.net net.now).exchanges }
-    ensures { length distances.new ≡ (N.net net.now).exchanges }
+{
+    for place in 0..net.exchanges() {
+        if net.is_origin(net.exchange(place)) {
+            distances[place] = 0;
+        }
+    }
+}
+
+/// Reaches the exchanges to which those of this distance lead: whether one was not reached before.
+fn reach_on<N: Routes>(net: &N, steps: u16, distances: &mut [u16]) -> bool
+    requires { length distances.old ≡ (N.net net.now).exchanges }
+{
+    let mut more = false;
+    for place in 0..net.exchanges() {
+        if distances[place] == steps && reach_from(net, net.exchange(place), steps, distances) {
+            more = true;
+        }
+    }
+    more
+}
+
+/// Reaches the exchanges to which one of this distance leads, unless it is the home: whether one was not reached before.
+fn reach_from<N: Routes>(net: &N, exchange: ExchangeId, steps: u16, distances: &mut [u16]) -> bool
+    requires { length distances.old ≡ (N.net net.now).exchanges }
 {
     if exchange == net.home() {
-        return Ok(());
+        return false;
     }
-    let steps = distance(distances, exchange).saturating_add(1);
+    let mut more = false;
     let list = net.list(exchange);
     for i in 0..list.len() {
         let (_, to) = onward(net, exchange, list, i);
         if distances[to.index()] == FAR {
-            distances[to.index()] = steps;
-            reached.push(to)?;
+            distances[to.index()] = steps.saturating_add(1);
+            more = true;
         }
     }
-    Ok(())
+    more
 }
 
 /// The steps to an exchange.

@@ -1,10 +1,11 @@
-use Rattle.std.proofs.Common.{◌∙◌, ◌++◌, ◌∷◌, [], ap, subst, sym, List}
+use Rattle.std.proofs.Common.{◌∙◌, ◌++◌, ◌∷◌, [], ap, subst, sym, List, refl}
 use Rattle.tx_cert.specs.Certificate.{rank_at as ranked_at}
 use Rattle.tx_rank.specs.declared.finding.Finding.{Finding}
 use Rattle.tx_rank.specs.declared.finding.Finding.TheVariants.{Loop}
 use Rattle.tx_rank.specs.Walks.{Walk}
 use Rattle.tx_rank.specs.inner.Judged.{IsJudged}
 use Rattle.tx_rank.proofs.Judging.{judged_loop}
+use Rattle.tx_rank.specs.inner.Marks.{IsPassed}
 use Rattle.tx_rank.proofs.code_ranking.rank_code.Goals as goal
 
 pub returns-then-closed-clause-judged : goal.returns-then-closed-clause-judged
@@ -28,3 +29,18 @@ returns-clause-codes g c = c.judge_ranked.ensures.codes
 
 pub returns-clause-exchanges : goal.returns-clause-exchanges
 returns-clause-exchanges g c = c.judge_ranked.ensures.exchanges
+
+pub judge_ranked-requires-clause-passed : goal.judge_ranked-requires-clause-passed
+judge_ranked-requires-clause-passed g c = subst (IsPassed (g.N.Routes.net c.args.net.now)) (sym c.deref.ensures.value) (c.in_ok-closed.ensures.done c.if-closed.false)
+
+pub judge_ranked-requires-clause-code : goal.judge_ranked-requires-clause-code
+judge_ranked-requires-clause-code g c = c.requires.code
+
+pub judge_ranked-requires-clause-exchanges : goal.judge_ranked-requires-clause-exchanges
+judge_ranked-requires-clause-exchanges g c = c.requires.exchanges
+
+pub judge_ranked-requires-clause-blank : goal.judge_ranked-requires-clause-blank
+judge_ranked-requires-clause-blank g c = c.requires.blank
+
+pub returns-then-closed-clause-others : goal.returns-then-closed-clause-others
+returns-then-closed-clause-others g c = λ d x away. refl

@@ -8,7 +8,7 @@ pub look_on-requires-clause-long : goal.look_on-requires-clause-long
 look_on-requires-clause-long g c = ap length c.deref-2.ensures.value ∙ c.requires.marked.long
 
 pub look_on-requires-clause-tried : goal.look_on-requires-clause-tried
-look_on-requires-clause-tried g c = 
+look_on-requires-clause-tried g c =
     let search = c.args.search.now in
     let e : c.end-exchange.result ≡ end_of search.start search.steps.items = c.end-exchange.ensures ∙ ap (end_of search.start) c.deref.ensures.value in
     subst (λ (l : List Mark). IsTried (g.N.Routes.net c.args.net.now) l c.end-exchange.result search.last) (sym c.deref-2.ensures.value) (subst (λ (x : ℕ). IsTried (g.N.Routes.net c.args.net.now) search.marks.items x search.last) (sym e) c.requires.tried.list)
@@ -20,7 +20,7 @@ pub go_on-requires-clause-hand : goal.go_on-requires-clause-hand
 go_on-requires-clause-hand g c = c.requires.hand
 
 pub go_on-requires-clause-tried : goal.go_on-requires-clause-tried
-go_on-requires-clause-tried g c = 
+go_on-requires-clause-tried g c =
     let search = c.args.search.now in
     let e : c.end-exchange.result ≡ end_of search.start search.steps.items = c.end-exchange.ensures ∙ ap (end_of search.start) c.deref.ensures.value in
     let tried = subst (λ (l : List Mark). IsTried (g.N.Routes.net c.args.net.now) l c.end-exchange.result c.look_on.new.tried) c.deref-2.ensures.value c.look_on.ensures.tried in
@@ -33,14 +33,14 @@ pub settle-requires-clause-hand : goal.settle-requires-clause-hand
 settle-requires-clause-hand g c = c.requires.hand
 
 pub settle-requires-clause-tried : goal.settle-requires-clause-tried
-settle-requires-clause-tried g c = 
+settle-requires-clause-tried g c =
     let search = c.args.search.now in
     let e : c.end-exchange.result ≡ end_of search.start search.steps.items = c.end-exchange.ensures ∙ ap (end_of search.start) c.deref.ensures.value in
     let tried = subst (λ (l : List Mark). IsTried (g.N.Routes.net c.args.net.now) l c.end-exchange.result c.look_on.new.tried) c.deref-2.ensures.value c.look_on.ensures.tried in
     record { lists = c.requires.tried.lists; list = subst (λ (x : ℕ). IsTried (g.N.Routes.net c.args.net.now) search.marks.items x c.look_on.new.tried) e tried }
 
 pub go_on-requires-clause-onward : goal.go_on-requires-clause-onward
-go_on-requires-clause-onward g c = 
+go_on-requires-clause-onward g c =
     let search = c.args.search.now in
     let e : c.end-exchange.result ≡ end_of search.start search.steps.items = c.end-exchange.ensures ∙ ap (end_of search.start) c.deref.ensures.value in
     let to : ℕ × ℕ = (c.in-Onward.group, c.in-Onward.to) in
@@ -54,7 +54,7 @@ pub settle-requires-clause-end : goal.settle-requires-clause-end
 settle-requires-clause-end g c = c.end-exchange.ensures ∙ ap (end_of c.args.search.now.start) c.deref.ensures.value
 
 pub settle-requires-clause-top : goal.settle-requires-clause-top
-settle-requires-clause-top g c = 
+settle-requires-clause-top g c =
     let n = g.N.Routes.net c.args.net.now in
     subst (λ (l : List Mark). IsTop n l c.end-exchange.result (n.list c.end-exchange.result) c.in-Settled.top) c.deref-2.ensures.value c.in-Settled.ensures.look
 

@@ -1,8 +1,8 @@
 use Rattle.std.proofs.Common.{◌∙◌, refl, sym, subst, ℕ}
 use Rattle.tx_rank.specs.Walks.{IsLoop}
-use Rattle.tx_rank.specs.inner.Marks.{IsAdvanced}
+use Rattle.tx_rank.specs.inner.Marks.{IsAdvanced, IsTrail}
 use Rattle.tx_rank.specs.declared.explore.Progress.{Progress}
-use Rattle.tx_rank.proofs.Passes.{ends}
+use Rattle.tx_rank.proofs.Passes.{ends, goes_on}
 use Rattle.tx_rank.proofs.explore.explore.Goals as goal
 
 pub loop-init : goal.loop-init
@@ -42,3 +42,20 @@ returns-in-Closed-clause-closed g c = λ _.
 
 pub returns-in-Closed-clause-done : goal.returns-in-Closed-clause-done
 returns-in-Closed-clause-done g c = λ h. let bad : ⊥ = cc in absurd bad
+
+pub loop-preserved : goal.loop-preserved
+loop-preserved g c =
+    let n = g.N.Routes.net c.args.net.now in
+    let new = c.advance.new.search in
+    let step = subst (λ (p : Progress). IsAdvanced n c.loop.search.start p c.loop.search.marks.items new.marks.items new.steps.items) c.in-More.is c.in_ok-advance.ensures.ok in
+    record {
+      exploring = goes_on n c.args.search.now.start c.args.search.now.marks.items c.loop.search.start new.start c.loop.search.steps.items new.steps.items c.loop.search.marks.items new.marks.items c.loop.invariant.exploring c.advance.ensures.start step;
+      tried = subst (λ (x : ℕ). IsTrail n new.marks.items x new.steps.items new.before.items new.last) (sym c.advance.ensures.start) (c.in_ok-advance.ensures.tried c.in-More.is);
+    }
+
+pub loop-smaller : goal.loop-smaller
+loop-smaller g c =
+    let n = g.N.Routes.net c.args.net.now in
+    let new = c.advance.new.search in
+    let step = subst (λ (p : Progress). IsAdvanced n c.loop.search.start p c.loop.search.marks.items new.marks.items new.steps.items) c.in-More.is c.in_ok-advance.ensures.ok in
+    step.nearer

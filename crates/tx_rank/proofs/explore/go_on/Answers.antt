@@ -1,4 +1,4 @@
-use Rattle.std.proofs.Common.{subst, sym, ap, ◌∙◌, ◌≡◌, List, [], ◌∷◌, ◌++◌, ℕ, Some}
+use Rattle.std.proofs.Common.{subst, sym, ap, ◌∙◌, ◌≡◌, List, [], ◌∷◌, ◌++◌, ℕ, Some, length, arith}
 use Rattle.std.specs.Prelude.{slice_get}
 use Rattle.tx_rank.specs.Walks.{IsLoop}
 use Rattle.tx_rank.specs.inner.Marks.{IsStep, IsTrail, rank_in}
@@ -44,3 +44,12 @@ returns-clause-tried g c = λ _.
     subst (λ (k : ℕ). IsTrail n (set marks k Open) search.start c.push.new.self.items c.push-2.new.self.items last) (sym c.index.ensures)
     (subst (λ (l : List Tried). IsTrail n new search.start c.push.new.self.items l last) (sym c.in_ok-push-2.ensures.items)
     (subst (λ (l : List (ℕ × ℕ)). IsTrail n new search.start l (search.before.items ++ search.last ∷ []) last) (sym c.in_ok-push.ensures.items) trail))
+
+pub is_open-requires : goal.is_open-requires
+is_open-requires g c = let o = c.requires.onward.within in let l = c.requires.marked.long in let d = ap length c.deref.ensures.value in omega arith
+
+pub index_mut-requires : goal.index_mut-requires
+index_mut-requires g c = let e = c.index.ensures in let o = c.requires.onward.within in let l = c.requires.marked.long in let k = c.args.search.now.marks.ok.0 in omega arith
+
+pub returns-then-is_open-clause-tried : goal.returns-then-is_open-clause-tried
+returns-then-is_open-clause-tried g c = λ h. let bad : ⊥ = cc in absurd bad

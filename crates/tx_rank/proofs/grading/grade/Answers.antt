@@ -49,3 +49,15 @@ returns-then-is_empty-clause-each g c = on_ok (no_findings (λ findings. (limit 
 
 pub returns-then-is_empty-clause-listed : goal.returns-then-is_empty-clause-listed
 returns-then-is_empty-clause-listed g c = on_ok (no_findings (AreUnmended c.args.plan.now)) c.graded.result c.graded.ensures.is_graded
+
+pub graded-requires-clause-exchanges : goal.graded-requires-clause-exchanges
+graded-requires-clause-exchanges g c = c.in_ok-cert.ensures.exchanges
+
+pub returns-then-is_empty-clause-plan : goal.returns-then-is_empty-clause-plan
+returns-then-is_empty-clause-plan g c = c.graded.ensures.plan
+
+pub returns-then-is_empty-clause-clear : goal.returns-then-is_empty-clause-clear
+returns-then-is_empty-clause-clear g c = c.graded.ensures.clear
+
+pub returns-then-is_empty-clause-codes : goal.returns-then-is_empty-clause-codes
+returns-then-is_empty-clause-codes g c = c.graded.ensures.codes

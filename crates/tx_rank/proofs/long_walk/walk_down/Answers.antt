@@ -25,7 +25,7 @@ loop-i-preserved g c =
     }
 
 pub loop-i-init : goal.loop-i-init
-loop-i-init g c = 
+loop-i-init g c =
     let n = g.N.Routes.net c.args.net.now in
     let e = c.new-steps.ensures.items in
     record { down = subst (λ (s : List (ℕ × ℕ)). IsDown n (rank_in c.args.marks.now) c.args.origin c.args.rank c.args.origin s) (sym e) (down_none n (rank_in c.args.marks.now) c.args.origin c.args.rank c.requires.ranked); count = ap length e }

@@ -32,6 +32,6 @@ link_at-requires g c =
     omega arith
 
 pub loop-link-init : goal.loop-link-init
-loop-link-init g c = 
+loop-link-init g c =
     let n = g.N.Routes.net c.args.net.now in
     subst (λ (s : List (ℕ × ℕ)). IsBack n (rank_in c.args.marks.now) c.args.exchange c.args.exchange s) (sym c.new-steps.ensures.items) (back_none n (rank_in c.args.marks.now) c.requires.passed.ranks c.args.exchange c.requires.ranked c.requires.away)
