@@ -1,6 +1,25 @@
--- The first refusal of two lists of tests, one behind the other.
-use Rattle.std.proofs.Common.{◌≡◌, Bool, true, false, List, [], ◌∷◌, ◌++◌, Option, Some, None, refl}
+-- The first refusal of a list of tests, and of two lists, one behind the other.
+use Rattle.std.proofs.Common.{◌≡◌, Bool, true, false, List, [], ◌∷◌, ◌++◌, Option, Some, None, refl, ap}
+use Rattle.std.specs.Prelude.{if◌then◌else◌}
 use Rattle.tx_plan.specs.Declaring.{first_true}
+
+module _ {X : Type 0} where
+  -- a test that is true
+  pub taken : {b : Bool} {x : X} (y : X) → b ≡ true → (if b then x else y) ≡ x
+  taken {b} {x} y h = ap (λ t. if t then x else y) h
+
+  -- one that is not
+  pub passed_on : {b : Bool} (x : X) {y : X} → b ≡ false → (if b then x else y) ≡ y
+  passed_on {b} x {y} h = ap (λ t. if t then x else y) h
+
+  -- what was read, and what it says of the test
+  pub read_right : (b : Bool) (w r : X) → Some r ≡ (if b then Some w else None) → b ≡ true
+  read_right true w r h = refl
+  read_right false w r h = let bad : ⊥ = cc in absurd bad
+
+  pub read_same : (b : Bool) (w r : X) → Some r ≡ (if b then Some w else None) → r ≡ w
+  read_same true w r h = cc
+  read_same false w r h = let bad : ⊥ = cc in absurd bad
 
 module _ {R : Type 0} where
   -- the first list refuses nothing

@@ -1,0 +1,7 @@
+use Rattle.std.proofs.Common.{◌∙◌, ap}
+use Rattle.tx_plan.specs.Plan.{Plan}
+use Rattle.tx_plan.specs.Declaring.{has_route}
+use Rattle.tx_plan.proofs.plan.Plan.has_route.Goals as goal
+
+pub returns : goal.returns
+returns g c = c.has.ensures ∙ ap (λ (p : Plan). has_route p c.args.pair.now.exchange c.args.pair.now.code) c.self.view_is
