@@ -44,3 +44,9 @@ judge_ranked-requires-clause-blank g c = c.requires.blank
 
 pub returns-then-closed-clause-others : goal.returns-then-closed-clause-others
 returns-then-closed-clause-others g c = λ d x away. refl
+
+pub pass-requires-clause-marked : goal.pass-requires-clause-marked
+pass-requires-clause-marked g c = c.in_ok-search.ensures.marked
+
+pub pass-requires-clause-none : goal.pass-requires-clause-none
+pass-requires-clause-none g c = c.in_ok-search.ensures.none
