@@ -25,7 +25,7 @@ returns-in-None-pair-clause-err g c =
     ∙ ap (λ (o : Option Pair). first_true (route_plan_refusals p o gs)) (sym c.pair_of-pair.ensures.pair ∙ c.in-None-pair.is)
 
 pub route_row-requires : goal.route_row-requires
-route_row-requires g c = 
+route_row-requires g c =
     let p = c.args.plan.now in
     let seen = c.see-seen.result in
     record { seen = subst (λ (o : Option Pair). IsSeen p o c.args.groups seen) c.in-Some-pair.is (subst (λ (ws : List (List ℕ)). IsSeen p c.pair_of-pair.result ws seen) c.again.ensures c.see-seen.ensures) }
