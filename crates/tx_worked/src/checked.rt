@@ -56,22 +56,6 @@ fn tell_replies<A: Allocator, W: Sink>(plan: &Plan<A>, replies: &[Reply], out: &
     }
 }
 
-/// Writes the network's next ticket, and tells whether it had one.
-fn tell_next_ticket<A: Allocator, N: Network, W: Sink>(
-    plan: &Plan<A>,
-    net: &mut N,
-    out: &mut W,
-) -> bool {
-    match net.next_ticket() {
-        Some(ticket) => {
-            let _ = write_ticket(&ticket, plan, out);
-            drop(ticket);
-            true
-        }
-        None => false,
-    }
-}
-
 /// Writes the replies, then the tickets, and then how many events were accepted and calls are open.
 fn tell_driven<A: Allocator, N: Network, W: Sink>(
     plan: &Plan<A>,
@@ -81,8 +65,12 @@ fn tell_driven<A: Allocator, N: Network, W: Sink>(
 ) {
     tell_replies(plan, replies, out);
     for _ in 0..=replies.len() {
-        if !tell_next_ticket(plan, net, out) {
-            break;
+        match net.next_ticket() {
+            Some(ticket) => {
+                let _ = write_ticket(&ticket, plan, out);
+                drop(ticket);
+            }
+            None => break,
         }
     }
     tell_count(b"END EVENTS ", net.events(), b"", out);

@@ -10,26 +10,24 @@ use tx_text::Sink;
 /// What the program tells where its arguments are no words.
 fn tell_arguments<W: Sink>(alloc: Global, kind: io::ErrorKind, out: &mut W) {
     let mut told = Vec::new(alloc);
-    let status = refuse_arguments(&io::Error::from(kind), &mut told);
+    let why = io::Error::from(kind);
+    let status = refuse_arguments(&why, &mut told);
+    drop(why);
     tell(told.as_slice(), out);
     drop(told);
     tell_count(b"status ", u64::from(status), b"\n", out);
-}
-
-/// Plays the case of a line.
-fn play_line(rt: &HostRuntime, line: &str, log: &Log) -> io::Result<()> {
-    let case = EndCase::read(rt.alloc(), line)?;
-    let played = play(rt, &case, log);
-    drop(case);
-    played
 }
 
 /// Plays the case of a line, and tells what happened.
 fn tell_line<W: Sink>(rt: &HostRuntime, line: &str, out: &mut W) {
     tell_parts(&[b"=== ", line.as_bytes(), b"\n"], out);
     let log = Log::new(rt.alloc());
-    if play_line(rt, line, &log).is_err() {
-        log.tell("BROKEN:", "the case could not be played");
+    match EndCase::read(rt.alloc(), line) {
+        Ok(case) => {
+            play(rt, &case, &log);
+            drop(case);
+        }
+        Err(_) => log.tell("BROKEN:", "no memory"),
     }
     log.print(out);
     drop(log);

@@ -1,4 +1,4 @@
-use Rattle.std.proofs.Common.{refl, sym, subst, deque_len, deque_capacity}
+use Rattle.std.proofs.Common.{sym, subst, deque_len, deque_capacity}
 use Rattle.tx_calls.specs.Calls.{calls_in}
 use Rattle.tx_endings.specs.inner.Seen.{AreTogether}
 use Rattle.tx_endings.proofs.Parts.{released_together}

@@ -1,5 +1,4 @@
-use Rattle.std.proofs.Common.{◌≡◌, None, IfOk, OnErr, sym, subst}
-use Rattle.tx_state.specs.Refusals.{refusal}
+use Rattle.std.proofs.Common.{◌≡◌, IfOk, sym, subst}
 use Rattle.tx_state.specs.State.{Net}
 use Rattle.tx_state.specs.Step.{step}
 use Rattle.tx_state.specs.declared.event.Event.TheVariants.{Route, Confirm, Clear}

@@ -5,7 +5,7 @@ use Rattle.std.specs.FinSet as set
 use Rattle.tx_state.specs.declared.event.Event.TheVariants.{Key}
 use Rattle.tx_state.specs.declared.hop.Hop.{Hop}
 use Rattle.tx_state.specs.declared.reply.Reply.TheVariants.{Keyed, Refused}
-use Rattle.tx_state.specs.declared.refusal.Refusal.TheVariants.{UnknownLine, LineEngaged, LineOutOfOrder}
+use Rattle.tx_state.specs.declared.refusal.Refusal.TheVariants.{LineEngaged, LineOutOfOrder}
 use Rattle.tx_state.specs.Call.{Call}
 use Rattle.tx_state.specs.Step.{accepted, counted, unless_refused}
 use Rattle.tx_lines.proofs.Sets.{on_err}
