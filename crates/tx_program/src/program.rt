@@ -1,13 +1,14 @@
 // The program, from its words to its exit status.
-ghost use Rattle.std.specs.Prelude.{◌≡◌};
+ghost use Rattle.std.specs.Prelude.{◌≡◌, ◌⊎◌};
 ghost use Rattle.tx_program.specs.Commands.{IsInRange};
 ghost use Rattle.tx_jobs.specs.JobFaults.{status_of};
 ghost use Rattle.tx_program.specs.Statuses.{AskNothing, IsRefusedWith};
+ghost use Rattle.tx_program.specs.Faults.{status_of as words_status};
 
 use crate::folder::Folder;
 use crate::perform::perform;
 use crate::tell::tell_words;
-use crate::{Command, read_command};
+use crate::{Command, WordsFault, read_command};
 use std::alloc::{Allocator, Global};
 use std::io::{Read, Write};
 use tx_jobs::{JobFault, write_fault};
@@ -33,21 +34,39 @@ pub fn run_words<F: Folder, I: Read + Drop, O: Write + Drop, E: Write + Drop>(
     ensures refused { AskNothing words.now → IsRefusedWith words.now result }
 {
     match read_command(alloc, words) {
-        Ok(command) => run_command(alloc, &command, ends),
+        Ok(command) => {
+            let status = run_command(alloc, &command, ends);
+            drop(command);
+            status
+        }
         Err(fault) => {
-            let Ends {
-                folder: _,
-                input: _,
-                mut output,
-                mut errors,
-            } = ends;
-            let told = tell_words(&fault, &mut output, &mut errors);
-            if told.is_err() && fault.status() == 0 {
-                return tell_fault(&JobFault::Write, errors);
-            }
-            fault.status()
+            let status = refuse_words(&fault, ends);
+            drop(fault);
+            status
         }
     }
+}
+
+/// Tells why words are refused, and answers the exit status: 3 where a request for help could not be written.
+fn refuse_words<F: Folder, I: Read + Drop, O: Write + Drop, E: Write + Drop>(
+    fault: &WordsFault,
+    ends: Ends<'_, F, I, O, E>,
+) -> u8
+    ensures { (result ≡ words_status fault.now) ⊎ ((words_status fault.now ≡ 0) × (result ≡ 3)) }
+{
+    let Ends {
+        folder: _,
+        input: _,
+        mut output,
+        mut errors,
+    } = ends;
+    let told = tell_words(fault, &mut output, &mut errors);
+    drop(output);
+    let status = fault.status();
+    if told.is_err() && status == 0 {
+        return tell_fault(&JobFault::Write, errors);
+    }
+    status
 }
 
 /// Does what a command asks for, and answers the exit status.
