@@ -7,7 +7,7 @@ use Rattle.tx_state.specs.declared.event.Event.TheVariants.{Key, Route, Confirm,
 use Rattle.tx_lines.specs.Book.{Book}
 use Rattle.tx_circuits.specs.Table.{Table, plan_of}
 
--- the events that are looked up once, with their refusals, wherever they come
+-- the events that have no look-up of their own
 abbrev pub is_other : Event → Bool
 is_other (Route n) = false
 is_other (Confirm n) = false
@@ -37,7 +37,7 @@ marked_table (CircuitOut x) t = record t { out = set.insert t.out x }
 marked_table (CircuitIn x) t = record t { out = set.remove t.out x }
 marked_table e t = t
 
--- the mark of a circuit or a group is not yet as the event wants it
+-- the table has the circuit or group that the event marks, and the mark is not yet so
 abbrev pub CanMark : Event → Table → Type 0
 CanMark (Restore g) t = set.contains t.failed g ≡ true
 CanMark (Block g) t = (g < length t.groups) × (set.contains t.blocked g ≡ false)
