@@ -37,7 +37,7 @@ use Rattle.tx_script.specs.declared.summary.Summary.{Summary}
 use Rattle.tx_script.specs.declared.tally.Tally.{Tally}
 use Rattle.tx_script.specs.Events.{Said, event_of}
 use Rattle.tx_script.specs.Script.{faulty, script_said, script_of}
-use Rattle.tx_script.specs.Output.{tickets_made, moment_text, events_text, end_text}
+use Rattle.tx_script.specs.Output.{tickets_made, events_text, end_text}
 use Rattle.tx_script.specs.Answered.{count_of, IsAnswered, Halted, LineAnswers}
 use Rattle.tx_script.specs.Untold.{IsUntold}
 use Rattle.tx_script.specs.Answers.{IsFresh, Moved, settled, next, Ran, Begins, RunAnswers}

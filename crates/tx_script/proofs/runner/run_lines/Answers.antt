@@ -1,5 +1,4 @@
-use Rattle.std.proofs.Common.{◌≡◌, ◌∙◌, ◌+◌, ap, sym, refl, Ok, Err, ℕ}
-use Rattle.tx_text.specs.declared.frame.FaultKind.TheVariants.{Word}
+use Rattle.std.proofs.Common.{◌∙◌, ◌+◌, ap, sym, refl}
 use Rattle.tx_text.specs.Calls.{source_calls}
 use Rattle.tx_text.specs.Frame.{is_read}
 use Rattle.tx_text.specs.Framing.{to_come, number_of_line, words_of_line}
@@ -7,7 +6,6 @@ use Rattle.tx_text.specs.Told.{Reading}
 use Rattle.tx_text.proofs.NoRoom.{come_said}
 use Rattle.tx_text.proofs.CallCounts.{went_none, went_on, went_past, went_same, calls_on, broken_on, stopped_with}
 use Rattle.tx_script.specs.declared.run_cause.RunCause.{RunCause}
-use Rattle.tx_script.specs.declared.run_cause.RunCause.TheVariants.{Script}
 use Rattle.tx_script.specs.Events.{event_of}
 use Rattle.tx_script.proofs.Running.{start_runs, header_runs, line_runs, few_answered, few_refused, few_calls, few_told, none_left, line_answers, stop_answers, whole_answers}
 use Rattle.tx_script.proofs.runner.run_lines.Goals as goal
