@@ -1,10 +1,10 @@
 #!/usr/bin/env python3
 """usage: tools/gate_cost.py [--only CRATE[,CRATE..]]
 
-Runs the gate, `rt ci --anew`, at the top of a clean checkout, with the same verdict and exit status, and then prints what each part of it cost, as a table in
-Markdown: seconds of processor (user and system) for the proof of each crate from nothing, for its proof with tests, for its must-fail edits (how many, the check of
+Runs the gate, `rt ci` with nothing kept, at the top of a clean checkout, with the same verdict and exit status, and then prints what each part of it cost, as a table
+in Markdown: seconds of processor (user and system) for the proof of each crate from nothing, for its proof with tests, for its must-fail edits (how many, the check of
 the crate over which they are tried, the mean and the dearest of them, and all with the check that this one still holds), and for its programs as two compilers build
-and run them.
+and run them. A toolchain that makes no such check tries the first edit from nothing: then that one stands in its column, and the mean is of the others.
 
 --only tells the parts of these crates alone: their proof, tests and edits. The crates below them are proved too, since the gate proves all from nothing.
 RT_JOBS=N holds the run to N lanes. Figures of a busy machine are too high by up to a half: run it alone."""
@@ -114,20 +114,22 @@ class Costs:
         for name in names:
             proof, tests, seed, runs, *edits = (self.parts.get((name, part), 0) for part in ("proof", "tests", "seed", "runs", "edits", "sound", "again"))
             tried = self.edits.get(name, [])
-            mean = sum(it for it, _ in tried) / len(tried) if tried else 0
-            yield name, proof, tests, len(tried), seed, mean, max(tried, default=(0, "")), seed + sum(edits), runs
+            over = tried if seed else tried[1:]
+            before = seed or (tried[0][0] if tried else 0)
+            mean = sum(it for it, _ in over) / len(over) if over else 0
+            yield name, proof, tests, len(tried), before, mean, max(over, default=(0, "")), seed + sum(edits), runs
 
 
 def table(costs, names):
     lines = ["| crate | proof | with tests | edits | check before them | mean | dearest | all edits | programs |", "|---|---|---|---|---|---|---|---|---|"]
     sums = [0.0] * 4
     number = 0
-    for name, proof, tests, count, seed, mean, dearest, edits, runs in costs.rows(names):
+    for name, proof, tests, count, before, mean, dearest, edits, runs in costs.rows(names):
         number += count
         sums = [a + b for a, b in zip(sums, (proof, tests, edits, runs))]
         shown = lambda it: f"{it:.0f}" if it >= 0.5 else ""
         dear = f"{dearest[0]:.0f} ({dearest[1].removesuffix('.edit')})" if dearest[1] else ""
-        lines.append(f"| {name} | {shown(proof)} | {shown(tests)} | {count or ''} | {shown(seed)} | {shown(mean)} | {dear} | {shown(edits)} | {shown(runs)} |")
+        lines.append(f"| {name} | {shown(proof)} | {shown(tests)} | {count or ''} | {shown(before)} | {shown(mean)} | {dear} | {shown(edits)} | {shown(runs)} |")
     proof, tests, edits, runs = sums
     lines.append(f"| all, in seconds | {proof:.0f} | {tests:.0f} | {number} | | | | {edits:.0f} | {runs:.0f} |")
     lines.append("")
@@ -149,7 +151,9 @@ def main(words):
     if only:
         keep_only(rt, only)
     start = time.time()
-    status = rt.main(["ci", "--anew"])
+    with open(rt.__file__, encoding="utf-8") as it:
+        takes_words = "--anew" in it.read()
+    status = rt.main(["ci", "--anew"] if takes_words else ["ci"])
     with open("crates.txt", encoding="utf-8") as it:
         names = [line.partition(":")[0].strip() for line in it if re.match(r"\s*\w", line)]
     print(f"\n{table(costs, [it for it in names if not only or it in only])}")
