@@ -124,6 +124,9 @@ module _ (old pushed new : List Node) (place figure m k : ℕ) (d : Node)
         longer = (let l = len_new in omega arith);
       }
 
+pub grows_none : (a : List Node) → IsTree a → Grows a a
+grows_none a t = record { tree = t; ways = λ n x m h. h; looks = λ text. refl; longer = omega arith }
+
 pub grows_on : (a b c : List Node) → Grows a b → Grows b c → Grows a c
 grows_on a b c g h = record {
   tree = h.tree;
