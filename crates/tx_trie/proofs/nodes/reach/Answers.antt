@@ -2,7 +2,7 @@ use Rattle.std.proofs.Common.{◌≡◌, arith, refl, ap, sym, ◌∙◌, get_or
 use Rattle.std.proofs.Math.Seq.{take-length}
 use Rattle.std.proofs.lemmas.List.{take_more}
 use Rattle.tx_trie.specs.inner.Nodes.{walk}
-use Rattle.tx_trie.proofs.Stepping.{grows_none, grows_on, walk_kept, walked}
+use Rattle.tx_trie.proofs.Stepping.{figure_at, grows_none, grows_on, walk_kept, walked}
 use Rattle.tx_trie.proofs.nodes.reach.Goals as goal
 
 pub loop-figure-init : goal.loop-figure-init
@@ -13,6 +13,9 @@ loop-figure-init g c =
 
 pub step-place-requires-clause-tree : goal.step-place-requires-clause-tree
 step-place-requires-clause-tree g c = c.loop-figure.invariant.grows.tree
+
+pub step-place-requires-clause-figure : goal.step-place-requires-clause-figure
+step-place-requires-clause-figure g c = figure_at c.args.figures.now c.loop-figure.figure-index c.requires.figures c.loop-figure-test.true
 
 pub step-place-requires-clause-room : goal.step-place-requires-clause-room
 step-place-requires-clause-room g c =
