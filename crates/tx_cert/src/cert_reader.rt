@@ -111,17 +111,23 @@ fn read_lines<A: Allocator, R: Source>(
             Ok(FrameStep::Line) => match declare(plan, &mut cert, frame.words()) {
                 Ok(()) => {}
                 Err(fault) => {
+                    let line = frame.number();
+                    drop(frame);
+                    drop(cert);
                     return Err(FaultAt {
-                        line: frame.number(),
+                        line,
                         kind: FaultKind::Word(fault),
                     });
                 }
             },
             Ok(FrameStep::End) => {
+                drop(frame);
                 cert.whole();
                 return Ok(cert);
             }
             Err(stop) => {
+                drop(frame);
+                drop(cert);
                 return Err(FaultAt {
                     line: stop.line,
                     kind: FaultKind::Frame(stop.fault),

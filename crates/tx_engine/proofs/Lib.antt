@@ -1,4 +1,5 @@
 pub mod Keyed
+pub mod Opening
 pub mod Changing
 pub mod Refused
 pub mod Deciding

@@ -1,4 +1,5 @@
 pub mod Entries
+pub mod LineKinds
 pub mod ListLines
 pub mod Places
 pub mod PlanLines

@@ -3,6 +3,7 @@ ghost use Rattle.std.specs.Prelude.{◌≡◌, ◌++◌, true, Ok, OnOk, OnErr, 
 ghost use Rattle.std.specs.Io.KnownBytes.{append_known};
 ghost use Rattle.tx_text.specs.Ends.{StopsIn};
 ghost use Rattle.tx_text.specs.Words.{are_figures};
+ghost use Rattle.tx_text.specs.Wrote.{Wrote};
 ghost use Rattle.tx_plan.specs.Plan.{group_name};
 ghost use Rattle.tx_plan.specs.Rules.{is_national};
 ghost use Rattle.tx_tickets.specs.Texts.{line_text};
@@ -12,7 +13,7 @@ use itoa::Buffer;
 use std::alloc::Allocator;
 use tx_plan::{GroupId, Line, Plan};
 use tx_state::{Event, Party};
-use tx_text::{Figures, Sink, WriteFault, write_parts};
+use tx_text::{Figures, Sink, WriteFault, write_text};
 use tx_tickets::write_circuit;
 
 /// Writes the line of an event, as `KEY 41 10001 4110002`, with its LF. The plan has the event's ids, and its circuit has a number from 1 to 240. The line
@@ -40,10 +41,7 @@ fn write_said<A: Allocator, W: Sink>(
     sink: &mut W,
 ) -> Result<(), WriteFault>
     ensures event { IsEvent event.now }
-    ensures ok { OnOk result (W.taken sink.new ≡ append_known (W.taken sink.old) (event_text plan.now event.now)) }
-    ensures err { OnErr result (StopsIn (W.taken sink.old) (W.taken sink.new) (event_text plan.now event.now)) }
-    ensures mark { OnErr result (W.failed sink.new ≡ true) }
-    ensures unmarked { OnOk result (W.failed sink.new ≡ W.failed sink.old) }
+    ensures wrote { Wrote (W.taken sink.old) (W.taken sink.new) (W.failed sink.old) (W.failed sink.new) (event_text plan.now event.now) result }
 {
     match event {
         Event::Key { line, keyed } => write_key(line, keyed, plan, sink),
@@ -73,20 +71,17 @@ fn write_key<A: Allocator, W: Sink>(
 ) -> Result<(), WriteFault>
     ensures national { is_national line.now.national ≡ true }
     ensures keyed { are_figures 1 12 keyed.now ≡ true }
-    ensures ok { OnOk result (W.taken sink.new ≡ append_known (W.taken sink.old) (codes "KEY " ++ (line_text plan.now line.now ++ (codes " " ++ (keyed.now ++ codes "\n"))))) }
-    ensures err { OnErr result (StopsIn (W.taken sink.old) (W.taken sink.new) (codes "KEY " ++ (line_text plan.now line.now ++ (codes " " ++ (keyed.now ++ codes "\n"))))) }
-    ensures mark { OnErr result (W.failed sink.new ≡ true) }
-    ensures unmarked { OnOk result (W.failed sink.new ≡ W.failed sink.old) }
+    ensures wrote { Wrote (W.taken sink.old) (W.taken sink.new) (W.failed sink.old) (W.failed sink.new) (codes "KEY " ++ (line_text plan.now line.now ++ (codes " " ++ (keyed.now ++ codes "\n")))) result }
 {
-    write_parts(
+    write_text(
         &[
-            b"KEY ".as_slice(),
+            b"KEY ",
             plan.code_figures(line.code),
-            b" ".as_slice(),
+            b" ",
             line.national.bytes(),
-            b" ".as_slice(),
+            b" ",
             keyed.bytes(),
-            b"\n".as_slice(),
+            b"\n",
         ],
         sink,
     )
@@ -94,16 +89,10 @@ fn write_key<A: Allocator, W: Sink>(
 
 /// Writes a first word, given with its space, a call's number, and what ends the line.
 fn write_call<W: Sink>(first: &[u8], call: u32, end: &[u8], sink: &mut W) -> Result<(), WriteFault>
-    ensures ok { OnOk result (W.taken sink.new ≡ append_known (W.taken sink.old) (first.now ++ (decimal call ++ end.now))) }
-    ensures err { OnErr result (StopsIn (W.taken sink.old) (W.taken sink.new) (first.now ++ (decimal call ++ end.now))) }
-    ensures mark { OnErr result (W.failed sink.new ≡ true) }
-    ensures unmarked { OnOk result (W.failed sink.new ≡ W.failed sink.old) }
+    ensures { Wrote (W.taken sink.old) (W.taken sink.new) (W.failed sink.old) (W.failed sink.new) (first.now ++ (decimal call ++ end.now)) result }
 {
     let mut digits = Buffer::new();
-    write_parts(
-        &[first, digits.format(call).as_bytes(), end, b"".as_slice()],
-        sink,
-    )
+    write_text(&[first, digits.format(call).as_bytes(), end, b""], sink)
 }
 
 /// The party that clears, with what stands before it and behind it.
@@ -123,12 +112,9 @@ fn write_group<A: Allocator, W: Sink>(
     plan: &Plan<A>,
     sink: &mut W,
 ) -> Result<(), WriteFault>
-    ensures ok { OnOk result (W.taken sink.new ≡ append_known (W.taken sink.old) (first.now ++ (group_name plan.now group ++ codes "\n"))) }
-    ensures err { OnErr result (StopsIn (W.taken sink.old) (W.taken sink.new) (first.now ++ (group_name plan.now group ++ codes "\n"))) }
-    ensures mark { OnErr result (W.failed sink.new ≡ true) }
-    ensures unmarked { OnOk result (W.failed sink.new ≡ W.failed sink.old) }
+    ensures { Wrote (W.taken sink.old) (W.taken sink.new) (W.failed sink.old) (W.failed sink.new) (first.now ++ (group_name plan.now group ++ codes "\n")) result }
 {
-    write_parts(&[first, plan.group_name(group), b"\n".as_slice()], sink)
+    write_text(&[first, plan.group_name(group), b"\n"], sink)
 }
 
 /// Writes a first word, given with its space, and a line.
@@ -139,18 +125,15 @@ fn write_line<A: Allocator, W: Sink>(
     sink: &mut W,
 ) -> Result<(), WriteFault>
     ensures national { is_national line.now.national ≡ true }
-    ensures ok { OnOk result (W.taken sink.new ≡ append_known (W.taken sink.old) (first.now ++ (line_text plan.now line.now ++ codes "\n"))) }
-    ensures err { OnErr result (StopsIn (W.taken sink.old) (W.taken sink.new) (first.now ++ (line_text plan.now line.now ++ codes "\n"))) }
-    ensures mark { OnErr result (W.failed sink.new ≡ true) }
-    ensures unmarked { OnOk result (W.failed sink.new ≡ W.failed sink.old) }
+    ensures wrote { Wrote (W.taken sink.old) (W.taken sink.new) (W.failed sink.old) (W.failed sink.new) (first.now ++ (line_text plan.now line.now ++ codes "\n")) result }
 {
-    write_parts(
+    write_text(
         &[
             first,
             plan.code_figures(line.code),
-            b" ".as_slice(),
+            b" ",
             line.national.bytes(),
-            b"\n".as_slice(),
+            b"\n",
         ],
         sink,
     )

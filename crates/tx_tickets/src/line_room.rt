@@ -60,7 +60,8 @@ impl<'a, const N: usize> LineRoom<'a, N> {
     #[inline(always)]
     pub(crate) fn put(&mut self, bytes: &[u8])
         requires { length self.old + length bytes.now ≤ N }
-        ensures { self.new ≡ self.old ++ bytes.now }
+        ensures text { self.new ≡ self.old ++ bytes.now }
+        ensures width { length self.new ≡ length self.old + length bytes.now }
     {
         let from = self.len;
         let to = from + bytes.len();
@@ -75,7 +76,7 @@ impl<'a, const N: usize> LineRoom<'a, N> {
     pub(crate) fn put_number(&mut self, number: u64)
         requires { length self.old + 20 ≤ N }
         ensures text { self.new ≡ self.old ++ decimal number }
-        ensures width { length (decimal number) ≤ 20 }
+        ensures width { length self.new ≤ length self.old + 20 }
     {
         if number < 10_000 {
             self.put_four(number);
@@ -112,7 +113,8 @@ impl<'a, const N: usize> LineRoom<'a, N> {
     fn put_figures(&mut self, number: u64, count: usize)
         requires count { count ≡ length (decimal number) }
         requires room { length self.old + count ≤ N }
-        ensures { self.new ≡ self.old ++ decimal number }
+        ensures text { self.new ≡ self.old ++ decimal number }
+        ensures width { length self.new ≡ length self.old + count }
     {
         let to = self.len + count;
         let _from = write_digits(number, &mut self.room[..], to);

@@ -1,9 +1,10 @@
 -- The list of nodes with one more, to which a figure leads; and with a code at one of them.
-use Rattle.std.proofs.Common.{◌≡◌, ◌≢◌, ℕ, zero, suc, ◌-◌, ◌<◌, ◌≤◌, ◌==◌, Bool, true, false, ◌&&◌, List, [], ◌∷◌, ◌++◌, length, length-append, length-set, Option, Some, None, refl, ap, sym, ◌∙◌, eqb-true, arith}
+use Rattle.std.proofs.Common.{◌≡◌, ◌≢◌, ℕ, zero, suc, ◌-◌, ◌<◌, ◌≤◌, ◌==◌, Bool, true, false, ◌&&◌, List, [], ◌∷◌, ◌++◌, length, get_or, length-append, length-set, Option, Some, None, refl, ap, sym, ◌∙◌, eqb-true, arith}
 use Rattle.std.proofs.Math.ListN.{set}
 use Rattle.std.proofs.lemmas.Bool.{false≢true, and_parts, eqb-false}
 use Rattle.std.proofs.lemmas.Option.{slice_get_past}
 use Rattle.std.specs.Prelude.{option_and_then, slice_get, slice_set, if◌then◌else◌, nat_le, replicate}
+use Rattle.std.specs.List.{list_all}
 use Rattle.tx_text.specs.Words.{is_figure}
 use Rattle.tx_entries.proofs.Lists.{at_least}
 use Rattle.tx_trie.specs.declared.node.Node.{Node}
@@ -123,6 +124,16 @@ module _ (old pushed new : List Node) (place figure m k : ℕ) (d : Node)
         looks = same_from old new place figure m fresh len_new low none ways codes tree past bare 0;
         longer = (let l = len_new in omega arith);
       }
+
+-- each of some figures is one
+pub figure_at : (text : List ℕ) (i : ℕ) → list_all is_figure text ≡ true → i < length text → is_figure (get_or text i 0) ≡ true
+figure_at [] i h l = absurd (omega (arith, l))
+figure_at (x ∷ xs) zero h l = (and_parts (is_figure x) (list_all is_figure xs) h).0
+figure_at (x ∷ xs) (suc i) h l = figure_at xs i (and_parts (is_figure x) (list_all is_figure xs) h).1 (omega (arith, l))
+
+-- nothing was added
+pub grows_none : (a : List Node) → IsTree a → Grows a a
+grows_none a t = record { tree = t; ways = λ n x m h. h; looks = λ text. refl; longer = omega arith }
 
 pub grows_on : (a b c : List Node) → Grows a b → Grows b c → Grows a c
 grows_on a b c g h = record {

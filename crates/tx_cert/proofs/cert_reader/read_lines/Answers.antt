@@ -57,7 +57,7 @@ returns-in-Err-declare-clause-gives g c =
     let d : declare p 1 c.lines.cert ws ≡ Err x = subst (λ (w : List (List ℕ)). declare p 1 c.lines.cert w ≡ Err x) c.words.ensures c.in-Err-declare.ensures.err in
     let none = no_memory x c.in-Err-declare.ensures.memory in
     let e = any_version p i.says.0 1 c.lines.cert ws ∙ d in
-    rw c.number.ensures (refused (declare p) _ _ _ (cert_of p) (to_come c.lines.frame) (to_come v) (λ n. (n ≡ 1) × (c.advance.new.source ≡ c.args.source.now)) i.says.0 c.lines.cert x n ws (is_memory x) i.says.1 q (refused_by _ x none e) (λ ok. cc))
+    rw c.number-line.ensures (refused (declare p) _ _ _ (cert_of p) (to_come c.lines.frame) (to_come v) (λ n. (n ≡ 1) × (c.advance.new.source ≡ c.args.source.now)) i.says.0 c.lines.cert x n ws (is_memory x) i.says.1 q (refused_by _ x none e) (λ ok. cc))
 
 pub returns-in-Ok-End-clause-gives : goal.returns-in-Ok-End-clause-gives
 returns-in-Ok-End-clause-gives g c =

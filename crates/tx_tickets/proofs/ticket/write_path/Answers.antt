@@ -61,7 +61,7 @@ returns-clause-err g c =
     let v = c.loop-hop.invariant in
     let i : c.loop-hop.hop-index ≡ length hops = omega arith in
     let all : flat_map f (take c.loop-hop.hop-index hops) ≡ flat_map f hops = ap (λ j. flat_map f (take j hops)) i ∙ ap (flat_map f) (take-length hops) in
-    let e = c.bytes-2.ensures ∙ c.put.ensures in
+    let e = c.bytes-2.ensures ∙ c.put.ensures.text in
     let t : ((c.args.line ++ flat_map f (take c.loop-hop.hop-index hops)) ++ codes "\n") ++ [] ≡ c.args.line ++ (flat_map f hops ++ codes "\n") =
     append-nil _ ∙ ap (λ l. (c.args.line ++ l) ++ codes "\n") all ∙ append_assoc c.args.line (flat_map f hops) (codes "\n") in
     err_so c.write_bytes-2.result c.write_bytes-2.ensures.err (λ stop.

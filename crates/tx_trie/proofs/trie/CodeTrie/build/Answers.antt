@@ -2,8 +2,28 @@ use Rattle.std.proofs.Common.{◌<◌, ap, sym, ◌∙◌, arith, length}
 use Rattle.tx_text.specs.Words.{are_figures}
 use Rattle.tx_plan.specs.Plan.{figures_of, home_of}
 use Rattle.tx_plan.specs.Rules.{is_code}
-use Rattle.tx_trie.proofs.Building.{its_form, its_own, codes_more, read_text}
+use Rattle.tx_trie.proofs.Building.{all_codes, its_form, its_read, its_own, few_before, codes_more, read_text}
 use Rattle.tx_trie.proofs.trie.CodeTrie.build.Goals as goal
+
+pub loop-place-init : goal.loop-place-init
+loop-place-init g c = c.in_ok-trie.ensures
+
+pub overflow_cast-place : goal.overflow_cast-place
+overflow_cast-place g c =
+    let few = c.rules.ensures.few_codes in
+    omega arith
+
+pub unwrap-figures-requires : goal.unwrap-figures-requires
+unwrap-figures-requires g c =
+    let p = c.args.plan.now in
+    let low : c.loop-place.place < length p.codes = (let e = c.codes-place-end.ensures in omega arith) in
+    its_read p c.rules.ensures c.loop-place.place low c.read.result c.code_figures.result.now c.read.ensures (c.code_figures.ensures ∙ ap (figures_of p) c.at-code.ensures)
+
+pub insert-requires-clause-few : goal.insert-requires-clause-few
+insert-requires-clause-few g c =
+    let p = c.args.plan.now in
+    let low : c.loop-place.place < length p.codes = (let e = c.codes-place-end.ensures in omega arith) in
+    few_before p c.rules.ensures c.loop-place.place low c.loop-place.trie c.loop-place.invariant
 
 pub insert-requires-clause-form : goal.insert-requires-clause-form
 insert-requires-clause-form g c =
@@ -29,3 +49,6 @@ loop-place-preserved g c =
     ∙ codes_more p c.rules.ensures c.loop-place.place low c.loop-place.trie c.loop-place.invariant c.unwrap-figures.result c.home.result
     (read_text (are_figures 1 12 text) text c.unwrap-figures.result (sym c.read.ensures ∙ c.unwrap-figures.ensures) ∙ c.code_figures.ensures ∙ ap (figures_of p) c.at-code.ensures)
     (c.home.ensures ∙ ap (home_of p) c.at-code.ensures)
+
+pub returns : goal.returns
+returns g c = all_codes c.loop-place.trie c.args.plan.now.codes c.loop-place.place c.loop-place.invariant (omega arith)

@@ -1,0 +1,25 @@
+-- The parts of the opening show the opening state.
+use Rattle.std.proofs.Common.{◌≡◌, ℕ, List, []}
+use Rattle.std.specs.FinSet as set
+use Rattle.tx_plan.specs.Plan.{Plan}
+use Rattle.tx_state.specs.Ended.{Ended}
+use Rattle.tx_state.specs.State.{opening}
+use Rattle.tx_lines.specs.Book.{Book}
+use Rattle.tx_circuits.specs.Table.{Table, all_free}
+use Rattle.tx_calls.specs.Calls.{Calls, calls_in, sorted_calls}
+use Rattle.tx_endings.specs.inner.Seen.{state_seen}
+
+pub state_opening : (p : Plan) (c : Calls) (b : Book) (t : Table) (numbers events : ℕ) (tickets : List Ended) → c.slots ≡ [] → b.faulty ≡ set.empty → b.away ≡ set.empty → t ≡ all_free p → tickets ≡ []
+    → state_seen (calls_in c) t b numbers events tickets ≡ opening numbers events
+state_opening p c b t numbers events tickets none mended home free told = λ i. record {
+  calls = sorted_calls (none i);
+  failed = (free i).failed;
+  blocked = (free i).blocked;
+  releasing = (free i).releasing;
+  out = (free i).out;
+  faulty = mended i;
+  away = home i;
+  numbers = numbers;
+  events = events;
+  tickets = told i;
+}
