@@ -1,4 +1,5 @@
 use Rattle.std.proofs.Common.{◌<◌, ap, sym, ◌∙◌, arith, length}
+use Rattle.std.proofs.lemmas.Grind.{common_steps}
 use Rattle.tx_text.specs.Words.{are_figures}
 use Rattle.tx_plan.specs.Plan.{figures_of, home_of}
 use Rattle.tx_plan.specs.Rules.{is_code}
@@ -29,3 +30,6 @@ loop-place-preserved g c =
     ∙ codes_more p c.rules.ensures c.loop-place.place low c.loop-place.trie c.loop-place.invariant c.unwrap-figures.result c.home.result
     (read_text (are_figures 1 12 text) text c.unwrap-figures.result (sym c.read.ensures ∙ c.unwrap-figures.ensures) ∙ c.code_figures.ensures ∙ ap (figures_of p) c.at-code.ensures)
     (c.home.ensures ∙ ap (home_of p) c.at-code.ensures)
+
+pub returns : goal.returns
+returns g c = grind (arith, common_steps)
