@@ -1,4 +1,4 @@
-use Rattle.std.proofs.Common.{◌∙◌, arith, inr}
+use Rattle.std.proofs.Common.{◌∙◌, arith, inr, rules}
 use Rattle.tx_text.proofs.Writing.{on_err}
 use Rattle.tx_state.proofs.RunOn.{driven_more, driven_stop}
 use Rattle.tx_state.proofs.driving.drive.Goals as goal
@@ -19,3 +19,6 @@ returns-in_err-reply-clause-err g c =
     let v = c.loop-at.invariant in
     let a = c.in_err-reply.ensures in
     on_err c.from_residual-in_err-reply.result (inr (driven_stop _ _ _ _ _ c.args.events.now c.loop-at.at c.index-events-at.result _ _ c.loop-at-test.true c.index-events-at.is v.1 v.2 v.3 a.err a.memory))
+
+pub loop-at-init : goal.loop-at-init
+loop-at-init g c = search rules

@@ -1,6 +1,7 @@
-use Rattle.std.proofs.Common.{length, take, ap, arith}
+use Rattle.std.proofs.Common.{length, take, ap, ◌∙◌, arith}
 use Rattle.std.proofs.lemmas.Bool.{lt-ltb}
 use Rattle.std.proofs.lemmas.List.{length-take}
+use Rattle.tx_text.specs.Text.{without_cr}
 use Rattle.tx_text.proofs.Feeding.{length-without_cr-le}
 use Rattle.tx_text.proofs.reader.whole_line.Goals as goal
 
@@ -11,3 +12,7 @@ returns-in-None-clause-short c =
 
 pub returns-in-Some-clause-lf : goal.returns-in-Some-clause-lf
 returns-in-Some-clause-lf c = lt-ltb _ _ (omega (arith, c.in-Some.ensures.place, c.in-Some.ensures.within))
+
+pub returns-in-None-clause-shown : goal.returns-in-None-clause-shown
+returns-in-None-clause-shown c =
+    ap length (c.without_cr-line.ensures ∙ ap without_cr (ap (λ n. take n c.args.piece.now) c.lf_or_len-len.ensures.place))

@@ -1,5 +1,6 @@
 use Rattle.std.proofs.Common.{arith, rules, ap, ◌≡◌, ◌∙◌, ◌++◌, false}
-use Rattle.tx_text.specs.Feed.{line_fault}
+use Rattle.tx_text.specs.Text.{bytes_fault}
+use Rattle.tx_text.specs.Feed.{line_fault, begun_fault}
 use Rattle.tx_text.proofs.LineFaults.{too_long}
 use Rattle.tx_text.proofs.FeederFields.{no_line, held_begun}
 use Rattle.tx_text.proofs.feeder.LineFeeder.add.Goals as goal
@@ -15,3 +16,7 @@ pub invariant_of-self : goal.invariant_of-self
 invariant_of-self g c =
     let free : c.self.inside.complete ≡ false = no_line c.self.inside c.args.self.now c.self.view_is c.requires.begun in
     grind arith
+
+pub returns-then-bytes-gt512-clause-gives : goal.returns-then-bytes-gt512-clause-gives
+unfolding bytes_fault begun_fault
+returns-then-bytes-gt512-clause-gives g c = search rules
