@@ -1,8 +1,8 @@
 // Events that are driven through a network after a Yes of the checker.
 use crate::driven::try_drives;
 use crate::runs::Over;
-use std::alloc::Allocator;
-use tx_cases::{next_line, says_no_event, tell, tell_broken, tell_count, two_texts};
+use std::alloc::Global;
+use tx_cases::{Told, next_line, says_no_event, tell, tell_broken, tell_count, two_texts};
 use tx_cert::read_cert;
 use tx_check::{Verdict, check};
 use tx_engine::{Played, play};
@@ -11,15 +11,15 @@ use tx_plan::Plan;
 use tx_plantext::read_plan;
 use tx_script::read_event;
 use tx_state::{Event, Network, Reply, drive};
-use tx_text::{NoMemory, Sink};
+use tx_text::NoMemory;
 use tx_tickets::{write_reply, write_ticket};
 
 /// Adds the event that a line of a script says, if it says one.
-fn put_event<A: Allocator, B: Allocator, W: Sink>(
-    plan: &Plan<A>,
+fn put_event(
+    plan: &Plan,
     line: &[u8],
-    events: &mut Vec<Event, B>,
-    out: &mut W,
+    events: &mut Vec<Event>,
+    out: &mut Told,
 ) {
     if says_no_event(line) {
         return;
@@ -34,11 +34,11 @@ fn put_event<A: Allocator, B: Allocator, W: Sink>(
 }
 
 /// Adds the events of a script.
-fn put_events<A: Allocator, B: Allocator, W: Sink>(
-    plan: &Plan<A>,
+fn put_events(
+    plan: &Plan,
     script: &[u8],
-    events: &mut Vec<Event, B>,
-    out: &mut W,
+    events: &mut Vec<Event>,
+    out: &mut Told,
 ) {
     let mut rest = script;
     for _ in 0..script.len() {
@@ -50,18 +50,18 @@ fn put_events<A: Allocator, B: Allocator, W: Sink>(
     }
 }
 
-fn tell_replies<A: Allocator, W: Sink>(plan: &Plan<A>, replies: &[Reply], out: &mut W) {
+fn tell_replies(plan: &Plan, replies: &[Reply], out: &mut Told) {
     for reply in replies {
         let _ = write_reply(reply, plan, out);
     }
 }
 
 /// Writes the replies, then the tickets, and then how many events were accepted and calls are open.
-fn tell_driven<A: Allocator, N: Network, W: Sink>(
-    plan: &Plan<A>,
-    net: &mut N,
+fn tell_driven(
+    plan: &Plan,
+    net: &mut Plain<'_>,
     replies: &[Reply],
-    out: &mut W,
+    out: &mut Told,
 ) {
     tell_replies(plan, replies, out);
     for _ in 0..=replies.len() {
@@ -78,12 +78,12 @@ fn tell_driven<A: Allocator, N: Network, W: Sink>(
 }
 
 /// Drives the events through a new plain network of the plan, and tells what comes of it.
-fn drive_plain<A: Allocator + Copy, W: Sink>(
-    alloc: A,
-    plan: &Plan<A>,
+fn drive_plain(
+    alloc: Global,
+    plan: &Plan,
     events: &[Event],
-    replies: &mut Vec<Reply, A>,
-    out: &mut W,
+    replies: &mut Vec<Reply>,
+    out: &mut Told,
 ) {
     match Plain::new(alloc, plan) {
         Ok(mut net) => {
@@ -98,7 +98,7 @@ fn drive_plain<A: Allocator + Copy, W: Sink>(
 }
 
 /// Tells what events that were played on the engine came to.
-fn tell_played<A: Allocator + Copy, W: Sink>(plan: &Plan<A>, played: &Played<'_, A>, out: &mut W) {
+fn tell_played(plan: &Plan, played: &Played<'_>, out: &mut Told) {
     tell_replies(plan, played.replies.as_slice(), out);
     for ticket in played.tickets.as_slice() {
         let _ = write_ticket(ticket, plan, out);
@@ -108,9 +108,9 @@ fn tell_played<A: Allocator + Copy, W: Sink>(plan: &Plan<A>, played: &Played<'_,
 }
 
 /// Whether the checker says Yes to a certificate of the plan.
-fn is_certified<A: Allocator + Copy>(
-    alloc: A,
-    plan: &Plan<A>,
+fn is_certified(
+    alloc: Global,
+    plan: &Plan,
     cert: &[u8],
     limit: u8,
     spare: u8,
@@ -134,12 +134,12 @@ struct Texts<'a> {
 }
 
 /// Drives the events through a plain network, and again where memory is refused.
-fn drive_over_plain<A: Allocator + Copy, W: Sink>(
-    alloc: A,
-    plan: &Plan<A>,
+fn drive_over_plain(
+    alloc: Global,
+    plan: &Plan,
     text: &[u8],
     events: &[Event],
-    out: &mut W,
+    out: &mut Told,
 ) {
     let mut replies = Vec::new(alloc);
     drive_plain(alloc, plan, events, &mut replies, out);
@@ -148,12 +148,12 @@ fn drive_over_plain<A: Allocator + Copy, W: Sink>(
 }
 
 /// Plays the events on the engine, and drives them again where memory is refused.
-fn play_on_engine<A: Allocator + Copy, W: Sink>(
-    alloc: A,
-    plan: &Plan<A>,
+fn play_on_engine(
+    alloc: Global,
+    plan: &Plan,
     text: &[u8],
     events: &[Event],
-    out: &mut W,
+    out: &mut Told,
 ) {
     match play(alloc, plan, 0, 0, events) {
         Ok(played) => {
@@ -173,12 +173,12 @@ fn play_on_engine<A: Allocator + Copy, W: Sink>(
 }
 
 /// Drives the events of the script.
-fn drive_script<A: Allocator + Copy, W: Sink>(
-    alloc: A,
+fn drive_script(
+    alloc: Global,
     over: Over,
-    plan: &Plan<A>,
+    plan: &Plan,
     texts: Texts<'_>,
-    out: &mut W,
+    out: &mut Told,
 ) {
     let mut events = Vec::new(alloc);
     put_events(plan, texts.script, &mut events, out);
@@ -190,13 +190,13 @@ fn drive_script<A: Allocator + Copy, W: Sink>(
 }
 
 /// Checks a certificate of a plan, with a limit and a spare number, and after a Yes drives the events of the script behind it.
-pub(crate) fn play_certified<A: Allocator + Copy, W: Sink>(
-    alloc: A,
+pub(crate) fn play_certified(
+    alloc: Global,
     over: Over,
     numbers: (u8, u8),
     plan: &[u8],
     rest: &[u8],
-    out: &mut W,
+    out: &mut Told,
 ) {
     let (cert, script) = two_texts(rest);
     let texts = Texts { plan, cert, script };
