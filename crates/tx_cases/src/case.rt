@@ -61,6 +61,14 @@ pub fn two_texts(texts: &[u8]) -> (&[u8], &[u8]) {
     }
 }
 
+/// The next word, or one of no bytes where there is none.
+pub fn next_word<'a>(words: &mut Words<'a>) -> &'a [u8] {
+    match words.next() {
+        Some(word) => word,
+        None => b"",
+    }
+}
+
 /// The number of the next word, and 0 where it is none.
 pub fn next_number(words: &mut Words<'_>, most: u32) -> u32 {
     match words.next() {

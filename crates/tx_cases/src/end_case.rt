@@ -1,4 +1,5 @@
 // The cases of the program at its ends.
+use crate::case::named;
 use std::alloc::{AllocError, Global};
 
 /// A case: how the ends behave, and the words of the program.
@@ -30,8 +31,36 @@ pub enum What {
     Read,
 }
 
+/// What a setting sets.
+#[derive(Clone, Copy)]
+enum Setting {
+    Input,
+    Piece,
+    Fails,
+    Room,
+    Shows,
+    EachRequest,
+    Words,
+}
+
+/// The settings, and whether the name of a file and a number stand behind each.
+static SETTINGS: [(&str, (Setting, bool, bool)); 7] = [
+    ("input", (Setting::Input, true, false)),
+    ("piece", (Setting::Piece, false, true)),
+    ("fails", (Setting::Fails, true, true)),
+    ("room", (Setting::Room, true, true)),
+    ("shows", (Setting::Shows, true, false)),
+    ("each-request", (Setting::EachRequest, false, false)),
+    ("words", (Setting::Words, false, false)),
+];
+
 impl<'a> EndCase<'a> {
     pub fn read(alloc: Global, line: &'a str) -> Result<EndCase<'a>, AllocError> {
+        let (settings, rest) = line.split_once(':').unwrap_or((line, ""));
+        let mut words = Vec::new(alloc);
+        for word in rest.split_whitespace() {
+            words.push(word)?;
+        }
         let mut case = EndCase {
             input: "empty",
             piece: 4096,
@@ -40,52 +69,49 @@ impl<'a> EndCase<'a> {
             shows: None,
             what: What::Run,
             is_bad: false,
-            words: Vec::new(alloc),
+            words,
         };
-        let (settings, words) = match line.split_once(':') {
-            Some(parts) => parts,
-            None => (line, ""),
-        };
-        case.set(settings);
-        for word in words.split_whitespace() {
-            case.words.push(word)?;
-        }
+        case.set_all(settings);
         Ok(case)
     }
 
-    /// The number that a word spells. Where it spells none, the case is bad.
-    fn number(&mut self, word: Option<&str>) -> u32 {
-        if let Some(word) = word {
-            if let Ok(number) = word.parse::<u32>() {
-                return number;
+    /// Takes the settings, which stand behind the name of the case.
+    fn set_all(&mut self, settings: &'a str) {
+        let mut rest = settings.split_whitespace();
+        let _name = rest.next();
+        while let Some(word) = rest.next() {
+            match named(&SETTINGS, word.as_bytes()) {
+                Some((setting, has_name, has_number)) => {
+                    let name = if has_name { rest.next() } else { None };
+                    let number = if has_number { rest.next() } else { Some("0") };
+                    self.set(setting, name.unwrap_or(""), number.unwrap_or(""));
+                }
+                None => self.is_bad = true,
             }
+        }
+    }
+
+    /// Takes a setting, with the name and the number behind it.
+    fn set(&mut self, setting: Setting, name: &'a str, number: &str) {
+        let number = self.number(number);
+        match setting {
+            Setting::Input => self.input = name,
+            Setting::Piece => self.piece = number.max(1) as usize,
+            Setting::Fails => self.fails = Some((name, u64::from(number))),
+            Setting::Room => self.room = Some((name, number as usize)),
+            Setting::Shows => self.shows = Some(name),
+            Setting::EachRequest => self.what = What::RunWithout,
+            Setting::Words => self.what = What::Read,
+        }
+    }
+
+    /// The number that a word spells. Where it spells none, the case is bad.
+    fn number(&mut self, word: &str) -> u32 {
+        if let Ok(number) = word.parse::<u32>() {
+            return number;
         }
         self.is_bad = true;
         0
-    }
-
-    /// Takes the settings, which stand behind the name of the case.
-    fn set(&mut self, settings: &'a str) {
-        let mut settings = settings.split_whitespace();
-        let _name = settings.next();
-        while let Some(setting) = settings.next() {
-            match setting {
-                "input" => self.input = settings.next().unwrap_or(""),
-                "piece" => self.piece = self.number(settings.next()).max(1) as usize,
-                "fails" => {
-                    let name = settings.next().unwrap_or("");
-                    self.fails = Some((name, u64::from(self.number(settings.next()))));
-                }
-                "room" => {
-                    let name = settings.next().unwrap_or("");
-                    self.room = Some((name, self.number(settings.next()) as usize));
-                }
-                "shows" => self.shows = settings.next(),
-                "each-request" => self.what = What::RunWithout,
-                "words" => self.what = What::Read,
-                _ => self.is_bad = true,
-            }
-        }
     }
 
     /// Which read of a file fails, or 0.

@@ -52,7 +52,7 @@ impl Ends {
 }
 
 /// How many of the first thousand calls of a source are left, where the next one fails.
-pub fn calls_left<R: Source>(source: &mut R) -> u64 {
+pub fn calls_left(source: &mut MemorySource<'_>) -> u64 {
     let mut left = 0u64;
     for _ in 0..1000u32 {
         if source.read(&mut [0]).is_err() {

@@ -1,5 +1,5 @@
 // What the head of a case says.
-use crate::case::{named, number_of};
+use crate::case::{named, next_word, number_of};
 use crate::job::Job;
 use tx_text::words;
 
@@ -84,18 +84,18 @@ pub struct Head<'a> {
 pub fn head_of(head: &[u8]) -> Head<'_> {
     let mut rest = words(head);
     let _name = rest.next();
-    let word = rest.next().unwrap_or(b"".as_slice());
+    let word = next_word(&mut rest);
     let mode = named(&MODES, word).unwrap_or(Mode::Plain);
     let word = match mode {
         Mode::Plain => word,
-        Mode::EachEnd | Mode::Prefixes => rest.next().unwrap_or(b"".as_slice()),
+        Mode::EachEnd | Mode::Prefixes => next_word(&mut rest),
     };
     Head {
         mode,
         kind: named(&KINDS, word),
-        first: rest.next().unwrap_or(b"".as_slice()),
-        second: rest.next().unwrap_or(b"".as_slice()),
-        third: rest.next().unwrap_or(b"".as_slice()),
+        first: next_word(&mut rest),
+        second: next_word(&mut rest),
+        third: next_word(&mut rest),
     }
 }
 

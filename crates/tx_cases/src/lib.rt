@@ -1,4 +1,4 @@
-//! The files of cases that the programs for tests play, what a case says, the ends that are watched, and what these programs write. No other crate than those stands
+//! The files of cases that the programs for tests play, what a case says, the ends that are watched, and what these programs tell. No other crate than those stands
 //! on this one.
 #![tactic(auto)]
 
@@ -7,7 +7,6 @@ mod end_case;
 mod ends;
 mod head;
 mod job;
-mod judge;
 mod log;
 mod outputs;
 mod reader;
@@ -15,15 +14,16 @@ mod spelled;
 mod told;
 mod writer;
 
-pub use case::{Case, long_number, named, next_case, next_line, next_number, number_of, two_texts};
+pub use case::{
+    Case, long_number, named, next_case, next_line, next_number, next_word, number_of, two_texts,
+};
 pub use end_case::{EndCase, What};
 pub use ends::{End, Ends, ROOM, calls_left};
 pub use head::{Driven, Head, JobKind, Kind, Mode, drawing_of, head_of, job_of, limit_and_spare};
 pub use job::{Job, Task, job_name, sources, task_of, with_last};
-pub use judge::Judge;
 pub use log::Log;
 pub use outputs::{event_word, says_no_event, takes_memory, written_after};
 pub use reader::Reader;
 pub use spelled::spell;
-pub use told::{Stop, tell, tell_broken, tell_count, tell_parts, write_broken, write_count};
+pub use told::{Told, tell, tell_broken, tell_count, tell_parts};
 pub use writer::Writer;

@@ -1,12 +1,11 @@
 // What happened, in order.
-use crate::told::tell;
+use crate::told::{Told, tell};
 use itoa::Buffer;
 use std::alloc::Global;
 use std::cell::RefCell;
 use std::fmt::Debug;
 use std::fs;
 use std::io::Write;
-use tx_text::Sink;
 
 /// Lines, of which the last may have no LF yet.
 #[derive(Drop)]
@@ -27,6 +26,15 @@ impl Lines {
             self.put(b"\\\n");
             self.is_open = false;
         }
+    }
+
+    /// Adds a line of two texts.
+    fn tell(&mut self, what: &str, name: &str) {
+        self.close();
+        self.put(what.as_bytes());
+        self.put(b" ");
+        self.put(name.as_bytes());
+        self.put(b"\n");
     }
 
     /// Goes on with the bytes of a file, whose name stands before each line.
@@ -61,11 +69,7 @@ impl Log {
     /// Adds a line of two texts.
     pub fn tell(&self, what: &str, name: &str) {
         if let Ok(mut lines) = self.lines.try_borrow_mut() {
-            lines.close();
-            lines.put(what.as_bytes());
-            lines.put(b" ");
-            lines.put(name.as_bytes());
-            lines.put(b"\n");
+            lines.tell(what, name);
         }
     }
 
@@ -100,8 +104,8 @@ impl Log {
     /// Adds what another log tells.
     pub fn tell_all(&self, other: &Log) {
         if let Ok(mut lines) = self.lines.try_borrow_mut() {
+            lines.close();
             if let Ok(other) = other.lines.try_borrow() {
-                lines.close();
                 lines.put(other.text.as_slice());
             }
         }
@@ -109,13 +113,21 @@ impl Log {
 
     /// Whether two logs tell the same.
     pub fn is_as(&self, other: &Log) -> bool {
-        match (self.lines.try_borrow(), other.lines.try_borrow()) {
-            (Ok(lines), Ok(other)) => lines.text.as_slice() == other.text.as_slice(),
-            _ => false,
+        match self.lines.try_borrow() {
+            Ok(lines) => other.tells(lines.text.as_slice()),
+            Err(_) => false,
         }
     }
 
-    pub fn print<W: Sink>(&self, out: &mut W) {
+    /// Whether a log tells this.
+    fn tells(&self, text: &[u8]) -> bool {
+        match self.lines.try_borrow() {
+            Ok(lines) => lines.text.as_slice() == text,
+            Err(_) => false,
+        }
+    }
+
+    pub fn print(&self, out: &mut Told) {
         if let Ok(mut lines) = self.lines.try_borrow_mut() {
             lines.close();
             tell(lines.text.as_slice(), out);

@@ -2,7 +2,6 @@
 use crate::case::next_number;
 use itoa::Buffer;
 use memchr::memchr;
-use std::alloc::Allocator;
 use tx_text::{NoMemory, Words, words};
 
 /// What stands before a byte and behind it.
@@ -26,7 +25,7 @@ fn next_mark(text: &[u8]) -> Option<(&[u8], &[u8], &[u8])> {
 
 /// Adds the bytes of a text of the file, in which `{13}` stands for the byte of that number, `{35 512}` for 512 of them, `{}` for a line that goes on, and
 /// `{lines 1 9 CODE 4@ ALFA}` for nine lines.
-pub fn spell<A: Allocator>(text: &[u8], bytes: &mut Vec<u8, A>) -> Result<(), NoMemory> {
+pub fn spell(text: &[u8], bytes: &mut Vec<u8>) -> Result<(), NoMemory> {
     let mut rest = text;
     for _ in 0..=text.len() {
         let Some((before, mark, behind)) = next_mark(rest) else {
@@ -51,7 +50,7 @@ fn behind_mark<'a>(mark: &[u8], behind: &'a [u8]) -> &'a [u8] {
 
 /// Adds the bytes of a mark: none, a byte's number and how often it stands, or `lines`, two numbers, and a line that stands once for each number between
 /// them.
-fn put_mark<A: Allocator>(mark: &[u8], bytes: &mut Vec<u8, A>) -> Result<(), NoMemory> {
+fn put_mark(mark: &[u8], bytes: &mut Vec<u8>) -> Result<(), NoMemory> {
     if mark.is_empty() {
         return Ok(());
     }
@@ -61,7 +60,7 @@ fn put_mark<A: Allocator>(mark: &[u8], bytes: &mut Vec<u8, A>) -> Result<(), NoM
     }
 }
 
-fn put_bytes<A: Allocator>(mark: &[u8], bytes: &mut Vec<u8, A>) -> Result<(), NoMemory> {
+fn put_bytes(mark: &[u8], bytes: &mut Vec<u8>) -> Result<(), NoMemory> {
     let mut numbers = words(mark);
     let byte = next_number(&mut numbers, 255).min(255) as u8;
     for _ in 0..next_number(&mut numbers, 100_000).max(1) {
@@ -70,7 +69,7 @@ fn put_bytes<A: Allocator>(mark: &[u8], bytes: &mut Vec<u8, A>) -> Result<(), No
     Ok(())
 }
 
-fn put_lines<A: Allocator>(mark: &[u8], bytes: &mut Vec<u8, A>) -> Result<(), NoMemory> {
+fn put_lines(mark: &[u8], bytes: &mut Vec<u8>) -> Result<(), NoMemory> {
     let mut numbers = words(mark);
     let from = next_number(&mut numbers, 100_000);
     let to = next_number(&mut numbers, 100_000);
@@ -81,11 +80,7 @@ fn put_lines<A: Allocator>(mark: &[u8], bytes: &mut Vec<u8, A>) -> Result<(), No
 }
 
 /// Adds the line of a mark, its words from the third on, with a number in the place of each `@`.
-fn put_line<A: Allocator>(
-    mark: &[u8],
-    number: u32,
-    bytes: &mut Vec<u8, A>,
-) -> Result<(), NoMemory> {
+fn put_line(mark: &[u8], number: u32, bytes: &mut Vec<u8>) -> Result<(), NoMemory> {
     let mut digits = Buffer::new();
     put_words(line_words(mark), digits.format(number).as_bytes(), bytes)?;
     bytes.push(b'\n')?;
@@ -101,11 +96,7 @@ fn line_words(mark: &[u8]) -> Words<'_> {
 }
 
 /// Adds words, each with a blank behind it.
-fn put_words<A: Allocator>(
-    line: Words<'_>,
-    number: &[u8],
-    bytes: &mut Vec<u8, A>,
-) -> Result<(), NoMemory> {
+fn put_words(line: Words<'_>, number: &[u8], bytes: &mut Vec<u8>) -> Result<(), NoMemory> {
     for word in line {
         put_word(word, number, bytes)?;
         bytes.push(b' ')?;
@@ -114,11 +105,7 @@ fn put_words<A: Allocator>(
 }
 
 /// Adds a word, with a number in the place of each `@`.
-fn put_word<A: Allocator>(
-    word: &[u8],
-    number: &[u8],
-    bytes: &mut Vec<u8, A>,
-) -> Result<(), NoMemory> {
+fn put_word(word: &[u8], number: &[u8], bytes: &mut Vec<u8>) -> Result<(), NoMemory> {
     for byte in word {
         if *byte == b'@' {
             bytes.extend_from_slice(number)?;

@@ -1,10 +1,10 @@
 // What a line book answers.
 use crate::spelling::next_named;
-use std::alloc::Allocator;
-use tx_cases::{next_line, next_number, tell, tell_broken, tell_parts};
+use std::alloc::Global;
+use tx_cases::{Told, next_line, next_number, next_word, tell, tell_broken, tell_parts};
 use tx_lines::{LineAnswer, LineBook};
 use tx_plan::{CodeId, Line};
-use tx_text::{Sink, words};
+use tx_text::words;
 
 /// A mark of a line.
 #[derive(Clone, Copy)]
@@ -25,12 +25,7 @@ static HAPPENS: [(&str, (Mark, bool)); 6] = [
 ];
 
 /// Gives a line a mark, or takes it. Only a new mark takes room: tells whether there was room for it.
-fn set_mark<A: Allocator + Copy>(
-    book: &mut LineBook<A>,
-    line: &Line,
-    mark: Mark,
-    to: bool,
-) -> bool {
+fn set_mark(book: &mut LineBook, line: &Line, mark: Mark, to: bool) -> bool {
     if to && book.reserve_one().is_err() {
         return false;
     }
@@ -44,7 +39,7 @@ fn set_mark<A: Allocator + Copy>(
 }
 
 /// Tells the marks of a line that was found.
-fn tell_marks<A: Allocator, W: Sink>(book: &LineBook<A>, line: &Line, out: &mut W) {
+fn tell_marks(book: &LineBook, line: &Line, out: &mut Told) {
     let faulty = book.is_faulty(line);
     let away = book.is_away(line);
     let engaged = book.is_engaged(line);
@@ -60,12 +55,7 @@ fn tell_marks<A: Allocator, W: Sink>(book: &LineBook<A>, line: &Line, out: &mut 
 }
 
 /// Tells what is answered for a number.
-fn tell_answer<A: Allocator, W: Sink>(
-    book: &LineBook<A>,
-    code: CodeId,
-    number: &[u8],
-    out: &mut W,
-) {
+fn tell_answer(book: &LineBook, code: CodeId, number: &[u8], out: &mut Told) {
     let text = match book.answer(code, number) {
         LineAnswer::NoLine => b": no line\n".as_slice(),
         LineAnswer::OutOfOrder => b": out of order\n",
@@ -91,13 +81,13 @@ fn read_asked(line: &[u8]) -> Asked<'_> {
     let code = next_number(&mut rest, 65_535).min(65_535) as u16;
     Asked {
         code: CodeId::at(code),
-        number: rest.next().unwrap_or(b"".as_slice()),
+        number: next_word(&mut rest),
         happens: next_named(&HAPPENS, &mut rest),
     }
 }
 
 /// Tells what is found, behind what happens to the line, and what is answered.
-fn play_line<A: Allocator + Copy, W: Sink>(book: &mut LineBook<A>, line: &[u8], out: &mut W) {
+fn play_line(book: &mut LineBook, line: &[u8], out: &mut Told) {
     let Asked {
         code,
         number,
@@ -118,11 +108,7 @@ fn play_line<A: Allocator + Copy, W: Sink>(book: &mut LineBook<A>, line: &[u8], 
 }
 
 /// Tells what is found for each line of a case.
-pub(crate) fn play_book<A: Allocator + Copy, W: Sink>(
-    book: &mut LineBook<A>,
-    lines: &[u8],
-    out: &mut W,
-) {
+pub(crate) fn play_book(book: &mut LineBook, lines: &[u8], out: &mut Told) {
     let mut rest = lines;
     for _ in 0..lines.len() {
         let Some((line, behind)) = next_line(rest) else {

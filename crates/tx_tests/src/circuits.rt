@@ -5,14 +5,14 @@ mod model;
 use crate::spelling::next_named;
 use calls::{ALFA, BETA, Call, ENDS, WHATS, apply, call_of, next};
 use model::Model;
-use std::alloc::Allocator;
-use tx_cases::{next_line, next_number, tell, tell_broken, tell_count};
+use std::alloc::Global;
+use tx_cases::{Told, next_line, next_number, tell, tell_broken, tell_count};
 use tx_circuits::CircuitTable;
 use tx_plan::Plan;
-use tx_text::{Sink, words};
+use tx_text::words;
 
 /// Makes the call that a line says, where it may be made, and tells whether.
-fn apply_line<A: Allocator>(table: &mut CircuitTable<A>, line: &[u8]) -> bool {
+fn apply_line(table: &mut CircuitTable, line: &[u8]) -> bool {
     let mut rest = words(line);
     let Some(what) = next_named(&WHATS, &mut rest) else {
         return false;
@@ -27,11 +27,7 @@ fn apply_line<A: Allocator>(table: &mut CircuitTable<A>, line: &[u8]) -> bool {
 }
 
 /// Makes the call of each line, and tells which number ALFA and BETA take next then, or 0 for none.
-pub(crate) fn tell_circuits<A: Allocator, W: Sink>(
-    table: &mut CircuitTable<A>,
-    lines: &[u8],
-    out: &mut W,
-) {
+pub(crate) fn tell_circuits(table: &mut CircuitTable, lines: &[u8], out: &mut Told) {
     let mut rest = lines;
     for _ in 0..lines.len() {
         let Some((line, behind)) = next_line(rest) else {
@@ -48,7 +44,7 @@ pub(crate) fn tell_circuits<A: Allocator, W: Sink>(
 }
 
 /// Makes three of the 43 calls, as far as each may be made, on a table and on the model. Tells whether the two agree.
-fn agree_along<A: Allocator>(table: &mut CircuitTable<A>, sequence: u32) -> bool {
+fn agree_along(table: &mut CircuitTable, sequence: u32) -> bool {
     let mut model = Model::new();
     let mut rest = sequence;
     for _ in 0..3u8 {
@@ -66,7 +62,7 @@ fn agree_along<A: Allocator>(table: &mut CircuitTable<A>, sequence: u32) -> bool
 }
 
 /// Whether a new table agrees with the model along a sequence, if there is memory for it.
-fn agrees<A: Allocator + Copy>(alloc: A, plan: &Plan<A>, sequence: u32) -> bool {
+fn agrees(alloc: Global, plan: &Plan, sequence: u32) -> bool {
     match CircuitTable::build(alloc, plan) {
         Ok(mut table) => agree_along(&mut table, sequence),
         Err(_) => false,
@@ -74,7 +70,7 @@ fn agrees<A: Allocator + Copy>(alloc: A, plan: &Plan<A>, sequence: u32) -> bool 
 }
 
 /// Tries all sequences of three calls, and tells how many there are.
-pub(crate) fn try_sequences<A: Allocator + Copy, W: Sink>(alloc: A, plan: &Plan<A>, out: &mut W) {
+pub(crate) fn try_sequences(alloc: Global, plan: &Plan, out: &mut Told) {
     let mut tried = 0u64;
     for sequence in 0..79_507u32 {
         if !agrees(alloc, plan, sequence) {

@@ -1,26 +1,31 @@
 // Sources and sinks, over memory and over std's readers and writers.
 use crate::flaky::Flaky;
-use std::alloc::Allocator;
-use tx_cases::{tell, tell_broken, tell_count, tell_parts};
+use std::alloc::Global;
+use tx_cases::{Told, tell, tell_broken, tell_count, tell_parts};
 use tx_pipe::TwoTexts;
 use tx_text::{
     FromRead, MemorySink, MemorySource, Sink, Source, ToWrite, WriteFault, write_bytes, write_parts,
 };
 
+/// Makes a call of a source, for so many bytes, and tells what it gives.
+fn tell_read<R: Source>(source: &mut R, room: usize, out: &mut Told) {
+    let mut buf = [0; 16];
+    match source.read(buf.split_at_mut(room.clamp(1, 16)).0) {
+        Ok(n) => tell_parts(&[b"[", buf.split_at(n.min(16)).0, b"] "], out),
+        Err(_) => tell(b"fault ", out),
+    }
+}
+
 /// Makes calls of a source, each for so many bytes, and tells what they give.
-pub(crate) fn tell_reads<R: Source, W: Sink>(source: &mut R, calls: u8, room: usize, out: &mut W) {
+pub(crate) fn tell_reads<R: Source>(source: &mut R, calls: u8, room: usize, out: &mut Told) {
     for _ in 0..calls {
-        let mut buf = [0; 16];
-        match source.read(buf.split_at_mut(room.clamp(1, 16)).0) {
-            Ok(n) => tell_parts(&[b"[", buf.split_at(n.min(16)).0, b"] "], out),
-            Err(_) => tell(b"fault ", out),
-        }
+        tell_read(source, room, out);
     }
     tell(b"\n", out);
 }
 
 /// Calls of a source, of which each fails in turn.
-pub(crate) fn tell_sources<W: Sink>(text: &[u8], piece: usize, out: &mut W) {
+pub(crate) fn tell_sources(text: &[u8], piece: usize, out: &mut Told) {
     for fails_at in 1..=8u64 {
         let mut source = MemorySource::new(text, piece.max(1), Some(fails_at));
         tell_reads(&mut source, 8, 4, out);
@@ -28,13 +33,7 @@ pub(crate) fn tell_sources<W: Sink>(text: &[u8], piece: usize, out: &mut W) {
 }
 
 /// Calls before and behind the end of the plan of an input, of which that of a number fails, where it is not 0.
-pub(crate) fn tell_two_texts<W: Sink>(
-    text: &[u8],
-    piece: usize,
-    fails: u64,
-    room: usize,
-    out: &mut W,
-) {
+pub(crate) fn tell_two_texts(text: &[u8], piece: usize, fails: u64, room: usize, out: &mut Told) {
     let fails_at = if fails > 0 { Some(fails) } else { None };
     let source = MemorySource::new(text, piece.max(1), fails_at);
     let mut input = TwoTexts::new(source);
@@ -44,7 +43,7 @@ pub(crate) fn tell_two_texts<W: Sink>(
 }
 
 /// Tells what a sink took, and whether it took all that it was given.
-fn tell_taken<W: Sink>(taken: &[u8], answer: Result<(), WriteFault>, out: &mut W) {
+fn tell_taken(taken: &[u8], answer: Result<(), WriteFault>, out: &mut Told) {
     let end = match answer {
         Ok(()) => b"] all, ".as_slice(),
         Err(WriteFault) => b"] fault, ",
@@ -53,7 +52,7 @@ fn tell_taken<W: Sink>(taken: &[u8], answer: Result<(), WriteFault>, out: &mut W
 }
 
 /// Writes a text to a sink, and then a byte more.
-fn tell_whole<A: Allocator, W: Sink>(sink: &mut MemorySink<A>, text: &[u8], out: &mut W) {
+fn tell_whole(sink: &mut MemorySink, text: &[u8], out: &mut Told) {
     let answer = write_bytes(text, sink);
     tell_taken(sink.taken(), answer, out);
     let more = sink.write(b"A").is_ok();
@@ -68,7 +67,7 @@ fn tell_whole<A: Allocator, W: Sink>(sink: &mut MemorySink<A>, text: &[u8], out:
 }
 
 /// Writes a text to a sink by parts, of which one is empty.
-fn tell_by_parts<A: Allocator, W: Sink>(sink: &mut MemorySink<A>, text: &[u8], out: &mut W) {
+fn tell_by_parts(sink: &mut MemorySink, text: &[u8], out: &mut Told) {
     let (front, back) = text.split_at(text.len().min(6));
     let (second, back) = back.split_at(back.len().min(1));
     let (third, fourth) = back.split_at(back.len().min(2));
@@ -78,13 +77,7 @@ fn tell_by_parts<A: Allocator, W: Sink>(sink: &mut MemorySink<A>, text: &[u8], o
 }
 
 /// Writes a text to a room, whole or by parts.
-fn tell_room<A: Allocator, W: Sink>(
-    alloc: A,
-    text: &[u8],
-    room: usize,
-    by_parts: bool,
-    out: &mut W,
-) {
+fn tell_room(alloc: Global, text: &[u8], room: usize, by_parts: bool, out: &mut Told) {
     match MemorySink::new(alloc, room) {
         Ok(mut sink) if by_parts => tell_by_parts(&mut sink, text, out),
         Ok(mut sink) => tell_whole(&mut sink, text, out),
@@ -93,7 +86,7 @@ fn tell_room<A: Allocator, W: Sink>(
 }
 
 /// Writes a text to each room, from none to more than it takes.
-pub(crate) fn tell_rooms<A: Allocator + Copy, W: Sink>(alloc: A, text: &[u8], out: &mut W) {
+pub(crate) fn tell_rooms(alloc: Global, text: &[u8], out: &mut Told) {
     for room in 0..=text.len().saturating_add(2) {
         tell_count(b"", room as u64, b": ", out);
         tell_room(alloc, text, room, false, out);
@@ -102,7 +95,7 @@ pub(crate) fn tell_rooms<A: Allocator + Copy, W: Sink>(alloc: A, text: &[u8], ou
 }
 
 /// Calls of a writer, each with two bytes, and how many it takes.
-fn tell_writes<W: Sink>(takes: usize, out: &mut W) {
+fn tell_writes(takes: usize, out: &mut Told) {
     let mut sink = ToWrite::new(Flaky { takes, calls: 0 });
     for _ in 0..4u8 {
         match sink.write(b"AB") {
@@ -114,7 +107,7 @@ fn tell_writes<W: Sink>(takes: usize, out: &mut W) {
 }
 
 /// Calls of std's readers and writers that fail: how many of a reader were counted, and those of a writer of one byte a call, and of one that takes nothing.
-pub(crate) fn tell_ends<W: Sink>(out: &mut W) {
+pub(crate) fn tell_ends(out: &mut Told) {
     let mut source = FromRead::new(Flaky { takes: 1, calls: 0 });
     tell_reads(&mut source, 4, 4, out);
     tell_count(b"", source.calls(), b" calls\n", out);

@@ -3,11 +3,11 @@ ghost use Rattle.std.specs.Prelude.{◌≡◌, IfOk, None};
 
 use crate::lines::fault_name;
 use crate::spelling::tell_words;
-use std::alloc::Allocator;
-use tx_cases::{Judge, tell, tell_broken, tell_count, tell_parts};
+use std::alloc::Global;
+use tx_cases::{Told, tell, tell_broken, tell_count, tell_parts};
 use tx_text::{
-    FormFault, FrameFault, FrameReader, FrameStep, FrameStop, LineFault, MemorySink, MemorySource,
-    Sink, SliceSource, Source, TextFault,
+    FormFault, FrameFault, FrameReader, FrameStep, FrameStop, LineFault, MemorySource, SliceSource,
+    Source, TextFault,
 };
 
 fn frame_name(fault: FrameFault) -> &'static [u8] {
@@ -21,7 +21,7 @@ fn frame_name(fault: FrameFault) -> &'static [u8] {
 }
 
 /// Tells a header, an end, or a fault.
-fn tell_step<W: Sink>(step: Result<FrameStep, FrameStop>, out: &mut W) {
+fn tell_step(step: Result<FrameStep, FrameStop>, out: &mut Told) {
     match step {
         Ok(FrameStep::Header(version)) => { tell_count(b"header ", u64::from(version), b"\n", out) }
         Ok(FrameStep::Line) => {}
@@ -34,11 +34,7 @@ fn tell_step<W: Sink>(step: Result<FrameStep, FrameStop>, out: &mut W) {
 }
 
 /// Tells the header, the lines and the end of a text, or the fault that stops it.
-fn tell_frame<A: Allocator, R: Source, W: Sink>(
-    reader: &mut FrameReader<'_, A>,
-    source: &mut R,
-    out: &mut W,
-)
+fn tell_frame<R: Source>(reader: &mut FrameReader<'_>, source: &mut R, out: &mut Told)
     requires { reader.old.reader.feed.fault ≡ None }
 {
     for _ in 0..99u8 {
@@ -57,10 +53,10 @@ fn tell_frame<A: Allocator, R: Source, W: Sink>(
 }
 
 /// Tells a text of plans that a source gives to a new reader.
-fn tell_source<A: Allocator, R: Source, W: Sink>(
-    reader: Result<FrameReader<'_, A>, TextFault>,
+fn tell_source<R: Source>(
+    reader: Result<FrameReader<'_>, TextFault>,
     source: &mut R,
-    out: &mut W,
+    out: &mut Told,
 )
     requires { IfOk reader (λ r. r.reader.feed.fault ≡ None) }
 {
@@ -71,42 +67,28 @@ fn tell_source<A: Allocator, R: Source, W: Sink>(
 }
 
 /// Reads a text by a source of so many bytes a call, which has to make no difference.
-fn try_piece<A: Allocator, W: Sink>(
-    alloc: A,
-    text: &[u8],
-    piece: usize,
-    whole: &[u8],
-    out: &mut W,
-) {
-    let mut judge = Judge::new(whole, usize::MAX);
+fn try_piece(alloc: Global, text: &[u8], piece: usize, whole: &[u8], out: &mut Told) {
+    let mut told = Told::new(alloc);
     let mut source = MemorySource::new(text, piece.max(1), None);
-    tell_source(FrameReader::new(alloc, b"PLAN", 2), &mut source, &mut judge);
-    if !judge.is_whole() {
+    tell_source(FrameReader::new(alloc, b"PLAN", 2), &mut source, &mut told);
+    if !told.is(whole) {
         tell_broken(b"not the same in pieces of", piece as u64, out);
     }
 }
 
 /// Tells a text of plans, as a slice and from sources.
-pub(crate) fn play_frame<A: Allocator + Copy, W: Sink>(alloc: A, text: &[u8], out: &mut W) {
-    let Ok(mut whole) = MemorySink::new(alloc, 5000) else {
-        return tell_broken(b"no memory", 0, out);
-    };
+pub(crate) fn play_frame(alloc: Global, text: &[u8], out: &mut Told) {
+    let mut whole = Told::new(alloc);
     let reader = FrameReader::for_slice(alloc, b"PLAN", 2);
     tell_source(reader, &mut SliceSource::new(text), &mut whole);
-    tell(whole.taken(), out);
+    tell(whole.text(), out);
     for piece in [1usize, 2, 7, 4096] {
-        try_piece(alloc, text, piece, whole.taken(), out);
+        try_piece(alloc, text, piece, whole.text(), out);
     }
-    drop(whole);
 }
 
 /// Tells a text of plans from a source of which each of five calls fails in turn.
-pub(crate) fn play_calls<A: Allocator + Copy, W: Sink>(
-    alloc: A,
-    text: &[u8],
-    piece: usize,
-    out: &mut W,
-) {
+pub(crate) fn play_calls(alloc: Global, text: &[u8], piece: usize, out: &mut Told) {
     for call in 1..=5u64 {
         tell_count(b"call ", call, b" fails\n", out);
         let mut source = MemorySource::new(text, piece.max(1), Some(call));

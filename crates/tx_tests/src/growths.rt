@@ -1,8 +1,8 @@
 // What takes memory, made with each request refused in turn.
 use crate::circuits::calls::{ALFA, BETA, next};
 use refusing::Refusing;
-use std::alloc::Allocator;
-use tx_cases::{tell_broken, tell_count};
+use std::alloc::{Allocator, Global};
+use tx_cases::{Told, tell_broken, tell_count};
 use tx_circuits::CircuitTable;
 use tx_lines::{LineAnswer, LineBook, Side};
 use tx_plan::{CodeId, Line, Plan, PlanRefusal};
@@ -154,12 +154,7 @@ fn make<A: Allocator + Copy>(alloc: A, made: Made, plan: &[u8]) -> Came {
 }
 
 /// Refuses each request for memory in turn, until none is refused, and tells how many are not the plan's.
-pub(crate) fn play_growths<A: Allocator + Copy, W: Sink>(
-    alloc: A,
-    made: Option<Made>,
-    plan: &[u8],
-    out: &mut W,
-) {
+pub(crate) fn play_growths(alloc: Global, made: Option<Made>, plan: &[u8], out: &mut Told) {
     let Some(made) = made else {
         return tell_broken(b"no such type", 0, out);
     };

@@ -1,14 +1,14 @@
 // Lines of texts, whole and in pieces.
 ghost use Rattle.std.specs.Prelude.{◌+◌, ◌≤◌, length};
 
-use std::alloc::Allocator;
-use tx_cases::{Judge, tell, tell_broken, tell_count, tell_parts};
-use tx_text::{Fed, LineFeeder, Lines, MemorySink, Sink, TextFault, TextLine};
+use std::alloc::Global;
+use tx_cases::{Told, tell, tell_broken, tell_count, tell_parts};
+use tx_text::{Fed, LineFeeder, Lines, TextFault, TextLine};
 
 /// The longest text that is fed in pieces.
 const LONGEST: usize = 1000;
 
-fn tell_line<W: Sink>(line: TextLine<'_>, out: &mut W) {
+fn tell_line(line: TextLine<'_>, out: &mut Told) {
     tell_count(b"line ", line.number, b"", out);
     tell_count(b" at ", line.start as u64, b": ", out);
     let end = if line.finished {
@@ -28,7 +28,7 @@ pub(crate) fn fault_name(fault: TextFault) -> &'static [u8] {
 }
 
 /// Tells the lines of a text, and its fault.
-fn tell_lines<W: Sink>(text: &[u8], out: &mut W) {
+fn tell_lines(text: &[u8], out: &mut Told) {
     for line in Lines::new(text) {
         match line {
             Ok(line) => tell_line(line, out),
@@ -62,7 +62,7 @@ impl Cuts {
 }
 
 /// Tells how much was taken, or a fault.
-fn tell_fed<W: Sink>(answer: Result<Fed, TextFault>, out: &mut W) {
+fn tell_fed(answer: Result<Fed, TextFault>, out: &mut Told) {
     match answer {
         Ok(fed) => tell_count(b"", fed.taken as u64, b" taken\n", out),
         Err(fault) => tell_parts(&[fault_name(fault), b"\n"], out),
@@ -70,7 +70,7 @@ fn tell_fed<W: Sink>(answer: Result<Fed, TextFault>, out: &mut W) {
 }
 
 /// Feeds an LF and a byte more behind a fault, which stays.
-fn feed_again<A: Allocator, W: Sink>(feeder: &mut LineFeeder<A>, out: &mut W)
+fn feed_again(feeder: &mut LineFeeder, out: &mut Told)
     requires { feeder.old.start + length feeder.old.begun ≤ 1000 }
 {
     let end = feeder.feed(b"\n");
@@ -80,12 +80,7 @@ fn feed_again<A: Allocator, W: Sink>(feeder: &mut LineFeeder<A>, out: &mut W)
 }
 
 /// Feeds a text piece by piece, and tells the lines that come of it. Tells whether there was no fault.
-fn feed_pieces<A: Allocator, W: Sink>(
-    feeder: &mut LineFeeder<A>,
-    text: &[u8],
-    cuts: Cuts,
-    out: &mut W,
-) -> bool
+fn feed_pieces(feeder: &mut LineFeeder, text: &[u8], cuts: Cuts, out: &mut Told) -> bool
     requires { feeder.old.start + length feeder.old.begun + length text.now ≤ 1000 }
 {
     let mut rest = text;
@@ -117,12 +112,7 @@ fn feed_pieces<A: Allocator, W: Sink>(
 }
 
 /// Feeds a text, and tells how it ends.
-fn feed_text<A: Allocator, W: Sink>(
-    feeder: &mut LineFeeder<A>,
-    text: &[u8],
-    cuts: Cuts,
-    out: &mut W,
-)
+fn feed_text(feeder: &mut LineFeeder, text: &[u8], cuts: Cuts, out: &mut Told)
     requires { feeder.old.start + length feeder.old.begun + length text.now ≤ 1000 }
 {
     if !feed_pieces(feeder, text, cuts, out) && !cuts.told {
@@ -136,7 +126,7 @@ fn feed_text<A: Allocator, W: Sink>(
 }
 
 /// Feeds a text to a new feeder.
-pub(crate) fn feed_anew<A: Allocator, W: Sink>(alloc: A, text: &[u8], cuts: Cuts, out: &mut W) {
+pub(crate) fn feed_anew(alloc: Global, text: &[u8], cuts: Cuts, out: &mut Told) {
     if text.len() > LONGEST {
         return tell_broken(b"too long to be fed", 0, out);
     }
@@ -147,17 +137,17 @@ pub(crate) fn feed_anew<A: Allocator, W: Sink>(alloc: A, text: &[u8], cuts: Cuts
 }
 
 /// Feeds a text in three pieces: the lines have to be those of the whole.
-fn try_cuts<A: Allocator, W: Sink>(alloc: A, text: &[u8], cuts: Cuts, whole: &[u8], out: &mut W) {
-    let mut judge = Judge::new(whole, usize::MAX);
-    feed_anew(alloc, text, cuts, &mut judge);
-    if !judge.is_whole() {
+fn try_cuts(alloc: Global, text: &[u8], cuts: Cuts, whole: &[u8], out: &mut Told) {
+    let mut told = Told::new(alloc);
+    feed_anew(alloc, text, cuts, &mut told);
+    if !told.is(whole) {
         tell_count(b"cut at ", cuts.first as u64, b" and then, ", out);
         tell_broken(b"not the same, cut at", cuts.second as u64, out);
     }
 }
 
 /// Feeds a text in all three pieces into which it can be cut.
-fn try_all_cuts<A: Allocator + Copy, W: Sink>(alloc: A, text: &[u8], whole: &[u8], out: &mut W) {
+fn try_all_cuts(alloc: Global, text: &[u8], whole: &[u8], out: &mut Told) {
     for second in 0..=text.len() {
         for first in 0..=second {
             let cuts = Cuts {
@@ -171,14 +161,11 @@ fn try_all_cuts<A: Allocator + Copy, W: Sink>(alloc: A, text: &[u8], whole: &[u8
 }
 
 /// Tells the lines of a text, and feeds it in pieces where it is short.
-pub(crate) fn play_lines<A: Allocator + Copy, W: Sink>(alloc: A, text: &[u8], out: &mut W) {
-    let Ok(mut whole) = MemorySink::new(alloc, 5000) else {
-        return tell_broken(b"no memory", 0, out);
-    };
+pub(crate) fn play_lines(alloc: Global, text: &[u8], out: &mut Told) {
+    let mut whole = Told::new(alloc);
     tell_lines(text, &mut whole);
-    tell(whole.taken(), out);
+    tell(whole.text(), out);
     if text.len() < 100 {
-        try_all_cuts(alloc, text, whole.taken(), out);
+        try_all_cuts(alloc, text, whole.text(), out);
     }
-    drop(whole);
 }

@@ -2,13 +2,12 @@
 use crate::book::play_book;
 use crate::circuits::{tell_circuits, try_sequences};
 use crate::trie::tell_trie;
-use std::alloc::Allocator;
-use tx_cases::tell_broken;
+use std::alloc::Global;
+use tx_cases::{Told, tell_broken};
 use tx_circuits::CircuitTable;
 use tx_lines::LineBook;
 use tx_plan::Plan;
 use tx_plantext::read_plan;
-use tx_text::Sink;
 use tx_trie::CodeTrie;
 
 /// What is made over a plan, and called.
@@ -22,7 +21,7 @@ pub(crate) enum Over {
 }
 
 /// Makes a trie, and tells what it reads.
-fn over_trie<A: Allocator + Copy, W: Sink>(alloc: A, plan: &Plan<A>, lines: &[u8], out: &mut W) {
+fn over_trie(alloc: Global, plan: &Plan, lines: &[u8], out: &mut Told) {
     match CodeTrie::build(alloc, plan) {
         Ok(trie) => tell_trie(plan, &trie, lines, out),
         Err(_) => tell_broken(b"no memory", 0, out),
@@ -30,7 +29,7 @@ fn over_trie<A: Allocator + Copy, W: Sink>(alloc: A, plan: &Plan<A>, lines: &[u8
 }
 
 /// Makes a line book, and tells what is found in it.
-fn over_book<A: Allocator + Copy, W: Sink>(alloc: A, plan: &Plan<A>, lines: &[u8], out: &mut W) {
+fn over_book(alloc: Global, plan: &Plan, lines: &[u8], out: &mut Told) {
     match LineBook::build(alloc, plan) {
         Ok(mut book) => {
             play_book(&mut book, lines, out);
@@ -41,7 +40,7 @@ fn over_book<A: Allocator + Copy, W: Sink>(alloc: A, plan: &Plan<A>, lines: &[u8
 }
 
 /// Makes a table of circuits, and tells what it gives behind each call.
-fn over_table<A: Allocator + Copy, W: Sink>(alloc: A, plan: &Plan<A>, calls: &[u8], out: &mut W) {
+fn over_table(alloc: Global, plan: &Plan, calls: &[u8], out: &mut Told) {
     match CircuitTable::build(alloc, plan) {
         Ok(mut table) => tell_circuits(&mut table, calls, out),
         Err(_) => tell_broken(b"no memory", 0, out),
@@ -49,13 +48,7 @@ fn over_table<A: Allocator + Copy, W: Sink>(alloc: A, plan: &Plan<A>, calls: &[u
 }
 
 /// Reads a plan, and plays a kind that has one.
-pub(crate) fn with_plan<A: Allocator + Copy, W: Sink>(
-    alloc: A,
-    over: Over,
-    plan: &[u8],
-    calls: &[u8],
-    out: &mut W,
-) {
+pub(crate) fn with_plan(alloc: Global, over: Over, plan: &[u8], calls: &[u8], out: &mut Told) {
     match read_plan(alloc, plan) {
         Ok(plan) => {
             match over {

@@ -7,7 +7,9 @@ use crate::plans::{Over, with_plan};
 use crate::readers::{tell_growths, tell_plan};
 use crate::spelling::{Spelling, next_named, tell_spellings};
 use std::alloc::Global;
-use tx_cases::{Case, named, next_case, next_number, spell, tell_broken, tell_parts, two_texts};
+use tx_cases::{
+    Case, Told, named, next_case, next_number, spell, tell_broken, tell_parts, two_texts,
+};
 use tx_text::{Sink, SliceSource, words};
 
 /// What a case plays.
@@ -74,7 +76,7 @@ fn head_of(head: &[u8]) -> (Option<Kind>, Head<'_>) {
 }
 
 /// Plays each case of a text, and tells its line, and what its kind tells.
-pub fn play_cases<W: Sink>(alloc: Global, cases: &[u8], out: &mut W) {
+pub fn play_cases(alloc: Global, cases: &[u8], out: &mut Told) {
     let mut rest = cases;
     for _ in 0..1000u32 {
         let Some((case, more)) = next_case(rest) else {
@@ -86,7 +88,7 @@ pub fn play_cases<W: Sink>(alloc: Global, cases: &[u8], out: &mut W) {
 }
 
 /// Plays a case, and tells its line, and what its kind tells.
-fn play<W: Sink>(alloc: Global, case: Case<'_>, out: &mut W) {
+fn play(alloc: Global, case: Case<'_>, out: &mut Told) {
     tell_parts(&[b"=== ", case.head, b"\n"], out);
     let (kind, head) = head_of(case.head);
     let mut text = Vec::new(alloc);
@@ -98,7 +100,7 @@ fn play<W: Sink>(alloc: Global, case: Case<'_>, out: &mut W) {
     drop(text);
 }
 
-fn play_text<W: Sink>(alloc: Global, kind: Kind, head: Head<'_>, text: &[u8], out: &mut W) {
+fn play_text(alloc: Global, kind: Kind, head: Head<'_>, text: &[u8], out: &mut Told) {
     let (first, second) = (head.first as usize, head.second as usize);
     match kind {
         Kind::Spelled(spelling) => tell_spellings(spelling, head.first, head.second, text, out),

@@ -1,9 +1,9 @@
 // The readers of a small plan, as many entries as there may be, and want of memory.
 use refusing::Refusing;
-use std::alloc::Allocator;
-use tx_cases::{tell, tell_broken, tell_count};
+use std::alloc::{Allocator, Global};
+use tx_cases::{Told, tell, tell_broken, tell_count};
 use tx_plan::{CodeId, Direction, ExchangeId, GroupId, Plan, PlanBuilder, PlanRefusal};
-use tx_text::{Sink, words};
+use tx_text::words;
 
 /// One declaration of a small plan.
 fn declare<A: Allocator>(plan: &mut PlanBuilder<A>, step: usize) -> Result<(), PlanRefusal> {
@@ -35,7 +35,7 @@ fn declare_all<A: Allocator>(plan: &mut PlanBuilder<A>, wanting: &mut [bool; 8])
 }
 
 /// Tells how many exchanges, codes, ranges, groups, routes and bars.
-fn tell_sizes<A: Allocator, W: Sink>(plan: &Plan<A>, out: &mut W) {
+fn tell_sizes(plan: &Plan, out: &mut Told) {
     let sizes = [
         plan.exchanges(),
         plan.codes(),
@@ -54,7 +54,7 @@ const ALFA: u16 = 0;
 
 const BETA: u16 = 1;
 
-fn has_places<A: Allocator>(plan: &Plan<A>) -> bool {
+fn has_places(plan: &Plan) -> bool {
     plan.exchange_at(1) == Some(ExchangeId::at(BETA))
         && plan.code_at(1) == Some(CodeId::at(1))
         && plan.group_at(0) == Some(GroupId::at(0))
@@ -62,33 +62,33 @@ fn has_places<A: Allocator>(plan: &Plan<A>) -> bool {
         && plan.bar_at(0) == Some((ExchangeId::at(BETA), CodeId::at(0)))
 }
 
-fn has_range<A: Allocator>(plan: &Plan<A>) -> bool {
+fn has_range(plan: &Plan) -> bool {
     match plan.range_at(0) {
         Some(range) => range.high.bytes() == b"099".as_slice(),
         None => false,
     }
 }
 
-fn has_line<A: Allocator>(plan: &Plan<A>) -> bool {
+fn has_line(plan: &Plan) -> bool {
     match plan.line_at(CodeId::at(0), b"007") {
         Some(line) => line.national.bytes() == b"007".as_slice(),
         None => false,
     }
 }
 
-fn has_names<A: Allocator>(plan: &Plan<A>) -> bool {
+fn has_names(plan: &Plan) -> bool {
     plan.exchange_named(b"BETA") == Some(ExchangeId::at(BETA))
         && plan.code_named(b"51") == Some(CodeId::at(1))
         && plan.group_named(b"G1") == Some(GroupId::at(0))
 }
 
-fn gives_names<A: Allocator>(plan: &Plan<A>) -> bool {
+fn gives_names(plan: &Plan) -> bool {
     plan.exchange_name(ExchangeId::at(BETA)) == b"BETA".as_slice()
         && plan.code_figures(CodeId::at(1)) == b"51".as_slice()
         && plan.group_name(GroupId::at(0)) == b"G1".as_slice()
 }
 
-fn has_routes<A: Allocator>(plan: &Plan<A>) -> bool {
+fn has_routes(plan: &Plan) -> bool {
     let (alfa, beta) = (ExchangeId::at(ALFA), ExchangeId::at(BETA));
     plan.home(CodeId::at(1)) == beta
         && plan.list(alfa, CodeId::at(1)) == [GroupId::at(0)].as_slice()
@@ -97,7 +97,7 @@ fn has_routes<A: Allocator>(plan: &Plan<A>) -> bool {
         && plan.is_origin_for(alfa, CodeId::at(1))
 }
 
-fn has_groups<A: Allocator>(plan: &Plan<A>) -> bool {
+fn has_groups(plan: &Plan) -> bool {
     let (alfa, beta) = (ExchangeId::at(ALFA), ExchangeId::at(BETA));
     let group = GroupId::at(0);
     plan.direction(group) == Direction::BothWay
@@ -108,7 +108,7 @@ fn has_groups<A: Allocator>(plan: &Plan<A>) -> bool {
 }
 
 /// Tells what the readers of the small plan answer.
-fn tell_readers<A: Allocator, W: Sink>(plan: &Plan<A>, out: &mut W) {
+fn tell_readers(plan: &Plan, out: &mut Told) {
     plan.rules();
     let answers = [
         has_places(plan),
@@ -161,7 +161,7 @@ fn fill<A: Allocator>(plan: &mut PlanBuilder<A>) {
 }
 
 /// Tells what the small plan holds, or how much one does that has more than there may be.
-pub(crate) fn tell_plan<A: Allocator + Copy, W: Sink>(alloc: A, full: bool, out: &mut W) {
+pub(crate) fn tell_plan(alloc: Global, full: bool, out: &mut Told) {
     let mut builder = PlanBuilder::new(alloc);
     let _ = declare_all(&mut builder, &mut [false; 8]);
     if full {
@@ -176,12 +176,7 @@ pub(crate) fn tell_plan<A: Allocator + Copy, W: Sink>(alloc: A, full: bool, out:
 }
 
 /// Declares the small plan with one request for memory refused, marks what found none, and tells whether the request came.
-fn declare_without<A: Allocator + Copy, W: Sink>(
-    alloc: A,
-    request: u64,
-    wanting: &mut [bool; 8],
-    out: &mut W,
-) -> bool {
+fn declare_without(alloc: Global, request: u64, wanting: &mut [bool; 8], out: &mut Told) -> bool {
     let refusing = Refusing::new(alloc, request);
     let mut builder = PlanBuilder::new(&refusing);
     if !declare_all(&mut builder, wanting) {
@@ -192,7 +187,7 @@ fn declare_without<A: Allocator + Copy, W: Sink>(
 }
 
 /// Refuses each request for memory in turn, until none is refused, and tells which declarations take memory: the first of each kind.
-pub(crate) fn tell_growths<A: Allocator + Copy, W: Sink>(alloc: A, out: &mut W) {
+pub(crate) fn tell_growths(alloc: Global, out: &mut Told) {
     let mut wanting = [false; 8];
     for request in 1..100u64 {
         if !declare_without(alloc, request, &mut wanting, out) {

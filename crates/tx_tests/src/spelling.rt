@@ -1,6 +1,6 @@
 // What lines are read as: words, names, figures and numbers.
-use tx_cases::{named, next_line, tell, tell_count, tell_parts};
-use tx_text::{Figures, Name, Sink, Words, are_figures, is_name, number, words};
+use tx_cases::{Told, named, next_line, tell, tell_count, tell_parts};
+use tx_text::{Figures, Name, Words, are_figures, is_name, number, words};
 
 /// What a line is read as.
 #[derive(Clone, Copy)]
@@ -22,7 +22,7 @@ pub(crate) fn next_named<T: Copy>(table: &[(&'static str, T)], words: &mut Words
 }
 
 /// Tells words, and how many the same once more are.
-pub(crate) fn tell_words<W: Sink>(words: &Words<'_>, out: &mut W) {
+pub(crate) fn tell_words(words: &Words<'_>, out: &mut Told) {
     let mut count = 0u64;
     for _word in words.again() {
         count = count.saturating_add(1);
@@ -35,7 +35,7 @@ pub(crate) fn tell_words<W: Sink>(words: &Words<'_>, out: &mut W) {
 }
 
 /// Tells what was read of a line, if anything was, and whether the line is of the form.
-fn tell_read<W: Sink>(read: Option<&[u8]>, is_one: bool, out: &mut W) {
+fn tell_read(read: Option<&[u8]>, is_one: bool, out: &mut Told) {
     match read {
         Some(bytes) => tell_parts(&[b"[", bytes, b"]"], out),
         None => tell(b"none", out),
@@ -49,7 +49,7 @@ fn tell_read<W: Sink>(read: Option<&[u8]>, is_one: bool, out: &mut W) {
 }
 
 /// Tells what a line is.
-fn tell_line<W: Sink>(spelling: Spelling, first: u32, second: u32, line: &[u8], out: &mut W) {
+fn tell_line(spelling: Spelling, first: u32, second: u32, line: &[u8], out: &mut Told) {
     match spelling {
         Spelling::Words => tell_words(&words(line), out),
         Spelling::Name => match Name::read(line) {
@@ -71,12 +71,12 @@ fn tell_line<W: Sink>(spelling: Spelling, first: u32, second: u32, line: &[u8], 
 }
 
 /// Tells what each line of a text is.
-pub(crate) fn tell_spellings<W: Sink>(
+pub(crate) fn tell_spellings(
     spelling: Spelling,
     first: u32,
     second: u32,
     text: &[u8],
-    out: &mut W,
+    out: &mut Told,
 ) {
     let mut rest = text;
     for _ in 0..text.len() {

@@ -1,17 +1,11 @@
 // Codes that are read of figures.
-use std::alloc::Allocator;
-use tx_cases::{next_line, tell, tell_parts};
+use std::alloc::Global;
+use tx_cases::{Told, next_line, tell, tell_parts};
 use tx_plan::Plan;
-use tx_text::Sink;
 use tx_trie::CodeTrie;
 
 /// Tells the least pair of codes of which one begins the other, and the code that is read of each line.
-pub(crate) fn tell_trie<A: Allocator, W: Sink>(
-    plan: &Plan<A>,
-    trie: &CodeTrie<A>,
-    lines: &[u8],
-    out: &mut W,
-) {
+pub(crate) fn tell_trie(plan: &Plan, trie: &CodeTrie, lines: &[u8], out: &mut Told) {
     match trie.ambiguous() {
         Some((shorter, longer)) => {
             let (shorter, longer) = (plan.code_figures(shorter), plan.code_figures(longer));

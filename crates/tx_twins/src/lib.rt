@@ -6,7 +6,7 @@
 //! before the last event number. Four short ones, each in another mood, are played with each request for memory refused to the engine in turn: that changes nothing, and the same
 //! event given again has its reply.
 //!
-//! It writes how many events there were, and how many of them had each reply, by the plain network's replies: this shows what the scripts
+//! It tells how many events there were, and how many of them had each reply, by the plain network's replies: this shows what the scripts
 //! reach, and says nothing of what is right. Where the networks differ it tells the plan, the script, the event and the difference.
 #![tactic(auto)]
 

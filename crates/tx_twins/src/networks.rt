@@ -21,11 +21,7 @@ fn play_engine<'m, M: Network>(
     engine_plan: &Plan<&'m Refusing<Global>>,
     tally: &mut Tally,
 ) -> Result<(), Stop> {
-    let made = match (script.numbers, script.events) {
-        (0, 0) => Engine::new(memory, engine_plan),
-        (numbers, events) => Engine::starting_at(memory, engine_plan, numbers, events),
-    };
-    match made {
+    match Engine::starting_at(memory, engine_plan, script.numbers, script.events) {
         Ok(mut engine) => {
             let played = play(alloc, plan, script, plain, &mut engine, memory, tally);
             drop(engine);

@@ -1,13 +1,13 @@
 // Plays the scripts of all plans.
 use crate::networks::{play_refusing_each, play_script};
 use crate::script::Script;
-use crate::stop::{Stop, write_stop};
-use crate::tally::{Tallies, Tally, write_events, write_tallies};
+use crate::stop::{Stop, tell_stop};
+use crate::tally::{Tallies, Tally, tell_events, tell_tallies};
 use std::alloc::Global;
-use tx_cases::{Case, next_case, next_number};
+use tx_cases::{Case, Told, next_case, next_number, next_word};
 use tx_plan::Plan;
 use tx_plantext::read_plan;
-use tx_text::{Sink, WriteFault, words};
+use tx_text::words;
 
 /// How many events a script has that begins in the opening state.
 const LENGTH: u32 = 6000;
@@ -83,31 +83,31 @@ fn read_and_play(
     }
 }
 
-/// Plays the scripts of a plan, whose line `=== NAME n` says that at most n calls are to be open, and writes how many events they have.
-fn play_case<W: Sink>(
+/// Plays the scripts of a plan, whose line `=== NAME n` says that at most n calls are to be open, and tells how many events they have.
+fn play_case(
     alloc: Global,
     case: Case<'_>,
     seed: u64,
     tallies: &mut Tallies,
-    out: &mut W,
+    out: &mut Told,
 ) -> Result<(), Stop> {
     let mut head = words(case.head);
-    let name = head.next().unwrap_or(b"".as_slice());
+    let name = next_word(&mut head);
     let most = next_number(&mut head, 10_000) as usize;
     let (events, accepted) = (tallies.whole.events, tallies.whole.accepted);
     let played = read_and_play(alloc, case.texts, most, seed, tallies);
     let events = tallies.whole.events.saturating_sub(events);
     let accepted = tallies.whole.accepted.saturating_sub(accepted);
-    write_events(name, events, accepted, out)?;
+    tell_events(name, events, accepted, out);
     played
 }
 
 /// Plays the scripts of all plans.
-fn play_cases<W: Sink>(
+fn play_cases(
     alloc: Global,
     text: &[u8],
     tallies: &mut Tallies,
-    out: &mut W,
+    out: &mut Told,
 ) -> Result<(), Stop> {
     let mut rest = text;
     for seed in 0..1000u64 {
@@ -120,17 +120,12 @@ fn play_cases<W: Sink>(
     Ok(())
 }
 
-fn play_and_count<W: Sink>(alloc: Global, text: &[u8], out: &mut W) -> Result<(), WriteFault> {
+/// Plays the scripts of all plans, and tells what was counted, and why it stopped where it did.
+pub fn play_all(alloc: Global, text: &[u8], out: &mut Told) {
     let mut tallies = Tallies::new();
     let played = play_cases(alloc, text, &mut tallies, out);
-    write_tallies(&tallies, out)?;
-    match played {
-        Ok(()) => Ok(()),
-        Err(stop) => write_stop(stop, tallies.difference(), out),
+    tell_tallies(&tallies, out);
+    if let Err(stop) = played {
+        tell_stop(stop, tallies.difference(), out);
     }
-}
-
-/// Plays the scripts of all plans, and writes what was counted, and why it stopped where it did.
-pub fn play_all<W: Sink>(alloc: Global, text: &[u8], out: &mut W) {
-    let _ = play_and_count(alloc, text, out);
 }

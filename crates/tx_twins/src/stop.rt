@@ -1,7 +1,7 @@
 // Why the program stops before its end.
 use crate::twins::Difference;
-use tx_cases::{write_broken, write_count};
-use tx_text::{NoMemory, Sink, WriteFault};
+use tx_cases::{Told, tell_broken, tell_count};
+use tx_text::NoMemory;
 
 /// Why the program stops before its end.
 #[derive(Clone, Copy)]
@@ -9,8 +9,6 @@ pub enum Stop {
     /// The file of plans is none.
     BadPlans,
     NoMemory,
-    /// Nothing can be written.
-    Write,
     /// The networks differ: the tally has how.
     Differs,
 }
@@ -31,29 +29,18 @@ impl From<NoMemory> for Stop {
     }
 }
 
-impl From<WriteFault> for Stop {
-    fn from(_: WriteFault) -> Stop {
-        Stop::Write
-    }
-}
-
 /// Tells in what the networks differ, and after which event of which script.
-fn write_differs<W: Sink>(differs: &Differs, out: &mut W) -> Result<(), WriteFault> {
-    write_broken(differs.difference.law(), u64::from(differs.place), out)?;
-    write_count(b"of the script of seed ", differs.seed, b"\n", out)
+fn tell_differs(differs: &Differs, out: &mut Told) {
+    tell_broken(differs.difference.law(), u64::from(differs.place), out);
+    tell_count(b"of the script of seed ", differs.seed, b"\n", out);
 }
 
-/// Writes why the program stopped.
-pub fn write_stop<W: Sink>(
-    stop: Stop,
-    differs: Option<Differs>,
-    out: &mut W,
-) -> Result<(), WriteFault> {
+/// Tells why the program stopped.
+pub fn tell_stop(stop: Stop, differs: Option<Differs>, out: &mut Told) {
     match (stop, differs) {
-        (Stop::BadPlans, _) => write_broken(b"no plan", 0, out),
-        (Stop::NoMemory, _) => write_broken(b"no memory", 0, out),
-        (Stop::Write, _) => Err(WriteFault),
-        (Stop::Differs, Some(differs)) => write_differs(&differs, out),
-        (Stop::Differs, None) => write_broken(b"the networks differ", 0, out),
+        (Stop::BadPlans, _) => tell_broken(b"no plan", 0, out),
+        (Stop::NoMemory, _) => tell_broken(b"no memory", 0, out),
+        (Stop::Differs, Some(differs)) => tell_differs(&differs, out),
+        (Stop::Differs, None) => tell_broken(b"the networks differ", 0, out),
     }
 }

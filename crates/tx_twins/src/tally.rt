@@ -1,10 +1,9 @@
 // Counts of events, by their replies, and of tickets, by their causes.
 use crate::stop::Differs;
-use tx_cases::write_count;
+use tx_cases::{Told, tell, tell_count, tell_parts};
 use tx_state::{Cause, Event, Refusal, Reply, Service};
-use tx_text::{Sink, WriteFault, write_bytes, write_parts};
 
-/// The names of what is counted, in the order in which the counts are written.
+/// The names of what is counted, in the order in which the counts are told.
 static REPLIES: [&str; 12] = [
     "keyed",
     "seized",
@@ -203,54 +202,44 @@ impl Tallies {
     }
 }
 
-/// Writes counts under a name, each in a line behind its own name.
-fn write_counts<W: Sink>(
-    name: &[u8],
-    names: &[&'static str],
-    counts: &[u64],
-    out: &mut W,
-) -> Result<(), WriteFault> {
-    write_parts(&[name, b" {\n"], out)?;
+/// Tells counts under a name, each in a line behind its own name.
+fn tell_counts(name: &[u8], names: &[&'static str], counts: &[u64], out: &mut Told) {
+    tell_parts(&[name, b" {\n"], out);
     for (name, count) in names.iter().zip(counts) {
-        write_parts(&[b"    ", name.as_bytes()], out)?;
-        write_count(b": ", *count, b",\n", out)?;
+        tell_parts(&[b"    ", name.as_bytes()], out);
+        tell_count(b": ", *count, b",\n", out);
     }
-    write_bytes(b"}\n", out)
+    tell(b"}\n", out);
 }
 
-/// Writes which events met a refused request.
-fn write_wants<W: Sink>(wants: &[u64], out: &mut W) -> Result<(), WriteFault> {
-    write_bytes(b"Wants {\n", out)?;
+/// Tells which events met a refused request.
+fn tell_wants(wants: &[u64], out: &mut Told) {
+    tell(b"Wants {\n", out);
     for (name, count) in WANTS.iter().zip(wants) {
         let met = if *count > 0 {
             b": true,\n".as_slice()
         } else {
             b": false,\n"
         };
-        write_parts(&[b"    ", name.as_bytes(), met], out)?;
+        tell_parts(&[b"    ", name.as_bytes(), met], out);
     }
-    write_bytes(b"}\n", out)
+    tell(b"}\n", out);
 }
 
-/// Writes how many events there were, and how many of them were accepted.
-pub fn write_events<W: Sink>(
-    name: &[u8],
-    events: u64,
-    accepted: u64,
-    out: &mut W,
-) -> Result<(), WriteFault> {
-    write_bytes(name, out)?;
-    write_count(b": ", events, b" events, ", out)?;
-    write_count(b"", accepted, b" of them accepted\n", out)
+/// Tells how many events there were, and how many of them were accepted.
+pub fn tell_events(name: &[u8], events: u64, accepted: u64, out: &mut Told) {
+    tell(name, out);
+    tell_count(b": ", events, b" events, ", out);
+    tell_count(b"", accepted, b" of them accepted\n", out);
 }
 
-/// Writes what was counted, and which events met a refused request.
-pub fn write_tallies<W: Sink>(tallies: &Tallies, out: &mut W) -> Result<(), WriteFault> {
+/// Tells what was counted, and which events met a refused request.
+pub fn tell_tallies(tallies: &Tallies, out: &mut Told) {
     let tally = &tallies.whole;
-    write_events(b"in all", tally.events, tally.accepted, out)?;
-    write_counts(b"Replies", &REPLIES, &tally.replies, out)?;
-    write_counts(b"Services", &SERVICES, &tally.answers, out)?;
-    write_counts(b"Refusals", &REFUSALS, &tally.refusals, out)?;
-    write_counts(b"Causes", &CAUSES, &tally.causes, out)?;
-    write_wants(&tallies.refusing.wants, out)
+    tell_events(b"in all", tally.events, tally.accepted, out);
+    tell_counts(b"Replies", &REPLIES, &tally.replies, out);
+    tell_counts(b"Services", &SERVICES, &tally.answers, out);
+    tell_counts(b"Refusals", &REFUSALS, &tally.refusals, out);
+    tell_counts(b"Causes", &CAUSES, &tally.causes, out);
+    tell_wants(&tallies.refusing.wants, out);
 }

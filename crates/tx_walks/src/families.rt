@@ -7,7 +7,7 @@
 //
 // The plans of a family are numbered from 0. Each line takes from the number, by division, which of its ways the plan goes.
 use crate::lists::{count_lists, count_words, put_list, put_words};
-use tx_cases::{next_line, next_number};
+use tx_cases::{named, next_line, next_number, next_word};
 use tx_text::{NoMemory, Words, words};
 
 /// What a line of a family is.
@@ -33,9 +33,9 @@ struct Choice<'a> {
 fn choice_of<'a>(line: &mut Words<'a>, has_two: bool) -> Choice<'a> {
     let _kind = line.next();
     let most = next_number(line, 16);
-    let first = line.next().unwrap_or(b"".as_slice());
+    let first = next_word(line);
     let second = if has_two {
-        line.next().unwrap_or(b"".as_slice())
+        next_word(line)
     } else {
         b"".as_slice()
     };
@@ -46,21 +46,16 @@ fn choice_of<'a>(line: &mut Words<'a>, has_two: bool) -> Choice<'a> {
     }
 }
 
+static KINDS: [(&str, Kind); 5] = [
+    ("EITHER", Kind::Either),
+    ("OR", Kind::Or),
+    ("END", Kind::End),
+    ("ROUTES", Kind::Routes),
+    ("CODES", Kind::Codes),
+];
+
 fn kind_of(line: &[u8]) -> Kind {
-    let word = words(line).next().unwrap_or(b"".as_slice());
-    if word == b"EITHER".as_slice() {
-        Kind::Either
-    } else if word == b"OR".as_slice() {
-        Kind::Or
-    } else if word == b"END".as_slice() {
-        Kind::End
-    } else if word == b"ROUTES".as_slice() {
-        Kind::Routes
-    } else if word == b"CODES".as_slice() {
-        Kind::Codes
-    } else {
-        Kind::Plain
-    }
+    named(&KINDS, next_word(&mut words(line))).unwrap_or(Kind::Plain)
 }
 
 /// How many passages stand from here to `END`.

@@ -8,19 +8,19 @@ use crate::families::{count_plans, put_plan};
 use crate::grades::grade_agrees;
 use crate::replay::Replay;
 use crate::scripts::{Judged, ScriptTally, scripts_differ};
-use crate::stop::{Stop, write_stop};
+use crate::stop::{Stop, tell_stop};
 use crate::survey::Survey;
-use crate::tally::{Tally, write_tally};
+use crate::tally::{Tally, tell_tally};
 use crate::walks::{Steps, note_all_walks};
 use crate::wanted::{Wanted, put_wanted};
 use std::alloc::Global;
-use tx_cases::next_case;
+use tx_cases::{Told, next_case, tell};
 use tx_cert::Cert;
 use tx_check::{Verdict, check};
 use tx_plan::{CodeId, Plan};
 use tx_plantext::read_plan;
 use tx_rank::{Finding, Ranking, rank};
-use tx_text::{NoMemory, Sink, write_bytes};
+use tx_text::NoMemory;
 
 /// The limits 0 to 2 are tried, and the spare numbers 0 to 2.
 const NUMBERS: u8 = 3;
@@ -246,30 +246,25 @@ fn judge_family(alloc: Global, lines: &[u8], room: &mut Room) -> Result<Tally, S
     Ok(tally)
 }
 
-/// Judges all families of a text, and writes what there was.
-fn judge_families<W: Sink>(
-    alloc: Global,
-    text: &[u8],
-    room: &mut Room,
-    out: &mut W,
-) -> Result<(), Stop> {
+/// Judges all families of a text, and tells what there was.
+fn judge_families(alloc: Global, text: &[u8], room: &mut Room, out: &mut Told) -> Result<(), Stop> {
     let mut rest = text;
     for _ in 0..text.len() {
         let Some((family, more)) = next_case(rest) else {
             break;
         };
         let tally = judge_family(alloc, family.texts, room)?;
-        write_tally(family.head, &tally, out)?;
+        tell_tally(family.head, &tally, out);
         rest = more;
     }
     Ok(())
 }
 
-/// Judges all families of a text, and writes what there was, or why it stopped and the plan where it did.
-pub fn judge_all<W: Sink>(alloc: Global, text: &[u8], out: &mut W) {
+/// Judges all families of a text, and tells what there was, or why it stopped and the plan where it did.
+pub fn judge_all(alloc: Global, text: &[u8], out: &mut Told) {
     let mut room = Room::new(alloc);
-    let _ = match judge_families(alloc, text, &mut room, out) {
-        Ok(()) => write_bytes(b"all agree\n", out),
-        Err(stop) => write_stop(stop, room.difference(), room.plan.as_slice(), out),
-    };
+    match judge_families(alloc, text, &mut room, out) {
+        Ok(()) => tell(b"all agree\n", out),
+        Err(stop) => tell_stop(stop, room.difference(), room.plan.as_slice(), out),
+    }
 }

@@ -38,7 +38,23 @@ fn put_replies(
     }
 }
 
-/// Makes the list of the exchanges that the call passes: where its line is at home, and each to which it went on. No event is of another call.
+/// Adds the exchange that the call passes by an event: where its line is at home, or to which it went on.
+fn put_passed_by(
+    plan: &Plan,
+    event: &Event,
+    reply: &Reply,
+    passed: &mut Vec<ExchangeId>,
+) -> Result<(), NoMemory> {
+    if let Event::Key { line, keyed: _ } = event {
+        passed.push(plan.home(line.code))?;
+    }
+    if let Reply::At(exchange) = reply {
+        passed.push(*exchange)?;
+    }
+    Ok(())
+}
+
+/// Makes the list of the exchanges that the call passes. No event is of another call.
 fn put_passed(
     plan: &Plan,
     events: &[Event],
@@ -47,12 +63,7 @@ fn put_passed(
 ) -> Result<(), NoMemory> {
     passed.clear();
     for (event, reply) in events.iter().zip(replies) {
-        if let Event::Key { line, keyed: _ } = event {
-            passed.push(plan.home(line.code))?;
-        }
-        if let Reply::At(exchange) = reply {
-            passed.push(*exchange)?;
-        }
+        put_passed_by(plan, event, reply, passed)?;
     }
     Ok(())
 }

@@ -1,7 +1,7 @@
 // Why the program stops before its end.
 use crate::compare::Difference;
-use tx_cases::write_count;
-use tx_text::{NoMemory, Sink, WriteFault, write_bytes};
+use tx_cases::{Told, tell, tell_count};
+use tx_text::NoMemory;
 
 /// Why the program stops before its end.
 #[derive(Clone, Copy)]
@@ -9,7 +9,6 @@ pub enum Stop {
     /// The text of a plan is refused, at this line.
     Refused(u64),
     NoMemory,
-    Write,
     /// The answer for this limit and spare number differs from what the walks show.
     Differs(u8, u8),
 }
@@ -17,12 +16,6 @@ pub enum Stop {
 impl From<NoMemory> for Stop {
     fn from(_: NoMemory) -> Stop {
         Stop::NoMemory
-    }
-}
-
-impl From<WriteFault> for Stop {
-    fn from(_: WriteFault) -> Stop {
-        Stop::Write
     }
 }
 
@@ -40,23 +33,17 @@ fn said(difference: Difference) -> (&'static [u8], u64) {
     }
 }
 
-/// Writes why the program stopped, and the plan where it did.
-pub fn write_stop<W: Sink>(
-    stop: Stop,
-    difference: Option<Difference>,
-    plan: &[u8],
-    out: &mut W,
-) -> Result<(), WriteFault> {
+/// Tells why the program stopped, and the plan where it did.
+pub fn tell_stop(stop: Stop, difference: Option<Difference>, plan: &[u8], out: &mut Told) {
     match stop {
-        Stop::Refused(line) => write_count(b"refused: line ", line, b"\n", out)?,
-        Stop::NoMemory => write_bytes(b"no memory\n", out)?,
-        Stop::Write => {}
+        Stop::Refused(line) => tell_count(b"refused: line ", line, b"\n", out),
+        Stop::NoMemory => tell(b"no memory\n", out),
         Stop::Differs(limit, spare) => {
-            write_count(b"limit ", u64::from(limit), b", ", out)?;
-            write_count(b"spare ", u64::from(spare), b": ", out)?;
+            tell_count(b"limit ", u64::from(limit), b", ", out);
+            tell_count(b"spare ", u64::from(spare), b": ", out);
             let (word, place) = said(difference.unwrap_or(Difference::Count));
-            write_count(word, place, b"\n", out)?;
+            tell_count(word, place, b"\n", out);
         }
     }
-    write_bytes(plan, out)
+    tell(plan, out);
 }

@@ -2,8 +2,7 @@
 use crate::scripts::ScriptTally;
 use crate::survey::Survey;
 use crate::wanted::Wanted;
-use tx_cases::write_count;
-use tx_text::{Sink, WriteFault, write_bytes};
+use tx_cases::{Told, tell, tell_count};
 
 /// Counts of plans and of answers.
 #[derive(Clone, Copy, Default)]
@@ -63,32 +62,39 @@ impl Tally {
     }
 }
 
-/// Writes texts, each with the count behind it.
-fn write_told<W: Sink>(list: &[(&'static str, u64)], out: &mut W) -> Result<(), WriteFault> {
-    for (before, count) in list {
-        write_count(before.as_bytes(), *count, b"", out)?;
-    }
-    Ok(())
-}
+/// What stands before each count of a family.
+static BEFORE: [&str; 11] = [
+    ": ",
+    " plans, ",
+    " rankings\n- ",
+    " found, with ranks of ",
+    " in all\n- ",
+    " fail, by ",
+    " ambiguous pairs, ",
+    " loops, ",
+    " short walks of ",
+    " steps in all, ",
+    " long walks\n- ",
+];
 
-/// Writes what there was in a family.
-pub fn write_tally<W: Sink>(name: &[u8], tally: &Tally, out: &mut W) -> Result<(), WriteFault> {
-    write_bytes(name, out)?;
-    write_told(
-        &[
-            (": ", tally.plans),
-            (" plans, ", tally.rankings),
-            (" rankings\n- ", tally.found),
-            (" found, with ranks of ", tally.ranks),
-            (" in all\n- ", tally.failed),
-            (" fail, by ", tally.ambiguous),
-            (" ambiguous pairs, ", tally.loops),
-            (" loops, ", tally.shorts),
-            (" short walks of ", tally.steps),
-            (" steps in all, ", tally.longs),
-            (" long walks\n- ", tally.scripts.findings),
-        ],
-        out,
-    )?;
-    write_bytes(b" loops and walks judged by their events\n", out)
+/// Tells what there was in a family.
+pub fn tell_tally(name: &[u8], tally: &Tally, out: &mut Told) {
+    let counts = [
+        tally.plans,
+        tally.rankings,
+        tally.found,
+        tally.ranks,
+        tally.failed,
+        tally.ambiguous,
+        tally.loops,
+        tally.shorts,
+        tally.steps,
+        tally.longs,
+        tally.scripts.findings,
+    ];
+    tell(name, out);
+    for (before, count) in BEFORE.iter().zip(&counts) {
+        tell_count(before.as_bytes(), *count, b"", out);
+    }
+    tell(b" loops and walks judged by their events\n", out);
 }

@@ -1,8 +1,8 @@
 // Events that are driven through a network after a Yes of the checker.
 use crate::driven::try_drives;
 use crate::runs::Over;
-use std::alloc::Allocator;
-use tx_cases::{next_line, says_no_event, tell, tell_broken, tell_count, two_texts};
+use std::alloc::Global;
+use tx_cases::{Told, next_line, says_no_event, tell, tell_broken, tell_count, two_texts};
 use tx_cert::read_cert;
 use tx_check::{Verdict, check};
 use tx_engine::{Played, play};
@@ -11,16 +11,11 @@ use tx_plan::Plan;
 use tx_plantext::read_plan;
 use tx_script::read_event;
 use tx_state::{Event, Network, Reply, drive};
-use tx_text::{NoMemory, Sink};
+use tx_text::NoMemory;
 use tx_tickets::{write_reply, write_ticket};
 
 /// Adds the event that a line of a script says, if it says one.
-fn put_event<A: Allocator, B: Allocator, W: Sink>(
-    plan: &Plan<A>,
-    line: &[u8],
-    events: &mut Vec<Event, B>,
-    out: &mut W,
-) {
+fn put_event(plan: &Plan, line: &[u8], events: &mut Vec<Event>, out: &mut Told) {
     if says_no_event(line) {
         return;
     }
@@ -34,12 +29,7 @@ fn put_event<A: Allocator, B: Allocator, W: Sink>(
 }
 
 /// Adds the events of a script.
-fn put_events<A: Allocator, B: Allocator, W: Sink>(
-    plan: &Plan<A>,
-    script: &[u8],
-    events: &mut Vec<Event, B>,
-    out: &mut W,
-) {
+fn put_events(plan: &Plan, script: &[u8], events: &mut Vec<Event>, out: &mut Told) {
     let mut rest = script;
     for _ in 0..script.len() {
         let Some((line, behind)) = next_line(rest) else {
@@ -50,19 +40,14 @@ fn put_events<A: Allocator, B: Allocator, W: Sink>(
     }
 }
 
-fn tell_replies<A: Allocator, W: Sink>(plan: &Plan<A>, replies: &[Reply], out: &mut W) {
+fn tell_replies(plan: &Plan, replies: &[Reply], out: &mut Told) {
     for reply in replies {
         let _ = write_reply(reply, plan, out);
     }
 }
 
 /// Writes the replies, then the tickets, and then how many events were accepted and calls are open.
-fn tell_driven<A: Allocator, N: Network, W: Sink>(
-    plan: &Plan<A>,
-    net: &mut N,
-    replies: &[Reply],
-    out: &mut W,
-) {
+fn tell_driven(plan: &Plan, net: &mut Plain<'_>, replies: &[Reply], out: &mut Told) {
     tell_replies(plan, replies, out);
     for _ in 0..=replies.len() {
         match net.next_ticket() {
@@ -78,12 +63,12 @@ fn tell_driven<A: Allocator, N: Network, W: Sink>(
 }
 
 /// Drives the events through a new plain network of the plan, and tells what comes of it.
-fn drive_plain<A: Allocator + Copy, W: Sink>(
-    alloc: A,
-    plan: &Plan<A>,
+fn drive_plain(
+    alloc: Global,
+    plan: &Plan,
     events: &[Event],
-    replies: &mut Vec<Reply, A>,
-    out: &mut W,
+    replies: &mut Vec<Reply>,
+    out: &mut Told,
 ) {
     match Plain::new(alloc, plan) {
         Ok(mut net) => {
@@ -98,7 +83,7 @@ fn drive_plain<A: Allocator + Copy, W: Sink>(
 }
 
 /// Tells what events that were played on the engine came to.
-fn tell_played<A: Allocator + Copy, W: Sink>(plan: &Plan<A>, played: &Played<'_, A>, out: &mut W) {
+fn tell_played(plan: &Plan, played: &Played<'_>, out: &mut Told) {
     tell_replies(plan, played.replies.as_slice(), out);
     for ticket in played.tickets.as_slice() {
         let _ = write_ticket(ticket, plan, out);
@@ -108,13 +93,7 @@ fn tell_played<A: Allocator + Copy, W: Sink>(plan: &Plan<A>, played: &Played<'_,
 }
 
 /// Whether the checker says Yes to a certificate of the plan.
-fn is_certified<A: Allocator + Copy>(
-    alloc: A,
-    plan: &Plan<A>,
-    cert: &[u8],
-    limit: u8,
-    spare: u8,
-) -> bool {
+fn is_certified(alloc: Global, plan: &Plan, cert: &[u8], limit: u8, spare: u8) -> bool {
     match read_cert(alloc, cert, plan) {
         Ok(cert) => {
             let verdict = check(plan, &cert, limit.min(62), spare.min(15));
@@ -134,13 +113,7 @@ struct Texts<'a> {
 }
 
 /// Drives the events through a plain network, and again where memory is refused.
-fn drive_over_plain<A: Allocator + Copy, W: Sink>(
-    alloc: A,
-    plan: &Plan<A>,
-    text: &[u8],
-    events: &[Event],
-    out: &mut W,
-) {
+fn drive_over_plain(alloc: Global, plan: &Plan, text: &[u8], events: &[Event], out: &mut Told) {
     let mut replies = Vec::new(alloc);
     drive_plain(alloc, plan, events, &mut replies, out);
     try_drives(alloc, Over::Plain, text, events, replies.as_slice(), out);
@@ -148,13 +121,7 @@ fn drive_over_plain<A: Allocator + Copy, W: Sink>(
 }
 
 /// Plays the events on the engine, and drives them again where memory is refused.
-fn play_on_engine<A: Allocator + Copy, W: Sink>(
-    alloc: A,
-    plan: &Plan<A>,
-    text: &[u8],
-    events: &[Event],
-    out: &mut W,
-) {
+fn play_on_engine(alloc: Global, plan: &Plan, text: &[u8], events: &[Event], out: &mut Told) {
     match play(alloc, plan, 0, 0, events) {
         Ok(played) => {
             tell_played(plan, &played, out);
@@ -173,13 +140,7 @@ fn play_on_engine<A: Allocator + Copy, W: Sink>(
 }
 
 /// Drives the events of the script.
-fn drive_script<A: Allocator + Copy, W: Sink>(
-    alloc: A,
-    over: Over,
-    plan: &Plan<A>,
-    texts: Texts<'_>,
-    out: &mut W,
-) {
+fn drive_script(alloc: Global, over: Over, plan: &Plan, texts: Texts<'_>, out: &mut Told) {
     let mut events = Vec::new(alloc);
     put_events(plan, texts.script, &mut events, out);
     match over {
@@ -190,13 +151,13 @@ fn drive_script<A: Allocator + Copy, W: Sink>(
 }
 
 /// Checks a certificate of a plan, with a limit and a spare number, and after a Yes drives the events of the script behind it.
-pub(crate) fn play_certified<A: Allocator + Copy, W: Sink>(
-    alloc: A,
+pub(crate) fn play_certified(
+    alloc: Global,
     over: Over,
     numbers: (u8, u8),
     plan: &[u8],
     rest: &[u8],
-    out: &mut W,
+    out: &mut Told,
 ) {
     let (cert, script) = two_texts(rest);
     let texts = Texts { plan, cert, script };

@@ -1,14 +1,14 @@
 // Lists of events that are driven where memory is refused.
 use crate::runs::Over;
 use refusing::Refusing;
-use std::alloc::Allocator;
-use tx_cases::tell_broken;
+use std::alloc::Global;
+use tx_cases::{Told, tell_broken};
 use tx_engine::Engine;
 use tx_machine::Plain;
 use tx_plan::Plan;
 use tx_plantext::read_plan;
 use tx_state::{Event, Network, Reply, drive};
-use tx_text::{NoMemory, Sink};
+use tx_text::NoMemory;
 
 /// How many replies are to accepted events.
 fn accepted(replies: &[Reply]) -> u64 {
@@ -22,10 +22,10 @@ fn accepted(replies: &[Reply]) -> u64 {
 }
 
 /// Drives the events, and where memory was wanted the rest of them again. Tells whether the replies were those of the events that were applied.
-fn drive_on<N: Network, A: Allocator>(
+fn drive_on<N: Network>(
     net: &mut N,
     events: &[Event],
-    replies: &mut Vec<Reply, A>,
+    replies: &mut Vec<Reply, &Refusing<Global>>,
 ) -> Result<bool, NoMemory> {
     if drive(net, events, replies).is_err() {
         if net.events() != accepted(replies.as_slice()) {
@@ -38,8 +38,8 @@ fn drive_on<N: Network, A: Allocator>(
 }
 
 /// Drives the events through a network, and tells whether the replies are those of a network that never wants memory.
-fn drives_on<N: Network, A: Allocator>(
-    alloc: A,
+fn drives_on<N: Network>(
+    alloc: &Refusing<Global>,
     net: &mut N,
     events: &[Event],
     whole: &[Reply],
@@ -52,10 +52,10 @@ fn drives_on<N: Network, A: Allocator>(
 }
 
 /// The same over a new network of the plan.
-fn makes_and_drives_on<A: Allocator + Copy>(
-    alloc: A,
+fn makes_and_drives_on<'m>(
+    alloc: &'m Refusing<Global>,
     over: Over,
-    plan: &Plan<A>,
+    plan: &Plan<&'m Refusing<Global>>,
     events: &[Event],
     whole: &[Reply],
 ) -> Result<bool, NoMemory> {
@@ -80,8 +80,8 @@ fn makes_and_drives_on<A: Allocator + Copy>(
 }
 
 /// The same over a plan that is read with the allocator.
-fn reads_and_drives_on<A: Allocator + Copy>(
-    alloc: A,
+fn reads_and_drives_on(
+    alloc: &Refusing<Global>,
     over: Over,
     plan: &[u8],
     events: &[Event],
@@ -99,13 +99,13 @@ fn reads_and_drives_on<A: Allocator + Copy>(
 
 /// Refuses each request for memory in turn: the replies pushed are those of the events applied, and the rest of the events given again have their
 /// replies.
-pub(crate) fn try_drives<A: Allocator + Copy, W: Sink>(
-    alloc: A,
+pub(crate) fn try_drives(
+    alloc: Global,
     over: Over,
     plan: &[u8],
     events: &[Event],
     whole: &[Reply],
-    out: &mut W,
+    out: &mut Told,
 ) {
     for request in 1..1_000_000u64 {
         let refusing = Refusing::new(alloc, request);

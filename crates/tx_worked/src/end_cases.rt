@@ -3,12 +3,10 @@
 use crate::end_play::play;
 use std::alloc::Global;
 use std::io;
-use tx_cases::{EndCase, Log, tell, tell_broken, tell_count, tell_parts};
+use tx_cases::{EndCase, Log, Told, tell, tell_broken, tell_count, tell_parts};
 use tx_program::refuse_arguments;
-use tx_text::Sink;
-
 /// What the program tells where its arguments are no words.
-fn tell_arguments<W: Sink>(alloc: Global, kind: io::ErrorKind, out: &mut W) {
+fn tell_arguments(alloc: Global, kind: io::ErrorKind, out: &mut Told) {
     let mut told = Vec::new(alloc);
     let why = io::Error::from(kind);
     let status = refuse_arguments(&why, &mut told);
@@ -19,7 +17,7 @@ fn tell_arguments<W: Sink>(alloc: Global, kind: io::ErrorKind, out: &mut W) {
 }
 
 /// Plays the case of a line, and tells what happened.
-fn tell_line<W: Sink>(rt: &HostRuntime, line: &str, out: &mut W) {
+fn tell_line(rt: &HostRuntime, line: &str, out: &mut Told) {
     tell_parts(&[b"=== ", line.as_bytes(), b"\n"], out);
     let log = Log::new(rt.alloc());
     match EndCase::read(rt.alloc(), line) {
@@ -34,7 +32,7 @@ fn tell_line<W: Sink>(rt: &HostRuntime, line: &str, out: &mut W) {
 }
 
 /// Tells how the program refuses its arguments, and then plays each case of a text. Empty lines and lines with # at their head are passed over.
-pub(crate) fn play_ends<W: Sink>(rt: &HostRuntime, text: &[u8], out: &mut W) {
+pub(crate) fn play_ends(rt: &HostRuntime, text: &[u8], out: &mut Told) {
     tell_arguments(rt.alloc(), io::ErrorKind::InvalidData, out);
     tell_arguments(rt.alloc(), io::ErrorKind::OutOfMemory, out);
     let Ok(text) = str::from_utf8(text) else {

@@ -3,15 +3,15 @@ ghost use Rattle.std.specs.Prelude.{◌≤◌, IfSome};
 
 use itoa::Buffer;
 use refusing::Refusing;
-use std::alloc::{Allocator, Global};
+use std::alloc::Global;
 use tx_audit::write_counter;
-use tx_cases::{End, Ends, Job, ROOM, Task, tell, tell_broken};
+use tx_cases::{End, Ends, Job, ROOM, Task, Told, tell, tell_broken};
 use tx_cert::write_cert;
 use tx_jobs::{
     Evidence, JobFault, check_status, codes_job, draw_job, evidence_job, grade_status, pipe_job,
     run_checked_status, run_job,
 };
-use tx_text::{MemorySink, NoMemory, Sink, Source};
+use tx_text::{MemorySink, MemorySource, NoMemory};
 
 /// What a whole job does, beside which others are judged: its exit status or its fault, and what it writes.
 #[derive(Clone, Copy)]
@@ -51,7 +51,7 @@ fn status<T: Copy>(answer: Result<T, JobFault>) -> Result<u8, JobFault> {
 }
 
 /// Writes the certificate, or the counter script, if there is one.
-fn keep<A: Allocator, W: Sink>(evidence: &Evidence<A>, out: &mut W) -> Result<u8, JobFault> {
+fn keep(evidence: &Evidence<&Refusing<Global>>, out: &mut MemorySink) -> Result<u8, JobFault> {
     let written = match evidence {
         Evidence::Sound(plan, cert) => write_cert(cert, plan, out),
         Evidence::Unsound(Some(script)) => {
@@ -66,12 +66,12 @@ fn keep<A: Allocator, W: Sink>(evidence: &Evidence<A>, out: &mut W) -> Result<u8
 }
 
 /// Audits a plan, and writes behind the report what shows its verdict.
-fn do_audit<A: Allocator + Copy, P: Source, W: Sink>(
-    alloc: A,
-    plan: &mut P,
+fn do_audit(
+    alloc: &Refusing<Global>,
+    plan: &mut MemorySource<'_>,
     limit: u8,
     spare: u8,
-    out: &mut W,
+    out: &mut MemorySink,
 ) -> Result<u8, JobFault>
     requires limit { limit ≤ 62 }
     requires spare { spare ≤ 15 }
@@ -87,12 +87,12 @@ fn do_audit<A: Allocator + Copy, P: Source, W: Sink>(
 }
 
 /// Draws the code of some figures, the first of them not 0.
-fn do_draw_code<A: Allocator + Copy, P: Source, W: Sink>(
-    alloc: A,
-    plan: &mut P,
+fn do_draw_code(
+    alloc: &Refusing<Global>,
+    plan: &mut MemorySource<'_>,
     code: u16,
     bounds: Option<(u8, u8)>,
-    out: &mut W,
+    out: &mut MemorySink,
 ) -> Result<u8, JobFault>
     requires limit { IfSome bounds (λ b. b.0 ≤ 62) }
     requires spare { IfSome bounds (λ b. b.1 ≤ 15) }
@@ -103,13 +103,13 @@ fn do_draw_code<A: Allocator + Copy, P: Source, W: Sink>(
 }
 
 /// Does a job over its sources, and answers its exit status: that of a pipe has but one.
-fn do_job<A: Allocator + Copy, P: Source, R: Source, S: Source, W: Sink>(
-    alloc: A,
+fn do_job(
+    alloc: &Refusing<Global>,
     job: Job,
-    first: &mut P,
-    second: &mut R,
-    third: &mut S,
-    out: &mut W,
+    first: &mut MemorySource<'_>,
+    second: &mut MemorySource<'_>,
+    third: &mut MemorySource<'_>,
+    out: &mut MemorySink,
 ) -> Result<u8, JobFault> {
     match job {
         Job::Pipe | Job::Run => status(run_job(alloc, first, second, out)),
@@ -137,11 +137,11 @@ fn do_job<A: Allocator + Copy, P: Source, R: Source, S: Source, W: Sink>(
 }
 
 /// Does a task, and answers its exit status.
-pub(crate) fn do_task<A: Allocator + Copy, W: Sink>(
-    alloc: A,
+pub(crate) fn do_task(
+    alloc: &Refusing<Global>,
     task: Task<'_>,
     ends: Ends,
-    out: &mut W,
+    out: &mut MemorySink,
 ) -> Result<u8, JobFault> {
     let mut first = ends.source(End::First, task.first);
     if let Job::Pipe = task.job {
@@ -188,7 +188,7 @@ pub(crate) fn done(alloc: Global, task: Task<'_>, ends: Ends, whole: &[u8]) -> D
 }
 
 /// Does a task, and tells what it writes.
-pub(crate) fn tell_task<W: Sink>(alloc: Global, task: Task<'_>, piece: usize, out: &mut W) {
+pub(crate) fn tell_task(alloc: Global, task: Task<'_>, piece: usize, out: &mut Told) {
     match MemorySink::new(alloc, ROOM) {
         Ok(mut room) => {
             let _ = do_in_room(alloc, task, Ends::pieces(piece), b"", &mut room);

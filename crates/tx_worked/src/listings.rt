@@ -4,9 +4,11 @@ use crate::runs::{Ran, Script, WholeRun, run_beside, run_text, told_cause};
 use crate::stretches::{Happens, Stretches};
 use refusing::Refusing;
 use std::alloc::Global;
-use tx_cases::{End, Ends, Task, calls_left, sources, tell, tell_broken, tell_count, with_last};
+use tx_cases::{
+    End, Ends, Task, Told, calls_left, sources, tell, tell_broken, tell_count, with_last,
+};
 use tx_jobs::write_fault;
-use tx_text::{MemorySink, MemorySource, Sink};
+use tx_text::{MemorySink, MemorySource};
 
 /// More than any case has of anything.
 const MANY: u64 = 1_000_000;
@@ -28,7 +30,7 @@ fn happens(ran: &Ran, bytes: Option<u64>) -> Happens {
 }
 
 /// What a run does in each room, from none to the one that suffices.
-pub(crate) fn list_rooms<W: Sink>(alloc: Global, text: Script<'_>, whole: &[u8], out: &mut W) {
+pub(crate) fn list_rooms(alloc: Global, text: Script<'_>, whole: &[u8], out: &mut Told) {
     let mut stretches = Stretches::new();
     for room in 0..=whole.len() {
         let ends = Ends {
@@ -45,12 +47,12 @@ pub(crate) fn list_rooms<W: Sink>(alloc: Global, text: Script<'_>, whole: &[u8],
 }
 
 /// What a run does where each call of its source fails in turn, until none fails.
-pub(crate) fn list_calls<W: Sink>(
+pub(crate) fn list_calls(
     alloc: Global,
     text: Script<'_>,
     piece: usize,
     whole: WholeRun<'_>,
-    out: &mut W,
+    out: &mut Told,
 ) {
     let mut stretches = Stretches::new();
     for call in 1..MANY {
@@ -72,7 +74,7 @@ pub(crate) fn list_calls<W: Sink>(
 
 /// Tells what a run writes, where it stops, and how many calls of the script's source it makes, at one byte a call, where the writer takes so many
 /// bytes.
-pub(crate) fn count_calls<W: Sink>(alloc: Global, text: Script<'_>, room: usize, out: &mut W) {
+pub(crate) fn count_calls(alloc: Global, text: Script<'_>, room: usize, out: &mut Told) {
     let mut source = MemorySource::new(text.script, 1, Some(1001));
     let Ok(mut written) = MemorySink::new(alloc, room) else {
         return tell_broken(b"no memory", 0, out);
@@ -90,7 +92,7 @@ pub(crate) fn count_calls<W: Sink>(alloc: Global, text: Script<'_>, room: usize,
 }
 
 /// What a job does with each front of its last text, from none of it to the whole.
-pub(crate) fn list_prefixes<W: Sink>(alloc: Global, task: Task<'_>, whole: Whole<'_>, out: &mut W) {
+pub(crate) fn list_prefixes(alloc: Global, task: Task<'_>, whole: Whole<'_>, out: &mut Told) {
     let mut stretches = Stretches::new();
     let last = match sources(task.job) {
         1 => task.first,

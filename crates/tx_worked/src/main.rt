@@ -39,33 +39,53 @@ mod written;
 
 use crate::end_cases::play_ends;
 use crate::play::play_cases;
-use std::io::{BufWriter, Write};
 use std::{fs, io};
+use tx_cases::Told;
 use tx_tests::play_cases as play_calls;
-use tx_text::{Sink, ToWrite};
 use tx_twins::play_all;
 use tx_walks::judge_all;
 
-/// Plays each file by its player.
-fn play_files<W: Sink>(rt: &HostRuntime, out: &mut W) -> io::Result<()> {
-    let text = fs::read(rt, "families")?;
-    judge_all(rt.alloc(), text.as_slice(), out);
+/// Who plays a file.
+#[derive(Clone, Copy)]
+enum Player {
+    Families,
+    Plans,
+    Calls,
+    Cases,
+    Ends,
+}
+
+static FILES: [(&str, Player); 5] = [
+    ("families", Player::Families),
+    ("plans", Player::Plans),
+    ("calls", Player::Calls),
+    ("cases", Player::Cases),
+    ("ends", Player::Ends),
+];
+
+/// Tells what a player tells of a text.
+fn play_text(rt: &HostRuntime, player: Player, text: &[u8], out: &mut Told) {
+    match player {
+        Player::Families => judge_all(rt.alloc(), text, out),
+        Player::Plans => play_all(rt.alloc(), text, out),
+        Player::Calls => play_calls(rt.alloc(), text, out),
+        Player::Cases => play_cases(rt.alloc(), text, out),
+        Player::Ends => play_ends(rt, text, out),
+    }
+}
+
+/// Plays a file, and prints what was told.
+fn play_file(rt: &HostRuntime, name: &str, player: Player) -> io::Result<()> {
+    let text = fs::read(rt, name)?;
+    let mut told = Told::new(rt.alloc());
+    play_text(rt, player, text.as_slice(), &mut told);
     drop(text);
-    let text = fs::read(rt, "plans")?;
-    play_all(rt.alloc(), text.as_slice(), out);
-    drop(text);
-    let text = fs::read(rt, "calls")?;
-    play_calls(rt.alloc(), text.as_slice(), out);
-    drop(text);
-    let text = fs::read(rt, "cases")?;
-    play_cases(rt.alloc(), text.as_slice(), out);
-    drop(text);
-    let text = fs::read(rt, "ends")?;
-    play_ends(rt, text.as_slice(), out);
-    Ok(())
+    told.let_out(&mut rt.stdout())
 }
 
 fn main(rt: HostRuntime) -> io::Result<()> {
-    let mut out = ToWrite::new(BufWriter::new(rt.alloc(), rt.stdout())?);
-    play_files(&rt, &mut out)
+    for (name, player) in &FILES {
+        play_file(&rt, name, *player)?;
+    }
+    Ok(())
 }

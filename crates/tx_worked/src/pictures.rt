@@ -1,13 +1,11 @@
 // All pictures of a plan.
 use crate::job::tell_task;
 use std::alloc::Global;
-use tx_cases::{Head, Job, drawing_of, task_of, tell_broken};
+use tx_cases::{Head, Job, Told, drawing_of, task_of, tell_broken};
 use tx_plan::{CodeId, Plan};
 use tx_plantext::read_plan;
-use tx_text::Sink;
-
 /// Draws a plan and each of its codes, with the walk of the code's first finding where the head says a limit and a spare number.
-pub(crate) fn play_pictures<W: Sink>(alloc: Global, head: Head<'_>, text: &[u8], out: &mut W) {
+pub(crate) fn play_pictures(alloc: Global, head: Head<'_>, text: &[u8], out: &mut Told) {
     tell_task(alloc, task_of(Job::Draw, text, b""), 4096, out);
     match read_plan(alloc, text) {
         Ok(plan) => {
@@ -18,7 +16,7 @@ pub(crate) fn play_pictures<W: Sink>(alloc: Global, head: Head<'_>, text: &[u8],
     }
 }
 
-fn draw_codes<W: Sink>(alloc: Global, plan: &Plan, head: Head<'_>, text: &[u8], out: &mut W) {
+fn draw_codes(alloc: Global, plan: &Plan, head: Head<'_>, text: &[u8], out: &mut Told) {
     plan.rules();
     for place in 0..plan.codes() {
         let code = plan.code_figures(CodeId::at(place as u16));

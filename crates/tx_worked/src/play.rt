@@ -5,19 +5,19 @@ use crate::listings::{count_calls, list_prefixes};
 use crate::pictures::play_pictures;
 use crate::runs::{Over, Script, run_beside};
 use crate::trials::{try_ends, try_pieces, try_refusals};
-use crate::whole_runs::{Told, play_run};
+use crate::whole_runs::{Part, play_run};
 use crate::written::{play_cert, play_plan};
 use memchr::memmem;
 use std::alloc::Global;
 use tx_cases::{
-    Case, Driven, Ends, Head, Job, Judge, Kind, Mode, ROOM, Task, head_of, job_of, limit_and_spare,
+    Case, Driven, Ends, Head, Job, Kind, Mode, ROOM, Task, Told, head_of, job_of, limit_and_spare,
     long_number, next_case, number_of, spell, task_of, tell, tell_broken, tell_parts, two_texts,
 };
 use tx_jobs::write_fault;
-use tx_text::{MemorySink, Sink};
+use tx_text::MemorySink;
 
 /// Plays each case of a text, and writes its line, and what its kind tells.
-pub(crate) fn play_cases<W: Sink>(alloc: Global, cases: &[u8], out: &mut W) {
+pub(crate) fn play_cases(alloc: Global, cases: &[u8], out: &mut Told) {
     let mut rest = cases;
     for _ in 0..10_000u32 {
         let Some((case, more)) = next_case(rest) else {
@@ -28,7 +28,7 @@ pub(crate) fn play_cases<W: Sink>(alloc: Global, cases: &[u8], out: &mut W) {
     }
 }
 
-fn play<W: Sink>(alloc: Global, case: Case<'_>, out: &mut W) {
+fn play(alloc: Global, case: Case<'_>, out: &mut Told) {
     tell_parts(&[b"=== ", case.head, b"\n"], out);
     let mut texts = Vec::new(alloc);
     match spell(case.texts, &mut texts) {
@@ -39,7 +39,7 @@ fn play<W: Sink>(alloc: Global, case: Case<'_>, out: &mut W) {
 }
 
 /// Plays a case's texts by its kind: as a job, or by writing and reading back, or over both networks.
-fn play_texts<W: Sink>(alloc: Global, head: Head<'_>, texts: &[u8], out: &mut W) {
+fn play_texts(alloc: Global, head: Head<'_>, texts: &[u8], out: &mut Told) {
     let (first, second) = two_texts(texts);
     match head.kind {
         Some(Kind::Job(kind)) => {
@@ -56,53 +56,41 @@ fn play_texts<W: Sink>(alloc: Global, head: Head<'_>, texts: &[u8], out: &mut W)
 }
 
 /// Plays the kinds that drive events or run a script, over the plain network and then over the engine, which has to tell the same.
-fn play_over_both<W: Sink>(
+fn play_over_both(
     alloc: Global,
     driven: Driven,
     head: Head<'_>,
     plan: &[u8],
     rest: &[u8],
-    out: &mut W,
+    out: &mut Told,
 ) {
-    let Ok(mut told) = MemorySink::new(alloc, ROOM) else {
-        return tell_broken(b"no memory", 0, out);
-    };
+    let mut plain = Told::new(alloc);
     let text = opening(Over::Plain, plan, rest);
-    play_over(alloc, driven, head, text, &mut told);
-    tell(told.taken(), out);
-    let mut judge = Judge::new(told.taken(), ROOM);
+    play_over(alloc, driven, head, text, &mut plain);
+    tell(plain.text(), out);
+    let mut engine = Told::new(alloc);
     let text = Script {
         over: Over::Engine,
         ..text
     };
-    play_over(alloc, driven, head, text, &mut judge);
-    if !judge.is_whole() {
-        tell_broken(
-            b"not the same over the engine, bytes",
-            judge.taken() as u64,
-            out,
-        );
+    play_over(alloc, driven, head, text, &mut engine);
+    if !engine.is(plain.text()) {
+        let bytes = engine.text().len() as u64;
+        tell_broken(b"not the same over the engine, bytes", bytes, out);
     }
-    drop(told);
 }
 
 /// Plays such a kind over one of them.
-fn play_over<W: Sink>(
-    alloc: Global,
-    driven: Driven,
-    head: Head<'_>,
-    text: Script<'_>,
-    out: &mut W,
-) {
+fn play_over(alloc: Global, driven: Driven, head: Head<'_>, text: Script<'_>, out: &mut Told) {
     let number = number_of(head.first, u32::MAX);
     match driven {
         Driven::Certified => {
             let numbers = limit_and_spare(head);
             play_certified(alloc, text.over, numbers, text.plan, text.script, out)
         }
-        Driven::Laws => play_run(alloc, Told::Laws, text, out),
-        Driven::Rooms => play_run(alloc, Told::Rooms, text, out),
-        Driven::Calls => play_run(alloc, Told::Calls(number as usize), text, out),
+        Driven::Laws => play_run(alloc, Part::Laws, text, out),
+        Driven::Rooms => play_run(alloc, Part::Rooms, text, out),
+        Driven::Calls => play_run(alloc, Part::Calls(number as usize), text, out),
         Driven::StoppedWriter => count_calls(alloc, text, number as usize, out),
         Driven::Starting => {
             let text = Script {
@@ -110,7 +98,7 @@ fn play_over<W: Sink>(
                 events: long_number(head.second),
                 ..text
             };
-            play_run(alloc, Told::Whole, text, out)
+            play_run(alloc, Part::Whole, text, out)
         }
     }
 }
@@ -127,7 +115,7 @@ fn opening<'a>(over: Over, plan: &'a [u8], script: &'a [u8]) -> Script<'a> {
 }
 
 /// Tries that a script writes over the plain network what the job writes, which runs it over the engine.
-fn try_plain<W: Sink>(alloc: Global, run: Task<'_>, job: &[u8], out: &mut W) {
+fn try_plain(alloc: Global, run: Task<'_>, job: &[u8], out: &mut Told) {
     let text = opening(Over::Plain, run.first, run.second);
     let ran = run_beside(alloc, text, Ends::pieces(4096), job);
     if !ran.is_front || ran.written != job.len() {
@@ -140,7 +128,7 @@ fn try_plain<W: Sink>(alloc: Global, run: Task<'_>, job: &[u8], out: &mut W) {
 }
 
 /// Tells a task that was done whole, and tries its laws, or plays each front of its last text.
-fn play_whole<W: Sink>(alloc: Global, task: Task<'_>, whole: Whole<'_>, mode: Mode, out: &mut W) {
+fn play_whole(alloc: Global, task: Task<'_>, whole: Whole<'_>, mode: Mode, out: &mut Told) {
     if matches!(task.job, Job::Run) {
         try_plain(alloc, task, whole.text, out);
     }
@@ -159,7 +147,7 @@ fn play_whole<W: Sink>(alloc: Global, task: Task<'_>, whole: Whole<'_>, mode: Mo
 }
 
 /// Does a task whole, and plays it.
-fn play_task<W: Sink>(alloc: Global, task: Task<'_>, mode: Mode, out: &mut W) {
+fn play_task(alloc: Global, task: Task<'_>, mode: Mode, out: &mut Told) {
     let Ok(mut written) = MemorySink::new(alloc, ROOM) else {
         return tell_broken(b"no memory", 0, out);
     };
@@ -173,13 +161,13 @@ fn play_task<W: Sink>(alloc: Global, task: Task<'_>, mode: Mode, out: &mut W) {
 }
 
 /// Tries that a plan and a script in two texts and in one do the same, and the laws of the run.
-fn try_both<W: Sink>(
+fn try_both(
     alloc: Global,
     run: Task<'_>,
     pipe: Task<'_>,
     whole: Whole<'_>,
     head: Head<'_>,
-    out: &mut W,
+    out: &mut Told,
 ) {
     try_plain(alloc, run, whole.text, out);
     try_pieces(alloc, run, whole, out);
@@ -195,7 +183,7 @@ fn try_both<W: Sink>(
 }
 
 /// Plays an input as a pipe, and as a plan and a script, which have to do the same.
-fn play_both<W: Sink>(alloc: Global, head: Head<'_>, input: &[u8], out: &mut W) {
+fn play_both(alloc: Global, head: Head<'_>, input: &[u8], out: &mut Told) {
     // The plan goes up to and with its first line END.
     let (first, second) = match memmem::find(input, b"\nEND\n") {
         Some(end) => input.split_at(end.saturating_add(5).min(input.len())),

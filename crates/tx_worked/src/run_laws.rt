@@ -1,11 +1,11 @@
 // The laws of a run: what is written, and which event is told, wherever an end fails or memory is refused.
 use crate::runs::{Ran, Script, WholeRun, run_beside, told_cause};
 use std::alloc::Global;
-use tx_cases::{End, Ends, event_word, takes_memory, tell, tell_broken, tell_count, written_after};
+use tx_cases::{
+    End, Ends, Told, event_word, takes_memory, tell, tell_broken, tell_count, written_after,
+};
 use tx_jobs::JobFault;
 use tx_script::{RunCause, RunFault, Summary};
-use tx_text::Sink;
-
 /// More than any case has of anything.
 const MANY: u64 = 1_000_000;
 
@@ -36,7 +36,7 @@ fn is_in_event(event: u64, fault: JobFault, whole: &[u8], written: usize) -> boo
 }
 
 /// Makes each call of the script's source fail in turn, at one byte a call, until none fails.
-fn try_reads<W: Sink>(alloc: Global, text: Script<'_>, whole: WholeRun<'_>, out: &mut W) {
+fn try_reads(alloc: Global, text: Script<'_>, whole: WholeRun<'_>, out: &mut Told) {
     for call in 1..MANY {
         let ran = run_beside(alloc, text, Ends::failing(End::Second, call), whole.text);
         if !stopped(&ran, JobFault::Read, whole.text) {
@@ -49,7 +49,7 @@ fn try_reads<W: Sink>(alloc: Global, text: Script<'_>, whole: WholeRun<'_>, out:
 }
 
 /// Gives the run each room that is too small.
-fn try_rooms<W: Sink>(alloc: Global, text: Script<'_>, whole: WholeRun<'_>, out: &mut W) {
+fn try_rooms(alloc: Global, text: Script<'_>, whole: WholeRun<'_>, out: &mut Told) {
     for room in 0..whole.text.len() {
         let ends = Ends {
             room,
@@ -78,7 +78,7 @@ fn wanted_memory(ran: &Ran, script: &[u8], whole: &[u8]) -> bool {
 }
 
 /// Refuses each request for memory in turn, until none is refused.
-fn try_refusals<W: Sink>(alloc: Global, text: Script<'_>, whole: WholeRun<'_>, out: &mut W) {
+fn try_refusals(alloc: Global, text: Script<'_>, whole: WholeRun<'_>, out: &mut Told) {
     for refused in 1..MANY {
         let ends = Ends {
             refused,
@@ -100,7 +100,7 @@ fn try_refusals<W: Sink>(alloc: Global, text: Script<'_>, whole: WholeRun<'_>, o
 }
 
 /// Tells what was counted of a run.
-pub(crate) fn tell_summary<W: Sink>(summary: &Summary, out: &mut W) {
+pub(crate) fn tell_summary(summary: &Summary, out: &mut Told) {
     tell_count(b"-- ", summary.events, b" events, ", out);
     tell_count(b"", summary.refused, b" refused, ", out);
     tell_count(b"", summary.tickets, b" tickets, ", out);
@@ -108,12 +108,7 @@ pub(crate) fn tell_summary<W: Sink>(summary: &Summary, out: &mut W) {
 }
 
 /// Tries the laws of a run, and tells what it counted or where it stopped.
-pub(crate) fn try_run_laws<W: Sink>(
-    alloc: Global,
-    text: Script<'_>,
-    whole: WholeRun<'_>,
-    out: &mut W,
-) {
+pub(crate) fn try_run_laws(alloc: Global, text: Script<'_>, whole: WholeRun<'_>, out: &mut Told) {
     try_reads(alloc, text, whole, out);
     try_rooms(alloc, text, whole, out);
     try_refusals(alloc, text, whole, out);

@@ -1,6 +1,6 @@
 // Runs of a script, with the event at which they stop.
 use refusing::Refusing;
-use std::alloc::{Allocator, Global};
+use std::alloc::Global;
 use tx_cases::{End, Ends};
 use tx_engine::Engine;
 use tx_jobs::JobFault;
@@ -8,7 +8,7 @@ use tx_machine::Plain;
 use tx_plan::Plan;
 use tx_plantext::read_plan;
 use tx_script::{RunCause, RunFault, Summary, run};
-use tx_text::{FaultKind, FrameFault, LineFault, MemorySink, NoMemory, Sink, Source, TextFault};
+use tx_text::{FaultKind, FrameFault, LineFault, MemorySink, MemorySource, NoMemory, TextFault};
 
 /// The network that runs a script.
 #[derive(Clone, Copy)]
@@ -58,12 +58,12 @@ const NOT_BEGUN: RunFault = RunFault {
 };
 
 /// Runs a script over a new plain network of the plan.
-fn run_plain<A: Allocator + Copy, R: Source, W: Sink>(
-    alloc: A,
-    plan: &Plan<A>,
+fn run_plain<'m>(
+    alloc: &'m Refusing<Global>,
+    plan: &Plan<&'m Refusing<Global>>,
     text: Script<'_>,
-    source: &mut R,
-    out: &mut W,
+    source: &mut MemorySource<'_>,
+    out: &mut MemorySink,
 ) -> Result<Summary, RunFault> {
     match Plain::starting_at(alloc, plan, text.numbers, text.events) {
         Ok(mut net) => {
@@ -76,12 +76,12 @@ fn run_plain<A: Allocator + Copy, R: Source, W: Sink>(
 }
 
 /// Runs a script over a new engine for the plan.
-fn run_engine<A: Allocator + Copy, R: Source, W: Sink>(
-    alloc: A,
-    plan: &Plan<A>,
+fn run_engine<'m>(
+    alloc: &'m Refusing<Global>,
+    plan: &Plan<&'m Refusing<Global>>,
     text: Script<'_>,
-    source: &mut R,
-    out: &mut W,
+    source: &mut MemorySource<'_>,
+    out: &mut MemorySink,
 ) -> Result<Summary, RunFault> {
     match Engine::starting_at(alloc, plan, text.numbers, text.events) {
         Ok(mut net) => {
@@ -94,12 +94,12 @@ fn run_engine<A: Allocator + Copy, R: Source, W: Sink>(
 }
 
 /// Runs a script over a new network of the plan.
-fn run_over<A: Allocator + Copy, R: Source, W: Sink>(
-    alloc: A,
-    plan: &Plan<A>,
+fn run_over<'m>(
+    alloc: &'m Refusing<Global>,
+    plan: &Plan<&'m Refusing<Global>>,
     text: Script<'_>,
-    source: &mut R,
-    out: &mut W,
+    source: &mut MemorySource<'_>,
+    out: &mut MemorySink,
 ) -> Result<Summary, RunFault> {
     match text.over {
         Over::Plain => run_plain(alloc, plan, text, source, out),
@@ -108,11 +108,11 @@ fn run_over<A: Allocator + Copy, R: Source, W: Sink>(
 }
 
 /// Reads the plan, which is a good one, and runs the script that the source gives.
-pub(crate) fn run_text<A: Allocator + Copy, R: Source, W: Sink>(
-    alloc: A,
+pub(crate) fn run_text(
+    alloc: &Refusing<Global>,
     text: Script<'_>,
-    source: &mut R,
-    out: &mut W,
+    source: &mut MemorySource<'_>,
+    out: &mut MemorySink,
 ) -> Result<Summary, RunFault> {
     match read_plan(alloc, text.plan) {
         Ok(plan) => {

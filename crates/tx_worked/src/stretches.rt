@@ -1,8 +1,6 @@
 // Lists of what happens at each number, told by stretches of numbers at which the same happens.
-use tx_cases::{tell, tell_count};
+use tx_cases::{Told, tell, tell_count};
 use tx_jobs::{JobFault, write_fault};
-use tx_text::Sink;
-
 /// What happens at a number: the event and the bytes, where they are told, and the fault.
 #[derive(Clone, Copy, PartialEq, Eq)]
 pub(crate) struct Happens {
@@ -21,7 +19,7 @@ struct Stretch {
 
 impl Stretch {
     /// Tells the stretch as a line.
-    fn tell<W: Sink>(&self, out: &mut W) {
+    fn tell(&self, out: &mut Told) {
         tell_count(b"", self.from, b"", out);
         tell_count(b" to ", self.to, b": ", out);
         if let Some(event) = self.happens.event {
@@ -51,7 +49,7 @@ impl Stretches {
     }
 
     /// Takes the next number. Where something else happens there than before, the stretch is told and a new one begins.
-    pub(crate) fn put<W: Sink>(&mut self, number: u64, happens: Happens, out: &mut W) {
+    pub(crate) fn put(&mut self, number: u64, happens: Happens, out: &mut Told) {
         let mut from = number;
         if let Some(open) = self.open {
             if open.happens == happens {
@@ -68,7 +66,7 @@ impl Stretches {
     }
 
     /// Tells the last stretch.
-    pub(crate) fn end<W: Sink>(&self, out: &mut W) {
+    pub(crate) fn end(&self, out: &mut Told) {
         if let Some(open) = self.open {
             open.tell(out);
         }

@@ -3,13 +3,13 @@ use crate::listings::{list_calls, list_rooms};
 use crate::run_laws::{tell_summary, try_run_laws};
 use crate::runs::{Script, WholeRun, run_in_room, told_cause};
 use std::alloc::Global;
-use tx_cases::{Ends, ROOM, tell, tell_broken, tell_count};
+use tx_cases::{Ends, ROOM, Told, tell, tell_broken, tell_count};
 use tx_jobs::write_fault;
-use tx_text::{MemorySink, Sink};
+use tx_text::MemorySink;
 
 /// What is told of a run.
 #[derive(Clone, Copy)]
-pub(crate) enum Told {
+pub(crate) enum Part {
     /// What it writes, and what it counts or where it stops.
     Whole,
     /// Its laws, and what it counts or where it stops.
@@ -21,7 +21,7 @@ pub(crate) enum Told {
 }
 
 /// Tells what a run writes, and what it counts or the event and the cause that stop it.
-fn tell_run<W: Sink>(whole: WholeRun<'_>, out: &mut W) {
+fn tell_run(whole: WholeRun<'_>, out: &mut Told) {
     tell(whole.text, out);
     match whole.end {
         Ok(summary) => tell_summary(&summary, out),
@@ -33,7 +33,7 @@ fn tell_run<W: Sink>(whole: WholeRun<'_>, out: &mut W) {
 }
 
 /// Runs a script whole, and tells something of the run.
-pub(crate) fn play_run<W: Sink>(alloc: Global, told: Told, text: Script<'_>, out: &mut W) {
+pub(crate) fn play_run(alloc: Global, part: Part, text: Script<'_>, out: &mut Told) {
     let Ok(mut written) = MemorySink::new(alloc, ROOM) else {
         return tell_broken(b"no memory", 0, out);
     };
@@ -42,11 +42,11 @@ pub(crate) fn play_run<W: Sink>(alloc: Global, told: Told, text: Script<'_>, out
         end: ran.end,
         text: written.taken(),
     };
-    match told {
-        Told::Whole => tell_run(whole, out),
-        Told::Laws => try_run_laws(alloc, text, whole, out),
-        Told::Rooms => list_rooms(alloc, text, whole.text, out),
-        Told::Calls(piece) => list_calls(alloc, text, piece, whole, out),
+    match part {
+        Part::Whole => tell_run(whole, out),
+        Part::Laws => try_run_laws(alloc, text, whole, out),
+        Part::Rooms => list_rooms(alloc, text, whole.text, out),
+        Part::Calls(piece) => list_calls(alloc, text, piece, whole, out),
     }
     drop(written);
 }

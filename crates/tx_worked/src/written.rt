@@ -1,14 +1,14 @@
 // Certificates and plans that are written and read back.
 use refusing::Refusing;
-use std::alloc::Allocator;
-use tx_cases::{Judge, ROOM, tell, tell_broken};
+use std::alloc::Global;
+use tx_cases::{Told, tell, tell_broken};
 use tx_cert::{Cert, CertFault, CertWord, read_cert, write_cert};
 use tx_plan::{CodeId, ExchangeId, Plan};
 use tx_plantext::{read_plan, write_plan};
-use tx_text::{FaultKind, FrameFault, LineFault, MemorySink, Sink, TextFault};
+use tx_text::{FaultKind, FrameFault, LineFault, TextFault};
 
 /// Whether two certificates of the plan give the same ranks.
-fn same_ranks<A: Allocator>(plan: &Plan<A>, one: &Cert<A>, other: &Cert<A>) -> bool {
+fn same_ranks(plan: &Plan, one: &Cert, other: &Cert) -> bool {
     plan.rules();
     for code in 0..plan.codes() {
         for exchange in 0..plan.exchanges() {
@@ -23,7 +23,7 @@ fn same_ranks<A: Allocator>(plan: &Plan<A>, one: &Cert<A>, other: &Cert<A>) -> b
 }
 
 /// Whether a text reads as a certificate.
-fn reads_as<A: Allocator + Copy>(alloc: A, plan: &Plan<A>, cert: &Cert<A>, text: &[u8]) -> bool {
+fn reads_as(alloc: Global, plan: &Plan, cert: &Cert, text: &[u8]) -> bool {
     match read_cert(alloc, text, plan) {
         Ok(back) => {
             let is_same = same_ranks(plan, cert, &back);
@@ -35,29 +35,16 @@ fn reads_as<A: Allocator + Copy>(alloc: A, plan: &Plan<A>, cert: &Cert<A>, text:
 }
 
 /// Writes a certificate, and reads what was written.
-fn write_and_read<A: Allocator + Copy, W: Sink>(
-    alloc: A,
-    plan: &Plan<A>,
-    cert: &Cert<A>,
-    out: &mut W,
-) {
-    let Ok(mut written) = MemorySink::new(alloc, ROOM) else {
-        return tell_broken(b"no memory", 0, out);
-    };
+fn write_and_read(alloc: Global, plan: &Plan, cert: &Cert, out: &mut Told) {
+    let mut written = Told::new(alloc);
     let _ = write_cert(cert, plan, &mut written);
-    tell(written.taken(), out);
-    if !reads_as(alloc, plan, cert, written.taken()) {
+    tell(written.text(), out);
+    if !reads_as(alloc, plan, cert, written.text()) {
         tell_broken(b"not read back", 0, out);
     }
-    drop(written);
 }
 
-fn write_back_cert<A: Allocator + Copy, W: Sink>(
-    alloc: A,
-    plan: &Plan<A>,
-    cert: &[u8],
-    out: &mut W,
-) {
+fn write_back_cert(alloc: Global, plan: &Plan, cert: &[u8], out: &mut Told) {
     match read_cert(alloc, cert, plan) {
         Ok(cert) => {
             write_and_read(alloc, plan, &cert, out);
@@ -78,7 +65,11 @@ const NO_BUFFER: CertFault = CertFault {
 };
 
 /// Whether memory is wanting for a certificate.
-fn cert_wants<A: Allocator + Copy>(alloc: A, plan: &Plan<A>, cert: &[u8]) -> bool {
+fn cert_wants<'m>(
+    alloc: &'m Refusing<Global>,
+    plan: &Plan<&'m Refusing<Global>>,
+    cert: &[u8],
+) -> bool {
     match read_cert(alloc, cert, plan) {
         Ok(cert) => {
             drop(cert);
@@ -89,7 +80,7 @@ fn cert_wants<A: Allocator + Copy>(alloc: A, plan: &Plan<A>, cert: &[u8]) -> boo
 }
 
 /// Whether memory is wanting for a plan, which is a good one, or for its certificate.
-fn wants<A: Allocator + Copy>(alloc: A, plan: &[u8], cert: &[u8]) -> bool {
+fn wants(alloc: &Refusing<Global>, plan: &[u8], cert: &[u8]) -> bool {
     match read_plan(alloc, plan) {
         Ok(plan) => {
             let wants = cert_wants(alloc, &plan, cert);
@@ -101,7 +92,7 @@ fn wants<A: Allocator + Copy>(alloc: A, plan: &[u8], cert: &[u8]) -> bool {
 }
 
 /// Refuses each request for memory in turn.
-fn try_refusals<A: Allocator + Copy, W: Sink>(alloc: A, plan: &[u8], cert: &[u8], out: &mut W) {
+fn try_refusals(alloc: Global, plan: &[u8], cert: &[u8], out: &mut Told) {
     for request in 1..1_000_000u64 {
         let refusing = Refusing::new(alloc, request);
         let wants = wants(&refusing, plan, cert);
@@ -115,12 +106,7 @@ fn try_refusals<A: Allocator + Copy, W: Sink>(alloc: A, plan: &[u8], cert: &[u8]
 }
 
 /// Reads a certificate of a plan and writes it, reads back what was written, and refuses each request for memory.
-pub(crate) fn play_cert<A: Allocator + Copy, W: Sink>(
-    alloc: A,
-    plan: &[u8],
-    cert: &[u8],
-    out: &mut W,
-) {
+pub(crate) fn play_cert(alloc: Global, plan: &[u8], cert: &[u8], out: &mut Told) {
     match read_plan(alloc, plan) {
         Ok(plan) => {
             write_back_cert(alloc, &plan, cert, out);
@@ -132,7 +118,7 @@ pub(crate) fn play_cert<A: Allocator + Copy, W: Sink>(
 }
 
 /// Reads a plan and writes it: nothing where it is refused.
-fn write_again<A: Allocator + Copy, W: Sink>(alloc: A, plan: &[u8], out: &mut W) {
+fn write_again(alloc: Global, plan: &[u8], out: &mut Told) {
     if let Ok(plan) = read_plan(alloc, plan) {
         let _ = write_plan(&plan, out);
         drop(plan);
@@ -140,16 +126,13 @@ fn write_again<A: Allocator + Copy, W: Sink>(alloc: A, plan: &[u8], out: &mut W)
 }
 
 /// Reads a plan and writes it. What was written reads back, and is written the same.
-pub(crate) fn play_plan<A: Allocator + Copy, W: Sink>(alloc: A, plan: &[u8], out: &mut W) {
-    let Ok(mut written) = MemorySink::new(alloc, ROOM) else {
-        return tell_broken(b"no memory", 0, out);
-    };
+pub(crate) fn play_plan(alloc: Global, plan: &[u8], out: &mut Told) {
+    let mut written = Told::new(alloc);
     write_again(alloc, plan, &mut written);
-    tell(written.taken(), out);
-    let mut judge = Judge::new(written.taken(), ROOM);
-    write_again(alloc, written.taken(), &mut judge);
-    if !judge.is_whole() {
+    tell(written.text(), out);
+    let mut again = Told::new(alloc);
+    write_again(alloc, written.text(), &mut again);
+    if !again.is(written.text()) {
         tell_broken(b"not written the same again", 0, out);
     }
-    drop(written);
 }
