@@ -19,21 +19,35 @@ pub(crate) fn audit_file<A: Allocator + Copy, R: Read + Drop, F: Folder, O: Writ
     folder: &F,
     output: &Output<O, A>,
 ) -> Result<u8, JobFault> {
+    match report(alloc, plan, bounds, keep.counter.is_some(), output) {
+        Ok(evidence) => {
+            let status = evidence.status();
+            let kept = keep_evidence(alloc, &evidence, keep, folder, output);
+            drop(evidence);
+            kept.and(Ok(status))
+        }
+        Err(fault) => Err(fault),
+    }
+}
+
+/// Writes the report of the audit, and answers what shows its verdict.
+fn report<A: Allocator + Copy, R: Read + Drop, O: Write + Drop>(
+    alloc: A,
+    plan: R,
+    bounds: Bounds,
+    with_script: bool,
+    output: &Output<O, A>,
+) -> Result<Evidence<A>, JobFault> {
     let mut plan = output.source(alloc, plan)?;
     let mut sink = output.sink();
-    let with_script = keep.counter.is_some();
-    let evidence = evidence_job(
+    evidence_job(
         alloc,
         &mut plan,
         bounds.limit,
         bounds.spare,
         with_script,
         &mut sink,
-    )?;
-    let status = evidence.status();
-    let kept = keep_evidence(alloc, &evidence, keep, folder, output);
-    drop(evidence);
-    kept.and(Ok(status))
+    )
 }
 
 /// Once the report is out, makes the file of the certificate after a Yes, and the file of the script after a No that has one.
@@ -65,9 +79,8 @@ fn keep_cert<A: Allocator + Copy, W: Write + Drop>(
     file: W,
 ) -> Result<(), JobFault> {
     let output = Output::new(alloc, file)?;
-    let written = write_cert(cert, plan, &mut output.sink());
-    output.let_out()?;
-    written.map_err(|_| JobFault::Write)
+    let written = write_cert(cert, plan, &mut output.sink()).map_err(|_| JobFault::Write);
+    output.let_out().and(written)
 }
 
 /// Writes a counter script to a file, once there is room for its output.
@@ -77,7 +90,8 @@ fn keep_script<A: Allocator + Copy, W: Write + Drop>(
     file: W,
 ) -> Result<(), JobFault> {
     let output = Output::new(alloc, file)?;
-    let written = write_counter(&script.plan, script.events.as_slice(), &mut output.sink());
-    output.let_out()?;
-    written.map_err(|_| JobFault::Write)
+    let written = write_counter(&script.plan, script.events.as_slice(), &mut output.sink()).map_err(
+        |_| JobFault::Write,
+    );
+    output.let_out().and(written)
 }

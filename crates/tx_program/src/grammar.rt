@@ -1,6 +1,6 @@
 // The words that the program takes, with what it tells of them when asked for help.
 ghost use Rattle.std.specs.Prelude.{◌≡◌, false, Ok, IfOk, codes};
-ghost use Rattle.clap.specs.Words.{AddsArg, AddsSubcommand, app_of, rule_of};
+ghost use Rattle.clap.specs.Words.{AddsSubcommand, App, app_of, rule_of, with_rule};
 ghost use Rattle.clap.specs.declared.builder.command.Command.{Command};
 ghost use Rattle.tx_program.specs.Grammar as grammar;
 
@@ -10,28 +10,57 @@ use std::alloc::{AllocError, Global};
 /// The version of the program.
 const VERSION: &str = "1.0.0";
 
-/// A file, which has to be named.
-fn file<'a>(alloc: Global, id: &'a str, shown: &'a str, help: &'a str) -> Arg<'a>
-    ensures rule { rule_of result ≡ grammar.file id.now }
-    ensures local { result.global ≡ false }
+/// A command whose first word is a plan.
+fn over_plan<'a>(
+    alloc: Global,
+    name: &'a str,
+    about: &'a str,
+) -> Result<clap::Command<'a>, AllocError>
+    ensures { IfOk result (λ c. app_of c ≡ grammar.plan_words name.now) }
 {
-    Arg::new(alloc, id)
-        .value_name(shown)
-        .help(help)
-        .required(true)
-        .action(ArgAction::Set)
-}
-
-fn plan_file<'a>(alloc: Global) -> Arg<'a>
-    ensures rule { rule_of result ≡ grammar.file (codes "plan") }
-    ensures local { result.global ≡ false }
-{
-    file(
+    let command = Ok(clap::Command::new(alloc, name).about(about));
+    with_file(
+        command,
         alloc,
         "plan",
         "PLAN",
         "The route plan: exchanges, codes, lines, groups, routes and bars",
     )
+}
+
+/// A command with one argument more, if it could be made so far.
+fn with_arg<'a>(
+    command: Result<clap::Command<'a>, AllocError>,
+    arg: Arg<'a>,
+) -> Result<clap::Command<'a>, AllocError>
+    requires { arg.global ≡ false }
+    ensures { (app : App) → IfOk command.entry (λ c. app_of c ≡ app) → IfOk result (λ c. app_of c ≡ with_rule app (rule_of arg.entry)) }
+{
+    match command {
+        Ok(made) => made.arg(arg),
+        Err(error) => {
+            drop(arg);
+            Err(error)
+        }
+    }
+}
+
+/// The same with a file, which has to be named.
+fn with_file<'a>(
+    command: Result<clap::Command<'a>, AllocError>,
+    alloc: Global,
+    id: &'a str,
+    shown: &'a str,
+    help: &'a str,
+) -> Result<clap::Command<'a>, AllocError>
+    ensures { (app : App) → IfOk command.entry (λ c. app_of c ≡ app) → IfOk result (λ c. app_of c ≡ with_rule app (grammar.file id.now)) }
+{
+    let file = Arg::new(alloc, id)
+        .value_name(shown)
+        .help(help)
+        .required(true)
+        .action(ArgAction::Set);
+    with_arg(command, file)
 }
 
 /// An option with a word.
@@ -44,6 +73,19 @@ fn option<'a>(alloc: Global, id: &'a str, shown: &'a str, help: &'a str) -> Arg<
         .value_name(shown)
         .help(help)
         .action(ArgAction::Set)
+}
+
+/// The same with an option with a word.
+fn with_option<'a>(
+    command: Result<clap::Command<'a>, AllocError>,
+    alloc: Global,
+    id: &'a str,
+    shown: &'a str,
+    help: &'a str,
+) -> Result<clap::Command<'a>, AllocError>
+    ensures { (app : App) → IfOk command.entry (λ c. app_of c ≡ app) → IfOk result (λ c. app_of c ≡ with_rule app (grammar.option id.now)) }
+{
+    with_arg(command, option(alloc, id, shown, help))
 }
 
 fn limit<'a>(alloc: Global) -> Arg<'a>
@@ -72,78 +114,59 @@ fn spare<'a>(alloc: Global) -> Arg<'a>
     .value_parser(value_parser!(u8).range(0..=15))
 }
 
-/// A command whose first word is a plan.
-fn over_plan<'a>(
-    alloc: Global,
-    name: &'a str,
-    about: &'a str,
-) -> Result<clap::Command<'a>, AllocError>
-    ensures { IfOk result (λ c. app_of c ≡ grammar.plan_words name.now) }
-{
-    clap::Command::new(alloc, name)
-        .about(about)
-        .arg(plan_file(alloc))
-}
-
-/// A command with one argument more, if it could be made so far.
-fn with_arg<'a>(
+/// The same with a limit and a spare number, which may have to be given.
+fn with_bounds<'a>(
     command: Result<clap::Command<'a>, AllocError>,
-    arg: Arg<'a>,
+    alloc: Global,
+    needed: bool,
 ) -> Result<clap::Command<'a>, AllocError>
-    ensures { IfOk result (λ c. (made : Command) × (command.entry ≡ Ok made) × AddsArg made arg.entry c) }
+    ensures { (app : App) → IfOk command.entry (λ c. app_of c ≡ app) → IfOk result (λ c. app_of c ≡ with_rule (with_rule app (record grammar.limit { required = needed })) (record grammar.spare { required = needed })) }
 {
-    match command {
-        Ok(made) => made.arg(arg),
-        Err(error) => {
-            drop(arg);
-            Err(error)
-        }
-    }
+    let command = with_arg(command, limit(alloc).required(needed));
+    with_arg(command, spare(alloc).required(needed))
 }
 
 fn run_grammar<'a>(alloc: Global) -> Result<clap::Command<'a>, AllocError>
     ensures { IfOk result (λ c. app_of c ≡ grammar.run_words) }
 {
-    let script = file(
-        alloc,
-        "script",
-        "SCRIPT",
-        "The script: events, one a line, between SCRIPT 1 and END",
-    );
-    let cert = option(
-        alloc,
-        "cert",
-        "CERT",
-        "Run only if this certificate shows that the plan is safe, else print the verdict; goes with --limit and --spare",
-    );
     let run = over_plan(
         alloc,
         "run",
         "Run a script of events over a plan, and print each reply and the ticket of each call that ended",
     );
-    let run = with_arg(run, script);
-    let run = with_arg(run, cert);
-    let run = with_arg(run, limit(alloc));
-    with_arg(run, spare(alloc))
+    let run = with_file(
+        run,
+        alloc,
+        "script",
+        "SCRIPT",
+        "The script: events, one a line, between SCRIPT 1 and END",
+    );
+    let run = with_option(
+        run,
+        alloc,
+        "cert",
+        "CERT",
+        "Run only if this certificate shows that the plan is safe, else print the verdict; goes with --limit and --spare",
+    );
+    with_bounds(run, alloc, false)
 }
 
 fn check_grammar<'a>(alloc: Global) -> Result<clap::Command<'a>, AllocError>
     ensures { IfOk result (λ c. app_of c ≡ grammar.check_words) }
 {
-    let cert = file(
-        alloc,
-        "cert",
-        "CERT",
-        "The certificate: ranks of exchanges for each code",
-    );
     let check = over_plan(
         alloc,
         "check",
         "Say whether a certificate shows that a plan is safe: YES, or NO with the first reason",
     );
-    let check = with_arg(check, cert);
-    let check = with_arg(check, limit(alloc).required(true));
-    with_arg(check, spare(alloc).required(true))
+    let check = with_file(
+        check,
+        alloc,
+        "cert",
+        "CERT",
+        "The certificate: ranks of exchanges for each code",
+    );
+    with_bounds(check, alloc, true)
 }
 
 fn codes_grammar<'a>(alloc: Global) -> Result<clap::Command<'a>, AllocError>
@@ -159,27 +182,26 @@ fn codes_grammar<'a>(alloc: Global) -> Result<clap::Command<'a>, AllocError>
 fn audit_grammar<'a>(alloc: Global) -> Result<clap::Command<'a>, AllocError>
     ensures { IfOk result (λ c. app_of c ≡ grammar.audit_words) }
 {
-    let cert = option(
-        alloc,
-        "cert",
-        "CERT",
-        "After YES, write the certificate to this file",
-    );
-    let counter = option(
-        alloc,
-        "counter",
-        "SCRIPT",
-        "After NO, write a script to this file that shows the first finding that has one",
-    );
     let audit = over_plan(
         alloc,
         "audit",
         "Say whether a plan is safe: YES, or NO with what is wrong, and a walk for each loop, short list and long way",
     );
-    let audit = with_arg(audit, limit(alloc).required(true));
-    let audit = with_arg(audit, spare(alloc).required(true));
-    let audit = with_arg(audit, cert);
-    with_arg(audit, counter)
+    let audit = with_bounds(audit, alloc, true);
+    let audit = with_option(
+        audit,
+        alloc,
+        "cert",
+        "CERT",
+        "After YES, write the certificate to this file",
+    );
+    with_option(
+        audit,
+        alloc,
+        "counter",
+        "SCRIPT",
+        "After NO, write a script to this file that shows the first finding that has one",
+    )
 }
 
 fn grade_grammar<'a>(alloc: Global) -> Result<clap::Command<'a>, AllocError>
@@ -195,20 +217,19 @@ fn grade_grammar<'a>(alloc: Global) -> Result<clap::Command<'a>, AllocError>
 fn draw_grammar<'a>(alloc: Global) -> Result<clap::Command<'a>, AllocError>
     ensures { IfOk result (λ c. app_of c ≡ grammar.draw_words) }
 {
-    let code = option(
-        alloc,
-        "code",
-        "CODE",
-        "Draw the routes for this destination code alone; with --limit and --spare, the walk of its first finding is red",
-    );
     let draw = over_plan(
         alloc,
         "draw",
         "Draw the exchanges and groups of a plan, as a text of Graphviz",
     );
-    let draw = with_arg(draw, code);
-    let draw = with_arg(draw, limit(alloc));
-    with_arg(draw, spare(alloc))
+    let draw = with_option(
+        draw,
+        alloc,
+        "code",
+        "CODE",
+        "Draw the routes for this destination code alone; with --limit and --spare, the walk of its first finding is red",
+    );
+    with_bounds(draw, alloc, false)
 }
 
 fn explain_grammar<'a>(alloc: Global) -> Result<clap::Command<'a>, AllocError>

@@ -28,8 +28,7 @@ pub(crate) fn perform<A: Allocator + Copy, F: Folder, I: Read + Drop, O: Write +
     let opened = Opened::new(command, folder, input)?;
     let output = Output::new(alloc, output)?;
     let done = do_job(alloc, opened, folder, &output);
-    output.let_out()?;
-    done
+    output.let_out().and(done)
 }
 
 fn do_job<A: Allocator + Copy, F: Folder, I: Read + Drop, O: Write + Drop>(
@@ -48,12 +47,8 @@ fn do_job<A: Allocator + Copy, F: Folder, I: Read + Drop, O: Write + Drop>(
             bounds,
         } => run_checked_files(alloc, plan, cert, bounds, script, output),
         Opened::Check { plan, cert, bounds } => check_files(alloc, plan, cert, bounds, output),
-        Opened::Codes { plan } => {
-            codes_status(alloc, &mut output.source(alloc, plan)?, &mut output.sink())
-        }
-        Opened::Grade { plan } => {
-            grade_status(alloc, &mut output.source(alloc, plan)?, &mut output.sink())
-        }
+        Opened::Codes { plan } => list_codes(alloc, plan, output),
+        Opened::Grade { plan } => grade_file(alloc, plan, output),
         Opened::Draw { plan, routes } => draw_file(alloc, plan, routes, output),
         Opened::Audit { plan, bounds, keep } => {
             audit_file(alloc, plan, bounds, keep, folder, output)
@@ -117,6 +112,26 @@ fn run_after_yes<A: Allocator + Copy, P: Source, R: Read + Drop, O: Write + Drop
         &mut script,
         &mut output.sink(),
     )
+}
+
+/// `codes PLAN`.
+fn list_codes<A: Allocator + Copy, R: Read + Drop, O: Write + Drop>(
+    alloc: A,
+    plan: R,
+    output: &Output<O, A>,
+) -> Result<u8, JobFault> {
+    let mut plan = output.source(alloc, plan)?;
+    codes_status(alloc, &mut plan, &mut output.sink())
+}
+
+/// `grade PLAN`.
+fn grade_file<A: Allocator + Copy, R: Read + Drop, O: Write + Drop>(
+    alloc: A,
+    plan: R,
+    output: &Output<O, A>,
+) -> Result<u8, JobFault> {
+    let mut plan = output.source(alloc, plan)?;
+    grade_status(alloc, &mut plan, &mut output.sink())
 }
 
 /// `check PLAN CERT --limit L --spare K`.

@@ -2,11 +2,14 @@
 pub(crate) mod calls;
 mod model;
 
-use crate::spelling::next_named;
 use calls::{ALFA, BETA, Call, ENDS, WHATS, apply, call_of, next};
 use model::Model;
 use std::alloc::Global;
+<<<<<<< HEAD
 use tx_cases::{Told, next_line, next_number, tell, tell_broken, tell_count};
+=======
+use tx_cases::{Told, named, next_line, next_number, next_word, tell, tell_broken, tell_count};
+>>>>>>> players
 use tx_circuits::CircuitTable;
 use tx_plan::Plan;
 use tx_text::words;
@@ -14,14 +17,14 @@ use tx_text::words;
 /// Makes the call that a line says, where it may be made, and tells whether.
 fn apply_line(table: &mut CircuitTable, line: &[u8]) -> bool {
     let mut rest = words(line);
-    let Some(what) = next_named(&WHATS, &mut rest) else {
+    let Some(what) = named(&WHATS, next_word(&mut rest)) else {
         return false;
     };
     let call = Call {
         what,
         number: next_number(&mut rest, 240),
-        end: next_named(&ENDS, &mut rest).unwrap_or(ALFA),
-        far: next_named(&ENDS, &mut rest).unwrap_or(ALFA),
+        end: named(&ENDS, next_word(&mut rest)).unwrap_or(ALFA),
+        far: named(&ENDS, next_word(&mut rest)).unwrap_or(ALFA),
     };
     apply(table, call)
 }

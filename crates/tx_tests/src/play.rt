@@ -5,10 +5,14 @@ use crate::growths::{MADE, play_growths};
 use crate::lines::{Cuts, feed_anew, play_lines};
 use crate::plans::{Over, with_plan};
 use crate::readers::{tell_growths, tell_plan};
-use crate::spelling::{Spelling, next_named, tell_spellings};
+use crate::spelling::{Spelling, tell_spellings};
 use std::alloc::Global;
 use tx_cases::{
+<<<<<<< HEAD
     Case, Told, named, next_case, next_number, spell, tell_broken, tell_parts, two_texts,
+=======
+    Case, Told, named, next_case, next_number, next_word, spell, tell_broken, tell_parts, two_texts,
+>>>>>>> players
 };
 use tx_text::{Sink, SliceSource, words};
 
@@ -65,7 +69,7 @@ struct Head<'a> {
 fn head_of(head: &[u8]) -> (Option<Kind>, Head<'_>) {
     let mut rest = words(head);
     let _name = rest.next();
-    let kind = next_named(&KINDS, &mut rest);
+    let kind = named(&KINDS, next_word(&mut rest));
     let head = Head {
         of: rest.again().next().unwrap_or(b"".as_slice()),
         first: next_number(&mut rest, u32::MAX),

@@ -1,5 +1,9 @@
 // What lines are read as: words, names, figures and numbers.
+<<<<<<< HEAD
 use tx_cases::{Told, named, next_line, tell, tell_count, tell_parts};
+=======
+use tx_cases::{Told, next_line, tell, tell_count, tell_parts};
+>>>>>>> players
 use tx_text::{Figures, Name, Words, are_figures, is_name, number, words};
 
 /// What a line is read as.
@@ -11,14 +15,6 @@ pub(crate) enum Spelling {
     Figures,
     /// A number up to the first one.
     Number,
-}
-
-/// What a table has for the next word, if the word stands there.
-pub(crate) fn next_named<T: Copy>(table: &[(&'static str, T)], words: &mut Words<'_>) -> Option<T> {
-    match words.next() {
-        Some(word) => named(table, word),
-        None => None,
-    }
 }
 
 /// Tells words, and how many the same once more are.

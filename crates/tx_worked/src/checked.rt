@@ -15,12 +15,16 @@ use tx_text::NoMemory;
 use tx_tickets::{write_reply, write_ticket};
 
 /// Adds the event that a line of a script says, if it says one.
+<<<<<<< HEAD
 fn put_event(
     plan: &Plan,
     line: &[u8],
     events: &mut Vec<Event>,
     out: &mut Told,
 ) {
+=======
+fn put_event(plan: &Plan, line: &[u8], events: &mut Vec<Event>, out: &mut Told) {
+>>>>>>> players
     if says_no_event(line) {
         return;
     }
@@ -34,12 +38,16 @@ fn put_event(
 }
 
 /// Adds the events of a script.
+<<<<<<< HEAD
 fn put_events(
     plan: &Plan,
     script: &[u8],
     events: &mut Vec<Event>,
     out: &mut Told,
 ) {
+=======
+fn put_events(plan: &Plan, script: &[u8], events: &mut Vec<Event>, out: &mut Told) {
+>>>>>>> players
     let mut rest = script;
     for _ in 0..script.len() {
         let Some((line, behind)) = next_line(rest) else {
@@ -57,12 +65,16 @@ fn tell_replies(plan: &Plan, replies: &[Reply], out: &mut Told) {
 }
 
 /// Writes the replies, then the tickets, and then how many events were accepted and calls are open.
+<<<<<<< HEAD
 fn tell_driven(
     plan: &Plan,
     net: &mut Plain<'_>,
     replies: &[Reply],
     out: &mut Told,
 ) {
+=======
+fn tell_driven(plan: &Plan, net: &mut Plain<'_>, replies: &[Reply], out: &mut Told) {
+>>>>>>> players
     tell_replies(plan, replies, out);
     for _ in 0..=replies.len() {
         match net.next_ticket() {
@@ -108,6 +120,7 @@ fn tell_played(plan: &Plan, played: &Played<'_>, out: &mut Told) {
 }
 
 /// Whether the checker says Yes to a certificate of the plan.
+<<<<<<< HEAD
 fn is_certified(
     alloc: Global,
     plan: &Plan,
@@ -115,6 +128,9 @@ fn is_certified(
     limit: u8,
     spare: u8,
 ) -> bool {
+=======
+fn is_certified(alloc: Global, plan: &Plan, cert: &[u8], limit: u8, spare: u8) -> bool {
+>>>>>>> players
     match read_cert(alloc, cert, plan) {
         Ok(cert) => {
             let verdict = check(plan, &cert, limit.min(62), spare.min(15));
@@ -134,6 +150,7 @@ struct Texts<'a> {
 }
 
 /// Drives the events through a plain network, and again where memory is refused.
+<<<<<<< HEAD
 fn drive_over_plain(
     alloc: Global,
     plan: &Plan,
@@ -141,6 +158,9 @@ fn drive_over_plain(
     events: &[Event],
     out: &mut Told,
 ) {
+=======
+fn drive_over_plain(alloc: Global, plan: &Plan, text: &[u8], events: &[Event], out: &mut Told) {
+>>>>>>> players
     let mut replies = Vec::new(alloc);
     drive_plain(alloc, plan, events, &mut replies, out);
     try_drives(alloc, Over::Plain, text, events, replies.as_slice(), out);
@@ -148,6 +168,7 @@ fn drive_over_plain(
 }
 
 /// Plays the events on the engine, and drives them again where memory is refused.
+<<<<<<< HEAD
 fn play_on_engine(
     alloc: Global,
     plan: &Plan,
@@ -155,6 +176,9 @@ fn play_on_engine(
     events: &[Event],
     out: &mut Told,
 ) {
+=======
+fn play_on_engine(alloc: Global, plan: &Plan, text: &[u8], events: &[Event], out: &mut Told) {
+>>>>>>> players
     match play(alloc, plan, 0, 0, events) {
         Ok(played) => {
             tell_played(plan, &played, out);
@@ -173,6 +197,7 @@ fn play_on_engine(
 }
 
 /// Drives the events of the script.
+<<<<<<< HEAD
 fn drive_script(
     alloc: Global,
     over: Over,
@@ -180,6 +205,9 @@ fn drive_script(
     texts: Texts<'_>,
     out: &mut Told,
 ) {
+=======
+fn drive_script(alloc: Global, over: Over, plan: &Plan, texts: Texts<'_>, out: &mut Told) {
+>>>>>>> players
     let mut events = Vec::new(alloc);
     put_events(plan, texts.script, &mut events, out);
     match over {

@@ -35,12 +35,7 @@ fn reads_as(alloc: Global, plan: &Plan, cert: &Cert, text: &[u8]) -> bool {
 }
 
 /// Writes a certificate, and reads what was written.
-fn write_and_read(
-    alloc: Global,
-    plan: &Plan,
-    cert: &Cert,
-    out: &mut Told,
-) {
+fn write_and_read(alloc: Global, plan: &Plan, cert: &Cert, out: &mut Told) {
     let mut written = Told::new(alloc);
     let _ = write_cert(cert, plan, &mut written);
     tell(written.text(), out);
@@ -49,12 +44,7 @@ fn write_and_read(
     }
 }
 
-fn write_back_cert(
-    alloc: Global,
-    plan: &Plan,
-    cert: &[u8],
-    out: &mut Told,
-) {
+fn write_back_cert(alloc: Global, plan: &Plan, cert: &[u8], out: &mut Told) {
     match read_cert(alloc, cert, plan) {
         Ok(cert) => {
             write_and_read(alloc, plan, &cert, out);
@@ -116,12 +106,7 @@ fn try_refusals(alloc: Global, plan: &[u8], cert: &[u8], out: &mut Told) {
 }
 
 /// Reads a certificate of a plan and writes it, reads back what was written, and refuses each request for memory.
-pub(crate) fn play_cert(
-    alloc: Global,
-    plan: &[u8],
-    cert: &[u8],
-    out: &mut Told,
-) {
+pub(crate) fn play_cert(alloc: Global, plan: &[u8], cert: &[u8], out: &mut Told) {
     match read_plan(alloc, plan) {
         Ok(plan) => {
             write_back_cert(alloc, &plan, cert, out);
