@@ -1,12 +1,6 @@
 // What a line book answers.
-<<<<<<< HEAD
-use crate::spelling::next_named;
-use std::alloc::Global;
-use tx_cases::{Told, next_line, next_number, next_word, tell, tell_broken, tell_parts};
-=======
 use std::alloc::Global;
 use tx_cases::{Told, named, next_line, next_number, next_word, tell, tell_broken, tell_parts};
->>>>>>> players
 use tx_lines::{LineAnswer, LineBook};
 use tx_plan::{CodeId, Line};
 use tx_text::words;
@@ -87,11 +81,7 @@ fn read_asked(line: &[u8]) -> Asked<'_> {
     Asked {
         code: CodeId::at(code),
         number: next_word(&mut rest),
-<<<<<<< HEAD
-        happens: next_named(&HAPPENS, &mut rest),
-=======
         happens: named(&HAPPENS, next_word(&mut rest)),
->>>>>>> players
     }
 }
 

@@ -5,11 +5,7 @@ mod model;
 use calls::{ALFA, BETA, Call, ENDS, WHATS, apply, call_of, next};
 use model::Model;
 use std::alloc::Global;
-<<<<<<< HEAD
-use tx_cases::{Told, next_line, next_number, tell, tell_broken, tell_count};
-=======
 use tx_cases::{Told, named, next_line, next_number, next_word, tell, tell_broken, tell_count};
->>>>>>> players
 use tx_circuits::CircuitTable;
 use tx_plan::Plan;
 use tx_text::words;

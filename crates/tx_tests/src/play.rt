@@ -8,11 +8,7 @@ use crate::readers::{tell_growths, tell_plan};
 use crate::spelling::{Spelling, tell_spellings};
 use std::alloc::Global;
 use tx_cases::{
-<<<<<<< HEAD
-    Case, Told, named, next_case, next_number, spell, tell_broken, tell_parts, two_texts,
-=======
     Case, Told, named, next_case, next_number, next_word, spell, tell_broken, tell_parts, two_texts,
->>>>>>> players
 };
 use tx_text::{Sink, SliceSource, words};
 

@@ -1,9 +1,5 @@
 // What lines are read as: words, names, figures and numbers.
-<<<<<<< HEAD
-use tx_cases::{Told, named, next_line, tell, tell_count, tell_parts};
-=======
 use tx_cases::{Told, next_line, tell, tell_count, tell_parts};
->>>>>>> players
 use tx_text::{Figures, Name, Words, are_figures, is_name, number, words};
 
 /// What a line is read as.

@@ -15,16 +15,7 @@ use tx_text::NoMemory;
 use tx_tickets::{write_reply, write_ticket};
 
 /// Adds the event that a line of a script says, if it says one.
-<<<<<<< HEAD
-fn put_event(
-    plan: &Plan,
-    line: &[u8],
-    events: &mut Vec<Event>,
-    out: &mut Told,
-) {
-=======
 fn put_event(plan: &Plan, line: &[u8], events: &mut Vec<Event>, out: &mut Told) {
->>>>>>> players
     if says_no_event(line) {
         return;
     }
@@ -38,16 +29,7 @@ fn put_event(plan: &Plan, line: &[u8], events: &mut Vec<Event>, out: &mut Told) 
 }
 
 /// Adds the events of a script.
-<<<<<<< HEAD
-fn put_events(
-    plan: &Plan,
-    script: &[u8],
-    events: &mut Vec<Event>,
-    out: &mut Told,
-) {
-=======
 fn put_events(plan: &Plan, script: &[u8], events: &mut Vec<Event>, out: &mut Told) {
->>>>>>> players
     let mut rest = script;
     for _ in 0..script.len() {
         let Some((line, behind)) = next_line(rest) else {
@@ -65,16 +47,7 @@ fn tell_replies(plan: &Plan, replies: &[Reply], out: &mut Told) {
 }
 
 /// Writes the replies, then the tickets, and then how many events were accepted and calls are open.
-<<<<<<< HEAD
-fn tell_driven(
-    plan: &Plan,
-    net: &mut Plain<'_>,
-    replies: &[Reply],
-    out: &mut Told,
-) {
-=======
 fn tell_driven(plan: &Plan, net: &mut Plain<'_>, replies: &[Reply], out: &mut Told) {
->>>>>>> players
     tell_replies(plan, replies, out);
     for _ in 0..=replies.len() {
         match net.next_ticket() {
@@ -120,17 +93,7 @@ fn tell_played(plan: &Plan, played: &Played<'_>, out: &mut Told) {
 }
 
 /// Whether the checker says Yes to a certificate of the plan.
-<<<<<<< HEAD
-fn is_certified(
-    alloc: Global,
-    plan: &Plan,
-    cert: &[u8],
-    limit: u8,
-    spare: u8,
-) -> bool {
-=======
 fn is_certified(alloc: Global, plan: &Plan, cert: &[u8], limit: u8, spare: u8) -> bool {
->>>>>>> players
     match read_cert(alloc, cert, plan) {
         Ok(cert) => {
             let verdict = check(plan, &cert, limit.min(62), spare.min(15));
@@ -150,17 +113,7 @@ struct Texts<'a> {
 }
 
 /// Drives the events through a plain network, and again where memory is refused.
-<<<<<<< HEAD
-fn drive_over_plain(
-    alloc: Global,
-    plan: &Plan,
-    text: &[u8],
-    events: &[Event],
-    out: &mut Told,
-) {
-=======
 fn drive_over_plain(alloc: Global, plan: &Plan, text: &[u8], events: &[Event], out: &mut Told) {
->>>>>>> players
     let mut replies = Vec::new(alloc);
     drive_plain(alloc, plan, events, &mut replies, out);
     try_drives(alloc, Over::Plain, text, events, replies.as_slice(), out);
@@ -168,17 +121,7 @@ fn drive_over_plain(alloc: Global, plan: &Plan, text: &[u8], events: &[Event], o
 }
 
 /// Plays the events on the engine, and drives them again where memory is refused.
-<<<<<<< HEAD
-fn play_on_engine(
-    alloc: Global,
-    plan: &Plan,
-    text: &[u8],
-    events: &[Event],
-    out: &mut Told,
-) {
-=======
 fn play_on_engine(alloc: Global, plan: &Plan, text: &[u8], events: &[Event], out: &mut Told) {
->>>>>>> players
     match play(alloc, plan, 0, 0, events) {
         Ok(played) => {
             tell_played(plan, &played, out);
@@ -197,17 +140,7 @@ fn play_on_engine(alloc: Global, plan: &Plan, text: &[u8], events: &[Event], out
 }
 
 /// Drives the events of the script.
-<<<<<<< HEAD
-fn drive_script(
-    alloc: Global,
-    over: Over,
-    plan: &Plan,
-    texts: Texts<'_>,
-    out: &mut Told,
-) {
-=======
 fn drive_script(alloc: Global, over: Over, plan: &Plan, texts: Texts<'_>, out: &mut Told) {
->>>>>>> players
     let mut events = Vec::new(alloc);
     put_events(plan, texts.script, &mut events, out);
     match over {

@@ -63,27 +63,10 @@ static FILES: [(&str, Player); 5] = [
     ("ends", Player::Ends),
 ];
 
-<<<<<<< HEAD
-/// Tells what a player tells of a text.
-fn play_text(rt: &HostRuntime, player: Player, text: &[u8], out: &mut Told) {
-    match player {
-        Player::Families => judge_all(rt.alloc(), text, out),
-        Player::Plans => play_all(rt.alloc(), text, out),
-        Player::Calls => play_calls(rt.alloc(), text, out),
-        Player::Cases => play_cases(rt.alloc(), text, out),
-        Player::Ends => play_ends(rt, text, out),
-    }
-}
-
-=======
->>>>>>> players
 /// Plays a file, and prints what was told.
 fn play_file(rt: &HostRuntime, name: &str, player: Player) -> io::Result<()> {
     let text = fs::read(rt, name)?;
     let mut told = Told::new(rt.alloc());
-<<<<<<< HEAD
-    play_text(rt, player, text.as_slice(), &mut told);
-=======
     match player {
         Player::Families => judge_all(rt.alloc(), text.as_slice(), &mut told),
         Player::Plans => play_all(rt.alloc(), text.as_slice(), &mut told),
@@ -91,7 +74,6 @@ fn play_file(rt: &HostRuntime, name: &str, player: Player) -> io::Result<()> {
         Player::Cases => play_cases(rt.alloc(), text.as_slice(), &mut told),
         Player::Ends => play_ends(rt, text.as_slice(), &mut told),
     }
->>>>>>> players
     drop(text);
     told.let_out(&mut rt.stdout())
 }

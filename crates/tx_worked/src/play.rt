@@ -81,17 +81,7 @@ fn play_over_both(
 }
 
 /// Plays such a kind over one of them.
-<<<<<<< HEAD
-fn play_over(
-    alloc: Global,
-    driven: Driven,
-    head: Head<'_>,
-    text: Script<'_>,
-    out: &mut Told,
-) {
-=======
 fn play_over(alloc: Global, driven: Driven, head: Head<'_>, text: Script<'_>, out: &mut Told) {
->>>>>>> players
     let number = number_of(head.first, u32::MAX);
     match driven {
         Driven::Certified => {

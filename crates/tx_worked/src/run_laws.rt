@@ -108,16 +108,7 @@ pub(crate) fn tell_summary(summary: &Summary, out: &mut Told) {
 }
 
 /// Tries the laws of a run, and tells what it counted or where it stopped.
-<<<<<<< HEAD
-pub(crate) fn try_run_laws(
-    alloc: Global,
-    text: Script<'_>,
-    whole: WholeRun<'_>,
-    out: &mut Told,
-) {
-=======
 pub(crate) fn try_run_laws(alloc: Global, text: Script<'_>, whole: WholeRun<'_>, out: &mut Told) {
->>>>>>> players
     try_reads(alloc, text, whole, out);
     try_rooms(alloc, text, whole, out);
     try_refusals(alloc, text, whole, out);
