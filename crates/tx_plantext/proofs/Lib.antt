@@ -1,5 +1,4 @@
 pub mod Entries
-pub mod LineKinds
 pub mod ListLines
 pub mod Places
 pub mod PlanLines

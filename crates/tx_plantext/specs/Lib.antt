@@ -1,4 +1,3 @@
-pub mod inner
 pub mod PlanText
 pub mod PlanWritten
 pub mod PlanFaults

@@ -1,11 +1,9 @@
 // What each line declares.
 ghost use Rattle.std.specs.Prelude.{◌≡◌};
 ghost use Rattle.tx_text.specs.Said.{Declared};
-ghost use Rattle.tx_plantext.specs.inner.LineKinds.{declare_as};
 ghost use Rattle.tx_plantext.specs.PlanText.{declare, exchange_line, code_line, lines_line, group_line, group_by, route_line, bar_line, direction_of, count_of, is_memory, word_told};
 
 use crate::fault::PlanWord;
-use crate::line_kind::LineKind;
 use std::alloc::Allocator;
 use tx_plan::{Direction, PlanBuilder, PlanRefusal};
 use tx_text::{Words, number};
@@ -174,34 +172,6 @@ fn count_of(word: &[u8]) -> u32
     number(word, 240).unwrap_or(0)
 }
 
-/// What a line of this kind declares by the words behind the first.
-#[inline(always)]
-fn declare_as<A: Allocator>(
-    kind: Option<LineKind>,
-    plan: &mut PlanBuilder<A>,
-    version: u8,
-    words: Words<'_>,
-) -> Result<(), PlanWord>
-    ensures { Declared is_memory (declare_as kind version plan.old words.entry) plan.new result }
-{
-    match kind {
-        Some(LineKind::Exchange) => exchange_line(plan, words),
-        Some(LineKind::Code) => code_line(plan, words),
-        Some(LineKind::Lines) => lines_line(plan, words),
-        Some(LineKind::Group) => group_line(plan, words),
-        Some(LineKind::Route) => route_line(plan, words),
-        Some(LineKind::Bar) => {
-            if version == 2 {
-                bar_line(plan, words)
-            } else {
-                Err(PlanWord::UnknownWord)
-            }
-        }
-        Some(LineKind::End) => Err(PlanWord::Refused(PlanRefusal::WrongCount)),
-        None => Err(PlanWord::UnknownWord),
-    }
-}
-
 /// What the line declares under a header of this version.
 #[tactic(auto, unfolding(crate::specs::PlanText::declare))]
 #[inline(always)]
@@ -216,5 +186,26 @@ pub(crate) fn declare<A: Allocator>(
     let Some(first) = words.next() else {
         return Err(PlanWord::UnknownWord);
     };
-    declare_as(LineKind::read(first), plan, version, words)
+    if first == b"EXCHANGE".as_slice() {
+        return exchange_line(plan, words);
+    }
+    if first == b"CODE".as_slice() {
+        return code_line(plan, words);
+    }
+    if first == b"LINES".as_slice() {
+        return lines_line(plan, words);
+    }
+    if first == b"GROUP".as_slice() {
+        return group_line(plan, words);
+    }
+    if first == b"ROUTE".as_slice() {
+        return route_line(plan, words);
+    }
+    if version == 2 && first == b"BAR".as_slice() {
+        return bar_line(plan, words);
+    }
+    if first == b"END".as_slice() {
+        return Err(PlanWord::Refused(PlanRefusal::WrongCount));
+    }
+    Err(PlanWord::UnknownWord)
 }

@@ -6,7 +6,6 @@
 
 mod declaring;
 mod fault;
-mod line_kind;
 mod plan_reader;
 mod plan_writer;
 mod round_trip;
