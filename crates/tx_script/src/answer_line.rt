@@ -1,21 +1,20 @@
 // The answer to one line of a script.
 ghost use Rattle.std.specs.Prelude.{◌≡◌, ◌<◌, ◌^◌, [], length};
-ghost use Rattle.tx_script.specs.Events.{event_of};
 ghost use Rattle.tx_script.specs.Answered.{LineAnswers, mark_with};
 
 use crate::answer::{Answered, answer};
-use crate::event_words::event_of;
 use crate::run_cause::RunCause;
+use crate::script_word::ScriptWord;
 use std::alloc::Allocator;
 use tx_plan::Plan;
-use tx_state::Network;
-use tx_text::{FaultAt, FaultKind, Sink, Words};
+use tx_state::{Event, Network};
+use tx_text::{FaultAt, FaultKind, Sink};
 
-/// Answers the event that the words of a line say, over a network whose tickets were taken. The line has this number. A call of its own, the same for all sources, so that what it calls has one caller and is inlined.
-#[inline(never)]
+/// Answers a line of this number, whose words say an event or have a fault, over a network whose tickets were taken.
+#[inline(always)]
 pub(crate) fn answer_line<B: Allocator, N: Network, W: Sink>(
     line: u64,
-    words: Words<'_>,
+    said: Result<Event, ScriptWord>,
     plan: &Plan<B>,
     net: &mut N,
     sink: &mut W,
@@ -24,10 +23,10 @@ pub(crate) fn answer_line<B: Allocator, N: Network, W: Sink>(
     requires taken { (N.state net.old).tickets ≡ [] }
     requires few { length (N.state net.old).calls < 2 ^ 63 }
     ensures plan { N.plan net.new ≡ plan.now }
-    ensures answers { LineAnswers plan.now line (event_of plan.now words.entry) (N.state net.old) (N.state net.new) (W.taken sink.old) (W.taken sink.new) result }
+    ensures answers { LineAnswers plan.now line said (N.state net.old) (N.state net.new) (W.taken sink.old) (W.taken sink.new) result }
     ensures mark { W.failed sink.new ≡ mark_with (W.failed sink.old) result }
 {
-    match event_of(words, plan) {
+    match said {
         Ok(event) => answer(event, plan, net, sink),
         Err(word) => {
             let kind = FaultKind::Word(word);

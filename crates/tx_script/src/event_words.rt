@@ -12,29 +12,21 @@ use tx_plan::{Circuit, GroupId, Line, National, Plan};
 use tx_state::{Event, Party};
 use tx_text::{Figures, Words, number};
 
-/// The event of a line's words. Those of calls are read in place, and the others in a call of their own.
+/// The event of a line's words.
 pub(crate) fn event_of<A: Allocator>(words: Words<'_>, plan: &Plan<A>) -> Result<Event, ScriptWord>
     ensures { result ≡ event_of plan.now words.entry }
 {
     let mut words = words;
-    let Some(verb) = verb_in(&mut words) else {
-        return Err(ScriptWord::UnknownWord);
-    };
-    let event = match verb {
-        Verb::Key => key_event(words, plan)?,
-        Verb::Route => route_event(words)?,
-        Verb::Confirm => confirm_event(words)?,
-        Verb::Clear => clear_event(words)?,
-        Verb::Released => released_event(words, plan)?,
-        other => event_by(other, words, plan)?,
-    };
-    Ok(event)
+    match verb_in(&mut words) {
+        Some(verb) => event_by(verb, words, plan),
+        None => Err(ScriptWord::UnknownWord),
+    }
 }
 
 /// Takes the first word: what it says.
 #[tactic(auto, unfolding(crate::specs::Events::event_of))]
 #[inline(always)]
-fn verb_in(words: &mut Words<'_>) -> Option<Verb>
+pub(crate) fn verb_in(words: &mut Words<'_>) -> Option<Verb>
     ensures { BeginsWith words.old result words.new }
 {
     if let Some((verb, rest)) = verb_at(words.rest()) {
@@ -101,7 +93,11 @@ fn clear_left(text: &[u8]) -> Option<Event>
 
 /// The event of a first word and the words that follow it.
 #[inline(never)]
-fn event_by<A: Allocator>(verb: Verb, words: Words<'_>, plan: &Plan<A>) -> Result<Event, ScriptWord>
+pub(crate) fn event_by<A: Allocator>(
+    verb: Verb,
+    words: Words<'_>,
+    plan: &Plan<A>,
+) -> Result<Event, ScriptWord>
     ensures { result ≡ event_by plan.now verb words.entry }
 {
     match verb {
@@ -126,7 +122,7 @@ fn event_by<A: Allocator>(verb: Verb, words: Words<'_>, plan: &Plan<A>) -> Resul
 
 /// A code, a national number and the figures that were keyed.
 #[inline(always)]
-fn key_event<A: Allocator>(words: Words<'_>, plan: &Plan<A>) -> Result<Event, ScriptWord>
+pub(crate) fn key_event<A: Allocator>(words: Words<'_>, plan: &Plan<A>) -> Result<Event, ScriptWord>
     ensures { result ≡ key_event plan.now words.entry }
 {
     let (code, national, keyed) = three_words(words).ok_or(ScriptWord::WrongCount)?;
@@ -137,7 +133,7 @@ fn key_event<A: Allocator>(words: Words<'_>, plan: &Plan<A>) -> Result<Event, Sc
 
 /// A call that is routed.
 #[inline(always)]
-fn route_event(words: Words<'_>) -> Result<Event, ScriptWord>
+pub(crate) fn route_event(words: Words<'_>) -> Result<Event, ScriptWord>
     ensures { result ≡ said_of Route (call_in words.entry) }
 {
     Ok(Event::Route(call_in(words)?))
@@ -145,7 +141,7 @@ fn route_event(words: Words<'_>) -> Result<Event, ScriptWord>
 
 /// A call whose circuit is confirmed.
 #[inline(always)]
-fn confirm_event(words: Words<'_>) -> Result<Event, ScriptWord>
+pub(crate) fn confirm_event(words: Words<'_>) -> Result<Event, ScriptWord>
     ensures { result ≡ said_of Confirm (call_in words.entry) }
 {
     Ok(Event::Confirm(call_in(words)?))
@@ -166,7 +162,7 @@ fn call_in(words: Words<'_>) -> Result<u32, ScriptWord>
 
 /// A call's number, and CALLER or CALLED.
 #[inline(always)]
-fn clear_event(words: Words<'_>) -> Result<Event, ScriptWord>
+pub(crate) fn clear_event(words: Words<'_>) -> Result<Event, ScriptWord>
     ensures { result ≡ clear_event words.entry }
 {
     if let Some(event) = clear_left(words.rest()) {
@@ -191,7 +187,10 @@ fn party_of(word: &[u8]) -> Option<Party>
 
 /// A circuit that is released.
 #[inline(always)]
-fn released_event<A: Allocator>(words: Words<'_>, plan: &Plan<A>) -> Result<Event, ScriptWord>
+pub(crate) fn released_event<A: Allocator>(
+    words: Words<'_>,
+    plan: &Plan<A>,
+) -> Result<Event, ScriptWord>
     ensures { result ≡ said_of Released (circuit_in plan.now words.entry) }
 {
     Ok(Event::Released(circuit_in(words, plan)?))
