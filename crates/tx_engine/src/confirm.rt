@@ -3,6 +3,7 @@ ghost use Rattle.std.specs.Prelude.{◌≡◌, ◌<◌, ◌-◌, ◌^◌, false}
 ghost use Rattle.std.specs.FinSet as set;
 ghost use Rattle.tx_state.specs.declared.event.Event.TheVariants.{Confirm};
 ghost use Rattle.tx_state.specs.declared.phase.Phase.TheVariants.{Calling};
+ghost use Rattle.tx_state.specs.declared.reply.Reply.TheVariants.{At};
 ghost use Rattle.tx_state.specs.Confirming.{far_of};
 ghost use Rattle.tx_state.specs.Step.{step, accepted, counted};
 ghost use Rattle.tx_calls.specs.Calls.{Kept};
@@ -28,21 +29,21 @@ impl<'p, A: Allocator + Copy> Parts<'p, A> {
         };
         let far = far_of(self.plan, self.calls.at(key), &circuit);
         if self.circuits.is_seized(&circuit, far) {
-            self.meet(number, key, &circuit, far)
-        } else {
-            self.go_on(number, key, &circuit, far)
+            return self.meet(number, key, &circuit, far);
         }
+        self.go_on(number, key, &circuit, far);
+        Reply::At(far)
     }
 
     /// The call under the key goes on over its circuit, which no other call has seized.
-    fn go_on(&mut self, number: u32, key: u32, circuit: &Circuit, far: ExchangeId) -> Reply
+    fn go_on(&mut self, number: u32, key: u32, circuit: &Circuit, far: ExchangeId)
         requires sound { IsSound self.old }
         requires events { self.old.events < 2 ^ 64 - 1 }
         requires calls { (k : Kept) × IsUnder self.old.calls number key k × (k.call.phase ≡ Calling circuit.now) × (far ≡ far_of self.old.plan.now k.call circuit.now) }
         requires alone { set.contains self.old.circuits.seized (circuit.now, far) ≡ false }
         ensures sound { IsSound self.new }
         ensures plan { self.new.plan.now ≡ self.old.plan.now }
-        ensures step { counted (accepted self.old.plan.now (state_of self.old) (Confirm number)) ≡ (result, state_of self.new) }
+        ensures step { counted (accepted self.old.plan.now (state_of self.old) (Confirm number)) ≡ (At far, state_of self.new) }
     {
         self.circuits.hold(circuit);
         self.keys.set_both(circuit, key);
@@ -52,6 +53,5 @@ impl<'p, A: Allocator + Copy> Parts<'p, A> {
         };
         self.calls.go_on(key, hop);
         self.events += 1;
-        Reply::At(far)
     }
 }

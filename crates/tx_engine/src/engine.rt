@@ -70,10 +70,9 @@ impl<'p, A: Allocator + Copy> Engine<'p, A> {
         ensures open { OnErr result (refusal self.old.plan self.old.state (Key line keyed) ≡ None) }
     {
         if self.parts.is_ready() {
-            self.parts.key_in_room(line, keyed)
-        } else {
-            self.apply_other(&Event::Key { line, keyed })
+            return self.parts.key_in_room(line, keyed);
         }
+        self.apply_other(&Event::Key { line, keyed })
     }
 
     /// One event that `apply` has no look-up for: refused by `refusal_of`, or carried out.
@@ -111,7 +110,7 @@ impl<'p, A: Allocator + Copy> Network for Engine<'p, A> {
             Event::Confirm(number) => Ok(self.parts.confirm(number)),
             Event::Clear { call, party } => Ok(self.parts.clear(call, party)),
             Event::Released(circuit) => Ok(self.released(&circuit)),
-            other => self.apply_other(&other),
+            other => return self.apply_other(&other),
         }
     }
 

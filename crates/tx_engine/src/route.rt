@@ -1,6 +1,7 @@
 // Routing a call.
-ghost use Rattle.std.specs.Prelude.{◌≡◌, ◌<◌, ◌-◌, ◌^◌, IfOk, OnErr, Some, None, is_some, true};
+ghost use Rattle.std.specs.Prelude.{◌≡◌, ◌<◌, ◌-◌, ◌^◌, IfOk, OnOk, OnErr, Some, None, is_some, true};
 ghost use Rattle.tx_state.specs.declared.event.Event.TheVariants.{Route};
+ghost use Rattle.tx_state.specs.declared.reply.Reply.TheVariants.{Seized};
 ghost use Rattle.tx_state.specs.Refusals.{refusal};
 ghost use Rattle.tx_state.specs.Step.{step, counted};
 ghost use Rattle.tx_state.specs.Ending.{answered};
@@ -34,7 +35,10 @@ impl<'p, A: Allocator + Copy> Parts<'p, A> {
         };
         match self.decision(key) {
             Decision::Reach(line) => self.reach(key, &line),
-            Decision::Seize(circuit, here) => self.seize(key, &circuit, here),
+            Decision::Seize(circuit, here) => {
+                self.seize(key, &circuit, here)?;
+                Ok(Reply::Seized(circuit))
+            }
             Decision::Answer(service) => Ok(self.answer(key, service)),
         }
     }
@@ -90,13 +94,13 @@ impl<'p, A: Allocator + Copy> Parts<'p, A> {
     }
 
     /// The call under the key seizes the circuit from the exchange where it stands.
-    fn seize(&mut self, key: u32, circuit: &Circuit, here: ExchangeId) -> Result<Reply, NoMemory>
+    fn seize(&mut self, key: u32, circuit: &Circuit, here: ExchangeId) -> Result<(), NoMemory>
         requires sound { IsSound self.old }
         requires decided { (k : Kept) × IsDecided self.old key k (Seize circuit.now here) }
         requires events { self.old.events < 2 ^ 64 - 1 }
         ensures sound { IsSound self.new }
         ensures plan { self.new.plan.now ≡ self.old.plan.now }
-        ensures ok { IfOk result (λ reply. (k : Kept) → kept_at self.old.calls key ≡ Some k → counted (carry_out self.old.plan.now (state_of self.old) k.call (Seize circuit.now here)) ≡ (reply, state_of self.new)) }
+        ensures ok { OnOk result ((k : Kept) → kept_at self.old.calls key ≡ Some k → counted (carry_out self.old.plan.now (state_of self.old) k.call (Seize circuit.now here)) ≡ (Seized circuit.now, state_of self.new)) }
         ensures err { OnErr result (state_of self.new ≡ state_of self.old) }
     {
         self.calls.reserve_hop(key)?;
@@ -105,7 +109,7 @@ impl<'p, A: Allocator + Copy> Parts<'p, A> {
         self.keys.set(circuit, first == here, key);
         self.calls.set_phase(key, Phase::Calling(*circuit));
         self.events += 1;
-        Ok(Reply::Seized(*circuit))
+        Ok(())
     }
 }
 

@@ -1,5 +1,5 @@
 -- Words that are found where a line has single spaces.
-use Rattle.std.proofs.Common.{◌≡◌, ℕ, zero, suc, ◌+◌, ◌^◌, ◌-◌, ◌<◌, ◌≤◌, ◌==◌, ◌&&◌, ◌||◌, Bool, not, true, false, List, [], ◌∷◌, ◌++◌, take, length, get_or, Some, None, Ok, refl, ap, ◌∙◌, arith}
+use Rattle.std.proofs.Common.{◌≡◌, ℕ, zero, suc, ◌+◌, ◌^◌, ◌-◌, ◌<◌, ◌≤◌, ◌==◌, ◌&&◌, ◌||◌, Bool, not, true, false, List, [], ◌∷◌, ◌++◌, take, length, get_or, Some, None, Ok, refl, sym, ap, ◌∙◌, arith}
 use Rattle.std.specs.Prelude.{if◌then◌else◌, nat_le}
 use Rattle.std.specs.List.{list_all}
 use Rattle.std.specs.Str.Parse.{digits_value}
@@ -11,11 +11,12 @@ use Rattle.std.proofs.lemmas.Option.{none-some}
 use Rattle.tx_text.specs.Words.{words_of, is_word_byte, is_figure, is_numeral, are_figures, number_of}
 use Rattle.tx_text.proofs.WordLists.{blank_behind, blank_before, word_alone}
 use Rattle.tx_text.proofs.WrittenWords.{all_stronger}
+use Rattle.tx_plan.specs.Plan.{Plan}
 use Rattle.tx_state.specs.declared.event.Event.TheVariants.{Clear}
 use Rattle.tx_state.specs.declared.party.Party.{Party}
 use Rattle.tx_state.specs.declared.party.Party.TheVariants.{Caller, Called}
 use Rattle.tx_script.specs.declared.verb.Verb.{Verb}
-use Rattle.tx_script.specs.Events.{verb_of, event_of, event_for, BeginsWith, call_number, call_in, clear_event, spelt, party_word}
+use Rattle.tx_script.specs.Events.{Said, verb_of, event_by, event_of, event_for, BeginsWith, call_number, call_in, clear_event, spelt, party_word}
 
 -- what code that tests each byte has read
 read_at : (s p : List ℕ) (i : ℕ) → HasBytesAt s i p → (k : ℕ) → k < length p → get_or s (i + k) 0 ≡ get_or p k 0
@@ -80,3 +81,7 @@ pub party_last : (text : List ℕ) (n : ℕ) (party : Party) → 7 ≤ length te
 party_last text n party long six h reads =
     let e = end_from_reads 0 text (32 ∷ party_word party) (omega (arith, six)) (λ i l. ap (λ k. get_or text (k + i) 0) (omega (arith, six)) ∙ read_at text (32 ∷ party_word party) (length text - 7) reads i l) in
     number_and_party (take (length text - 7) text) text n party h (e ∙ ap (λ k. take k text ++ 32 ∷ party_word party) (omega (arith, six)))
+
+-- what the words of a line say, where their first is this verb
+pub said_by : (p : Plan) (ws rest : List (List ℕ)) (verb first : Verb) (made said : Said) → BeginsWith ws (Some first) rest → first ≡ verb → made ≡ event_by p verb rest → said ≡ made → event_of p ws ≡ said
+said_by p ws rest verb first made said begins is m s = begins p ∙ ap (λ v. event_by p v rest) is ∙ sym m ∙ sym s

@@ -10,11 +10,15 @@ ghost use Rattle.tx_script.specs.Answers.{RunAnswers, IsFresh, mark_after};
 ghost use Rattle.tx_script.specs.Output.{end_line, end_text};
 
 use crate::answer_line::answer_line;
+use crate::event_words::{
+    clear_event, confirm_event, event_by, key_event, released_event, route_event, verb_in,
+};
 use crate::run_cause::RunCause;
 use crate::run_fault::RunFault;
-use crate::script_word::ScriptKind;
+use crate::script_word::{ScriptKind, ScriptWord};
 use crate::summary::Summary;
 use crate::tally::Tally;
+use crate::verb::Verb;
 use itoa::Buffer;
 use std::alloc::Allocator;
 use tx_plan::Plan;
@@ -58,7 +62,7 @@ pub fn run<A: Allocator, B: Allocator, N: Network, R: Source, W: Sink>(
     }
 }
 
-/// Answers the lines that the frame leaves to it, one after another.
+/// Answers the lines that the frame leaves to it, one after another. The event of a line is read here, since a function of its own would not be inlined.
 fn run_lines<A: Allocator, B: Allocator, N: Network, R: Source, W: Sink>(
     frame: FrameReader<'_, A>,
     plan: &Plan<B>,
@@ -80,16 +84,22 @@ fn run_lines<A: Allocator, B: Allocator, N: Network, R: Source, W: Sink>(
     ensures calls { CallsAtMost R.called source_calls source.old source.new }
 {
     let mut frame = frame;
-    let mut tally = Tally {
-        answered: 0,
-        refused: 0,
-        tickets: 0,
-    };
+    let mut tally = Tally::new();
     'lines: loop {
         match frame.advance(source) {
             Ok(FrameStep::Header(_)) => {}
             Ok(FrameStep::Line) => {
-                match answer_line(frame.number(), frame.words(), plan, net, sink) {
+                let mut words = frame.words();
+                let said = match verb_in(&mut words) {
+                    Some(Verb::Key) => key_event(words, plan),
+                    Some(Verb::Route) => route_event(words),
+                    Some(Verb::Confirm) => confirm_event(words),
+                    Some(Verb::Clear) => clear_event(words),
+                    Some(Verb::Released) => released_event(words, plan),
+                    Some(other) => event_by(other, words, plan),
+                    None => Err(ScriptWord::UnknownWord),
+                };
+                match answer_line(frame.number(), said, plan, net, sink) {
                     Ok(answered) => tally.count(answered),
                     Err(cause) => {
                         drop(frame);

@@ -14,6 +14,17 @@ pub(crate) struct Tally {
 }
 
 impl Tally {
+    /// Nothing was answered yet.
+    pub(crate) fn new() -> Tally
+        ensures { result ≡ record { answered = 0; refused = 0; tickets = 0 } }
+    {
+        Tally {
+            answered: 0,
+            refused: 0,
+            tickets: 0,
+        }
+    }
+
     /// One event more was answered.
     pub(crate) fn count(&mut self, event: Answered)
         requires answered { self.old.answered < 2 ^ 63 }

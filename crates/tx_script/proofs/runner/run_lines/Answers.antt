@@ -1,4 +1,4 @@
-use Rattle.std.proofs.Common.{◌∙◌, ◌+◌, ap, sym, refl}
+use Rattle.std.proofs.Common.{◌≡◌, ◌∙◌, ◌+◌, ap, sym, refl}
 use Rattle.tx_text.specs.Calls.{source_calls}
 use Rattle.tx_text.specs.Frame.{is_read}
 use Rattle.tx_text.specs.Framing.{to_come, number_of_line, words_of_line}
@@ -7,15 +7,31 @@ use Rattle.tx_text.proofs.NoRoom.{come_said}
 use Rattle.tx_text.proofs.CallCounts.{went_none, went_on, went_past, went_same, calls_on, broken_on, stopped_with}
 use Rattle.tx_script.specs.declared.run_cause.RunCause.{RunCause}
 use Rattle.tx_script.specs.Events.{event_of}
+use Rattle.tx_script.proofs.EventWords.{said_by}
 use Rattle.tx_script.proofs.Running.{start_runs, header_runs, line_runs, few_answered, few_refused, few_calls, few_told, none_left, line_answers, stop_answers, whole_answers}
+use Rattle.tx_script.proofs.runner.run_lines.Given.{Over}
 use Rattle.tx_script.proofs.runner.run_lines.Goals as goal
+use Rattle.tx_script.proofs.runner.run_lines.Goals.{After-answer_line, in-Some-Key, in-Some-Route, in-Some-Confirm, in-Some-Clear, in-Some-Released, in-Some, in-None}
+
+-- what was answered is what the words of the line say
+said : (g : Over) (c : After-answer_line g) → event_of c.args.plan.now (words_of_line c.advance.new.self.reader.feed.line) ≡ c.match-verb_in.said
+said g c =
+    ap (event_of c.args.plan.now) (sym c.words-words.ensures) ∙ (elim c.match-verb_in.branch [
+      | in-Some-Key w ↦ said_by _ _ _ _ _ _ _ w.in-Some-Key.ensures w.in-Some-Key.field-0-is w.key_event-said.ensures w.said-is
+      | in-Some-Route w ↦ said_by _ _ _ _ _ _ _ w.in-Some-Route.ensures w.in-Some-Route.field-0-is w.route_event-said.ensures w.said-is
+      | in-Some-Confirm w ↦ said_by _ _ _ _ _ _ _ w.in-Some-Confirm.ensures w.in-Some-Confirm.field-0-is w.confirm_event-said.ensures w.said-is
+      | in-Some-Clear w ↦ said_by _ _ _ _ _ _ _ w.in-Some-Clear.ensures w.in-Some-Clear.field-0-is w.clear_event-said.ensures w.said-is
+      | in-Some-Released w ↦ said_by _ _ _ _ _ _ _ w.in-Some-Released.ensures w.in-Some-Released.field-0-is w.released_event-said.ensures w.said-is
+      | in-Some w ↦ w.in-Some.ensures c.args.plan.now ∙ sym w.event_by-said.ensures ∙ sym w.said-is
+      | in-None w ↦ w.in-None.ensures c.args.plan.now ∙ sym w.said-is
+    ])
 
 pub lines-init : goal.lines-init
 lines-init g c =
     let r = c.requires in
     record {
       plan = r.plan;
-      runs = start_runs c.args.plan.now (g.R.Source.rest c.args.source.now) (g.N.Network.state c.args.net.now) (g.W.Sink.taken c.args.sink.now) c.args.frame _ r.key r.versions r.reader r.phase r.number r.fresh refl;
+      runs = start_runs c.args.plan.now (g.R.Source.rest c.args.source.now) (g.N.Network.state c.args.net.now) (g.W.Sink.taken c.args.sink.now) c.args.frame _ r.key r.versions r.reader r.phase r.number r.fresh c.new-tally.ensures;
       mark = refl;
       sound = ap (λ (v : Reading). v.feed.fault) r.reader;
       went = went_same g.R.Source.called _ _ _ _ _ (ap (λ (v : Reading). v.left) r.reader) (went_none g.R.Source.called source_calls c.args.source.now);
@@ -61,7 +77,7 @@ lines-preserved g c =
     let a = c.in-Ok.ensures in
     record {
       plan = a.plan;
-      runs = line_runs _ _ _ _ _ _ _ _ _ _ v.runs _ _ _ n ws (to_come frame) c.count.new.self _ _ q _ (ap (event_of c.args.plan.now) (sym c.words.ensures)) (rw c.number.ensures at a.answers) c.count.ensures (went_past f (λ e. cc));
+      runs = line_runs _ _ _ _ _ _ _ _ _ _ v.runs _ _ _ n ws (to_come frame) c.count.new.self _ _ q _ (said g (goal.at.lines-preserved g c).After-answer_line) (rw c.number.ensures at a.answers) c.count.ensures (went_past f (λ e. cc));
       mark = a.mark ∙ v.mark;
       sound = c.in-Ok-Line.ensures.fault;
       went = went_on g.R.Source.called _ _ _ _ _ _ v.went (went_past w (λ e. cc));
@@ -78,7 +94,7 @@ returns-in-Err-answer_line-clause-answers g c =
     let frame = c.advance.new.self in
     let ws = words_of_line frame.reader.feed.line in
     let q = rw c.in-Ok-Line.field-0-is at c.in-Ok-Line.ensures.gives in
-    line_answers _ _ _ _ _ _ _ _ _ _ c.lines.invariant.runs _ _ _ _ _ c.stopped.result (number_of_line frame.reader.feed.line) ws (to_come frame) c.in-Err-answer_line.cause q _ (ap (event_of c.args.plan.now) (sym c.words.ensures)) (rw c.number.ensures at c.in-Err-answer_line.ensures.answers) c.stopped.ensures
+    line_answers _ _ _ _ _ _ _ _ _ _ c.lines.invariant.runs _ _ _ _ _ c.stopped.result (number_of_line frame.reader.feed.line) ws (to_come frame) c.in-Err-answer_line.cause q _ (said g (goal.at.returns-in-Err-answer_line-clause-answers g c).After-answer_line) (rw c.number.ensures at c.in-Err-answer_line.ensures.answers) c.stopped.ensures
 
 pub returns-in-Ok-End-clause-answers : goal.returns-in-Ok-End-clause-answers
 returns-in-Ok-End-clause-answers g c =

@@ -47,7 +47,7 @@ returns-then-is_seized-clause-step g c =
     let n = c.args.self.now in
     ap (λ o. unless_refused o (state_of n) (counted (accepted n.plan.now (state_of n) (Confirm c.args.number)))) c.in-Ok.ensures.«open» ∙ c.meet.ensures.step
 
-pub returns-else-is_seized-clause-step : goal.returns-else-is_seized-clause-step
-returns-else-is_seized-clause-step g c =
+pub returns-clause-step : goal.returns-clause-step
+returns-clause-step g c =
     let n = c.args.self.now in
     ap (λ o. unless_refused o (state_of n) (counted (accepted n.plan.now (state_of n) (Confirm c.args.number)))) c.in-Ok.ensures.«open» ∙ c.go_on.ensures.step

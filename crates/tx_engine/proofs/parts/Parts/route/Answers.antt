@@ -16,14 +16,13 @@ returns-in-Reach-clause-step g c =
     ap (λ o. unless_refused o (state_of n) (counted (accepted n.plan.now (state_of n) (Route c.args.number)))) c.in-Ok.ensures.open
     ∙ ap counted (route_is n.plan.now (calls_in n.calls) n.lines n.circuits n.numbers n.events n.tickets.items c.requires.lines c.requires.together c.args.number f.0.call (Reach c.in-Reach.line) f.1.open' (sym c.in-Reach.is ∙ dec)) ∙ done f.0 f.1.kept) c.reach.ensures.ok
 
-pub returns-in-Seize-clause-step : goal.returns-in-Seize-clause-step
-returns-in-Seize-clause-step g c =
+pub returns-in_ok-seize-in-Seize-clause-step : goal.returns-in_ok-seize-in-Seize-clause-step
+returns-in_ok-seize-in-Seize-clause-step g c =
     let n = c.args.self.now in
     let f = c.in-Ok.ensures.found in
     let dec = c.decision.ensures f.0 f.1.kept in
-    if_ok c.seize.result (λ reply done.
     ap (λ o. unless_refused o (state_of n) (counted (accepted n.plan.now (state_of n) (Route c.args.number)))) c.in-Ok.ensures.open
-    ∙ ap counted (route_is n.plan.now (calls_in n.calls) n.lines n.circuits n.numbers n.events n.tickets.items c.requires.lines c.requires.together c.args.number f.0.call (Seize c.in-Seize.circuit c.in-Seize.here) f.1.open' (sym c.in-Seize.is ∙ dec)) ∙ done f.0 f.1.kept) c.seize.ensures.ok
+    ∙ ap counted (route_is n.plan.now (calls_in n.calls) n.lines n.circuits n.numbers n.events n.tickets.items c.requires.lines c.requires.together c.args.number f.0.call (Seize c.in-Seize.circuit c.in-Seize.here) f.1.open' (sym c.in-Seize.is ∙ dec)) ∙ c.in_ok-seize-in-Seize.ensures.ok f.0 f.1.kept
 
 pub returns-in-Answer-clause-step : goal.returns-in-Answer-clause-step
 returns-in-Answer-clause-step g c =
