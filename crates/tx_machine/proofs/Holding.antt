@@ -11,8 +11,8 @@ use Rattle.tx_state.specs.Step.{keyed_call}
 use Rattle.tx_plan.specs.Among.{Among}
 use Rattle.tx_plan.proofs.Among.{among_cases, among_map, filter_among, map_among}
 use Rattle.tx_state.specs.Seen.{call_seen}
-use Rattle.tx_plain_parts.specs.inner.Seen.{HasRoom, IsReady}
-use Rattle.tx_plain_parts.specs.inner.GivenUp.{AreMarked}
+use Rattle.tx_machine.specs.inner.Seen.{HasRoom, IsReady}
+use Rattle.tx_machine.specs.inner.GivenUp.{AreMarked}
 use Rattle.tx_machine.specs.inner.Whole.{AreHeld}
 use Rattle.tx_state.specs.declared.open_call.OpenCall.{OpenCall}
 

@@ -7,7 +7,7 @@ use Rattle.tx_plan.specs.Routes.{is_barred}
 use Rattle.tx_entries.specs.declared.circuit.Circuit.{Circuit}
 use Rattle.tx_state.specs.declared.phase.Phase.TheVariants.{Calling}
 use Rattle.tx_state.specs.declared.service.Service.TheVariants.{Na}
-use Rattle.tx_plain_parts.specs.inner.Marks.{HasMark}
+use Rattle.tx_machine.specs.inner.Marks.{HasMark}
 use Rattle.tx_machine.specs.inner.Decided.{IsOn, IsMet}
 use Rattle.tx_machine.specs.declared.meeting.Meeting.{Meeting}
 use Rattle.tx_machine.specs.declared.meeting.Meeting.TheVariants.{GoesOn, Collides}

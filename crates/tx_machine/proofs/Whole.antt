@@ -26,16 +26,16 @@ use Rattle.tx_state.specs.InUse.{circuits_used, circuits_carried, seizes}
 use Rattle.tx_state.specs.Routing.{set_call}
 use Rattle.tx_state.specs.Ending.{given_up}
 use Rattle.tx_state.proofs.Lists.{find_mem, at_place}
-use Rattle.tx_plain_parts.specs.inner.Marks.{Circuits, Groups, HasMark}
+use Rattle.tx_machine.specs.inner.Marks.{Circuits, Groups, HasMark}
 use Rattle.tx_state.specs.Seen.{call_seen}
-use Rattle.tx_plain_parts.specs.inner.Seen.{changed, thrown_at, HasRoom, IsReady}
-use Rattle.tx_plain_parts.specs.inner.GivenUp.{ends_by, is_given, AreMarked}
+use Rattle.tx_machine.specs.inner.Seen.{changed, thrown_at, HasRoom, IsReady}
+use Rattle.tx_machine.specs.inner.GivenUp.{ends_by, is_given, AreMarked}
 use Rattle.tx_machine.specs.inner.Whole.{AreHeld, IsWhole}
 use Rattle.tx_state.specs.declared.open_call.OpenCall.{OpenCall}
-use Rattle.tx_plain_parts.specs.declared.change.Change.{Change}
-use Rattle.tx_plain_parts.specs.declared.change.Change.TheVariants.{To, Carry, ThrowBack}
-use Rattle.tx_plain_parts.specs.declared.ends.Ends.{Ends}
-use Rattle.tx_plain_parts.proofs.Views.{any_filter, filter_map_seen}
+use Rattle.tx_machine.specs.declared.change.Change.{Change}
+use Rattle.tx_machine.specs.declared.change.Change.TheVariants.{To, Carry, ThrowBack}
+use Rattle.tx_machine.specs.declared.ends.Ends.{Ends}
+use Rattle.tx_machine.proofs.Views.{any_filter, filter_map_seen}
 use Rattle.tx_machine.proofs.Holding.{held_filter, held_set, held_more, held_map, calling_ready}
 
 pub circuit_marked : (p : Plan) → IsPlan p → (x : Circuit) → is_circuit p x ≡ true → HasMark (length p.groups) x

@@ -1,2 +1,5 @@
 pub mod Decided
 pub mod Whole
+pub mod GivenUp
+pub mod Marks
+pub mod Seen

@@ -6,18 +6,21 @@ ghost use Rattle.tx_state.specs.Call.{is_calling, call_of};
 ghost use Rattle.tx_state.specs.Refusals.{is_other};
 ghost use Rattle.tx_state.specs.Confirming.{confirmed, collide};
 ghost use Rattle.tx_state.specs.Routing.{set_call};
-ghost use Rattle.tx_plain_parts.specs.inner.Marks.{HasMark};
+ghost use Rattle.tx_machine.specs.inner.Marks.{HasMark};
 ghost use Rattle.tx_state.specs.Seen.{call_seen};
-ghost use Rattle.tx_plain_parts.specs.inner.Seen.{changed};
+ghost use Rattle.tx_machine.specs.inner.Seen.{changed};
 ghost use Rattle.tx_machine.specs.inner.Decided.{meeting_done, IsMet, IsOn};
 ghost use Rattle.tx_state.specs.declared.event.Event.TheVariants.{Confirm};
 ghost use Rattle.tx_state.specs.declared.phase.Phase.TheVariants.{Calling};
-ghost use Rattle.tx_plain_parts.specs.declared.change.Change.TheVariants.{Carry};
+ghost use Rattle.tx_machine.specs.declared.change.Change.TheVariants.{Carry};
 
+use crate::calls::{call_of, rival_of};
+use crate::change::Change;
+use crate::changing::{change_numbered, throw_back};
+use crate::ends::Ends;
 use crate::meeting::Meeting;
 use crate::plain::Plain;
 use std::alloc::Allocator;
-use tx_plain_parts::{Change, Ends, call_of, change_numbered, rival_of, throw_back};
 use tx_plan::Circuit;
 use tx_state::{Cause, Hop, OpenCall, Phase, Reply, Service, far_of};
 

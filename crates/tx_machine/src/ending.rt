@@ -5,12 +5,13 @@ ghost use Rattle.tx_state.specs.Step.{step, accepted, counted};
 ghost use Rattle.tx_state.specs.InUse.{uses_group};
 ghost use Rattle.tx_state.specs.Ending.{end_calls};
 ghost use Rattle.std.specs.FinSet as set;
-ghost use Rattle.tx_plain_parts.specs.inner.GivenUp.{ends_by};
+ghost use Rattle.tx_machine.specs.inner.GivenUp.{ends_by};
 ghost use Rattle.tx_state.specs.declared.event.Event.TheVariants.{Fail, Clear};
 
+use crate::ended_calls::{count_ending, end_calls};
+use crate::ends::Ends;
 use crate::plain::Plain;
 use std::alloc::Allocator;
-use tx_plain_parts::{Ends, count_ending, end_calls};
 use tx_plan::GroupId;
 use tx_state::{Cause, Party, Reply};
 

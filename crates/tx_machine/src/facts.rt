@@ -1,7 +1,8 @@
 // What the plain network knows of a call, a line, a circuit and a group.
+use crate::calls::{call_of, engaged_in};
+use crate::lines::has_line;
 use crate::plain::Plain;
 use std::alloc::Allocator;
-use tx_plain_parts::{call_of, engaged_in, has_line};
 use tx_plan::{Circuit, GroupId, Line};
 use tx_state::{Facts, Phase};
 

@@ -3,10 +3,10 @@ ghost use Rattle.std.specs.Prelude.{◌≡◌, ◌<◌, ◌≤◌, ◌+◌, ◌-
 ghost use Rattle.tx_state.specs.InUse.{first_in, is_free_at, first_free, choice, is_down};
 ghost use Rattle.tx_plan.specs.Circuits.{upward, downward};
 
+use crate::calls::{carried_by, seized_from};
 use crate::plain::Plain;
 use crate::truth::none_of;
 use std::alloc::Allocator;
-use tx_plain_parts::{carried_by, seized_from};
 use tx_plan::{Circuit, CodeId, ExchangeId, GroupId};
 
 impl<'p, A: Allocator + Copy> Plain<'p, A> {

@@ -4,9 +4,10 @@ ghost use Rattle.tx_state.specs.Step.{step, takes_memory, accepted, counted};
 ghost use Rattle.tx_state.specs.State.{ticket_taken, opening};
 ghost use Rattle.tx_state.specs.Refusals.{refusal};
 
+use crate::circuit_marks::CircuitMarks;
+use crate::group_marks::GroupMarks;
 use std::alloc::{Allocator, Global};
 use std::marker::Model;
-use tx_plain_parts::{CircuitMarks, GroupMarks};
 use tx_plan::{Line, Plan};
 use tx_state::{Event, Network, OpenCall, Refusal, Reply, Ticket, refusal_of};
 use tx_text::NoMemory;
@@ -86,20 +87,6 @@ impl<'p, A: Allocator + Copy> Plain<'p, A> {
         })
     }
 
-    /// One event that is refused, or carried out.
-    fn apply_one(&mut self, event: &Event) -> Result<Reply, NoMemory>
-        ensures plan { self.new.plan ≡ self.old.plan }
-        ensures step { IfOk result (λ reply. step self.old.plan self.old.state event.now ≡ (reply, self.new.state)) }
-        ensures err { OnErr result (self.new ≡ self.old) }
-        ensures memory { OnErr result ((takes_memory event.now ≡ true) × (refusal self.old.plan self.old.state event.now ≡ None)) }
-    {
-        let refusal = refusal_of(self, event);
-        match refusal {
-            Some(refusal) => Ok(Reply::Refused(refusal)),
-            None => self.accept(event),
-        }
-    }
-
     /// One event that no refusal meets.
     fn accept(&mut self, event: &Event) -> Result<Reply, NoMemory>
         requires open { refusal self.old.plan self.old.state event.now ≡ None }
@@ -126,33 +113,6 @@ impl<'p, A: Allocator + Copy> Plain<'p, A> {
             Event::LineBack(line) => Ok(self.line_back(line)),
         }
     }
-
-    /// The oldest ticket.
-    fn first_ticket(&mut self) -> Option<Ticket<A>>
-        ensures plan { self.new.plan ≡ self.old.plan }
-        ensures first { result ≡ slice_get self.old.state.tickets 0 }
-        ensures rest { self.new.state ≡ ticket_taken self.old.state }
-    {
-        if self.tickets.is_empty() {
-            None
-        } else {
-            Some(self.tickets.remove(0))
-        }
-    }
-
-    /// How many calls are open.
-    fn count_open(&self) -> u64
-        ensures { result ≡ length self.now.state.calls }
-    {
-        self.calls.len() as u64
-    }
-
-    /// How many events were accepted.
-    fn count_events(&self) -> u64
-        ensures { result ≡ self.now.state.events }
-    {
-        self.events
-    }
 }
 
 impl<'p, A: Allocator + Copy> Network for Plain<'p, A> {
@@ -163,18 +123,26 @@ impl<'p, A: Allocator + Copy> Network for Plain<'p, A> {
     ghost state = { λ n. n.state };
 
     fn apply(&mut self, event: Event) -> Result<Reply, NoMemory> {
-        self.apply_one(&event)
+        let refusal = refusal_of(self, &event);
+        match refusal {
+            Some(refusal) => Ok(Reply::Refused(refusal)),
+            None => self.accept(&event),
+        }
     }
 
     fn next_ticket(&mut self) -> Option<Ticket<A>> {
-        self.first_ticket()
+        if self.tickets.is_empty() {
+            None
+        } else {
+            Some(self.tickets.remove(0))
+        }
     }
 
     fn open_calls(&self) -> u64 {
-        self.count_open()
+        self.calls.len() as u64
     }
 
     fn events(&self) -> u64 {
-        self.count_events()
+        self.events
     }
 }

@@ -12,11 +12,14 @@ ghost use Rattle.tx_machine.specs.inner.Decided.{routing_done, IsPlanned};
 ghost use Rattle.tx_state.specs.declared.event.Event.TheVariants.{Route};
 ghost use Rattle.tx_state.specs.declared.phase.Phase.TheVariants.{Calling};
 
+use crate::calls::call_of;
+use crate::change::Change;
+use crate::changing::{change_numbered, reserve_hop};
+use crate::ends::Ends;
 use crate::plain::Plain;
 use crate::routing::Routing;
 use crate::truth::both;
 use std::alloc::Allocator;
-use tx_plain_parts::{Change, Ends, call_of, change_numbered, reserve_hop};
 use tx_plan::{Circuit, CodeId, ExchangeId, Line, code_of, rest_after};
 use tx_state::{Cause, Facts, Hop, OpenCall, Phase, Reply, Service, place_of};
 use tx_text::NoMemory;

@@ -4,9 +4,9 @@ ghost use Rattle.tx_state.specs.Step.{accepted, counted};
 ghost use Rattle.tx_plan.specs.Circuits.{is_circuit};
 ghost use Rattle.tx_state.specs.declared.event.Event.TheVariants.{LineFault, LineAway, LineMend, LineBack, Released, CircuitOut, CircuitIn, Block, Unblock, Restore};
 
+use crate::lines::take_line;
 use crate::plain::Plain;
 use std::alloc::Allocator;
-use tx_plain_parts::take_line;
 use tx_plan::{Circuit, GroupId, Line};
 use tx_state::Reply;
 use tx_text::NoMemory;
@@ -109,7 +109,7 @@ impl<'p, A: Allocator + Copy> Plain<'p, A> {
     }
 
     /// A line is mended.
-    #[tactic(auto, using(tx_plain_parts::proofs::LineSets::lines_without))]
+    #[tactic(auto, using(crate::proofs::LineSets::lines_without))]
     pub(crate) fn line_mend(&mut self, line: &Line) -> Reply
         requires events { self.old.state.events < 2 ^ 64 - 1 }
         ensures step { counted (accepted self.old.plan self.old.state (LineMend line.now)) ≡ (result, self.new.state) }
@@ -121,7 +121,7 @@ impl<'p, A: Allocator + Copy> Plain<'p, A> {
     }
 
     /// A line is back.
-    #[tactic(auto, using(tx_plain_parts::proofs::LineSets::lines_without))]
+    #[tactic(auto, using(crate::proofs::LineSets::lines_without))]
     pub(crate) fn line_back(&mut self, line: &Line) -> Reply
         requires events { self.old.state.events < 2 ^ 64 - 1 }
         ensures step { counted (accepted self.old.plan self.old.state (LineBack line.now)) ≡ (result, self.new.state) }

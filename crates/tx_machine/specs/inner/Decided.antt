@@ -13,11 +13,11 @@ use Rattle.tx_state.specs.State.{State}
 use Rattle.tx_state.specs.Ending.{answered, end_calls}
 use Rattle.tx_state.specs.Routing.{set_call, in_phase}
 use Rattle.tx_state.specs.Confirming.{collide}
-use Rattle.tx_plain_parts.specs.inner.Marks.{HasMark}
-use Rattle.tx_plain_parts.specs.inner.Seen.{changed}
-use Rattle.tx_plain_parts.specs.inner.GivenUp.{ends_by}
-use Rattle.tx_plain_parts.specs.declared.change.Change.TheVariants.{Carry}
-use Rattle.tx_plain_parts.specs.declared.ends.Ends.TheVariants.{Collided}
+use Rattle.tx_machine.specs.inner.Marks.{HasMark}
+use Rattle.tx_machine.specs.inner.Seen.{changed}
+use Rattle.tx_machine.specs.inner.GivenUp.{ends_by}
+use Rattle.tx_machine.specs.declared.change.Change.TheVariants.{Carry}
+use Rattle.tx_machine.specs.declared.ends.Ends.TheVariants.{Collided}
 use Rattle.tx_machine.specs.declared.routing.Routing.{Routing}
 use Rattle.tx_machine.specs.declared.routing.Routing.TheVariants.{Answer, Connect, Seize}
 use Rattle.tx_machine.specs.declared.meeting.Meeting.{Meeting}

@@ -9,10 +9,10 @@ use Rattle.tx_state.specs.Call.{Call}
 use Rattle.tx_state.specs.Ended.{Ended}
 use Rattle.tx_state.specs.State.{Net}
 use Rattle.tx_state.specs.InUse.{circuits_used}
-use Rattle.tx_plain_parts.specs.inner.Marks.{Circuits, Groups}
+use Rattle.tx_machine.specs.inner.Marks.{Circuits, Groups}
 use Rattle.tx_state.specs.Seen.{call_seen}
-use Rattle.tx_plain_parts.specs.inner.Seen.{HasRoom}
-use Rattle.tx_plain_parts.specs.inner.GivenUp.{AreMarked}
+use Rattle.tx_machine.specs.inner.Seen.{HasRoom}
+use Rattle.tx_machine.specs.inner.GivenUp.{AreMarked}
 use Rattle.tx_state.specs.declared.open_call.OpenCall.{OpenCall}
 
 -- what holds of the calls: their circuits have marks, each has a number of its own, and its number was given

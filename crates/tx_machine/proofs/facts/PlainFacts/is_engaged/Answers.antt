@@ -3,7 +3,7 @@ use Rattle.std.specs.List.{list_any}
 use Rattle.tx_state.specs.State.{Net}
 use Rattle.tx_state.specs.Lines.{is_engaged, takes_part}
 use Rattle.tx_state.specs.Seen.{call_seen}
-use Rattle.tx_plain_parts.proofs.Views.{any_map}
+use Rattle.tx_machine.proofs.Views.{any_map}
 use Rattle.tx_machine.proofs.facts.PlainFacts.is_engaged.Goals as goal
 
 pub returns : goal.returns

@@ -3,7 +3,7 @@ use Rattle.tx_state.specs.State.{Net}
 use Rattle.tx_state.specs.Call.{Call, call_of}
 use Rattle.tx_state.proofs.Lists.{find_mem}
 use Rattle.tx_state.specs.Seen.{call_seen}
-use Rattle.tx_plain_parts.specs.declared.change.Change.TheVariants.{Carry}
+use Rattle.tx_machine.specs.declared.change.Change.TheVariants.{Carry}
 use Rattle.tx_machine.proofs.Whole.{marks_carry, whole_changed, whole_ready}
 use Rattle.tx_machine.proofs.plain.Plain.carry.Goals as goal
 

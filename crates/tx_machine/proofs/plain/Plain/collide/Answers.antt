@@ -1,6 +1,6 @@
 use Rattle.std.proofs.Common.{ap, sym, subst, length}
 use Rattle.tx_state.specs.State.{Net}
-use Rattle.tx_plain_parts.specs.inner.Marks.{Circuits, HasMark}
+use Rattle.tx_machine.specs.inner.Marks.{Circuits, HasMark}
 use Rattle.std.specs.Vec.{with_items}
 use Rattle.tx_machine.proofs.Whole.{whole_thrown, whole_releasing}
 use Rattle.tx_machine.proofs.plain.Plain.collide.Goals as goal

@@ -1,6 +1,6 @@
 use Rattle.std.proofs.Common.{◌<◌, ap, sym, subst, length}
 use Rattle.tx_state.specs.State.{Net}
-use Rattle.tx_plain_parts.specs.inner.Marks.{Circuits, Groups}
+use Rattle.tx_machine.specs.inner.Marks.{Circuits, Groups}
 use Rattle.tx_machine.proofs.Marking.{dropped}
 use Rattle.tx_machine.proofs.Whole.{whole_failed, whole_releasing}
 use Rattle.tx_machine.proofs.plain.Plain.drop_group.Goals as goal

@@ -4,11 +4,11 @@ use Rattle.tx_plan.specs.Orders.{circuit_cmp}
 use Rattle.tx_plan.proofs.Among.{among_map}
 use Rattle.tx_state.specs.Ending.{end_calls}
 use Rattle.tx_state.specs.State.{Net}
-use Rattle.tx_plain_parts.specs.inner.Marks.{Circuits, HasMark}
+use Rattle.tx_machine.specs.inner.Marks.{Circuits, HasMark}
 use Rattle.tx_state.specs.Seen.{call_seen}
-use Rattle.tx_plain_parts.specs.inner.GivenUp.{ends_by}
+use Rattle.tx_machine.specs.inner.GivenUp.{ends_by}
 use Rattle.tx_machine.proofs.Whole.{whole_ended, given_same}
-use Rattle.tx_plain_parts.proofs.Views.{filter_map_seen}
+use Rattle.tx_machine.proofs.Views.{filter_map_seen}
 use Rattle.tx_machine.proofs.plain.Plain.end.Goals as goal
 
 pub end_calls-requires-clause-marked : goal.end_calls-requires-clause-marked

@@ -3,7 +3,7 @@ use Rattle.tx_state.specs.InUse.{is_free_at, carries, seizes_from}
 use Rattle.std.specs.List.{list_any}
 use Rattle.tx_state.specs.State.{Net}
 use Rattle.tx_state.specs.Seen.{call_seen}
-use Rattle.tx_plain_parts.proofs.Views.{any_map}
+use Rattle.tx_machine.proofs.Views.{any_map}
 use Rattle.tx_machine.proofs.plain.Plain.is_free.Goals as goal
 
 pub returns : goal.returns

@@ -5,7 +5,7 @@ use Rattle.tx_plan.specs.Orders.{line_cmp}
 use Rattle.tx_state.specs.State.{Net}
 use Rattle.tx_state.specs.Step.{counted}
 use Rattle.tx_state.specs.Seen.{call_seen}
-use Rattle.tx_plain_parts.proofs.LineSets.{lines_without}
+use Rattle.tx_machine.proofs.LineSets.{lines_without}
 use Rattle.tx_machine.proofs.plain.Plain.line_back.Goals as goal
 
 pub returns-clause-step : goal.returns-clause-step

@@ -7,8 +7,8 @@ use Rattle.tx_state.specs.Confirming.{far_of, rival}
 use Rattle.tx_state.specs.InUse.{seizes_from}
 use Rattle.tx_state.specs.Routing.{set_call}
 use Rattle.tx_state.specs.Seen.{call_seen}
-use Rattle.tx_plain_parts.specs.inner.Seen.{changed}
-use Rattle.tx_plain_parts.specs.declared.change.Change.TheVariants.{Carry}
+use Rattle.tx_machine.specs.inner.Seen.{changed}
+use Rattle.tx_machine.specs.declared.change.Change.TheVariants.{Carry}
 use Rattle.tx_machine.proofs.Routed.{confirms}
 use Rattle.tx_machine.proofs.plain.Plain.meeting.Goals as goal
 

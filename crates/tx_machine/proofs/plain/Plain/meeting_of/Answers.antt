@@ -7,7 +7,7 @@ use Rattle.tx_state.specs.InUse.{circuits_carried}
 use Rattle.tx_plan.specs.Among.{Among}
 use Rattle.tx_plan.proofs.Among.{among_right}
 use Rattle.tx_state.proofs.Lists.{find_mem}
-use Rattle.tx_plain_parts.specs.inner.Marks.{HasMark}
+use Rattle.tx_machine.specs.inner.Marks.{HasMark}
 use Rattle.tx_machine.proofs.Routed.{met}
 use Rattle.tx_state.specs.Seen.{call_seen}
 use Rattle.tx_machine.specs.inner.Decided.{meeting_done}

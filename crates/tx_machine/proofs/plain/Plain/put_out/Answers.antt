@@ -1,7 +1,7 @@
 use Rattle.std.proofs.Common.{◌≡◌, ap, sym, subst, true}
 use Rattle.std.specs.FinSet as set
 use Rattle.tx_state.specs.State.{Net}
-use Rattle.tx_plain_parts.specs.inner.Marks.{Circuits, HasMark}
+use Rattle.tx_machine.specs.inner.Marks.{Circuits, HasMark}
 use Rattle.tx_plan.specs.Circuits.{is_circuit}
 use Rattle.tx_machine.proofs.Whole.{circuit_marked, whole_out}
 use Rattle.tx_machine.proofs.Marking.{out_step}

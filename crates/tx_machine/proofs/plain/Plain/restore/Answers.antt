@@ -1,7 +1,7 @@
 use Rattle.std.proofs.Common.{◌<◌, ap, sym, subst, length}
 use Rattle.std.specs.FinSet as set
 use Rattle.tx_state.specs.State.{Net}
-use Rattle.tx_plain_parts.specs.inner.Marks.{Groups}
+use Rattle.tx_machine.specs.inner.Marks.{Groups}
 use Rattle.tx_machine.proofs.Marking.{failed_step}
 use Rattle.tx_machine.proofs.Whole.{whole_failed}
 use Rattle.tx_machine.proofs.plain.Plain.restore.Goals as goal

@@ -1,6 +1,6 @@
 use Rattle.std.proofs.Common.{◌≡◌, ap, ◌∙◌, sym, subst, arith, map, length, []}
 use Rattle.tx_plan.specs.Among.{Among}
-use Rattle.tx_plain_parts.specs.inner.Marks.{Circuits, Groups}
+use Rattle.tx_machine.specs.inner.Marks.{Circuits, Groups}
 use Rattle.tx_state.specs.Seen.{call_seen}
 use Rattle.tx_machine.specs.inner.Whole.{AreHeld}
 use Rattle.tx_machine.proofs.Holding.{held_none}

@@ -6,7 +6,7 @@ use Rattle.tx_state.specs.State.{Net}
 use Rattle.tx_plan.specs.Circuits.{is_circuit}
 use Rattle.tx_plan.specs.Among.{Among}
 use Rattle.tx_state.specs.Seen.{call_seen}
-use Rattle.tx_plain_parts.specs.declared.change.Change.TheVariants.{To}
+use Rattle.tx_machine.specs.declared.change.Change.TheVariants.{To}
 use Rattle.tx_machine.proofs.Whole.{circuit_marked, marks_to, whole_same, whole_changed, seen_same, err_with}
 use Rattle.tx_machine.proofs.plain.Plain.to_phase.Goals as goal
 

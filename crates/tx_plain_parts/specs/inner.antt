@@ -1,3 +1,0 @@
-pub mod GivenUp
-pub mod Marks
-pub mod Seen
