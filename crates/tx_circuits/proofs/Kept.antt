@@ -1,6 +1,6 @@
 -- The groups stand in rows: one changes, and the others stay.
-use Rattle.std.proofs.Common.{◌≡◌, ◌∙◌, ℕ, zero, suc, ◌-◌, ◌<◌, ◌≤◌, inl, inr, Bool, true, false, List, [], ◌∷◌, ◌++◌, length, map, find, Option, Some, None, slice_set, refl, sym, ap, subst, arith}
-use Rattle.std.specs.Prelude.{slice_get, slice_index_or, is_some, option_and_then, replicate, cond}
+use Rattle.std.proofs.Common.{◌≡◌, ◌∙◌, ℕ, zero, suc, ◌-◌, ◌<◌, ◌≤◌, ◌==◌, ◌&&◌, inl, inr, Bool, true, false, List, [], ◌∷◌, ◌++◌, length, map, find, Option, Some, None, slice_set, refl, sym, ap, subst, arith}
+use Rattle.std.specs.Prelude.{IsSome, slice_get, slice_index_or, is_some, option_and_then, replicate, cond, if◌then◌else◌}
 use Rattle.std.specs.Option.{option_map, option_or}
 use Rattle.std.specs.List.{between}
 use Rattle.std.proofs.lemmas.Bool.Decides.{eqb_tells}
@@ -8,6 +8,7 @@ use Rattle.std.proofs.lemmas.List.{length-map, length-replicate, map_push}
 use Rattle.std.proofs.lemmas.List.Folds.{find-append}
 use Rattle.std.proofs.lemmas.Option.{slice_get-map}
 use Rattle.tx_entries.specs.declared.circuit.Circuit.{Circuit}
+use Rattle.tx_plan.specs.Circuits.{is_both}
 use Rattle.tx_rows.specs.declared.row_at.RowAt.{RowAt}
 use Rattle.tx_rows.specs.declared.late_rows.LateRows.{LateRows}
 use Rattle.tx_rows.specs.Rows.{Row as RowOf, change_at, item_at}
@@ -22,7 +23,7 @@ use Rattle.tx_circuits.specs.declared.free_lists.End.{End}
 use Rattle.tx_circuits.specs.declared.free_lists.FreeLists.{FreeLists}
 use Rattle.tx_circuits.specs.declared.free_lists.End.TheVariants.{First, Other}
 use Rattle.tx_circuits.specs.inner.Slots.{state_of, free_in, rising, falling, in_order, chain, list_of, IsSound}
-use Rattle.tx_circuits.specs.inner.Groups.{GroupState, group_state, state_at, numbered, set_numbered, first_place, way_of, idle, whole_lists, AreListed, AreGroupsKept}
+use Rattle.tx_circuits.specs.inner.Groups.{GroupState, group_state, state_at, seizing_end, end_at, numbered, set_numbered, first_place, way_of, idle, whole_lists, AreListed, AreGroupsKept}
 use Rattle.tx_circuits.proofs.Heads.{first_place_is}
 
 pub number_in : {A : Type 0} (xs : List A) (n : ℕ) → is_some (numbered xs n) ≡ true → (m : ℕ) × (n ≡ suc m) × (m < length xs)
@@ -52,6 +53,43 @@ state_seen rows x n e =
     by_row : (o : Option (RowOf Row Slot)) → option_map state_of (option_and_then (λ r. slice_get r.items n) o) ≡ option_and_then (λ t. numbered t.states (suc n)) (option_map group_state o)
     by_row None = refl
     by_row (Some r) = sym (slice_get-map state_of r.items n)
+
+-- A GROUP'S HEAD
+
+module _ (rows : List (RowOf Row Slot)) (now : List GroupState) (g : ℕ) (view : map group_state rows ≡ now) where
+  seen : option_map group_state (slice_get rows g) ≡ slice_get now g
+  seen = sym (slice_get-map group_state rows g) ∙ ap (λ v. slice_get v g) view
+
+  -- what stands beside a row has the group's head
+  pub head_seen : (o : Option Row) → o ≡ option_map (λ (r : RowOf Row Slot). r.head) (slice_get rows g) → option_map (λ (h : Row). h.head) o ≡ option_map (λ (t : GroupState). t.head) (slice_get now g)
+  head_seen o e = ap (option_map (λ (h : Row). h.head)) e ∙ by_row (slice_get rows g) ∙ ap (option_map (λ (t : GroupState). t.head)) seen
+    where
+      by_row : (q : Option (RowOf Row Slot)) → option_map (λ (h : Row). h.head) (option_map (λ (r : RowOf Row Slot). r.head) q) ≡ option_map (λ (t : GroupState). t.head) (option_map group_state q)
+      by_row None = refl
+      by_row (Some r) = refl
+
+  pub end_seen : (x : ℕ) (o : Option Row) → o ≡ option_map (λ (r : RowOf Row Slot). r.head) (slice_get rows g) → option_and_then (λ (h : Row). seizing_end h.head x) o ≡ end_at now g x
+  end_seen x o e = ap (option_and_then (λ (h : Row). seizing_end h.head x)) e ∙ by_row (slice_get rows g) ∙ ap (option_and_then (λ (t : GroupState). seizing_end t.head x)) seen
+    where
+      by_row : (q : Option (RowOf Row Slot)) → option_and_then (λ (h : Row). seizing_end h.head x) (option_map (λ (r : RowOf Row Slot). r.head) q) ≡ option_and_then (λ (t : GroupState). seizing_end t.head x) (option_map group_state q)
+      by_row None = refl
+      by_row (Some r) = refl
+
+pub there : (x : ℕ) (o : Option Row) → is_some (option_and_then (λ (h : Row). seizing_end h.head x) o) ≡ true → IsSome o
+there x None s = absurd cc
+there x (Some h) s = refl
+
+pub known_first : (h : GroupHead) (x : ℕ) → (h.a == x) ≡ true → seizing_end h x ≡ Some First
+known_first h x e = ap (λ b. if b then Some First else if is_both h.direction && (h.b == x) then Some Other else None) e
+
+pub known_other : (h : GroupHead) (x : ℕ) → (h.a == x) ≡ false → is_some (seizing_end h x) ≡ true → seizing_end h x ≡ Some Other
+known_other h x e s =
+    let second : seizing_end h x ≡ (if is_both h.direction && (h.b == x) then Some Other else None) = ap (λ b. if b then Some First else if is_both h.direction && (h.b == x) then Some Other else None) e in
+    second ∙ other (is_both h.direction && (h.b == x)) (ap is_some (sym second) ∙ s)
+  where
+    other : (z : Bool) → is_some (if z then Some Other else None) ≡ true → (if z then Some Other else None) ≡ Some Other
+    other true s = refl
+    other false s = absurd cc
 
 -- A GROUP AND ITS ROW
 
