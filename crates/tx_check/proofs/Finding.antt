@@ -92,6 +92,11 @@ module _ (f : ℕ → List CheckFault) where
       let empty = none_at f i none in
       y.1 ∙ sym (ap foremost (flat_map-range_at f i n lt ∙ ap (λ l. l ++ (f i ++ flat_map f (range_with_len (i + 1) (n - (i + 1))))) empty) ∙ first_left (f i) _ y.0 is)
 
+  -- nothing was found below one place more
+  pub passed_at : (i x : ℕ) (o : Option CheckFault) → x ≡ i → o ≡ foremost (f x) → is_some o ≡ false → ((k : ℕ) → k < i → f k ≡ []) → (k : ℕ) → k < i + 1 → f k ≡ []
+  passed_at i x None s e h none = below_more (λ k. f k ≡ []) i none (ap f (sym s) ∙ nothing (f x) (sym e))
+  passed_at i x (Some y) s e h none = absurd (let z : ⊥ = cc in z)
+
   -- nothing was found
   pub found_none : (n : ℕ) → ((k : ℕ) → k < n → f k ≡ []) → None ≡ foremost (flat_map f (range_with_len 0 n))
   found_none n none = ap foremost (sym (none_at f n none))
