@@ -11,3 +11,4 @@ pub mod HeadOn
 pub mod Lost
 pub mod Taken
 pub mod Behind
+pub mod Found
