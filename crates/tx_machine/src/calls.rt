@@ -1,13 +1,11 @@
 // What is seen in a list of open calls.
-ghost use Rattle.std.specs.Prelude.{◌≡◌, ◌≤◌, ◌<◌, ◌==◌, not, ◌&&◌, OnOk, MatchOption, Some, None, find, map, length, vec_len, vec_capacity};
+ghost use Rattle.std.specs.Prelude.{◌≡◌, ◌<◌, ◌==◌, not, ◌&&◌, MatchOption, Some, None, find, map};
 ghost use Rattle.std.specs.List.{list_any};
 ghost use Rattle.tx_plan.specs.Orders.{same_line, same_circuit};
 ghost use Rattle.tx_state.specs.InUse.{seizes_from, carries, seizes};
 ghost use Rattle.tx_state.specs.Lines.{takes_part};
 ghost use Rattle.tx_state.specs.Call.{place_of, call_of};
-ghost use Rattle.tx_state.specs.Routing.{set_call};
 ghost use Rattle.tx_state.specs.Seen.{call_seen};
-ghost use Rattle.tx_machine.specs.inner.Seen.{changed, change_at, thrown_at, HasRoom, IsReady};
 
 use std::alloc::Allocator;
 use tx_plan::{Circuit, ExchangeId, Line, Plan};

@@ -1,12 +1,6 @@
 // Changes of calls in a list.
-ghost use Rattle.std.specs.Prelude.{◌≡◌, ◌≤◌, ◌<◌, ◌==◌, not, ◌&&◌, OnOk, MatchOption, Some, None, find, map, length, vec_len, vec_capacity};
-ghost use Rattle.std.specs.List.{list_any};
-ghost use Rattle.tx_plan.specs.Orders.{same_line, same_circuit};
+ghost use Rattle.std.specs.Prelude.{◌≡◌, ◌<◌, ◌==◌, OnOk, map, length};
 ghost use Rattle.tx_plan.specs.Among.{Among};
-ghost use Rattle.tx_state.specs.Confirming.{far_of};
-ghost use Rattle.tx_state.specs.InUse.{seizes_from, carries, seizes};
-ghost use Rattle.tx_state.specs.Lines.{takes_part};
-ghost use Rattle.tx_state.specs.Call.{place_of, call_of};
 ghost use Rattle.tx_state.specs.Routing.{set_call};
 ghost use Rattle.tx_state.specs.Seen.{call_seen};
 ghost use Rattle.tx_machine.specs.inner.Seen.{changed, change_at, thrown_at, HasRoom, IsReady};

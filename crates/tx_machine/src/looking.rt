@@ -1,5 +1,5 @@
 // What the plain network looks at.
-ghost use Rattle.std.specs.Prelude.{◌≡◌, ◌<◌, ◌≤◌, ◌+◌, ◌-◌, Some, None, ◌&&◌, find, map, is_some, true, false};
+ghost use Rattle.std.specs.Prelude.{◌≡◌, ◌<◌, ◌≤◌, ◌+◌, ◌-◌, Some, None, find, map, is_some};
 ghost use Rattle.tx_state.specs.InUse.{first_in, is_free_at, first_free, choice, is_down};
 ghost use Rattle.tx_plan.specs.Circuits.{upward, downward};
 

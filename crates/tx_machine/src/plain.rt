@@ -1,7 +1,7 @@
 // A network over lists.
-ghost use Rattle.std.specs.Prelude.{◌≡◌, ◌<◌, ◌+◌, ◌-◌, IfOk, OnErr, Some, None, length, slice_get, true};
-ghost use Rattle.tx_state.specs.Step.{step, takes_memory, accepted, counted};
-ghost use Rattle.tx_state.specs.State.{ticket_taken, opening};
+ghost use Rattle.std.specs.Prelude.{◌≡◌, ◌<◌, ◌+◌, ◌-◌, IfOk, OnErr, Some, None, true};
+ghost use Rattle.tx_state.specs.Step.{takes_memory, accepted, counted};
+ghost use Rattle.tx_state.specs.State.{opening};
 ghost use Rattle.tx_state.specs.Refusals.{refusal};
 
 use crate::circuit_marks::CircuitMarks;

@@ -1,10 +1,9 @@
-use Rattle.std.proofs.Common.{◌≡◌, ◌==◌, ◌⊎◌, inl, inr, false, true, Some, None, [], sym, ap, ◌∙◌}
+use Rattle.std.proofs.Common.{◌≡◌, ◌==◌, inl, inr, false, true, Some, [], sym, ap, ◌∙◌}
 use Rattle.std.specs.Prelude.{unwrap_or}
 use Rattle.tx_plan.specs.Codes.{after, code_of}
 use Rattle.tx_plan.specs.Plan.{figures_of, home_of}
 use Rattle.tx_plan.specs.Routes.{route_list, is_barred}
 use Rattle.tx_trie.specs.Trie.{plan_of}
-use Rattle.tx_entries.specs.declared.circuit.Circuit.{Circuit}
 use Rattle.tx_state.specs.Call.{is_first, place_of}
 use Rattle.tx_state.specs.InUse.{first_in}
 use Rattle.tx_state.specs.Seen.{call_seen}
