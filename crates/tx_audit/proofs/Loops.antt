@@ -1,15 +1,16 @@
 -- What the loops of the code keep.
 use Rattle.std.proofs.Common.{◌≡◌, ℕ, zero, suc, ◌+◌, ◌-◌, ◌<◌, ◌≤◌, Bool, true, false, List, [], ◌∷◌, length, drop, ◌++◌, map, take, get_or, Option, Some, None, Result, Ok, Err, refl, sym, ap, ◌∙◌, arith}
-use Rattle.std.specs.Prelude.{find, slice_get, is_some, IfOk}
+use Rattle.std.specs.Prelude.{find, slice_get, is_some, option_and_then, IfOk}
 use Rattle.std.specs.List.{range_with_len, AllByRecursion}
 use Rattle.std.proofs.lemmas.List.{append_assoc, append-nil, drop_all, map_more}
 use Rattle.std.proofs.lemmas.Option.{slice_get_read}
 use Rattle.std.specs.Option.{option_map, IfSome}
+use Rattle.tx_entries.specs.declared.range.LineRange.{LineRange}
 use Rattle.tx_plan.specs.Plan.{Plan}
 use Rattle.tx_state.specs.declared.event.Event.{Event}
 use Rattle.tx_state.proofs.Lists.{at_place}
 use Rattle.tx_plan.specs.Routes.{route_list}
-use Rattle.tx_audit.specs.Counter.{is_single, turns_on_one, step_events, walk_events}
+use Rattle.tx_audit.specs.Counter.{first_range, first_code, low_line, first_line, is_single, turns_on_one, step_events, walk_events}
 
 pub drop_at : {A : Type 0} (xs : List A) (i : ℕ) (x : A) → slice_get xs i ≡ Some x → drop i xs ≡ x ∷ drop (i + 1) xs
 drop_at xs i x h = at xs i h ∙ (let e : suc i ≡ i + 1 = omega arith in ap (λ k. x ∷ drop k xs) e)
@@ -58,6 +59,16 @@ codes_at i n h = let e : n - i ≡ suc (n - (i + 1)) = omega arith in ap (range_
 
 pub code_past : (t : ℕ → Bool) (i n : ℕ) → i < n → t i ≡ false → find t (range_with_len i (n - i)) ≡ find t (range_with_len (i + 1) (n - (i + 1)))
 code_past t i n h e = ap (find t) (codes_at i n h) ∙ rw e refl
+
+pub code_here : (t : ℕ → Bool) (i n : ℕ) → i < n → t i ≡ true → find t (range_with_len i (n - i)) ≡ Some i
+code_here t i n h e = ap (find t) (codes_at i n h) ∙ rw e refl
+
+module _ (p : Plan) (start : ℕ) where
+  pub line_found : (i : ℕ) (r : LineRange) → first_code p start ≡ Some i → first_range p i ≡ Some r → first_line p start ≡ Some (low_line i r)
+  line_found i r code range = ap (option_and_then (λ c. option_map (low_line c) (first_range p c))) code ∙ ap (option_map (low_line i)) range
+
+  pub no_line_found : first_code p start ≡ None → first_line p start ≡ None
+  no_line_found none = ap (option_and_then (λ c. option_map (low_line c) (first_range p c))) none
 
 -- the last two steps
 pub turns_at : (p : Plan) (steps : List (ℕ × ℕ)) (i : ℕ) (s t : ℕ × ℕ) → length steps ≡ suc (suc i) → slice_get steps i ≡ Some s → slice_get steps (suc i) ≡ Some t → turns_on_one p steps ≡ is_single p s.0 t.0

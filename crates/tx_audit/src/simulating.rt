@@ -30,7 +30,7 @@ pub fn simulate<A: Allocator + Copy, R: Source, W: Sink>(
         }),
         Ok(mut network) => {
             let ran = run(alloc, plan, &mut network, script, out);
-            drop(network);
+            network.close();
             ran
         }
     }

@@ -40,6 +40,11 @@ impl<'p, A: Allocator> Model for Engine<'p, A> {
     ghost invariant = { λ n. IsSound n.parts };
 }
 
+impl<'p, A: Allocator> Engine<'p, A> {
+    /// Lets the network go. A crate that drops a network itself proves once more how each of its parts is dropped.
+    pub fn close(self) {}
+}
+
 impl<'p, A: Allocator + Copy> Engine<'p, A> {
     /// The network in the opening state in which no number was given and no event accepted.
     pub fn new(alloc: A, plan: &'p Plan<A>) -> Result<Self, NoMemory>

@@ -8,3 +8,4 @@ mod DrawnCode
 pub mod Before
 pub mod Choices
 pub mod Marking
+mod FirstShown

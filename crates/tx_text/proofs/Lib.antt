@@ -10,6 +10,7 @@ pub mod LineFaults
 pub mod FeederFields
 pub mod TextLines
 pub mod Feeding
+pub mod FedOn
 pub mod FeedSteps
 pub mod InPieces
 pub mod ReaderFields

@@ -1,9 +1,10 @@
-use Rattle.std.proofs.Common.{◌≡◌, ◌<◌, ◌==◌, ◌∙◌, sym, ap, length, false, None, arith}
-use Rattle.std.specs.Prelude.{is_some}
-use Rattle.std.proofs.lemmas.Bool.{not-true, and_left, and_right}
+use Rattle.std.proofs.Common.{◌≡◌, ◌-◌, ◌<◌, ◌==◌, ◌∙◌, sym, ap, length, true, false, Some, None, refl, arith}
+use Rattle.std.specs.Prelude.{is_some, find}
+use Rattle.std.specs.List.{range_with_len}
+use Rattle.std.proofs.lemmas.Bool.{not-true, not-false, and_left, and_right}
 use Rattle.tx_plan.specs.Plan.{home_of}
-use Rattle.tx_audit.specs.Counter.{first_range, calls_from}
-use Rattle.tx_audit.proofs.Loops.{code_past}
+use Rattle.tx_audit.specs.Counter.{first_code, first_range, calls_from}
+use Rattle.tx_audit.proofs.Loops.{code_past, code_here, line_found, no_line_found}
 use Rattle.tx_audit.proofs.free_line.first_line.Goals as goal
 
 pub loop-place-preserved-then-ne : goal.loop-place-preserved-then-ne
@@ -20,3 +21,28 @@ loop-place-preserved g c =
     let within : c.loop-place.place < length p.codes = let e = c.codes-place-end.ensures in let t = c.loop-place-test.true in omega arith in
     let none : first_range p c.loop-place.place ≡ None = ap (first_range p) (sym c.at-code.ensures) ∙ sym c.first_range.ensures ∙ c.in_default.is in
     c.loop-place.invariant ∙ code_past (calls_from p c.args.start) c.loop-place.place (length p.codes) within (and_right (home_of p c.loop-place.place == c.args.start) _ (ap is_some none))
+
+pub loop-place-init : goal.loop-place-init
+loop-place-init g c =
+    let p = c.args.plan.now in
+    let all : length p.codes ≡ length p.codes - 0 = omega arith in
+    ap (λ n. find (calls_from p c.args.start) (range_with_len 0 n)) all
+
+pub returns-in-Some : goal.returns-in-Some
+returns-in-Some g c =
+    let p = c.args.plan.now in
+    let i = c.loop-place.place in
+    let within : i < length p.codes = let e = c.codes-place-end.ensures in let t = c.loop-place-test.true in omega arith in
+    let home = c.home.ensures ∙ ap (home_of p) c.at-code.ensures in
+    let here : (home_of p i == c.args.start) ≡ true = ap (λ x. x == c.args.start) (sym home) ∙ not-false _ (sym c.ne.ensures ∙ c.if-ne.false) in
+    let range : first_range p i ≡ Some c.in-Some.range = ap (first_range p) (sym c.at-code.ensures) ∙ sym c.first_range.ensures ∙ c.in-Some.is in
+    let calls : calls_from p c.args.start i ≡ true = rw (here, range) refl in
+    rw c.at-code.ensures (sym (line_found p c.args.start i c.in-Some.range (c.loop-place.invariant ∙ code_here (calls_from p c.args.start) i (length p.codes) within calls) range))
+
+pub returns : goal.returns
+returns g c =
+    let p = c.args.plan.now in
+    let i = c.loop-place.place in
+    let over : length p.codes - i ≡ 0 = let e = c.codes-place-end.ensures in let t = c.loop-place-test.false in omega arith in
+    let none : first_code p c.args.start ≡ None = c.loop-place.invariant ∙ ap (λ n. find (calls_from p c.args.start) (range_with_len i n)) over in
+    sym (no_line_found p c.args.start none)
