@@ -1,5 +1,5 @@
-//! The files of cases that the programs for tests play, what a case says, the ends that are watched, and what these programs tell. No other crate than those stands
-//! on this one.
+//! The files of cases that the programs for tests play, what a case says, the ends that are watched, an allocator that refuses a request, and what these programs
+//! tell. No other crate than those stands on this one.
 #![tactic(auto)]
 
 mod case;
@@ -10,6 +10,7 @@ mod job;
 mod log;
 mod outputs;
 mod reader;
+mod refusing;
 mod spelled;
 mod told;
 mod writer;
@@ -24,6 +25,7 @@ pub use job::{Job, Task, job_name, sources, task_of, with_last};
 pub use log::Log;
 pub use outputs::{event_word, says_no_event, takes_memory, written_after};
 pub use reader::Reader;
+pub use refusing::Refusing;
 pub use spelled::spell;
 pub use told::{Told, tell, tell_broken, tell_count, tell_parts};
 pub use writer::Writer;

@@ -1,8 +1,7 @@
 // What takes memory, made with each request refused in turn.
 use crate::circuits::calls::{ALFA, BETA, next};
-use refusing::Refusing;
 use std::alloc::{Allocator, Global};
-use tx_cases::{Told, tell_broken, tell_count};
+use tx_cases::{Refusing, Told, tell_broken, tell_count};
 use tx_circuits::CircuitTable;
 use tx_lines::{LineAnswer, LineBook, Side};
 use tx_plan::{CodeId, Line, Plan, PlanRefusal};

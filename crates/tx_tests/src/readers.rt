@@ -1,7 +1,6 @@
 // The readers of a small plan, as many entries as there may be, and want of memory.
-use refusing::Refusing;
 use std::alloc::{Allocator, Global};
-use tx_cases::{Told, tell, tell_broken, tell_count};
+use tx_cases::{Refusing, Told, tell, tell_broken, tell_count};
 use tx_plan::{CodeId, Direction, ExchangeId, GroupId, Plan, PlanBuilder, PlanRefusal};
 use tx_text::words;
 

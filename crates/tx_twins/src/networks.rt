@@ -2,8 +2,8 @@
 use crate::script::{Script, play};
 use crate::stop::Stop;
 use crate::tally::Tally;
-use refusing::Refusing;
 use std::alloc::Global;
+use tx_cases::Refusing;
 use tx_engine::Engine;
 use tx_machine::Plain;
 use tx_plan::Plan;

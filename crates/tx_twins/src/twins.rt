@@ -1,6 +1,6 @@
 // Two networks, and one event after another.
-use refusing::Refusing;
 use std::alloc::{Allocator, Global};
+use tx_cases::Refusing;
 use tx_state::{Event, Network, Reply, Ticket};
 use tx_text::NoMemory;
 

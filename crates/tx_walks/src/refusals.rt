@@ -3,9 +3,9 @@ ghost use Rattle.std.specs.Prelude.{◌≤◌};
 ghost use Rattle.std.specs.List.{AllByRecursion};
 ghost use Rattle.tx_rank.specs.Findings.{IsTrueOf};
 
-use refusing::Refusing;
 use std::alloc::{Allocator, Global};
 use tx_audit::first_counter;
+use tx_cases::Refusing;
 use tx_machine::Event;
 use tx_plan::Plan;
 use tx_plantext::read_plan;

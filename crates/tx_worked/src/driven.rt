@@ -1,8 +1,7 @@
 // Lists of events that are driven where memory is refused.
 use crate::runs::Over;
-use refusing::Refusing;
 use std::alloc::Global;
-use tx_cases::{Told, tell_broken};
+use tx_cases::{Refusing, Told, tell_broken};
 use tx_engine::Engine;
 use tx_machine::Plain;
 use tx_plan::Plan;

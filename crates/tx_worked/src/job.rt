@@ -2,10 +2,9 @@
 ghost use Rattle.std.specs.Prelude.{◌≤◌, IfSome};
 
 use itoa::Buffer;
-use refusing::Refusing;
 use std::alloc::Global;
 use tx_audit::write_counter;
-use tx_cases::{End, Ends, Job, ROOM, Task, Told, tell, tell_broken};
+use tx_cases::{End, Ends, Job, ROOM, Refusing, Task, Told, tell, tell_broken};
 use tx_cert::write_cert;
 use tx_jobs::{
     Evidence, JobFault, check_status, codes_job, draw_job, evidence_job, grade_status, pipe_job,

@@ -1,7 +1,6 @@
 // Runs of a script, with the event at which they stop.
-use refusing::Refusing;
 use std::alloc::Global;
-use tx_cases::{End, Ends};
+use tx_cases::{End, Ends, Refusing};
 use tx_engine::Engine;
 use tx_jobs::JobFault;
 use tx_machine::Plain;

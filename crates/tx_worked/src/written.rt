@@ -1,7 +1,6 @@
 // Certificates and plans that are written and read back.
-use refusing::Refusing;
 use std::alloc::Global;
-use tx_cases::{Told, tell, tell_broken};
+use tx_cases::{Refusing, Told, tell, tell_broken};
 use tx_cert::{Cert, CertFault, CertWord, read_cert, write_cert};
 use tx_plan::{CodeId, ExchangeId, Plan};
 use tx_plantext::{read_plan, write_plan};
