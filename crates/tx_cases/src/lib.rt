@@ -9,6 +9,7 @@ mod head;
 mod job;
 mod log;
 mod outputs;
+mod owners;
 mod reader;
 mod refusing;
 mod spelled;
@@ -24,6 +25,7 @@ pub use head::{Driven, Head, JobKind, Kind, Mode, drawing_of, head_of, job_of, l
 pub use job::{Job, Task, job_name, sources, task_of, with_last};
 pub use log::Log;
 pub use outputs::{event_word, says_no_event, takes_memory, written_after};
+pub use owners::let_go_plan;
 pub use reader::Reader;
 pub use refusing::Refusing;
 pub use spelled::spell;

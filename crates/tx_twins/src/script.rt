@@ -5,8 +5,10 @@ use crate::picture::Picture;
 use crate::stop::{Differs, Stop};
 use crate::tally::Tally;
 use crate::twins::{Difference, apply_to_both, compare_tickets};
-use std::alloc::{Allocator, Global};
+use std::alloc::Global;
 use tx_cases::Refusing;
+use tx_engine::Engine;
+use tx_machine::Plain;
 use tx_plan::Plan;
 use tx_state::{Event, Network, Ticket};
 use tx_text::NoMemory;
@@ -48,9 +50,9 @@ impl From<NoMemory> for Halt {
 }
 
 /// Applies an event to both networks, of which the second has this memory.
-fn play_event<M: Network, N: Network>(
-    first: &mut M,
-    second: &mut N,
+fn play_event(
+    first: &mut Plain<'_>,
+    second: &mut Engine<'_, &Refusing<Global>>,
     memory: &Refusing<Global>,
     event: &Event,
     picture: &mut Picture,
@@ -66,9 +68,9 @@ fn play_event<M: Network, N: Network>(
 }
 
 /// Compares two tickets, and takes in what the first tells. Tells whether there are any.
-fn note_tickets<A: Allocator, B: Allocator>(
-    wanted: Option<&Ticket<A>>,
-    ticket: Option<&Ticket<B>>,
+fn note_tickets(
+    wanted: Option<&Ticket>,
+    ticket: Option<&Ticket<&Refusing<Global>>>,
     picture: &mut Picture,
     tally: &mut Tally,
 ) -> Result<bool, Halt> {
@@ -84,9 +86,9 @@ fn note_tickets<A: Allocator, B: Allocator>(
 }
 
 /// Takes the oldest ticket of both networks. Tells whether there was one.
-fn take_ticket<M: Network, N: Network>(
-    first: &mut M,
-    second: &mut N,
+fn take_ticket(
+    first: &mut Plain<'_>,
+    second: &mut Engine<'_, &Refusing<Global>>,
     picture: &mut Picture,
     tally: &mut Tally,
 ) -> Result<bool, Halt> {
@@ -99,9 +101,9 @@ fn take_ticket<M: Network, N: Network>(
 }
 
 /// Takes all tickets of both networks.
-fn take_tickets<M: Network, N: Network>(
-    first: &mut M,
-    second: &mut N,
+fn take_tickets(
+    first: &mut Plain<'_>,
+    second: &mut Engine<'_, &Refusing<Global>>,
     picture: &mut Picture,
     tally: &mut Tally,
 ) -> Result<(), Halt> {
@@ -114,9 +116,9 @@ fn take_tickets<M: Network, N: Network>(
 }
 
 /// Applies an event to both networks, and takes the tickets, if it is time for that: else more of them wait.
-fn go_on<M: Network, N: Network>(
-    first: &mut M,
-    second: &mut N,
+fn go_on(
+    first: &mut Plain<'_>,
+    second: &mut Engine<'_, &Refusing<Global>>,
     memory: &Refusing<Global>,
     event: &Event,
     takes_tickets: bool,
@@ -131,11 +133,11 @@ fn go_on<M: Network, N: Network>(
 }
 
 /// Plays the events.
-fn play_events<M: Network, N: Network>(
+fn play_events(
     plan: &Plan,
     script: Script,
-    first: &mut M,
-    second: &mut N,
+    first: &mut Plain<'_>,
+    second: &mut Engine<'_, &Refusing<Global>>,
     memory: &Refusing<Global>,
     picture: &mut Picture,
     tally: &mut Tally,
@@ -163,12 +165,12 @@ fn play_events<M: Network, N: Network>(
 }
 
 /// Plays a script through two networks, of which the second has this memory.
-pub fn play<M: Network, N: Network>(
+pub fn play(
     alloc: Global,
     plan: &Plan,
     script: Script,
-    first: &mut M,
-    second: &mut N,
+    first: &mut Plain<'_>,
+    second: &mut Engine<'_, &Refusing<Global>>,
     memory: &Refusing<Global>,
     tally: &mut Tally,
 ) -> Result<(), Stop> {

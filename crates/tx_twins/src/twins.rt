@@ -1,6 +1,8 @@
 // Two networks, and one event after another.
-use std::alloc::{Allocator, Global};
+use std::alloc::Global;
 use tx_cases::Refusing;
+use tx_engine::Engine;
+use tx_machine::Plain;
 use tx_state::{Event, Network, Reply, Ticket};
 use tx_text::NoMemory;
 
@@ -79,9 +81,9 @@ fn apply<N: Network>(net: &mut N, event: &Event) -> Result<Answer, Difference> {
 
 /// Applies an event to both networks, and compares their replies and counts. The answer is that of the second network, in which memory has to be wanting
 /// just where its memory refuses a request.
-pub fn apply_to_both<M: Network, N: Network>(
-    first: &mut M,
-    second: &mut N,
+pub fn apply_to_both(
+    first: &mut Plain<'_>,
+    second: &mut Engine<'_, &Refusing<Global>>,
     memory: &Refusing<Global>,
     event: &Event,
 ) -> Result<Answer, Difference> {
@@ -101,7 +103,7 @@ pub fn apply_to_both<M: Network, N: Network>(
 }
 
 /// Whether two tickets say the same.
-fn is_same<A: Allocator, B: Allocator>(ticket: &Ticket<A>, other: &Ticket<B>) -> bool {
+fn is_same(ticket: &Ticket, other: &Ticket<&Refusing<Global>>) -> bool {
     ticket.number == other.number
         && ticket.line == other.line
         && ticket.start == other.start
@@ -113,9 +115,9 @@ fn is_same<A: Allocator, B: Allocator>(ticket: &Ticket<A>, other: &Ticket<B>) ->
 }
 
 /// Compares the oldest tickets of two networks, if there are any.
-pub fn compare_tickets<A: Allocator, B: Allocator>(
-    wanted: Option<&Ticket<A>>,
-    ticket: Option<&Ticket<B>>,
+pub fn compare_tickets(
+    wanted: Option<&Ticket>,
+    ticket: Option<&Ticket<&Refusing<Global>>>,
 ) -> Result<(), Difference> {
     let is_right = match (wanted, ticket) {
         (Some(wanted), Some(ticket)) => is_same(wanted, ticket),
