@@ -1,5 +1,5 @@
-//! The files of cases that the programs for tests play, what a case says, the ends that are watched, and what these programs tell. No other crate than those stands
-//! on this one.
+//! The files of cases that the programs for tests play, what a case says, the ends that are watched, an allocator that refuses a request, and what these programs
+//! tell. No other crate than those stands on this one.
 #![tactic(auto)]
 
 mod case;
@@ -9,7 +9,9 @@ mod head;
 mod job;
 mod log;
 mod outputs;
+mod owners;
 mod reader;
+mod refusing;
 mod spelled;
 mod told;
 mod writer;
@@ -23,7 +25,9 @@ pub use head::{Driven, Head, JobKind, Kind, Mode, drawing_of, head_of, job_of, l
 pub use job::{Job, Task, job_name, sources, task_of, with_last};
 pub use log::Log;
 pub use outputs::{event_word, says_no_event, takes_memory, written_after};
+pub use owners::let_go_plan;
 pub use reader::Reader;
+pub use refusing::Refusing;
 pub use spelled::spell;
 pub use told::{Told, tell, tell_broken, tell_count, tell_parts};
 pub use writer::Writer;

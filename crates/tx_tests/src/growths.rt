@@ -1,8 +1,7 @@
 // What takes memory, made with each request refused in turn.
 use crate::circuits::calls::{ALFA, BETA, next};
-use refusing::Refusing;
-use std::alloc::{Allocator, Global};
-use tx_cases::{Told, tell_broken, tell_count};
+use std::alloc::Global;
+use tx_cases::{Refusing, Told, let_go_plan, tell_broken, tell_count};
 use tx_circuits::CircuitTable;
 use tx_lines::{LineAnswer, LineBook, Side};
 use tx_plan::{CodeId, Line, Plan, PlanRefusal};
@@ -49,7 +48,7 @@ fn judged(is_right: bool) -> Came {
 }
 
 /// A feeder, which takes no memory when it is fed.
-fn make_feeder<A: Allocator>(alloc: A) -> Came {
+fn make_feeder(alloc: &Refusing<Global>) -> Came {
     match LineFeeder::new(alloc) {
         Ok(mut feeder) => judged(feeder.feed(&[b'#'; 513]) == Err(TextFault::LineTooLong)),
         Err(TextFault::NoMemory) => Came::Wanting,
@@ -58,7 +57,7 @@ fn make_feeder<A: Allocator>(alloc: A) -> Came {
 }
 
 /// A sink, which takes no memory when it is written to.
-fn make_sink<A: Allocator>(alloc: A) -> Came {
+fn make_sink(alloc: &Refusing<Global>) -> Came {
     match MemorySink::new(alloc, 8) {
         Ok(mut sink) => judged(write_bytes(b"SCRIPT 1", &mut sink).is_ok()),
         Err(_) => Came::Wanting,
@@ -66,7 +65,7 @@ fn make_sink<A: Allocator>(alloc: A) -> Came {
 }
 
 /// A trie of codes of which one begins another.
-fn make_trie<A: Allocator + Copy>(alloc: A, plan: &Plan<A>) -> Came {
+fn make_trie<'m>(alloc: &'m Refusing<Global>, plan: &Plan<&'m Refusing<Global>>) -> Came {
     match CodeTrie::build(alloc, plan) {
         Ok(trie) => judged(trie.ambiguous().is_some()),
         Err(_) => Came::Wanting,
@@ -74,7 +73,7 @@ fn make_trie<A: Allocator + Copy>(alloc: A, plan: &Plan<A>) -> Came {
 }
 
 /// A table of circuits, of which ALFA takes the first next and BETA the third.
-fn make_table<A: Allocator + Copy>(alloc: A, plan: &Plan<A>) -> Came {
+fn make_table<'m>(alloc: &'m Refusing<Global>, plan: &Plan<&'m Refusing<Global>>) -> Came {
     match CircuitTable::build(alloc, plan) {
         Ok(table) => judged(next(&table, ALFA) == 1 && next(&table, BETA) == 3),
         Err(_) => Came::Wanting,
@@ -82,7 +81,7 @@ fn make_table<A: Allocator + Copy>(alloc: A, plan: &Plan<A>) -> Came {
 }
 
 /// Engages a free line: it joins a call, or room is made for it first. Where memory is wanting it has to stay free.
-fn engage<A: Allocator + Copy>(book: &mut LineBook<A>, line: &Line, joins: bool) -> Came {
+fn engage(book: &mut LineBook<&Refusing<Global>>, line: &Line, joins: bool) -> Came {
     let mut came = Came::Right;
     if joins {
         came = match book.join(line, Side::Caller) {
@@ -104,7 +103,7 @@ fn engage<A: Allocator + Copy>(book: &mut LineBook<A>, line: &Line, joins: bool)
 
 /// Engages lines until their table has grown twice: at the seventh line, for which room is made, and at the thirteenth, which joins a call. Where memory is
 /// wanting, a line is engaged at the second try.
-fn engage_lines<A: Allocator + Copy>(book: &mut LineBook<A>) -> Came {
+fn engage_lines(book: &mut LineBook<&Refusing<Global>>) -> Came {
     let mut all = Came::Right;
     for count in 1..14u8 {
         let number = [b'1', b'0', b'0', b'0' + count / 10, b'0' + count % 10];
@@ -124,7 +123,7 @@ fn engage_lines<A: Allocator + Copy>(book: &mut LineBook<A>) -> Came {
 }
 
 /// A book of lines, of which some are engaged.
-fn make_book<A: Allocator + Copy>(alloc: A, plan: &Plan<A>) -> Came {
+fn make_book<'m>(alloc: &'m Refusing<Global>, plan: &Plan<&'m Refusing<Global>>) -> Came {
     match LineBook::build(alloc, plan) {
         Ok(mut book) => engage_lines(&mut book),
         Err(_) => Came::Wanting,
@@ -132,7 +131,7 @@ fn make_book<A: Allocator + Copy>(alloc: A, plan: &Plan<A>) -> Came {
 }
 
 /// Reads the plan, and makes what is to be made: where it has a plan, over that plan.
-fn make<A: Allocator + Copy>(alloc: A, made: Made, plan: &[u8]) -> Came {
+fn make(alloc: &Refusing<Global>, made: Made, plan: &[u8]) -> Came {
     match read_plan(alloc, plan) {
         Ok(plan) => {
             let came = match made {
@@ -142,7 +141,7 @@ fn make<A: Allocator + Copy>(alloc: A, made: Made, plan: &[u8]) -> Came {
                 Made::Book => make_book(alloc, &plan),
                 Made::Table => make_table(alloc, &plan),
             };
-            drop(plan);
+            let_go_plan(plan);
             came
         }
         Err(fault) => match fault.kind {

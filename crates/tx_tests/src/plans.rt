@@ -3,7 +3,7 @@ use crate::book::play_book;
 use crate::circuits::{tell_circuits, try_sequences};
 use crate::trie::tell_trie;
 use std::alloc::Global;
-use tx_cases::{Told, tell_broken};
+use tx_cases::{Told, let_go_plan, tell_broken};
 use tx_circuits::CircuitTable;
 use tx_lines::LineBook;
 use tx_plan::Plan;
@@ -57,7 +57,7 @@ pub(crate) fn with_plan(alloc: Global, over: Over, plan: &[u8], calls: &[u8], ou
                 Over::Circuits => over_table(alloc, &plan, calls, out),
                 Over::Sequences => try_sequences(alloc, &plan, out),
             }
-            drop(plan);
+            let_go_plan(plan);
         }
         Err(fault) => tell_broken(b"no plan, line", fault.line, out),
     }

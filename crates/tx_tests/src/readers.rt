@@ -1,7 +1,6 @@
 // The readers of a small plan, as many entries as there may be, and want of memory.
-use refusing::Refusing;
 use std::alloc::{Allocator, Global};
-use tx_cases::{Told, tell, tell_broken, tell_count};
+use tx_cases::{Refusing, Told, let_go_plan, tell, tell_broken, tell_count};
 use tx_plan::{CodeId, Direction, ExchangeId, GroupId, Plan, PlanBuilder, PlanRefusal};
 use tx_text::words;
 
@@ -143,19 +142,19 @@ fn name_of(letter: u8, number: u32) -> [u8; 5] {
 }
 
 /// Declares more exchanges, groups and ranges than there may be, and all codes.
-fn fill<A: Allocator>(plan: &mut PlanBuilder<A>) {
-    for number in 0..300u32 {
-        let _ = plan.exchange(&name_of(b'E', number));
-    }
-    for number in 0..1000u32 {
+fn fill(plan: &mut PlanBuilder) {
+    for number in 0..4200u32 {
         let figures = name_of(b'0', number);
+        let _ = plan.exchange(&name_of(b'E', number));
         let _ = plan.code(&figures[2..], b"BETA");
         let _ = plan.code(&figures[3..], b"BETA");
-    }
-    for number in 0..4200u32 {
-        let name = name_of(b'G', number);
-        let _ = plan.group(&name, b"BETA", b"ALFA", Direction::OneWay, 1);
-        let figures = name_of(b'0', number);
+        let _ = plan.group(
+            &name_of(b'G', number),
+            b"BETA",
+            b"ALFA",
+            Direction::OneWay,
+            1,
+        );
         let _ = plan.lines(b"41", &figures, &figures);
     }
 }
@@ -172,7 +171,7 @@ pub(crate) fn tell_plan(alloc: Global, full: bool, out: &mut Told) {
         tell_readers(&plan, out);
     }
     tell_sizes(&plan, out);
-    drop(plan);
+    let_go_plan(plan);
 }
 
 /// Declares the small plan with one request for memory refused, marks what found none, and tells whether the request came.
@@ -182,7 +181,7 @@ fn declare_without(alloc: Global, request: u64, wanting: &mut [bool; 8], out: &m
     if !declare_all(&mut builder, wanting) {
         tell_broken(b"refused request", request, out);
     }
-    drop(builder);
+    let_go_plan(builder.finish());
     refusing.has_refused()
 }
 

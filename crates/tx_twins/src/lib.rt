@@ -14,6 +14,7 @@ mod chance;
 mod drawing;
 mod mood;
 mod networks;
+mod owners;
 mod picture;
 mod play;
 mod script;
@@ -22,4 +23,5 @@ mod stray;
 mod tally;
 mod twins;
 
+pub use owners::{let_go_engine, let_go_plain};
 pub use play::play_all;

@@ -1,22 +1,22 @@
 // The two networks: the plain one, and the engine.
+use crate::owners::{let_go_engine, let_go_plain};
 use crate::script::{Script, play};
 use crate::stop::Stop;
 use crate::tally::Tally;
-use refusing::Refusing;
 use std::alloc::Global;
+use tx_cases::{Refusing, let_go_plan};
 use tx_engine::Engine;
 use tx_machine::Plain;
 use tx_plan::Plan;
 use tx_plantext::read_plan;
-use tx_state::Network;
 use tx_text::NoMemory;
 
-/// Plays a script through a network and a new engine, whose plan says the same and whose memory is another's.
-fn play_engine<'m, M: Network>(
+/// Plays a script through a plain network and a new engine, whose plan says the same and whose memory is another's.
+fn play_engine<'m>(
     alloc: Global,
     plan: &Plan,
     script: Script,
-    plain: &mut M,
+    plain: &mut Plain<'_>,
     memory: &'m Refusing<Global>,
     engine_plan: &Plan<&'m Refusing<Global>>,
     tally: &mut Tally,
@@ -24,7 +24,7 @@ fn play_engine<'m, M: Network>(
     match Engine::starting_at(memory, engine_plan, script.numbers, script.events) {
         Ok(mut engine) => {
             let played = play(alloc, plan, script, plain, &mut engine, memory, tally);
-            drop(engine);
+            let_go_engine(engine);
             played
         }
         Err(NoMemory) => Err(Stop::NoMemory),
@@ -43,7 +43,7 @@ fn play_both<'m>(
     match Plain::starting_at(alloc, plan, script.numbers, script.events) {
         Ok(mut plain) => {
             let played = play_engine(alloc, plan, script, &mut plain, memory, engine_plan, tally);
-            drop(plain);
+            let_go_plain(plain);
             played
         }
         Err(NoMemory) => Err(Stop::NoMemory),
@@ -62,7 +62,7 @@ fn play_reading(
     match read_plan(memory, text) {
         Ok(engine_plan) => {
             let played = play_both(alloc, plan, script, memory, &engine_plan, tally);
-            drop(engine_plan);
+            let_go_plan(engine_plan);
             played
         }
         Err(_) => Err(Stop::NoMemory),

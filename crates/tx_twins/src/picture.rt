@@ -1,5 +1,5 @@
 // What the replies and the tickets tell of a network.
-use std::alloc::{Allocator, Global};
+use std::alloc::Global;
 use tx_plan::{Circuit, GroupId, Line};
 use tx_state::{Event, Phase, Reply, Ticket};
 use tx_text::NoMemory;
@@ -159,7 +159,7 @@ impl Picture {
     }
 
     /// Takes in that a call ended, and gave its circuits up.
-    pub fn note_ticket<A: Allocator>(&mut self, ticket: &Ticket<A>) -> Result<(), NoMemory> {
+    pub fn note_ticket(&mut self, ticket: &Ticket) -> Result<(), NoMemory> {
         if let Some(circuit) = self.seized_by(ticket.number) {
             self.note_given_up(circuit)?;
         }

@@ -4,7 +4,7 @@ use crate::script::Script;
 use crate::stop::{Stop, tell_stop};
 use crate::tally::{Tallies, Tally, tell_events, tell_tallies};
 use std::alloc::Global;
-use tx_cases::{Case, Told, next_case, next_number, next_word};
+use tx_cases::{Case, Told, let_go_plan, next_case, next_number, next_word};
 use tx_plan::Plan;
 use tx_plantext::read_plan;
 use tx_text::words;
@@ -76,7 +76,7 @@ fn read_and_play(
     match read_plan(alloc, text) {
         Ok(plan) => {
             let played = play_plan(alloc, &plan, text, most, seed, tallies);
-            drop(plan);
+            let_go_plan(plan);
             played
         }
         Err(_) => Err(Stop::BadPlans),

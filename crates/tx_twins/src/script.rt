@@ -5,8 +5,10 @@ use crate::picture::Picture;
 use crate::stop::{Differs, Stop};
 use crate::tally::Tally;
 use crate::twins::{Difference, apply_to_both, compare_tickets};
-use refusing::Refusing;
-use std::alloc::{Allocator, Global};
+use std::alloc::Global;
+use tx_cases::Refusing;
+use tx_engine::Engine;
+use tx_machine::Plain;
 use tx_plan::Plan;
 use tx_state::{Event, Network, Ticket};
 use tx_text::NoMemory;
@@ -47,16 +49,16 @@ impl From<NoMemory> for Halt {
     }
 }
 
-/// Applies an event to both networks, of which the second has this memory.
-fn play_event<M: Network, N: Network>(
-    first: &mut M,
-    second: &mut N,
+/// Applies an event to both networks, of which the engine takes this memory.
+fn play_event(
+    plain: &mut Plain<'_>,
+    engine: &mut Engine<'_, &Refusing<Global>>,
     memory: &Refusing<Global>,
     event: &Event,
     picture: &mut Picture,
     tally: &mut Tally,
 ) -> Result<(), Halt> {
-    let answer = apply_to_both(first, second, memory, event)?;
+    let answer = apply_to_both(plain, engine, memory, event)?;
     if answer.was_refused {
         tally.note_want(event);
     }
@@ -65,10 +67,10 @@ fn play_event<M: Network, N: Network>(
     Ok(())
 }
 
-/// Compares two tickets, and takes in what the first tells. Tells whether there are any.
-fn note_tickets<A: Allocator, B: Allocator>(
-    wanted: Option<&Ticket<A>>,
-    ticket: Option<&Ticket<B>>,
+/// Compares two tickets, and takes in what the one of the plain network tells. Tells whether there are any.
+fn note_tickets(
+    wanted: Option<&Ticket>,
+    ticket: Option<&Ticket<&Refusing<Global>>>,
     picture: &mut Picture,
     tally: &mut Tally,
 ) -> Result<bool, Halt> {
@@ -84,14 +86,14 @@ fn note_tickets<A: Allocator, B: Allocator>(
 }
 
 /// Takes the oldest ticket of both networks. Tells whether there was one.
-fn take_ticket<M: Network, N: Network>(
-    first: &mut M,
-    second: &mut N,
+fn take_ticket(
+    plain: &mut Plain<'_>,
+    engine: &mut Engine<'_, &Refusing<Global>>,
     picture: &mut Picture,
     tally: &mut Tally,
 ) -> Result<bool, Halt> {
-    let wanted = first.next_ticket();
-    let ticket = second.next_ticket();
+    let wanted = plain.next_ticket();
+    let ticket = engine.next_ticket();
     let noted = note_tickets(wanted.as_ref(), ticket.as_ref(), picture, tally);
     drop(wanted);
     drop(ticket);
@@ -99,14 +101,14 @@ fn take_ticket<M: Network, N: Network>(
 }
 
 /// Takes all tickets of both networks.
-fn take_tickets<M: Network, N: Network>(
-    first: &mut M,
-    second: &mut N,
+fn take_tickets(
+    plain: &mut Plain<'_>,
+    engine: &mut Engine<'_, &Refusing<Global>>,
     picture: &mut Picture,
     tally: &mut Tally,
 ) -> Result<(), Halt> {
     for _ in 0..u64::MAX {
-        if !take_ticket(first, second, picture, tally)? {
+        if !take_ticket(plain, engine, picture, tally)? {
             break;
         }
     }
@@ -114,28 +116,28 @@ fn take_tickets<M: Network, N: Network>(
 }
 
 /// Applies an event to both networks, and takes the tickets, if it is time for that: else more of them wait.
-fn go_on<M: Network, N: Network>(
-    first: &mut M,
-    second: &mut N,
+fn go_on(
+    plain: &mut Plain<'_>,
+    engine: &mut Engine<'_, &Refusing<Global>>,
     memory: &Refusing<Global>,
     event: &Event,
     takes_tickets: bool,
     picture: &mut Picture,
     tally: &mut Tally,
 ) -> Result<(), Halt> {
-    play_event(first, second, memory, event, picture, tally)?;
+    play_event(plain, engine, memory, event, picture, tally)?;
     if takes_tickets {
-        take_tickets(first, second, picture, tally)?;
+        take_tickets(plain, engine, picture, tally)?;
     }
     Ok(())
 }
 
 /// Plays the events.
-fn play_events<M: Network, N: Network>(
+fn play_events(
     plan: &Plan,
     script: Script,
-    first: &mut M,
-    second: &mut N,
+    plain: &mut Plain<'_>,
+    engine: &mut Engine<'_, &Refusing<Global>>,
     memory: &Refusing<Global>,
     picture: &mut Picture,
     tally: &mut Tally,
@@ -145,7 +147,7 @@ fn play_events<M: Network, N: Network>(
         let mood = script.seed.wrapping_add(u64::from(place / MOOD_EVENTS));
         let event = next_event(plan, picture, &mut chance, mood, script.most);
         let takes_tickets = !chance.one_in(4);
-        let played = go_on(first, second, memory, &event, takes_tickets, picture, tally);
+        let played = go_on(plain, engine, memory, &event, takes_tickets, picture, tally);
         match played {
             Ok(()) => {}
             Err(Halt::NoMemory) => return Err(Stop::NoMemory),
@@ -162,18 +164,18 @@ fn play_events<M: Network, N: Network>(
     Ok(())
 }
 
-/// Plays a script through two networks, of which the second has this memory.
-pub fn play<M: Network, N: Network>(
+/// Plays a script through both networks, of which the engine takes this memory.
+pub fn play(
     alloc: Global,
     plan: &Plan,
     script: Script,
-    first: &mut M,
-    second: &mut N,
+    plain: &mut Plain<'_>,
+    engine: &mut Engine<'_, &Refusing<Global>>,
     memory: &Refusing<Global>,
     tally: &mut Tally,
 ) -> Result<(), Stop> {
     let mut picture = Picture::new(alloc, script.numbers);
-    let played = play_events(plan, script, first, second, memory, &mut picture, tally);
+    let played = play_events(plan, script, plain, engine, memory, &mut picture, tally);
     drop(picture);
     played
 }

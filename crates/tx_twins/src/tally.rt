@@ -202,26 +202,29 @@ impl Tallies {
     }
 }
 
-/// Tells counts under a name, each in a line behind its own name.
-fn tell_counts(name: &[u8], names: &[&'static str], counts: &[u64], out: &mut Told) {
-    tell_parts(&[name, b" {\n"], out);
-    for (name, count) in names.iter().zip(counts) {
-        tell_parts(&[b"    ", name.as_bytes()], out);
-        tell_count(b": ", *count, b",\n", out);
+/// Tells a count in a line behind its name, or only whether there was any.
+fn tell_line(name: &str, count: u64, is_told: bool, out: &mut Told) {
+    tell_parts(&[b"    ", name.as_bytes(), b": "], out);
+    if is_told {
+        tell_count(b"", count, b",\n", out);
+    } else if count > 0 {
+        tell(b"true,\n", out);
+    } else {
+        tell(b"false,\n", out);
     }
-    tell(b"}\n", out);
 }
 
-/// Tells which events met a refused request.
-fn tell_wants(wants: &[u64], out: &mut Told) {
-    tell(b"Wants {\n", out);
-    for (name, count) in WANTS.iter().zip(wants) {
-        let met = if *count > 0 {
-            b": true,\n".as_slice()
-        } else {
-            b": false,\n"
-        };
-        tell_parts(&[b"    ", name.as_bytes(), met], out);
+/// Tells counts under a name, or only of which there were any.
+fn tell_counts(
+    name: &[u8],
+    names: &[&'static str],
+    counts: &[u64],
+    are_told: bool,
+    out: &mut Told,
+) {
+    tell_parts(&[name, b" {\n"], out);
+    for (name, count) in names.iter().zip(counts) {
+        tell_line(name, *count, are_told, out);
     }
     tell(b"}\n", out);
 }
@@ -237,9 +240,9 @@ pub fn tell_events(name: &[u8], events: u64, accepted: u64, out: &mut Told) {
 pub fn tell_tallies(tallies: &Tallies, out: &mut Told) {
     let tally = &tallies.whole;
     tell_events(b"in all", tally.events, tally.accepted, out);
-    tell_counts(b"Replies", &REPLIES, &tally.replies, out);
-    tell_counts(b"Services", &SERVICES, &tally.answers, out);
-    tell_counts(b"Refusals", &REFUSALS, &tally.refusals, out);
-    tell_counts(b"Causes", &CAUSES, &tally.causes, out);
-    tell_wants(&tallies.refusing.wants, out);
+    tell_counts(b"Replies", &REPLIES, &tally.replies, true, out);
+    tell_counts(b"Services", &SERVICES, &tally.answers, true, out);
+    tell_counts(b"Refusals", &REFUSALS, &tally.refusals, true, out);
+    tell_counts(b"Causes", &CAUSES, &tally.causes, true, out);
+    tell_counts(b"Wants", &WANTS, &tallies.refusing.wants, false, out);
 }

@@ -1,6 +1,8 @@
 // Two networks, and one event after another.
-use refusing::Refusing;
-use std::alloc::{Allocator, Global};
+use std::alloc::Global;
+use tx_cases::Refusing;
+use tx_engine::Engine;
+use tx_machine::Plain;
 use tx_state::{Event, Network, Reply, Ticket};
 use tx_text::NoMemory;
 
@@ -34,22 +36,6 @@ impl Difference {
     }
 }
 
-/// How many calls are open in a network, and how many events it accepted.
-#[derive(Clone, Copy, PartialEq, Eq)]
-pub struct Counts {
-    open_calls: u64,
-    events: u64,
-}
-
-impl Counts {
-    fn of<N: Network>(net: &N) -> Counts {
-        Counts {
-            open_calls: net.open_calls(),
-            events: net.events(),
-        }
-    }
-}
-
 /// A reply, and whether memory was refused before it came.
 #[derive(Clone, Copy)]
 pub struct Answer {
@@ -57,18 +43,17 @@ pub struct Answer {
     pub was_refused: bool,
 }
 
-/// Applies an event, and again where memory was refused, which must have changed nothing.
-fn apply<N: Network>(net: &mut N, event: &Event) -> Result<Answer, Difference> {
-    let before = Counts::of(net);
-    if let Ok(reply) = net.apply(*event) {
+/// Applies an event to the engine, and again where memory was refused, which must have changed nothing.
+fn apply(engine: &mut Engine<'_, &Refusing<Global>>, event: &Event) -> Result<Answer, Difference> {
+    let (open_calls, events) = (engine.open_calls(), engine.events());
+    if let Ok(reply) = engine.apply(*event) {
         let was_refused = false;
         return Ok(Answer { reply, was_refused });
     }
-    let after = Counts::of(net);
-    if after != before {
+    if engine.open_calls() != open_calls || engine.events() != events {
         return Err(Difference::ChangedByRefusal);
     }
-    match net.apply(*event) {
+    match engine.apply(*event) {
         Ok(reply) => {
             let was_refused = true;
             Ok(Answer { reply, was_refused })
@@ -77,31 +62,33 @@ fn apply<N: Network>(net: &mut N, event: &Event) -> Result<Answer, Difference> {
     }
 }
 
-/// Applies an event to both networks, and compares their replies and counts. The answer is that of the second network, in which memory has to be wanting
-/// just where its memory refuses a request.
-pub fn apply_to_both<M: Network, N: Network>(
-    first: &mut M,
-    second: &mut N,
+/// Applies an event to both networks, and compares their replies and counts. The answer is that of the engine, in which memory has to be wanting just where
+/// its memory refuses a request.
+pub fn apply_to_both(
+    plain: &mut Plain<'_>,
+    engine: &mut Engine<'_, &Refusing<Global>>,
     memory: &Refusing<Global>,
     event: &Event,
 ) -> Result<Answer, Difference> {
-    let wanted = apply(first, event)?;
+    let Ok(wanted) = plain.apply(*event) else {
+        return Err(Difference::Wanting);
+    };
     let was_over = memory.has_refused();
-    let answer = apply(second, event)?;
+    let answer = apply(engine, event)?;
     if answer.was_refused != (memory.has_refused() && !was_over) {
         return Err(Difference::Wanting);
     }
-    if answer.reply != wanted.reply {
+    if answer.reply != wanted {
         return Err(Difference::Reply);
     }
-    if Counts::of(second) != Counts::of(first) {
+    if engine.open_calls() != plain.open_calls() || engine.events() != plain.events() {
         return Err(Difference::Counts);
     }
     Ok(answer)
 }
 
 /// Whether two tickets say the same.
-fn is_same<A: Allocator, B: Allocator>(ticket: &Ticket<A>, other: &Ticket<B>) -> bool {
+fn is_same(ticket: &Ticket, other: &Ticket<&Refusing<Global>>) -> bool {
     ticket.number == other.number
         && ticket.line == other.line
         && ticket.start == other.start
@@ -113,9 +100,9 @@ fn is_same<A: Allocator, B: Allocator>(ticket: &Ticket<A>, other: &Ticket<B>) ->
 }
 
 /// Compares the oldest tickets of two networks, if there are any.
-pub fn compare_tickets<A: Allocator, B: Allocator>(
-    wanted: Option<&Ticket<A>>,
-    ticket: Option<&Ticket<B>>,
+pub fn compare_tickets(
+    wanted: Option<&Ticket>,
+    ticket: Option<&Ticket<&Refusing<Global>>>,
 ) -> Result<(), Difference> {
     let is_right = match (wanted, ticket) {
         (Some(wanted), Some(ticket)) => is_same(wanted, ticket),

@@ -6,6 +6,7 @@ ghost use Rattle.tx_rank.specs.Findings.{IsTrueOf};
 use crate::compare::{Difference, findings_differ, ranks_differ};
 use crate::families::{count_plans, put_plan};
 use crate::grades::grade_agrees;
+use crate::owners::let_go_cert;
 use crate::replay::Replay;
 use crate::scripts::{Judged, ScriptTally, scripts_differ};
 use crate::stop::{Stop, tell_stop};
@@ -14,7 +15,7 @@ use crate::tally::{Tally, tell_tally};
 use crate::walks::{Steps, note_all_walks};
 use crate::wanted::{Wanted, put_wanted};
 use std::alloc::Global;
-use tx_cases::{Told, next_case, tell};
+use tx_cases::{Told, let_go_plan, next_case, tell};
 use tx_cert::Cert;
 use tx_check::{Verdict, check};
 use tx_plan::{CodeId, Plan};
@@ -120,7 +121,7 @@ fn ranking_differs(
             } else {
                 Some(Difference::Found)
             };
-            drop(cert);
+            let_go_cert(cert);
             Ok(difference)
         }
         Ranking::Fails(findings) => {
@@ -230,7 +231,7 @@ fn judge_number(
     match read_plan(alloc, text) {
         Ok(plan) => {
             let judged = judge_plan(alloc, &plan, text, &mut room.work, tally);
-            drop(plan);
+            let_go_plan(plan);
             judged
         }
         Err(fault) => Err(Stop::Refused(fault.line)),

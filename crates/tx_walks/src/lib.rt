@@ -9,6 +9,7 @@ mod families;
 mod grades;
 mod judge;
 mod lists;
+mod owners;
 mod refusals;
 mod replay;
 mod scripts;
@@ -21,3 +22,4 @@ mod walks;
 mod wanted;
 
 pub use judge::judge_all;
+pub use owners::let_go_cert;

@@ -3,9 +3,10 @@ ghost use Rattle.std.specs.Prelude.{◌≤◌};
 ghost use Rattle.std.specs.List.{AllByRecursion};
 ghost use Rattle.tx_rank.specs.Findings.{IsTrueOf};
 
-use refusing::Refusing;
-use std::alloc::{Allocator, Global};
+use crate::owners::let_go_cert;
+use std::alloc::Global;
 use tx_audit::first_counter;
+use tx_cases::{Refusing, let_go_plan};
 use tx_machine::Event;
 use tx_plan::Plan;
 use tx_plantext::read_plan;
@@ -25,10 +26,10 @@ enum Tried {
 }
 
 /// Asks for the events of the first finding that has some.
-fn try_findings<A: Allocator + Copy>(
-    alloc: A,
-    plan: &Plan<A>,
-    findings: &[Finding<A>],
+fn try_findings<'m>(
+    alloc: &'m Refusing<Global>,
+    plan: &Plan<&'m Refusing<Global>>,
+    findings: &[Finding<&'m Refusing<Global>>],
     limit: u8,
     spare: u8,
     wanted: &[Event],
@@ -46,9 +47,9 @@ fn try_findings<A: Allocator + Copy>(
     }
 }
 
-fn try_plan<A: Allocator + Copy>(
-    alloc: A,
-    plan: &Plan<A>,
+fn try_plan<'m>(
+    alloc: &'m Refusing<Global>,
+    plan: &Plan<&'m Refusing<Global>>,
     limit: u8,
     spare: u8,
     wanted: &[Event],
@@ -63,27 +64,21 @@ fn try_plan<A: Allocator + Copy>(
             tried
         }
         Ok(Ranking::Found(cert)) => {
-            drop(cert);
+            let_go_cert(cert);
             Tried::Early
         }
         Err(_) => Tried::Early,
     }
 }
 
-fn try_text<A: Allocator + Copy>(
-    alloc: A,
-    text: &[u8],
-    limit: u8,
-    spare: u8,
-    wanted: &[Event],
-) -> Tried
+fn try_text(alloc: &Refusing<Global>, text: &[u8], limit: u8, spare: u8, wanted: &[Event]) -> Tried
     requires limit { limit ≤ 62 }
     requires spare { spare ≤ 15 }
 {
     match read_plan(alloc, text) {
         Ok(plan) => {
             let tried = try_plan(alloc, &plan, limit, spare, wanted);
-            drop(plan);
+            let_go_plan(plan);
             tried
         }
         Err(_) => Tried::Early,

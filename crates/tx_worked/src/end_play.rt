@@ -2,8 +2,7 @@
 ghost use Rattle.tx_program.specs.Commands.{IsInRange};
 
 use crate::stage::Stage;
-use refusing::Refusing;
-use tx_cases::{EndCase, Log, What};
+use tx_cases::{EndCase, Log, Refusing, What};
 use tx_program::{Command, WordsFault, read_command, run_command, run_words};
 
 /// Plays a case, and tells what happens.

@@ -2,16 +2,16 @@
 ghost use Rattle.std.specs.Prelude.{◌≤◌, IfSome};
 
 use itoa::Buffer;
-use refusing::Refusing;
 use std::alloc::Global;
 use tx_audit::write_counter;
-use tx_cases::{End, Ends, Job, ROOM, Task, Told, tell, tell_broken};
+use tx_cases::{End, Ends, Job, ROOM, Refusing, Task, Told, let_go_plan, tell, tell_broken};
 use tx_cert::write_cert;
 use tx_jobs::{
-    Evidence, JobFault, check_status, codes_job, draw_job, evidence_job, grade_status, pipe_job,
-    run_checked_status, run_job,
+    CounterScript, Evidence, JobFault, check_status, codes_job, draw_job, evidence_job,
+    grade_status, pipe_job, run_checked_status, run_job,
 };
 use tx_text::{MemorySink, MemorySource, NoMemory};
+use tx_walks::let_go_cert;
 
 /// What a whole job does, beside which others are judged: its exit status or its fault, and what it writes.
 #[derive(Clone, Copy)]
@@ -79,7 +79,17 @@ fn do_audit(
     match evidence_job(alloc, plan, limit, spare, true, out) {
         Ok(evidence) => {
             let status = keep(&evidence, out);
-            drop(evidence);
+            match evidence {
+                Evidence::Sound(plan, cert) => {
+                    let_go_cert(cert);
+                    let_go_plan(plan);
+                }
+                Evidence::Unsound(Some(CounterScript { plan, events })) => {
+                    drop(events);
+                    let_go_plan(plan);
+                }
+                Evidence::Unsound(None) => {}
+            }
             status
         }
         Err(fault) => Err(fault),

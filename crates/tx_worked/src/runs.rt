@@ -1,7 +1,6 @@
 // Runs of a script, with the event at which they stop.
-use refusing::Refusing;
 use std::alloc::Global;
-use tx_cases::{End, Ends};
+use tx_cases::{End, Ends, Refusing, let_go_plan};
 use tx_engine::Engine;
 use tx_jobs::JobFault;
 use tx_machine::Plain;
@@ -9,6 +8,7 @@ use tx_plan::Plan;
 use tx_plantext::read_plan;
 use tx_script::{RunCause, RunFault, Summary, run};
 use tx_text::{FaultKind, FrameFault, LineFault, MemorySink, MemorySource, NoMemory, TextFault};
+use tx_twins::{let_go_engine, let_go_plain};
 
 /// The network that runs a script.
 #[derive(Clone, Copy)]
@@ -68,7 +68,7 @@ fn run_plain<'m>(
     match Plain::starting_at(alloc, plan, text.numbers, text.events) {
         Ok(mut net) => {
             let end = run(alloc, plan, &mut net, source, out);
-            drop(net);
+            let_go_plain(net);
             end
         }
         Err(NoMemory) => Err(NOT_BEGUN),
@@ -86,7 +86,7 @@ fn run_engine<'m>(
     match Engine::starting_at(alloc, plan, text.numbers, text.events) {
         Ok(mut net) => {
             let end = run(alloc, plan, &mut net, source, out);
-            drop(net);
+            let_go_engine(net);
             end
         }
         Err(NoMemory) => Err(NOT_BEGUN),
@@ -117,7 +117,7 @@ pub(crate) fn run_text(
     match read_plan(alloc, text.plan) {
         Ok(plan) => {
             let end = run_over(alloc, &plan, text, source, out);
-            drop(plan);
+            let_go_plan(plan);
             end
         }
         Err(_) => Err(NOT_BEGUN),

@@ -101,7 +101,7 @@ pub fn call_of(k: u32) -> Call {
 }
 
 /// Makes a call where the table may be asked for it, and tells whether.
-pub fn apply<A: Allocator>(table: &mut CircuitTable<A>, call: Call) -> bool {
+pub fn apply(table: &mut CircuitTable, call: Call) -> bool {
     let x = Circuit {
         group: GroupId::at(0),
         number: call.number,
@@ -115,7 +115,7 @@ pub fn apply<A: Allocator>(table: &mut CircuitTable<A>, call: Call) -> bool {
     }
 }
 
-fn apply_at_end<A: Allocator>(table: &mut CircuitTable<A>, x: &Circuit, call: Call) -> bool {
+fn apply_at_end(table: &mut CircuitTable, x: &Circuit, call: Call) -> bool {
     let (at, far) = (ExchangeId::at(call.end), ExchangeId::at(call.far));
     match call.what {
         What::Seize
@@ -129,7 +129,7 @@ fn apply_at_end<A: Allocator>(table: &mut CircuitTable<A>, x: &Circuit, call: Ca
     true
 }
 
-fn apply_to_circuit<A: Allocator>(table: &mut CircuitTable<A>, x: &Circuit, what: What) -> bool {
+fn apply_to_circuit(table: &mut CircuitTable, x: &Circuit, what: What) -> bool {
     match what {
         What::Hold if table.seizer(x).is_some() => table.hold(x),
         What::Release if table.has_circuit(x) && table.is_unseized(x) && !table.is_releasing(x) => {
@@ -143,7 +143,7 @@ fn apply_to_circuit<A: Allocator>(table: &mut CircuitTable<A>, x: &Circuit, what
     true
 }
 
-fn apply_to_group<A: Allocator>(table: &mut CircuitTable<A>, group: GroupId, what: What) -> bool {
+fn apply_to_group(table: &mut CircuitTable, group: GroupId, what: What) -> bool {
     match what {
         What::Fail if table.has_group(group) && !table.is_failed(group) => table.fail(group),
         What::Restore if table.is_failed(group) => table.restore(group),

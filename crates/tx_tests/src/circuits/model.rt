@@ -2,7 +2,6 @@
 ghost use Rattle.std.specs.Prelude.{◌<◌};
 
 use super::calls::{ALFA, BETA, Call, What, next};
-use std::alloc::Allocator;
 use tx_circuits::CircuitTable;
 use tx_plan::{Circuit, ExchangeId, GroupId};
 
@@ -33,7 +32,7 @@ const IDLE: Held = Held {
 
 impl Held {
     // What the table tells of a circuit.
-    fn told<A: Allocator>(table: &CircuitTable<A>, number: u32) -> Held {
+    fn told(table: &CircuitTable, number: u32) -> Held {
         let x = Circuit {
             group: GroupId::at(0),
             number,
@@ -175,7 +174,7 @@ impl Model {
     }
 
     /// Whether the table tells the same.
-    pub fn agrees<A: Allocator>(&self, table: &CircuitTable<A>) -> bool {
+    pub fn agrees(&self, table: &CircuitTable) -> bool {
         let group = GroupId::at(0);
         let mut number = 0u32;
         for held in self.circuits {
