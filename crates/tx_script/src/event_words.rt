@@ -120,21 +120,6 @@ pub(crate) fn event_by<A: Allocator>(
     }
 }
 
-/// The same, taken apart and made again: what a call answers stands in memory, and so would the events of all verbs beside it.
-#[inline(always)]
-pub(crate) fn other_event<A: Allocator>(
-    verb: Verb,
-    words: Words<'_>,
-    plan: &Plan<A>,
-) -> Result<Event, ScriptWord>
-    ensures { result ≡ event_by plan.now verb words.entry }
-{
-    match event_by(verb, words, plan) {
-        Ok(event) => Ok(event),
-        Err(word) => Err(word),
-    }
-}
-
 /// A code, a national number and the figures that were keyed.
 #[inline(always)]
 pub(crate) fn key_event<A: Allocator>(words: Words<'_>, plan: &Plan<A>) -> Result<Event, ScriptWord>

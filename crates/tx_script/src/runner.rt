@@ -11,7 +11,7 @@ ghost use Rattle.tx_script.specs.Output.{end_line, end_text};
 
 use crate::answer_line::answer_line;
 use crate::event_words::{
-    clear_event, confirm_event, key_event, other_event, released_event, route_event, verb_in,
+    clear_event, confirm_event, event_by, key_event, released_event, route_event, verb_in,
 };
 use crate::run_cause::RunCause;
 use crate::run_fault::RunFault;
@@ -96,7 +96,7 @@ fn run_lines<A: Allocator, B: Allocator, N: Network, R: Source, W: Sink>(
                     Some(Verb::Confirm) => confirm_event(words),
                     Some(Verb::Clear) => clear_event(words),
                     Some(Verb::Released) => released_event(words, plan),
-                    Some(other) => other_event(other, words, plan),
+                    Some(other) => event_by(other, words, plan),
                     None => Err(ScriptWord::UnknownWord),
                 };
                 match answer_line(frame.number(), said, plan, net, sink) {

@@ -22,7 +22,7 @@ said g c =
       | in-Some-Confirm w ↦ said_by _ _ _ _ _ _ _ w.in-Some-Confirm.ensures w.in-Some-Confirm.field-0-is w.confirm_event-said.ensures w.said-is
       | in-Some-Clear w ↦ said_by _ _ _ _ _ _ _ w.in-Some-Clear.ensures w.in-Some-Clear.field-0-is w.clear_event-said.ensures w.said-is
       | in-Some-Released w ↦ said_by _ _ _ _ _ _ _ w.in-Some-Released.ensures w.in-Some-Released.field-0-is w.released_event-said.ensures w.said-is
-      | in-Some w ↦ w.in-Some.ensures c.args.plan.now ∙ sym w.other_event-said.ensures ∙ sym w.said-is
+      | in-Some w ↦ w.in-Some.ensures c.args.plan.now ∙ sym w.event_by-said.ensures ∙ sym w.said-is
       | in-None w ↦ w.in-None.ensures c.args.plan.now ∙ sym w.said-is
     ])
 
