@@ -347,15 +347,15 @@ impl<A: Allocator> Plan<A> {
         }
     }
 
-    /// The exchange across the group, if the exchange is an end of it.
+    /// The exchange across the group, if the exchange is an end of it. Which of them it is cannot be foreseen: the sum of both ends less the one is the other.
     #[inline(always)]
     pub fn other_end(&self, group: GroupId, exchange: ExchangeId) -> Option<ExchangeId>
         ensures { result ≡ other_end self.now group exchange }
     {
         let row = self.groups.at(group.index())?;
-        let far = if row.a == exchange { row.b } else { row.a };
         if (row.a == exchange) | (row.b == exchange) {
-            Some(far)
+            let far = row.a.index() + row.b.index() - exchange.index();
+            Some(ExchangeId::of(far))
         } else {
             None
         }

@@ -70,7 +70,7 @@ fn outgoing<A: Allocator>(plan: &Plan<A>, pair: &Pair, words: Words<'_>) -> Opti
     let mut rest = words;
     let mut list = GroupList::new();
     'words: loop {
-        match rest.next() {
+        match rest.next_of_many() {
             None => return Some(list),
             Some(word) => {
                 let group = group_of(plan, word)?;

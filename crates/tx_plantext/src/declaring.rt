@@ -186,6 +186,9 @@ pub(crate) fn declare<A: Allocator>(
     let Some(first) = words.next() else {
         return Err(PlanWord::UnknownWord);
     };
+    if first == b"ROUTE".as_slice() {
+        return route_line(plan, words);
+    }
     if first == b"EXCHANGE".as_slice() {
         return exchange_line(plan, words);
     }
@@ -197,9 +200,6 @@ pub(crate) fn declare<A: Allocator>(
     }
     if first == b"GROUP".as_slice() {
         return group_line(plan, words);
-    }
-    if first == b"ROUTE".as_slice() {
-        return route_line(plan, words);
     }
     if version == 2 && first == b"BAR".as_slice() {
         return bar_line(plan, words);

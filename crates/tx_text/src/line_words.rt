@@ -77,6 +77,20 @@ impl<'a> Words<'a> {
         self.rest
     }
 
+    /// The next word, as `next` gives it. It is found in fewer steps where one space stands before it and more words follow.
+    #[inline(always)]
+    pub fn next_of_many(&mut self) -> Option<&'a [u8]>
+        ensures { YieldsFirstBy (λ x. x.now) (λ s. s) self.old result self.new }
+    {
+        match spaced_word(self.rest) {
+            Some((word, rest)) => {
+                self.rest = rest;
+                Some(word)
+            }
+            None => self.next(),
+        }
+    }
+
     /// The same words once more.
     #[inline(always)]
     pub fn again(&self) -> Words<'a>
@@ -147,7 +161,7 @@ fn is_one_word(text: &[u8]) -> bool
     word_ends_of_eight(first.shuffle(last, [0, 1, 2, 3, 4, 5, 6, 7])) == 0
 }
 
-/// How long the word at the front is. Where 16 or 8 bytes follow, its end is looked for in all of them at once; a line's last word mostly has 4 to 7.
+/// How long the word at the front is. Where more than 8 bytes follow, its end is looked for in 16 or 8 of them at once; a line's last word mostly has 4 to 8.
 #[inline(always)]
 fn word_len(text: &[u8]) -> usize
     ensures within { result ≤ length text.now }
@@ -158,7 +172,7 @@ fn word_len(text: &[u8]) -> usize
         if ends != 0 {
             return ends.trailing_zeros() as usize;
         }
-    } else if text.len() >= 8 {
+    } else if text.len() > 8 {
         let half = word_ends_of_eight(u8x8::from_slice(text));
         if half != 0 {
             return half.trailing_zeros() as usize;
@@ -167,6 +181,28 @@ fn word_len(text: &[u8]) -> usize
         return text.len();
     }
     count_word_bytes(text)
+}
+
+/// The word behind one space, and what stands behind it, where its end is found in the 16 bytes that follow the space.
+#[inline(always)]
+fn spaced_word(text: &[u8]) -> Option<(&[u8], &[u8])>
+    ensures { IfSome result (λ x. words_of text.now ≡ x.0.now ∷ words_of x.1.now) }
+{
+    match text {
+        [first, from @ ..] if *first == b' ' && from.len() >= 16 => {
+            let ends = word_ends(u8x16::from_slice(from));
+            if ends == 0 {
+                return None;
+            }
+            let (word, rest) = from.split_at(ends.trailing_zeros() as usize);
+            if word.is_empty() {
+                None
+            } else {
+                Some((word, rest))
+            }
+        }
+        _ => None,
+    }
 }
 
 /// The first word, and what stands behind it.

@@ -4,7 +4,7 @@ use Rattle.tx_plan.proofs.SeenWords.{few_seen, all_seen}
 use Rattle.tx_plan.proofs.route_words.outgoing.Goals as goal
 
 pub returns-in-None : goal.returns-in-None
-returns-in-None g c = let e = c.in-None.ensures.steps.0 in let i = c.words.invariant in record {
+returns-in-None g c = let e = c.in-None.ensures.0 in let i = c.words.invariant in record {
   bad = search rules;
   unknown = search rules;
   not_outgoing = search rules;
