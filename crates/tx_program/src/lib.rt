@@ -12,6 +12,7 @@ mod explanation;
 mod fault;
 mod folder;
 mod grammar;
+mod input;
 mod new_file;
 mod opened;
 mod perform;

@@ -68,22 +68,22 @@ fn run_input<A: Allocator + Copy, I: Read + Drop, O: Write + Drop>(
 }
 
 /// `run PLAN SCRIPT`.
-fn run_files<A: Allocator + Copy, R: Read + Drop, O: Write + Drop>(
+fn run_files<A: Allocator + Copy, P: Read + Drop, R: Read + Drop, O: Write + Drop>(
     alloc: A,
-    plan: R,
+    plan: P,
     script: R,
     output: &Output<O, A>,
 ) -> Result<u8, JobFault> {
     let mut plan = output.source(alloc, plan)?;
-    let mut script = output.source(alloc, script)?;
+    let mut script = output.script(alloc, script)?;
     run_job(alloc, &mut plan, &mut script, &mut output.sink()).and(Ok(0))
 }
 
 /// `run PLAN SCRIPT --cert CERT --limit L --spare K`.
-fn run_checked_files<A: Allocator + Copy, R: Read + Drop, O: Write + Drop>(
+fn run_checked_files<A: Allocator + Copy, P: Read + Drop, R: Read + Drop, O: Write + Drop>(
     alloc: A,
-    plan: R,
-    cert: R,
+    plan: P,
+    cert: P,
     bounds: Bounds,
     script: R,
     output: &Output<O, A>,
@@ -93,16 +93,16 @@ fn run_checked_files<A: Allocator + Copy, R: Read + Drop, O: Write + Drop>(
 }
 
 /// Runs the script over the plan after a Yes to the certificate. A function of its own, since each exit lets go of what is open there.
-fn run_after_yes<A: Allocator + Copy, P: Source, R: Read + Drop, O: Write + Drop>(
+fn run_after_yes<A: Allocator + Copy, P: Source, C: Read + Drop, R: Read + Drop, O: Write + Drop>(
     alloc: A,
     plan: &mut P,
-    cert: R,
+    cert: C,
     bounds: Bounds,
     script: R,
     output: &Output<O, A>,
 ) -> Result<u8, JobFault> {
     let mut cert = output.source(alloc, cert)?;
-    let mut script = output.source(alloc, script)?;
+    let mut script = output.script(alloc, script)?;
     run_checked_status(
         alloc,
         plan,
