@@ -2,6 +2,7 @@
 ghost use Rattle.std.specs.Prelude.{◌≡◌, ◌+◌, ◌≤◌, ◌++◌, Bool, ℕ, [], true, OnOk, OnErr, codes, decimal, length};
 ghost use Rattle.std.specs.Io.KnownBytes.{append_known};
 ghost use Rattle.tx_text.specs.Ends.{StopsIn};
+ghost use Rattle.tx_state.specs.declared.reply.Reply.TheVariants.{Lost};
 ghost use Rattle.tx_tickets.specs.Texts.{circuit_text, line_text, stands_text, reply_text};
 
 use crate::line_room::LineRoom;
@@ -43,7 +44,7 @@ fn put_reply<A: Allocator>(reply: &Reply, plan: &Plan<A>, line: &mut LineRoom<'_
         Reply::Keyed(n) => put_count(b"KEYED ", u64::from(*n), line),
         Reply::Seized(circuit) => put_circuit(circuit, plan, line),
         Reply::At(exchange) => put_word(b"AT ", exchange_name(plan, *exchange), line),
-        Reply::Connected(called) => put_connected(called, plan, line),
+        Reply::Connected(called) => put_connected(*called, plan, line),
         Reply::Answered(service) => put_word(b"ANSWERED ", service_word(*service), line),
         Reply::HeadOn {
             a,
@@ -53,7 +54,7 @@ fn put_reply<A: Allocator>(reply: &Reply, plan: &Plan<A>, line: &mut LineRoom<'_
         } => put_head_on(*a, *a_stands, *b, *b_stands, line),
         Reply::Cleared => line.put(b"CLEARED\n"),
         Reply::Done => line.put(b"DONE\n"),
-        Reply::Lost(n) => put_count(b"LOST ", *n, line),
+        Reply::Lost(_) => put_lost(*reply, line),
         Reply::Refused(refusal) => put_word(b"REFUSED ", refusal_word(*refusal), line),
     }
 }
@@ -96,15 +97,26 @@ fn put_circuit<A: Allocator>(circuit: &Circuit, plan: &Plan<A>, line: &mut LineR
 }
 
 #[inline(always)]
-fn put_connected<A: Allocator>(called: &Line, plan: &Plan<A>, line: &mut LineRoom<'_, ROOM>)
+fn put_connected<A: Allocator>(called: Line, plan: &Plan<A>, line: &mut LineRoom<'_, ROOM>)
     requires { line.old ≡ [] }
-    ensures { line.new ≡ codes "CONNECTED " ++ (line_text plan.now called.now ++ codes "\n") }
+    ensures { line.new ≡ codes "CONNECTED " ++ (line_text plan.now called ++ codes "\n") }
 {
     line.put(b"CONNECTED ");
     line.put(code_figures(plan, called.code));
     line.put(b" ");
     line.put(called.national.bytes());
     line.put(b"\n");
+}
+
+/// Puts how many calls were lost. The reply comes by value, since the count of every reply would else be read before it is known which one it is.
+#[inline(never)]
+fn put_lost(reply: Reply, line: &mut LineRoom<'_, ROOM>)
+    requires { line.old ≡ [] }
+    ensures { (n : ℕ) → reply ≡ Lost n → line.new ≡ codes "LOST " ++ (decimal n ++ codes "\n") }
+{
+    if let Reply::Lost(n) = reply {
+        put_count(b"LOST ", n, line);
+    }
 }
 
 /// Puts the two calls of a head-on collision.
