@@ -122,9 +122,10 @@ impl<A: Allocator> NumberedKeys<A> {
             return Ok(());
         }
         self.leave_out_ended(calls);
+        // Four places for each key that is left, so that room is seldom wanted: a key that is left out leaves a gap, and the search is for what has gaps.
         let len = self.keys.len();
-        if len >= self.keys.capacity() / 2 {
-            self.keys.reserve_exact(len.max(16))?;
+        if len >= self.keys.capacity() / 4 {
+            self.keys.reserve_exact(len.saturating_mul(3).max(16))?;
         }
         Ok(())
     }
