@@ -15,27 +15,16 @@ pub(crate) fn is_blank(byte: u8) -> bool
     byte == b' ' || byte == b'\t'
 }
 
-/// How many blanks stand at the front, where the first bytes show that there is none or one space.
-#[inline(always)]
-fn few_blanks(text: &[u8]) -> Option<usize>
-    ensures within { IfSome result (λ count. count ≤ length text.now) }
-    ensures count { IfSome result (λ count. count ≡ prefix_len is_blank text.now) }
-{
-    match text {
-        [first, second, ..] if *first == b' ' && *second > b' ' => Some(1),
-        [first, ..] if *first > b' ' => Some(0),
-        _ => None,
-    }
-}
-
 /// How many blanks stand at the front: none before the first word of most lines, and one before the others.
 #[inline(always)]
 fn count_blanks(text: &[u8]) -> usize
     ensures within { result ≤ length text.now }
     ensures count { result ≡ prefix_len is_blank text.now }
 {
-    if let Some(count) = few_blanks(text) {
-        return count;
+    match text {
+        [first, second, ..] if *first == b' ' && *second > b' ' => return 1,
+        [first, ..] if *first > b' ' => return 0,
+        _ => {}
     }
     for (i, byte) in text.iter().enumerate() {
         if !is_blank(*byte) {
@@ -177,6 +166,7 @@ fn word_len(text: &[u8]) -> usize
         if half != 0 {
             return half.trailing_zeros() as usize;
         }
+        return 8 + count_word_bytes(&text[8..]);
     } else if text.len() >= 4 && is_one_word(text) {
         return text.len();
     }
