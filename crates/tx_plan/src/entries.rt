@@ -279,21 +279,23 @@ pub(crate) fn bar_entry<A: Allocator>(
 }
 
 /// What the words of a route refuse by themselves. The exchange and the code are looked at only where they are not both declared, since what is declared is
-/// well formed.
+/// well formed, and the groups only where the list that was seen of them is empty.
 #[inline(always)]
 fn route_words(
     exchange: &[u8],
     code: &[u8],
     groups: &Words<'_>,
+    empty: bool,
     bad: bool,
     declared: bool,
 ) -> Option<PlanRefusal>
+    requires empty { empty ≡ false → 0 < length groups.now }
     requires bad { bad ≡ list_any (λ g. not (is_name g)) groups.now }
     requires name { declared ≡ true → is_name exchange.now ≡ true }
     requires code { declared ≡ true → is_code code.now ≡ true }
     ensures { result ≡ first_true (route_word_refusals exchange.now code.now groups.now) }
 {
-    if groups.again().next().is_none() {
+    if empty && groups.again().next().is_none() {
         return Some(PlanRefusal::WrongCount);
     }
     if bad || !(declared || is_name(exchange)) {
@@ -377,7 +379,8 @@ pub(crate) fn route_entry<A: Allocator>(
 {
     let pair = pair_of(plan, exchange, code);
     let seen = see(plan, &pair, groups.again());
-    match route_words(exchange, code, &groups, seen.bad, pair.is_some()) {
+    let empty = seen.list.groups().is_empty();
+    match route_words(exchange, code, &groups, empty, seen.bad, pair.is_some()) {
         Some(refusal) => return Err(refusal),
         None => {}
     }
