@@ -23,5 +23,5 @@ mod stray;
 mod tally;
 mod twins;
 
-pub use owners::{let_go_engine, let_go_plain};
+pub use owners::let_go_plain;
 pub use play::play_all;

@@ -1,5 +1,5 @@
 // The two networks: the plain one, and the engine.
-use crate::owners::{let_go_engine, let_go_plain};
+use crate::owners::let_go_plain;
 use crate::script::{Script, play};
 use crate::stop::Stop;
 use crate::tally::Tally;
@@ -24,7 +24,7 @@ fn play_engine<'m>(
     match Engine::starting_at(memory, engine_plan, script.numbers, script.events) {
         Ok(mut engine) => {
             let played = play(alloc, plan, script, plain, &mut engine, memory, tally);
-            let_go_engine(engine);
+            engine.close();
             played
         }
         Err(NoMemory) => Err(Stop::NoMemory),

@@ -1,14 +1,8 @@
 // Networks that are let go of, here and by the crates above.
 use std::alloc::Allocator;
-use tx_engine::Engine;
 use tx_machine::Plain;
 
 /// Lets go of a plain network.
 pub fn let_go_plain<A: Allocator>(plain: Plain<'_, A>) {
     drop(plain);
-}
-
-/// Lets go of an engine.
-pub fn let_go_engine<A: Allocator>(engine: Engine<'_, A>) {
-    drop(engine);
 }

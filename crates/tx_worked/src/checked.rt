@@ -15,7 +15,7 @@ use tx_script::read_event;
 use tx_state::{Event, Network, Reply, drive};
 use tx_text::NoMemory;
 use tx_tickets::{write_reply, write_ticket};
-use tx_twins::{let_go_engine, let_go_plain};
+use tx_twins::let_go_plain;
 use tx_walks::let_go_cert;
 
 /// Adds the event that a line of a script says, if it says one.
@@ -142,7 +142,7 @@ fn play_on_engine(alloc: Global, plan: &Plan, text: &[u8], events: &[Event], out
                 tickets,
                 network,
             } = played;
-            let_go_engine(network);
+            network.close();
             drop(tickets);
             drop(replies);
         }

@@ -8,7 +8,7 @@ use tx_plan::Plan;
 use tx_plantext::read_plan;
 use tx_state::{Event, Network, Reply, drive};
 use tx_text::NoMemory;
-use tx_twins::{let_go_engine, let_go_plain};
+use tx_twins::let_go_plain;
 
 /// How many replies are to accepted events.
 fn accepted(replies: &[Reply]) -> u64 {
@@ -71,7 +71,7 @@ fn makes_and_drives_on<'m>(
         Over::Engine => match Engine::new(alloc, plan) {
             Ok(mut net) => {
                 let keeps = drives_on(alloc, &mut net, events, whole);
-                let_go_engine(net);
+                net.close();
                 keeps
             }
             Err(fault) => Err(fault),

@@ -8,7 +8,7 @@ use tx_plan::Plan;
 use tx_plantext::read_plan;
 use tx_script::{RunCause, RunFault, Summary, run};
 use tx_text::{FaultKind, FrameFault, LineFault, MemorySink, MemorySource, NoMemory, TextFault};
-use tx_twins::{let_go_engine, let_go_plain};
+use tx_twins::let_go_plain;
 
 /// The network that runs a script.
 #[derive(Clone, Copy)]
@@ -86,7 +86,7 @@ fn run_engine<'m>(
     match Engine::starting_at(alloc, plan, text.numbers, text.events) {
         Ok(mut net) => {
             let end = run(alloc, plan, &mut net, source, out);
-            let_go_engine(net);
+            net.close();
             end
         }
         Err(NoMemory) => Err(NOT_BEGUN),
