@@ -1,7 +1,7 @@
 // The destination codes of a plan.
 ghost use Rattle.std.specs.Prelude.{◌≡◌, ◌≤◌, ◌<◌, ◌++◌, ◌∷◌, [], false, is_some, OnOk, OnErr, IfSome, length, slice_get, position};
 ghost use Rattle.std.specs.List.{list_any};
-ghost use Rattle.std.specs.Option.{option_map_or};
+ghost use Rattle.std.specs.Option.{option_map, option_map_or, option_copied};
 ghost use Rattle.std.specs.Str.{bytes_eq};
 
 use crate::ids::ExchangeId;
@@ -60,13 +60,10 @@ impl<A: Allocator> Codes<A> {
 
     /// The figures of the code at a place.
     #[inline(always)]
-    pub fn figures(&self, place: usize) -> &[u8]
-        ensures { result.now ≡ option_map_or (λ c. c.figures) (slice_get self.now place) [] }
+    pub fn figures(&self, place: usize) -> Option<&NameKey>
+        ensures { option_copied result ≡ option_map (λ c. c.figures) (slice_get self.now place) }
     {
-        match self.rows.name_at(place) {
-            Some(figures) => figures.bytes(),
-            None => &[],
-        }
+        self.rows.name_at(place)
     }
 
     /// The home of the code at a place.

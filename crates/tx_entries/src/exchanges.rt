@@ -1,7 +1,7 @@
 // The exchanges of a plan.
 ghost use Rattle.std.specs.Prelude.{◌≡◌, ◌≤◌, ◌<◌, ◌++◌, ◌∷◌, [], false, is_some, OnOk, OnErr, IfSome, length, slice_get, position};
 ghost use Rattle.std.specs.List.{list_any};
-ghost use Rattle.std.specs.Option.{option_map_or};
+ghost use Rattle.std.specs.Option.{option_copied};
 ghost use Rattle.std.specs.Str.{bytes_eq};
 
 use crate::name_key::NameKey;
@@ -57,13 +57,10 @@ impl<A: Allocator> Exchanges<A> {
 
     /// The name at a place.
     #[inline(always)]
-    pub fn name(&self, place: usize) -> &[u8]
-        ensures { result.now ≡ option_map_or (λ name. name) (slice_get self.now place) [] }
+    pub fn name(&self, place: usize) -> Option<&NameKey>
+        ensures { option_copied result ≡ slice_get self.now place }
     {
-        match self.names.at(place) {
-            Some(name) => name.bytes(),
-            None => &[],
-        }
+        self.names.at(place)
     }
 
     /// Appends a name.

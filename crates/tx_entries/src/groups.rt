@@ -1,7 +1,7 @@
 // The groups of circuits of a plan.
 ghost use Rattle.std.specs.Prelude.{◌≡◌, ◌≤◌, ◌<◌, ◌++◌, ◌∷◌, [], false, is_some, OnOk, OnErr, IfSome, length, slice_get, position};
 ghost use Rattle.std.specs.List.{list_any};
-ghost use Rattle.std.specs.Option.{option_map, option_map_or, option_copied};
+ghost use Rattle.std.specs.Option.{option_map, option_copied};
 ghost use Rattle.std.specs.Str.{bytes_eq};
 ghost use Rattle.tx_entries.specs.inner.Tables.{row_of};
 
@@ -61,13 +61,10 @@ impl<A: Allocator> Groups<A> {
 
     /// The name of the group at a place.
     #[inline(always)]
-    pub fn name(&self, place: usize) -> &[u8]
-        ensures { result.now ≡ option_map_or (λ g. g.name) (slice_get self.now place) [] }
+    pub fn name(&self, place: usize) -> Option<&NameKey>
+        ensures { option_copied result ≡ option_map (λ g. g.name) (slice_get self.now place) }
     {
-        match self.rows.name_at(place) {
-            Some(name) => name.bytes(),
-            None => &[],
-        }
+        self.rows.name_at(place)
     }
 
     /// The group at a place.

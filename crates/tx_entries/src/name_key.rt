@@ -130,8 +130,17 @@ impl NameKey {
     /// The text.
     #[inline(always)]
     pub fn bytes(&self) -> &[u8]
-        ensures { result.now ≡ self.now }
+        ensures value { result.now ≡ self.now }
+        ensures width { length result.now ≤ 8 }
     {
         &self.bytes[..usize::from(self.len)]
+    }
+
+    /// The text, and zeros behind it up to eight bytes.
+    #[inline(always)]
+    pub fn padded(&self) -> &[u8; 8]
+        ensures { result.now ≡ padded_to 8 self.now }
+    {
+        &self.bytes
     }
 }

@@ -52,7 +52,7 @@ impl National {
 
     /// Its figures, and zeros behind them up to nine bytes.
     #[inline(always)]
-    pub(crate) fn padded(&self) -> &[u8; 9]
+    pub fn padded(&self) -> &[u8; 9]
         ensures { result.now ≡ padded_to 9 self.now }
     {
         self.figures.padded()

@@ -24,6 +24,7 @@ mod builder;
 mod entries;
 mod group_words;
 mod keyed;
+mod names;
 mod plan;
 mod refusal;
 mod route_words;
@@ -33,5 +34,5 @@ pub use keyed::{code_of, rest_after};
 pub use plan::Plan;
 pub use refusal::PlanRefusal;
 pub use tx_entries::{
-    Circuit, CodeId, Direction, ExchangeId, GroupId, Line, LineRange, National, Pair,
+    Circuit, CodeId, Direction, ExchangeId, GroupId, Line, LineRange, NameKey, National, Pair,
 };

@@ -1,7 +1,7 @@
 // A route plan and its readers.
 ghost use Rattle.std.specs.Prelude.{◌≡◌, ◌≤◌, if◌then◌else◌, nat_lt, Some, None, length, slice_get};
 ghost use Rattle.std.specs.Option.{option_map};
-ghost use Rattle.tx_plan.specs.Plan.{exchange_named, code_named, group_named, exchange_name, figures_of, group_name, home_of};
+ghost use Rattle.tx_plan.specs.Plan.{home_of};
 ghost use Rattle.tx_plan.specs.Lines.{is_line_at};
 ghost use Rattle.tx_plan.specs.Routes.{route_list, is_barred, is_origin, is_origin_for};
 ghost use Rattle.tx_plan.specs.Circuits.{direction_of, count_of, ends_of, other_end, may_seize};
@@ -161,78 +161,6 @@ impl<A: Allocator> Plan<A> {
             Some(pair) => Some((pair.exchange, pair.code)),
             None => None,
         }
-    }
-}
-
-/// Names, and what they name.
-impl<A: Allocator> Plan<A> {
-    /// The exchange of a name, if one is declared.
-    #[inline(always)]
-    pub fn exchange_named(&self, name: &[u8]) -> Option<ExchangeId>
-        ensures { result ≡ exchange_named self.now name.now }
-    {
-        self.rules();
-        if name.len() > 8 {
-            return None;
-        }
-        match self.exchanges.find(name) {
-            Some(place) => Some(ExchangeId::of(place)),
-            None => None,
-        }
-    }
-
-    /// The code of these figures, if it is declared.
-    #[inline(always)]
-    pub fn code_named(&self, figures: &[u8]) -> Option<CodeId>
-        ensures { result ≡ code_named self.now figures.now }
-    {
-        self.rules();
-        if figures.len() > 3 {
-            return None;
-        }
-        match self.codes.find(figures) {
-            Some(place) => Some(CodeId::of(place)),
-            None => None,
-        }
-    }
-
-    /// The group of a name, if one is declared.
-    #[inline(always)]
-    pub fn group_named(&self, name: &[u8]) -> Option<GroupId>
-        ensures { result ≡ group_named self.now name.now }
-    {
-        self.rules();
-        if name.len() > 8 {
-            return None;
-        }
-        match self.groups.find(name) {
-            Some(place) => Some(GroupId::of(place)),
-            None => None,
-        }
-    }
-
-    /// The name of an exchange; no bytes for a foreign one.
-    #[inline(always)]
-    pub fn exchange_name(&self, exchange: ExchangeId) -> &[u8]
-        ensures { result.now ≡ exchange_name self.now exchange }
-    {
-        self.exchanges.name(exchange.index())
-    }
-
-    /// The figures of a code; none for a foreign one.
-    #[inline(always)]
-    pub fn code_figures(&self, code: CodeId) -> &[u8]
-        ensures { result.now ≡ figures_of self.now code }
-    {
-        self.codes.figures(code.index())
-    }
-
-    /// The name of a group; no bytes for a foreign one.
-    #[inline(always)]
-    pub fn group_name(&self, group: GroupId) -> &[u8]
-        ensures { result.now ≡ group_name self.now group }
-    {
-        self.groups.name(group.index())
     }
 }
 

@@ -1,6 +1,7 @@
 // Texts of figures.
 ghost use Rattle.std.specs.Prelude.{◌≡◌, ◌≤◌, true, length};
 ghost use Rattle.std.specs.List.{list_all};
+ghost use Rattle.tx_text.specs.Padded.{padded_to};
 ghost use Rattle.tx_text.specs.Words.{figures_of, are_figures, is_figure};
 
 use crate::short::Short;
@@ -48,6 +49,14 @@ impl Figures {
         ensures figures { are_figures 1 12 self.now ≡ true }
     {
         self.text.bytes()
+    }
+
+    /// The figures, and zeros behind them up to twelve bytes.
+    #[inline(always)]
+    pub fn padded(&self) -> &[u8; 12]
+        ensures { result.now ≡ padded_to 12 self.now }
+    {
+        self.text.padded()
     }
 }
 

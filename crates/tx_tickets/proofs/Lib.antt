@@ -1,4 +1,3 @@
 pub mod Begun
 pub mod Copies
 pub mod Taking
-pub mod Widths

@@ -2,7 +2,6 @@
 #![tactic(auto)]
 
 mod line_room;
-mod names;
 mod reply;
 mod ticket;
 mod words;

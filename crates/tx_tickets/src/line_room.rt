@@ -1,9 +1,11 @@
 // Room for the text of one line.
 ghost use Rattle.std.specs.Prelude.{◌≡◌, ◌+◌, ◌<◌, ◌≤◌, ◌^◌, ◌++◌, [], length, decimal};
+ghost use Rattle.tx_text.specs.Padded.{padded_to};
 
 use itoa::{Buffer, write_digits};
 use std::marker::Model;
 use std::simd::prelude::*;
+use tx_plan::{NameKey, National};
 
 /// The bytes of a line so far, in room of at most 255 bytes that is lent. The caller sees that they have room.
 #[derive(Drop)]
@@ -68,6 +70,41 @@ impl<'a, const N: usize> LineRoom<'a, N> {
         let room = &mut self.room[..];
         copy(&mut room[from..to], bytes);
         self.len = to;
+    }
+
+    /// Appends a text of a few bytes that is kept with zeros behind it. All its room is copied, so that no step hangs on how long the text is.
+    #[inline(always)]
+    pub(crate) fn put_padded<const M: usize>(&mut self, text: &[u8], padded: &[u8; M])
+        requires short { length text.now ≤ M }
+        requires padded { padded.now ≡ padded_to M text.now }
+        requires room { length self.old + M ≤ N }
+        ensures text { self.new ≡ self.old ++ text.now }
+        ensures width { length self.new ≡ length self.old + length text.now }
+    {
+        let from = self.len;
+        let room = &mut self.room[..];
+        room[from..from + M].copy_from_slice(padded);
+        self.len = from + text.len();
+    }
+
+    /// Appends a name, or the figures of a code.
+    #[inline(always)]
+    pub(crate) fn put_name(&mut self, name: NameKey)
+        requires { length self.old + 8 ≤ N }
+        ensures text { self.new ≡ self.old ++ name }
+        ensures width { length self.new ≤ length self.old + 8 }
+    {
+        self.put_padded(name.bytes(), name.padded());
+    }
+
+    /// Appends a national number.
+    #[inline(always)]
+    pub(crate) fn put_national(&mut self, national: National)
+        requires { length self.old + 9 ≤ N }
+        ensures text { self.new ≡ self.old ++ national }
+        ensures width { length self.new ≤ length self.old + 9 }
+    {
+        self.put_padded(national.bytes(), national.padded());
     }
 
     /// Appends the figures of a number. At most eight are made in their place.

@@ -2,15 +2,15 @@
 ghost use Rattle.std.specs.Prelude.{◌≡◌, ◌+◌, ◌≤◌, ◌++◌, Bool, ℕ, [], true, OnOk, OnErr, codes, decimal, length};
 ghost use Rattle.std.specs.Io.KnownBytes.{append_known};
 ghost use Rattle.tx_text.specs.Ends.{StopsIn};
+ghost use Rattle.tx_plan.specs.Plan.{exchange_name};
 ghost use Rattle.tx_state.specs.declared.reply.Reply.TheVariants.{Lost};
 ghost use Rattle.tx_tickets.specs.Texts.{circuit_text, line_text, stands_text, reply_text};
 
 use crate::line_room::LineRoom;
-use crate::names::{code_figures, exchange_name, group_name};
 use crate::words::{refusal_word, service_word, stands_word};
 use itoa::Buffer;
 use std::alloc::Allocator;
-use tx_plan::{Circuit, Line, Plan};
+use tx_plan::{Circuit, ExchangeId, Line, Plan};
 use tx_state::Reply;
 use tx_text::{Sink, WriteFault, write_bytes, write_parts};
 
@@ -43,7 +43,7 @@ fn put_reply<A: Allocator>(reply: &Reply, plan: &Plan<A>, line: &mut LineRoom<'_
     match reply {
         Reply::Keyed(n) => put_count(b"KEYED ", u64::from(*n), line),
         Reply::Seized(circuit) => put_circuit(circuit, plan, line),
-        Reply::At(exchange) => put_word(b"AT ", exchange_name(plan, *exchange), line),
+        Reply::At(exchange) => put_at(*exchange, plan, line),
         Reply::Connected(called) => put_connected(*called, plan, line),
         Reply::Answered(service) => put_word(b"ANSWERED ", service_word(*service), line),
         Reply::HeadOn {
@@ -72,6 +72,17 @@ fn put_word(first: &[u8], word: &[u8], line: &mut LineRoom<'_, ROOM>)
     line.put(b"\n");
 }
 
+/// Puts the exchange that a call came to.
+#[inline(always)]
+fn put_at<A: Allocator>(exchange: ExchangeId, plan: &Plan<A>, line: &mut LineRoom<'_, ROOM>)
+    requires { line.old ≡ [] }
+    ensures { line.new ≡ codes "AT " ++ (exchange_name plan.now exchange ++ codes "\n") }
+{
+    line.put(b"AT ");
+    line.put_name(plan.exchange_key(exchange));
+    line.put(b"\n");
+}
+
 /// Puts a first word, given with its space, and a number.
 #[inline(always)]
 fn put_count(first: &[u8], count: u64, line: &mut LineRoom<'_, ROOM>)
@@ -90,7 +101,7 @@ fn put_circuit<A: Allocator>(circuit: &Circuit, plan: &Plan<A>, line: &mut LineR
     ensures { line.new ≡ codes "SEIZED " ++ (circuit_text plan.now circuit.now ++ codes "\n") }
 {
     line.put(b"SEIZED ");
-    line.put(group_name(plan, circuit.group));
+    line.put_name(plan.group_key(circuit.group));
     line.put(b".");
     line.put_number(u64::from(circuit.number));
     line.put(b"\n");
@@ -102,9 +113,9 @@ fn put_connected<A: Allocator>(called: Line, plan: &Plan<A>, line: &mut LineRoom
     ensures { line.new ≡ codes "CONNECTED " ++ (line_text plan.now called ++ codes "\n") }
 {
     line.put(b"CONNECTED ");
-    line.put(code_figures(plan, called.code));
+    line.put_name(plan.code_key(called.code));
     line.put(b" ");
-    line.put(called.national.bytes());
+    line.put_national(called.national);
     line.put(b"\n");
 }
 

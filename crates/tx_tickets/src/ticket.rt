@@ -6,7 +6,6 @@ ghost use Rattle.tx_text.specs.Ends.{StopsIn};
 ghost use Rattle.tx_tickets.specs.Texts.{hop_text, caller_text, events_text, why_text, ticket_text};
 
 use crate::line_room::LineRoom;
-use crate::names::{code_figures, exchange_name, group_name};
 use crate::words::cause_word;
 use std::alloc::Allocator;
 use tx_plan::Plan;
@@ -48,25 +47,25 @@ fn put_caller<A: Allocator, B: Allocator>(
 )
     requires { line.old ≡ [] }
     ensures text { line.new ≡ caller_text plan.now ticket.now }
-    ensures width { length line.new ≤ 61 }
+    ensures width { length line.new ≤ 66 }
 {
     line.put(b"T ");
     line.put_number(u64::from(ticket.number));
     line.put(b" FROM ");
-    line.put(code_figures(plan, ticket.line.code));
+    line.put_name(plan.code_key(ticket.line.code));
     line.put(b" ");
-    line.put(ticket.line.national.bytes());
+    line.put_national(ticket.line.national);
     line.put(b" TO ");
-    line.put(ticket.keyed.bytes());
+    line.put_padded(ticket.keyed.bytes(), ticket.keyed.padded());
     line.put(b" EV ");
 }
 
 /// Puts the events of the call's start and its end.
 #[inline(always)]
 fn put_events<A: Allocator>(ticket: &Ticket<A>, line: &mut LineRoom<'_, ROOM>)
-    requires { length line.old ≤ 61 }
+    requires { length line.old ≤ 66 }
     ensures text { line.new ≡ line.old ++ events_text ticket.now }
-    ensures width { length line.new ≤ 106 }
+    ensures width { length line.new ≤ 111 }
 {
     line.put_number(ticket.keyed_at);
     line.put(b" ");
@@ -81,13 +80,13 @@ fn put_why<A: Allocator, B: Allocator>(
     plan: &Plan<B>,
     line: &mut LineRoom<'_, ROOM>,
 )
-    requires { length line.old ≤ 106 }
+    requires { length line.old ≤ 111 }
     ensures text { line.new ≡ line.old ++ why_text plan.now ticket.now }
-    ensures width { length line.new ≤ 123 }
+    ensures width { length line.new ≤ 128 }
 {
     line.put(cause_word(ticket.cause));
     line.put(b" VIA ");
-    line.put(exchange_name(plan, ticket.start));
+    line.put_name(plan.exchange_key(ticket.start));
 }
 
 /// Writes a line that has begun, with each hop behind it and an LF. Where the next hop may have no room, what stands there goes out before it.
@@ -98,7 +97,7 @@ fn write_path<A: Allocator, W: Sink>(
     line: LineRoom<'_, ROOM>,
     sink: &mut W,
 ) -> Result<(), WriteFault>
-    requires { length line ≤ 123 }
+    requires { length line ≤ 128 }
     ensures ok { OnOk result (W.taken sink.new ≡ append_known (W.taken sink.old) (line.entry ++ (flat_map (hop_text plan.now) hops.now ++ codes "\n"))) }
     ensures err { OnErr result (StopsIn (W.taken sink.old) (W.taken sink.new) (line.entry ++ (flat_map (hop_text plan.now) hops.now ++ codes "\n"))) }
     ensures mark { OnErr result (W.failed sink.new ≡ true) }
@@ -125,9 +124,9 @@ fn put_hop<A: Allocator>(hop: &Hop, plan: &Plan<A>, line: &mut LineRoom<'_, ROOM
     ensures width { length line.new ≤ 191 }
 {
     line.put(b" ");
-    line.put(group_name(plan, hop.circuit.group));
+    line.put_name(plan.group_key(hop.circuit.group));
     line.put(b".");
     line.put_number(u64::from(hop.circuit.number));
     line.put(b" ");
-    line.put(exchange_name(plan, hop.far));
+    line.put_name(plan.exchange_key(hop.far));
 }
