@@ -1,4 +1,4 @@
-// Networks that are let go of, here and by the crates above.
+// Plain networks that are let go of, here and by the crates above.
 use std::alloc::Allocator;
 use tx_machine::Plain;
 
