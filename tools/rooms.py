@@ -3,7 +3,9 @@
 
 Lists what stands in a wrong room or has outgrown its room, with file and line; exits 1 if there is any:
 - an import of specs/inner or of proofs of this repository in specs/ outside of inner, and an import of such proofs in specs/inner;
-- a file of more than 400 lines, a function whose body has more than 40, and a crate of more than 100 functions (data, and what derives write, do not count)."""
+- a file of more than 400 lines, a function whose body has more than 40, a library of more than 100 functions, and a folder of a program's with more (data, and what
+  derives write, do not count)."""
+import collections
 import glob
 import os
 import re
@@ -49,7 +51,8 @@ def bodies(lines):
 def main(crates):
     told = []
     for crate in sorted(crates or os.listdir("crates")):
-        functions = 0
+        functions = collections.Counter()
+        is_program = os.path.isfile(f"crates/{crate}/src/main.rt")
         for kind in ("src/**/*.rt", "specs/**/*.antt", "proofs/**/*.antt"):
             for path in sorted(glob.glob(f"crates/{crate}/{kind}", recursive=True)):
                 with open(path, encoding="utf-8") as it:
@@ -58,11 +61,10 @@ def main(crates):
                 if len(lines) > FILE:
                     told.append(f"{path}: {len(lines)} lines")
                 for name, at, length in bodies(lines) if kind.startswith("src") else []:
-                    functions += 1
+                    functions[os.path.dirname(path) if is_program else f"crates/{crate}"] += 1
                     if length > BODY:
                         told.append(f"{path}:{at}: {name} has {length} lines")
-        if functions > CRATE:
-            told.append(f"crates/{crate}: {functions} functions")
+        told += [f"{room}: {number} functions" for room, number in functions.items() if number > CRATE]
     print("\n".join(told) or "nothing")
     return 1 if told else 0
 

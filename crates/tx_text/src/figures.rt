@@ -8,7 +8,7 @@ use crate::short::Short;
 use std::marker::Model;
 
 /// A text of 1 to 12 figures, as a caller keys it: a destination code (ITU-T F.69) and a national number.
-#[derive(Clone, Copy, PartialEq, Eq, Hash)]
+#[derive(Clone, Copy, PartialEq, Eq)]
 pub struct Figures {
     text: Short<12>,
 }

@@ -8,7 +8,7 @@ use crate::short::Short;
 use std::marker::Model;
 
 /// The name of an exchange or a group: 1 to 8 of `A` to `Z` and `0` to `9`, a letter first.
-#[derive(Clone, Copy, PartialEq, Eq, Hash)]
+#[derive(Clone, Copy, PartialEq, Eq)]
 pub struct Name {
     text: Short<8>,
 }

@@ -1,10 +1,9 @@
 // Short texts that are kept in place.
 ghost use Rattle.std.specs.Prelude.{◌≡◌, ◌≤◌, ◌-◌, ◌++◌, length, replicate, bytes_eq};
 
-use std::hash::{Hash, Hasher};
 use std::marker::Model;
 
-/// A text of at most N bytes, where N is at most 255. Behind the text stand zeros, so that all its bytes can be compared and hashed at once.
+/// A text of at most N bytes, where N is at most 255. Behind the text stand zeros, so that all its bytes can be compared at once.
 #[derive(Clone, Copy)]
 pub struct Short<const N: usize> {
     bytes: [u8; N],
@@ -45,22 +44,6 @@ impl<const N: usize> Eq for Short<N> {
     ghost use Rattle.std.specs.Cmp.Lexicographic.{nat_list_eq_equiv};
 
     ghost laws = { nat_list_eq_equiv };
-}
-
-impl<const N: usize> Hash for Short<N> {
-    ghost use Rattle.std.specs.Prelude.{[], ◌∷◌};
-    ghost use Rattle.std.proofs.Common.{ap};
-    ghost use Rattle.std.specs.Cmp.Lexicographic.{bytes_decides};
-    ghost use Rattle.tx_text.specs.Padded.{padded_to};
-
-    ghost hash_input = { λ n. padded_to N n ∷ [] };
-
-    ghost respects_eq = { λ x y h. ap (λ n. padded_to N n ∷ []) ((bytes_decides x y).0 h) };
-
-    #[inline(always)]
-    fn hash<H: Hasher>(&self, state: &mut H) {
-        state.write(&self.bytes);
-    }
 }
 
 impl<const N: usize> Short<N> {

@@ -1,10 +1,8 @@
 // Events that are driven through a network after a Yes of the checker.
+use crate::cases::{Told, next_line, says_no_event, tell, tell_broken, tell_count, two_texts};
 use crate::driven::try_drives;
 use crate::runs::Over;
 use std::alloc::Global;
-use tx_cases::{
-    Told, let_go_plan, next_line, says_no_event, tell, tell_broken, tell_count, two_texts,
-};
 use tx_cert::read_cert;
 use tx_check::{Verdict, check};
 use tx_engine::{Played, play};
@@ -15,8 +13,6 @@ use tx_script::read_event;
 use tx_state::{Event, Network, Reply, drive};
 use tx_text::NoMemory;
 use tx_tickets::{write_reply, write_ticket};
-use tx_twins::let_go_plain;
-use tx_walks::let_go_cert;
 
 /// Adds the event that a line of a script says, if it says one.
 fn put_event(plan: &Plan, line: &[u8], events: &mut Vec<Event>, out: &mut Told) {
@@ -80,7 +76,7 @@ fn drive_plain(
                 Ok(()) => tell_driven(plan, &mut net, replies.as_slice(), out),
                 Err(NoMemory) => tell_broken(b"no memory", 0, out),
             }
-            let_go_plain(net);
+            drop(net);
         }
         Err(NoMemory) => tell_broken(b"no memory", 0, out),
     }
@@ -101,7 +97,7 @@ fn is_certified(alloc: Global, plan: &Plan, cert: &[u8], limit: u8, spare: u8) -
     match read_cert(alloc, cert, plan) {
         Ok(cert) => {
             let verdict = check(plan, &cert, limit.min(62), spare.min(15));
-            let_go_cert(cert);
+            drop(cert);
             verdict == Verdict::Yes
         }
         Err(_) => false,
@@ -180,7 +176,7 @@ pub(crate) fn play_certified(
             } else {
                 tell(b"NO\n", out);
             }
-            let_go_plan(plan);
+            drop(plan);
         }
         Err(_) => tell_broken(b"no plan", 0, out),
     }

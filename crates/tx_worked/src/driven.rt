@@ -1,14 +1,13 @@
 // Lists of events that are driven where memory is refused.
+use crate::cases::{Refusing, Told, tell_broken};
 use crate::runs::Over;
 use std::alloc::Global;
-use tx_cases::{Refusing, Told, let_go_plan, tell_broken};
 use tx_engine::Engine;
 use tx_machine::Plain;
 use tx_plan::Plan;
 use tx_plantext::read_plan;
 use tx_state::{Event, Network, Reply, drive};
 use tx_text::NoMemory;
-use tx_twins::let_go_plain;
 
 /// How many replies are to accepted events.
 fn accepted(replies: &[Reply]) -> u64 {
@@ -63,7 +62,7 @@ fn makes_and_drives_on<'m>(
         Over::Plain => match Plain::new(alloc, plan) {
             Ok(mut net) => {
                 let keeps = drives_on(alloc, &mut net, events, whole);
-                let_go_plain(net);
+                drop(net);
                 keeps
             }
             Err(fault) => Err(fault),
@@ -90,7 +89,7 @@ fn reads_and_drives_on(
     match read_plan(alloc, plan) {
         Ok(plan) => {
             let keeps = makes_and_drives_on(alloc, over, &plan, events, whole);
-            let_go_plan(plan);
+            drop(plan);
             keeps
         }
         Err(_) => Err(NoMemory),

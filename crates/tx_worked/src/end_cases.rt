@@ -1,9 +1,9 @@
 // The program at its ends: plays each case of a text over the files of the folder, and tells all that happens at the ends in order: files opened and made, each
 // read and what it gave, what each write took, each flush, and then the exit status. A case is a line. The head of the file `ends` says how it is written.
+use crate::cases::{EndCase, Log, Told, tell, tell_broken, tell_count, tell_parts};
 use crate::end_play::play;
 use std::alloc::Global;
 use std::io;
-use tx_cases::{EndCase, Log, Told, tell, tell_broken, tell_count, tell_parts};
 use tx_program::refuse_arguments;
 /// What the program tells where its arguments are no words.
 fn tell_arguments(alloc: Global, kind: io::ErrorKind, out: &mut Told) {

@@ -1,8 +1,8 @@
 // Plays the program at its ends.
 ghost use Rattle.tx_program.specs.Commands.{IsInRange};
 
+use crate::cases::{EndCase, Log, Refusing, What};
 use crate::stage::Stage;
-use tx_cases::{EndCase, Log, Refusing, What};
 use tx_program::{Command, WordsFault, read_command, run_command, run_words};
 
 /// Plays a case, and tells what happens.

@@ -1,17 +1,16 @@
 // A job, and what it does.
 ghost use Rattle.std.specs.Prelude.{◌≤◌, IfSome};
 
+use crate::cases::{End, Ends, Job, ROOM, Refusing, Task, Told, tell, tell_broken};
 use itoa::Buffer;
 use std::alloc::Global;
 use tx_audit::write_counter;
-use tx_cases::{End, Ends, Job, ROOM, Refusing, Task, Told, let_go_plan, tell, tell_broken};
 use tx_cert::write_cert;
 use tx_jobs::{
     CounterScript, Evidence, JobFault, check_status, codes_job, draw_job, evidence_job,
     grade_status, pipe_job, run_checked_status, run_job,
 };
 use tx_text::{MemorySink, MemorySource, NoMemory};
-use tx_walks::let_go_cert;
 
 /// What a whole job does, beside which others are judged: its exit status or its fault, and what it writes.
 #[derive(Clone, Copy)]
@@ -81,12 +80,12 @@ fn do_audit(
             let status = keep(&evidence, out);
             match evidence {
                 Evidence::Sound(plan, cert) => {
-                    let_go_cert(cert);
-                    let_go_plan(plan);
+                    drop(cert);
+                    drop(plan);
                 }
                 Evidence::Unsound(Some(CounterScript { plan, events })) => {
                     drop(events);
-                    let_go_plan(plan);
+                    drop(plan);
                 }
                 Evidence::Unsound(None) => {}
             }

@@ -1,11 +1,11 @@
 // Runs and jobs at each room, at each failing call and for each prefix.
+use crate::cases::{
+    End, Ends, Refusing, Task, Told, calls_left, sources, tell, tell_broken, tell_count, with_last,
+};
 use crate::job::{Whole, done};
 use crate::runs::{Ran, Script, WholeRun, run_beside, run_text, told_cause};
 use crate::stretches::{Happens, Stretches};
 use std::alloc::Global;
-use tx_cases::{
-    End, Ends, Refusing, Task, Told, calls_left, sources, tell, tell_broken, tell_count, with_last,
-};
 use tx_jobs::write_fault;
 use tx_text::{MemorySink, MemorySource};
 

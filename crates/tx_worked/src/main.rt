@@ -1,5 +1,5 @@
-//! The player of the gate. It judges the ranking over the plans of the file `families` (`tx_walks`), plays the engine beside the plain network over the plans of
-//! the file `plans` (`tx_twins`), and plays the cases of the files `calls` (`tx_tests`), `cases`, and `ends`, and prints what each of them tells. One program links
+//! The player of the gate. It judges the ranking over the plans of the file `families` (`walks`), plays the engine beside the plain network over the plans of
+//! the file `plans` (`twins`), and plays the cases of the files `calls` (`tests`), `cases`, and `ends`, and prints what each of them tells. One program plays
 //! them all, since the gate proves, builds and links each program anew. The cases of `ends` play the program at its ends, over the other files.
 //!
 //! The file `cases` has worked examples, and what each writes and tells is printed. Where a law is broken, a line with `BROKEN` says so.
@@ -21,6 +21,7 @@
 //! - `cert` has a plan and a certificate, and `plan` a plan, which are written and read back.
 #![tactic(auto)]
 
+mod cases;
 mod checked;
 mod driven;
 mod end_cases;
@@ -33,17 +34,20 @@ mod run_laws;
 mod runs;
 mod stage;
 mod stretches;
+mod tests;
 mod trials;
+mod twins;
+mod walks;
 mod whole_runs;
 mod written;
 
+use crate::cases::Told;
 use crate::end_cases::play_ends;
 use crate::play::play_cases;
+use crate::tests::play_cases as play_calls;
+use crate::twins::play_all;
+use crate::walks::judge_all;
 use std::{fs, io};
-use tx_cases::Told;
-use tx_tests::play_cases as play_calls;
-use tx_twins::play_all;
-use tx_walks::judge_all;
 
 /// Who plays a file.
 #[derive(Clone, Copy)]

@@ -1,7 +1,7 @@
 // All pictures of a plan.
+use crate::cases::{Head, Job, Told, drawing_of, task_of, tell_broken};
 use crate::job::tell_task;
 use std::alloc::Global;
-use tx_cases::{Head, Job, Told, drawing_of, let_go_plan, task_of, tell_broken};
 use tx_plan::{CodeId, Plan};
 use tx_plantext::read_plan;
 /// Draws a plan and each of its codes, with the walk of the code's first finding where the head says a limit and a spare number.
@@ -10,7 +10,7 @@ pub(crate) fn play_pictures(alloc: Global, head: Head<'_>, text: &[u8], out: &mu
     match read_plan(alloc, text) {
         Ok(plan) => {
             draw_codes(alloc, &plan, head, text, out);
-            let_go_plan(plan);
+            drop(plan);
         }
         Err(_) => tell_broken(b"no plan", 0, out),
     }

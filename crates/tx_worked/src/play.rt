@@ -1,4 +1,8 @@
 // Plays cases by their kinds.
+use crate::cases::{
+    Case, Driven, Ends, Head, Job, Kind, Mode, ROOM, Task, Told, head_of, job_of, limit_and_spare,
+    long_number, next_case, number_of, spell, task_of, tell, tell_broken, tell_parts, two_texts,
+};
 use crate::checked::play_certified;
 use crate::job::{Whole, do_in_room};
 use crate::listings::{count_calls, list_prefixes};
@@ -9,10 +13,6 @@ use crate::whole_runs::{Part, play_run};
 use crate::written::{play_cert, play_plan};
 use memchr::memmem;
 use std::alloc::Global;
-use tx_cases::{
-    Case, Driven, Ends, Head, Job, Kind, Mode, ROOM, Task, Told, head_of, job_of, limit_and_spare,
-    long_number, next_case, number_of, spell, task_of, tell, tell_broken, tell_parts, two_texts,
-};
 use tx_jobs::write_fault;
 use tx_text::MemorySink;
 
@@ -65,7 +65,7 @@ fn play_over_both(
     out: &mut Told,
 ) {
     let mut plain = Told::new(alloc);
-    let text = opening(Over::Plain, plan, rest);
+    let text = Script::opening(Over::Plain, plan, rest);
     play_over(alloc, driven, head, text, &mut plain);
     tell(plain.text(), out);
     let mut engine = Told::new(alloc);
@@ -103,20 +103,9 @@ fn play_over(alloc: Global, driven: Driven, head: Head<'_>, text: Script<'_>, ou
     }
 }
 
-/// A script from the opening state.
-fn opening<'a>(over: Over, plan: &'a [u8], script: &'a [u8]) -> Script<'a> {
-    Script {
-        plan,
-        script,
-        numbers: 0,
-        events: 0,
-        over,
-    }
-}
-
 /// Tries that a script writes over the plain network what the job writes, which runs it over the engine.
 fn try_plain(alloc: Global, run: Task<'_>, job: &[u8], out: &mut Told) {
-    let text = opening(Over::Plain, run.first, run.second);
+    let text = Script::opening(Over::Plain, run.first, run.second);
     let ran = run_beside(alloc, text, Ends::pieces(4096), job);
     if !ran.is_front || ran.written != job.len() {
         tell_broken(

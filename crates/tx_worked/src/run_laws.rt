@@ -1,9 +1,9 @@
 // The laws of a run: what is written, and which event is told, wherever an end fails or memory is refused.
-use crate::runs::{Ran, Script, WholeRun, run_beside, told_cause};
-use std::alloc::Global;
-use tx_cases::{
+use crate::cases::{
     End, Ends, Told, event_word, takes_memory, tell, tell_broken, tell_count, written_after,
 };
+use crate::runs::{Ran, Script, WholeRun, run_beside, told_cause};
+use std::alloc::Global;
 use tx_jobs::JobFault;
 use tx_script::{RunCause, RunFault, Summary};
 /// More than any case has of anything.

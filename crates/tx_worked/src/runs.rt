@@ -1,6 +1,6 @@
 // Runs of a script, with the event at which they stop.
+use crate::cases::{End, Ends, Refusing};
 use std::alloc::Global;
-use tx_cases::{End, Ends, Refusing, let_go_plan};
 use tx_engine::Engine;
 use tx_jobs::JobFault;
 use tx_machine::Plain;
@@ -8,7 +8,6 @@ use tx_plan::Plan;
 use tx_plantext::read_plan;
 use tx_script::{RunCause, RunFault, Summary, run};
 use tx_text::{FaultKind, FrameFault, LineFault, MemorySink, MemorySource, NoMemory, TextFault};
-use tx_twins::let_go_plain;
 
 /// The network that runs a script.
 #[derive(Clone, Copy)]
@@ -25,6 +24,19 @@ pub(crate) struct Script<'a> {
     pub numbers: u32,
     pub events: u64,
     pub over: Over,
+}
+
+impl<'a> Script<'a> {
+    /// A script from the opening state.
+    pub(crate) fn opening(over: Over, plan: &'a [u8], script: &'a [u8]) -> Script<'a> {
+        Script {
+            plan,
+            script,
+            numbers: 0,
+            events: 0,
+            over,
+        }
+    }
 }
 
 /// How a whole run ends, and what it writes.
@@ -68,7 +80,7 @@ fn run_plain<'m>(
     match Plain::starting_at(alloc, plan, text.numbers, text.events) {
         Ok(mut net) => {
             let end = run(alloc, plan, &mut net, source, out);
-            let_go_plain(net);
+            drop(net);
             end
         }
         Err(NoMemory) => Err(NOT_BEGUN),
@@ -117,7 +129,7 @@ pub(crate) fn run_text(
     match read_plan(alloc, text.plan) {
         Ok(plan) => {
             let end = run_over(alloc, &plan, text, source, out);
-            let_go_plan(plan);
+            drop(plan);
             end
         }
         Err(_) => Err(NOT_BEGUN),

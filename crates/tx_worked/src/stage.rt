@@ -1,7 +1,7 @@
 // The ends of the program, watched.
+use crate::cases::{EndCase, Log, Reader, Writer};
 use std::fs::File;
 use std::io;
-use tx_cases::{EndCase, Log, Reader, Writer};
 use tx_program::{Ends, Folder};
 
 /// The folder of a case, and its settings.

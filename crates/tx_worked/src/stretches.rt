@@ -1,5 +1,5 @@
 // Lists of what happens at each number, told by stretches of numbers at which the same happens.
-use tx_cases::{Told, tell, tell_count};
+use crate::cases::{Told, tell, tell_count};
 use tx_jobs::{JobFault, write_fault};
 /// What happens at a number: the event and the bytes, where they are told, and the fault.
 #[derive(Clone, Copy, PartialEq, Eq)]

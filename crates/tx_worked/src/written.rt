@@ -1,11 +1,10 @@
 // Certificates and plans that are written and read back.
+use crate::cases::{Refusing, Told, tell, tell_broken};
 use std::alloc::Global;
-use tx_cases::{Refusing, Told, let_go_plan, tell, tell_broken};
 use tx_cert::{Cert, CertFault, CertWord, read_cert, write_cert};
 use tx_plan::{CodeId, ExchangeId, Plan};
 use tx_plantext::{read_plan, write_plan};
 use tx_text::{FaultKind, FrameFault, LineFault, TextFault};
-use tx_walks::let_go_cert;
 
 /// Whether two certificates of the plan give the same ranks.
 fn same_ranks(plan: &Plan, one: &Cert, other: &Cert) -> bool {
@@ -27,7 +26,7 @@ fn reads_as(alloc: Global, plan: &Plan, cert: &Cert, text: &[u8]) -> bool {
     match read_cert(alloc, text, plan) {
         Ok(back) => {
             let is_same = same_ranks(plan, cert, &back);
-            let_go_cert(back);
+            drop(back);
             is_same
         }
         Err(_) => false,
@@ -48,7 +47,7 @@ fn write_back_cert(alloc: Global, plan: &Plan, cert: &[u8], out: &mut Told) {
     match read_cert(alloc, cert, plan) {
         Ok(cert) => {
             write_and_read(alloc, plan, &cert, out);
-            let_go_cert(cert);
+            drop(cert);
         }
         Err(_) => tell_broken(b"no certificate", 0, out),
     }
@@ -72,7 +71,7 @@ fn cert_wants<'m>(
 ) -> bool {
     match read_cert(alloc, cert, plan) {
         Ok(cert) => {
-            let_go_cert(cert);
+            drop(cert);
             false
         }
         Err(fault) => fault == NO_MEMORY || fault == NO_BUFFER,
@@ -84,7 +83,7 @@ fn wants(alloc: &Refusing<Global>, plan: &[u8], cert: &[u8]) -> bool {
     match read_plan(alloc, plan) {
         Ok(plan) => {
             let wants = cert_wants(alloc, &plan, cert);
-            let_go_plan(plan);
+            drop(plan);
             wants
         }
         Err(_) => true,
@@ -110,7 +109,7 @@ pub(crate) fn play_cert(alloc: Global, plan: &[u8], cert: &[u8], out: &mut Told)
     match read_plan(alloc, plan) {
         Ok(plan) => {
             write_back_cert(alloc, &plan, cert, out);
-            let_go_plan(plan);
+            drop(plan);
         }
         Err(_) => tell_broken(b"no plan", 0, out),
     }
@@ -121,7 +120,7 @@ pub(crate) fn play_cert(alloc: Global, plan: &[u8], cert: &[u8], out: &mut Told)
 fn write_again(alloc: Global, plan: &[u8], out: &mut Told) {
     if let Ok(plan) = read_plan(alloc, plan) {
         let _ = write_plan(&plan, out);
-        let_go_plan(plan);
+        drop(plan);
     }
 }
 

@@ -1,0 +1,132 @@
+// The cases of the program at its ends.
+use crate::cases::case::named;
+use std::alloc::{AllocError, Global};
+
+/// A case: how the ends behave, and the words of the program.
+#[derive(Drop)]
+pub struct EndCase<'a> {
+    /// The file that stands for standard input.
+    pub input: &'a str,
+    /// How many bytes a read gives at most.
+    pub piece: usize,
+    /// The file of which a read fails, and which read.
+    pub fails: Option<(&'a str, u64)>,
+    /// The file that fails when it has taken so many bytes.
+    pub room: Option<(&'a str, usize)>,
+    /// The file to be shown in the end.
+    pub shows: Option<&'a str>,
+    pub what: What,
+    /// Whether a setting is none, or a number is missing.
+    pub is_bad: bool,
+    pub words: Vec<&'a str>,
+}
+
+/// What is done with the words.
+#[derive(Clone, Copy)]
+pub enum What {
+    Run,
+    /// Run with each request for memory refused in turn.
+    RunWithout,
+    /// Only read.
+    Read,
+}
+
+/// What a setting sets.
+#[derive(Clone, Copy)]
+enum Setting {
+    Input,
+    Piece,
+    Fails,
+    Room,
+    Shows,
+    EachRequest,
+    Words,
+}
+
+/// The settings, and whether the name of a file and a number stand behind each.
+static SETTINGS: [(&str, (Setting, bool, bool)); 7] = [
+    ("input", (Setting::Input, true, false)),
+    ("piece", (Setting::Piece, false, true)),
+    ("fails", (Setting::Fails, true, true)),
+    ("room", (Setting::Room, true, true)),
+    ("shows", (Setting::Shows, true, false)),
+    ("each-request", (Setting::EachRequest, false, false)),
+    ("words", (Setting::Words, false, false)),
+];
+
+impl<'a> EndCase<'a> {
+    pub fn read(alloc: Global, line: &'a str) -> Result<EndCase<'a>, AllocError> {
+        let (settings, rest) = line.split_once(':').unwrap_or((line, ""));
+        let mut words = Vec::new(alloc);
+        for word in rest.split_whitespace() {
+            words.push(word)?;
+        }
+        let mut case = EndCase {
+            input: "empty",
+            piece: 4096,
+            fails: None,
+            room: None,
+            shows: None,
+            what: What::Run,
+            is_bad: false,
+            words,
+        };
+        case.set_all(settings);
+        Ok(case)
+    }
+
+    /// Takes the settings, which stand behind the name of the case.
+    fn set_all(&mut self, settings: &'a str) {
+        let mut rest = settings.split_whitespace();
+        let _name = rest.next();
+        while let Some(word) = rest.next() {
+            match named(&SETTINGS, word.as_bytes()) {
+                Some((setting, has_name, has_number)) => {
+                    let name = if has_name { rest.next() } else { None };
+                    let number = if has_number { rest.next() } else { Some("0") };
+                    self.set(setting, name.unwrap_or(""), number.unwrap_or(""));
+                }
+                None => self.is_bad = true,
+            }
+        }
+    }
+
+    /// Takes a setting, with the name and the number behind it.
+    fn set(&mut self, setting: Setting, name: &'a str, number: &str) {
+        let number = self.number(number);
+        match setting {
+            Setting::Input => self.input = name,
+            Setting::Piece => self.piece = number.max(1) as usize,
+            Setting::Fails => self.fails = Some((name, u64::from(number))),
+            Setting::Room => self.room = Some((name, number as usize)),
+            Setting::Shows => self.shows = Some(name),
+            Setting::EachRequest => self.what = What::RunWithout,
+            Setting::Words => self.what = What::Read,
+        }
+    }
+
+    /// The number that a word spells. Where it spells none, the case is bad.
+    fn number(&mut self, word: &str) -> u32 {
+        if let Ok(number) = word.parse::<u32>() {
+            return number;
+        }
+        self.is_bad = true;
+        0
+    }
+
+    /// Which read of a file fails, or 0.
+    pub fn failing_read(&self, name: &str) -> u64 {
+        match self.fails {
+            Some((failing, read)) if failing == name => read,
+            _ => 0,
+        }
+    }
+
+    /// How many bytes a file takes.
+    pub fn room(&self, name: &str) -> usize {
+        match self.room {
+            Some((full, room)) if full == name => room,
+            _ => usize::MAX,
+        }
+    }
+}

@@ -1,0 +1,92 @@
+// The job that a case plays, and its texts.
+use crate::cases::case::two_texts;
+
+/// Which job.
+#[derive(Clone, Copy)]
+pub enum Job {
+    Pipe,
+    Run,
+    Codes,
+    Grade,
+    Check { limit: u8, spare: u8 },
+    /// An audit, with its certificate or its counter script behind the report.
+    Audit { limit: u8, spare: u8 },
+    /// A run after a Yes of the checker.
+    Checked { limit: u8, spare: u8 },
+    /// The picture of a plan.
+    Draw,
+    /// The picture of a code.
+    DrawCode { code: u16 },
+    /// The picture of a code, with the walk of its first finding.
+    DrawFinding { code: u16, limit: u8, spare: u8 },
+}
+
+/// A job and its texts, in the order in which they are read.
+#[derive(Clone, Copy)]
+pub struct Task<'a> {
+    pub job: Job,
+    pub first: &'a [u8],
+    pub second: &'a [u8],
+    pub third: &'a [u8],
+}
+
+/// A job and its texts. That of a checked run has its second and third text in one.
+pub fn task_of<'a>(job: Job, first: &'a [u8], rest: &'a [u8]) -> Task<'a> {
+    let (second, third) = match job {
+        Job::Checked { .. } => two_texts(rest),
+        _ => (rest, b"".as_slice()),
+    };
+    Task {
+        job,
+        first,
+        second,
+        third,
+    }
+}
+
+/// The name of a job.
+pub fn job_name(job: Job) -> &'static [u8] {
+    match job {
+        Job::Pipe => b"pipe",
+        Job::Run => b"run",
+        Job::Codes => b"codes",
+        Job::Grade => b"grade",
+        Job::Check { .. } => b"check",
+        Job::Audit { .. } => b"audit",
+        Job::Checked { .. } => b"checked",
+        Job::Draw | Job::DrawCode { .. } | Job::DrawFinding { .. } => b"draw",
+    }
+}
+
+/// How many sources a job has.
+pub fn sources(job: Job) -> u8 {
+    match job {
+        Job::Pipe
+        | Job::Codes
+        | Job::Grade
+        | Job::Audit { .. }
+        | Job::Draw
+        | Job::DrawCode { .. }
+        | Job::DrawFinding { .. } => 1,
+        Job::Run | Job::Check { .. } => 2,
+        Job::Checked { .. } => 3,
+    }
+}
+
+/// The task with another last text.
+pub fn with_last<'a>(task: Task<'a>, text: &'a [u8]) -> Task<'a> {
+    match sources(task.job) {
+        1 => Task {
+            first: text,
+            ..task
+        },
+        2 => Task {
+            second: text,
+            ..task
+        },
+        _ => Task {
+            third: text,
+            ..task
+        },
+    }
+}

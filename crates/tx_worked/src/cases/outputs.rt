@@ -1,0 +1,58 @@
+// What the output and the script of a run tell of its events.
+use crate::cases::case::next_line;
+use tx_text::words;
+
+/// How many bytes of the output are that of the first so many events: their replies, each with the tickets behind it. The line END EVENTS counts as
+/// one more.
+pub fn written_after(output: &[u8], events: u64) -> usize {
+    let mut rest = output;
+    let mut left = events;
+    for _ in 0..output.len() {
+        let Some((_, behind)) = next_line(rest) else {
+            break;
+        };
+        if left == 0 {
+            break;
+        }
+        if !behind.starts_with(b"T ") {
+            left = left.saturating_sub(1);
+        }
+        rest = behind;
+    }
+    output.len().saturating_sub(rest.len())
+}
+
+/// The first word of the line that says an event of a script, counted from 1.
+pub fn event_word(script: &[u8], event: u64) -> &[u8] {
+    let mut rest = script;
+    let mut left = event;
+    for _ in 0..script.len() {
+        let Some((line, behind)) = next_line(rest) else {
+            break;
+        };
+        if let Some(word) = words(line).next() {
+            if left == 0 {
+                return word;
+            }
+            left = left.saturating_sub(1);
+        }
+        rest = behind;
+    }
+    b""
+}
+
+/// Whether an event of this first word takes memory: a call that is keyed or routed, and a line that gets a status.
+pub fn takes_memory(word: &[u8]) -> bool {
+    word == b"KEY".as_slice()
+        || word == b"ROUTE".as_slice()
+        || word == b"FAULT".as_slice()
+        || word == b"AWAY".as_slice()
+}
+
+/// Whether a line of a script says no event: it has no words, or is the header or END.
+pub fn says_no_event(line: &[u8]) -> bool {
+    match words(line).next() {
+        Some(word) => word == b"SCRIPT".as_slice() || word == b"END".as_slice(),
+        None => true,
+    }
+}

@@ -1,0 +1,45 @@
+// Writers that are watched.
+use crate::cases::log::Log;
+use std::fs::File;
+use std::io;
+use std::io::Write;
+
+/// A writer whose writes and flushes are told, and which fails when it has taken so many bytes.
+#[derive(Drop)]
+pub struct Writer<'a> {
+    /// Where the bytes go; those of a standard end are only told.
+    pub file: Option<File>,
+    pub name: String,
+    pub log: &'a Log,
+    pub room: usize,
+}
+
+impl<'a> Write for Writer<'a> {
+    fn write(&mut self, bytes: &[u8]) -> io::Result<usize> {
+        let name = self.name.as_str();
+        let n = bytes.len().min(self.room);
+        if n == 0 {
+            self.log.tell("write", name);
+            self.log.tell("fails", name);
+            return Err(io::Error::from(io::ErrorKind::Other));
+        }
+        let n = match &mut self.file {
+            Some(file) => file.write(&bytes[..n])?,
+            None => n,
+        };
+        self.room = self.room.saturating_sub(n);
+        if let Some(taken) = bytes.get(..n) {
+            self.log.tell_bytes(name, taken);
+        }
+        Ok(n)
+    }
+
+    fn flush(&mut self) -> io::Result<()> {
+        let name = self.name.as_str();
+        self.log.tell("flush", name);
+        match &mut self.file {
+            Some(file) => file.flush(),
+            None => Ok(()),
+        }
+    }
+}

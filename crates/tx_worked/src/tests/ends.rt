@@ -1,0 +1,116 @@
+// Sources and sinks, over memory and over std's readers and writers.
+use crate::cases::{Told, tell, tell_broken, tell_count, tell_parts};
+use crate::tests::flaky::Flaky;
+use std::alloc::Global;
+use tx_pipe::TwoTexts;
+use tx_text::{
+    FromRead, MemorySink, MemorySource, Sink, Source, ToWrite, WriteFault, write_bytes, write_parts,
+};
+
+/// Makes a call of a source, for so many bytes, and tells what it gives.
+fn tell_read<R: Source>(source: &mut R, room: usize, out: &mut Told) {
+    let mut buf = [0; 16];
+    match source.read(buf.split_at_mut(room.clamp(1, 16)).0) {
+        Ok(n) => tell_parts(&[b"[", buf.split_at(n.min(16)).0, b"] "], out),
+        Err(_) => tell(b"fault ", out),
+    }
+}
+
+/// Makes calls of a source, each for so many bytes, and tells what they give.
+pub(crate) fn tell_reads<R: Source>(source: &mut R, calls: u8, room: usize, out: &mut Told) {
+    for _ in 0..calls {
+        tell_read(source, room, out);
+    }
+    tell(b"\n", out);
+}
+
+/// Calls of a source, of which each fails in turn.
+pub(crate) fn tell_sources(text: &[u8], piece: usize, out: &mut Told) {
+    for fails_at in 1..=8u64 {
+        let mut source = MemorySource::new(text, piece.max(1), Some(fails_at));
+        tell_reads(&mut source, 8, 4, out);
+    }
+}
+
+/// Calls before and behind the end of the plan of an input, of which that of a number fails, where it is not 0.
+pub(crate) fn tell_two_texts(text: &[u8], piece: usize, fails: u64, room: usize, out: &mut Told) {
+    let fails_at = if fails > 0 { Some(fails) } else { None };
+    let source = MemorySource::new(text, piece.max(1), fails_at);
+    let mut input = TwoTexts::new(source);
+    tell_reads(&mut input, 5, room, out);
+    input.go_on();
+    tell_reads(&mut input, 3, room, out);
+}
+
+/// Tells what a sink took, and whether it took all that it was given.
+fn tell_taken(taken: &[u8], answer: Result<(), WriteFault>, out: &mut Told) {
+    let end = match answer {
+        Ok(()) => b"] all, ".as_slice(),
+        Err(WriteFault) => b"] fault, ",
+    };
+    tell_parts(&[b"[", taken, end], out);
+}
+
+/// Writes a text to a sink, and then a byte more.
+fn tell_whole(sink: &mut MemorySink, text: &[u8], out: &mut Told) {
+    let answer = write_bytes(text, sink);
+    tell_taken(sink.taken(), answer, out);
+    let more = sink.write(b"A").is_ok();
+    tell(
+        if more {
+            b"more, ".as_slice()
+        } else {
+            b"fault, "
+        },
+        out,
+    );
+}
+
+/// Writes a text to a sink by parts, of which one is empty.
+fn tell_by_parts(sink: &mut MemorySink, text: &[u8], out: &mut Told) {
+    let (front, back) = text.split_at(text.len().min(6));
+    let (second, back) = back.split_at(back.len().min(1));
+    let (third, fourth) = back.split_at(back.len().min(2));
+    let answer = write_parts(&[front, second, b"", third, fourth], sink);
+    tell_taken(sink.taken(), answer, out);
+    tell(b"by parts\n", out);
+}
+
+/// Writes a text to a room, whole or by parts.
+fn tell_room(alloc: Global, text: &[u8], room: usize, by_parts: bool, out: &mut Told) {
+    match MemorySink::new(alloc, room) {
+        Ok(mut sink) if by_parts => tell_by_parts(&mut sink, text, out),
+        Ok(mut sink) => tell_whole(&mut sink, text, out),
+        Err(_) => tell_broken(b"no memory", 0, out),
+    }
+}
+
+/// Writes a text to each room, from none to more than it takes.
+pub(crate) fn tell_rooms(alloc: Global, text: &[u8], out: &mut Told) {
+    for room in 0..=text.len().saturating_add(2) {
+        tell_count(b"", room as u64, b": ", out);
+        tell_room(alloc, text, room, false, out);
+        tell_room(alloc, text, room, true, out);
+    }
+}
+
+/// Calls of a writer, each with two bytes, and how many it takes.
+fn tell_writes(takes: usize, out: &mut Told) {
+    let mut sink = ToWrite::new(Flaky { takes, calls: 0 });
+    for _ in 0..4u8 {
+        match sink.write(b"AB") {
+            Ok(n) => tell_count(b"", n as u64, b" ", out),
+            Err(WriteFault) => tell(b"fault ", out),
+        }
+    }
+    tell(b"\n", out);
+}
+
+/// Calls of std's readers and writers that fail: how many of a reader were counted, and those of a writer of one byte a call, and of one that takes nothing.
+pub(crate) fn tell_ends(out: &mut Told) {
+    let mut source = FromRead::new(Flaky { takes: 1, calls: 0 });
+    tell_reads(&mut source, 4, 4, out);
+    tell_count(b"", source.calls(), b" calls\n", out);
+    tell_writes(1, out);
+    tell_writes(0, out);
+}

@@ -1,0 +1,176 @@
+// What takes memory, made with each request refused in turn.
+use crate::cases::{Refusing, Told, tell_broken, tell_count};
+use crate::tests::circuits::calls::{ALFA, BETA, next};
+use std::alloc::Global;
+use tx_circuits::CircuitTable;
+use tx_lines::{LineAnswer, LineBook, Side};
+use tx_plan::{CodeId, Line, Plan, PlanRefusal};
+use tx_plantext::{PlanWord, read_plan};
+use tx_text::{
+    FaultKind, FrameFault, LineFault, LineFeeder, MemorySink, Sink, TextFault, write_bytes,
+};
+use tx_trie::CodeTrie;
+
+/// What is made: the last three of them over a plan.
+#[derive(Clone, Copy)]
+pub(crate) enum Made {
+    Feeder,
+    Sink,
+    Trie,
+    Book,
+    Table,
+}
+
+pub(crate) static MADE: [(&str, Made); 5] = [
+    ("feeder", Made::Feeder),
+    ("sink", Made::Sink),
+    ("trie", Made::Trie),
+    ("book", Made::Book),
+    ("table", Made::Table),
+];
+
+/// What came of it.
+#[derive(Clone, Copy)]
+enum Came {
+    /// All answers are right, and none was for want of memory.
+    Right,
+    /// The plan wanted memory.
+    NoPlan,
+    /// What was made wanted memory.
+    Wanting,
+    /// An answer is wrong.
+    Wrong,
+}
+
+/// Right, or wrong.
+fn judged(is_right: bool) -> Came {
+    if is_right { Came::Right } else { Came::Wrong }
+}
+
+/// A feeder, which takes no memory when it is fed.
+fn make_feeder(alloc: &Refusing<Global>) -> Came {
+    match LineFeeder::new(alloc) {
+        Ok(mut feeder) => judged(feeder.feed(&[b'#'; 513]) == Err(TextFault::LineTooLong)),
+        Err(TextFault::NoMemory) => Came::Wanting,
+        Err(_) => Came::Wrong,
+    }
+}
+
+/// A sink, which takes no memory when it is written to.
+fn make_sink(alloc: &Refusing<Global>) -> Came {
+    match MemorySink::new(alloc, 8) {
+        Ok(mut sink) => judged(write_bytes(b"SCRIPT 1", &mut sink).is_ok()),
+        Err(_) => Came::Wanting,
+    }
+}
+
+/// A trie of codes of which one begins another.
+fn make_trie<'m>(alloc: &'m Refusing<Global>, plan: &Plan<&'m Refusing<Global>>) -> Came {
+    match CodeTrie::build(alloc, plan) {
+        Ok(trie) => judged(trie.ambiguous().is_some()),
+        Err(_) => Came::Wanting,
+    }
+}
+
+/// A table of circuits, of which ALFA takes the first next and BETA the third.
+fn make_table<'m>(alloc: &'m Refusing<Global>, plan: &Plan<&'m Refusing<Global>>) -> Came {
+    match CircuitTable::build(alloc, plan) {
+        Ok(table) => judged(next(&table, ALFA) == 1 && next(&table, BETA) == 3),
+        Err(_) => Came::Wanting,
+    }
+}
+
+/// Engages a free line: it joins a call, or room is made for it first. Where memory is wanting it has to stay free.
+fn engage(book: &mut LineBook<&Refusing<Global>>, line: &Line, joins: bool) -> Came {
+    let mut came = Came::Right;
+    if joins {
+        came = match book.join(line, Side::Caller) {
+            Ok(status) => judged(!status.faulty && !status.away && !status.engaged),
+            Err(_) => Came::Wanting,
+        };
+    } else if book.reserve_one().is_ok() {
+        book.engage(line);
+    } else {
+        came = Came::Wanting;
+    }
+    let answer = book.answer(line.code, line.national.bytes());
+    match (came, answer) {
+        (Came::Right, LineAnswer::Engaged) => Came::Right,
+        (Came::Wanting, LineAnswer::Free(free)) if free == *line => Came::Wanting,
+        _ => Came::Wrong,
+    }
+}
+
+/// Engages lines until their table has grown twice: at the seventh line, for which room is made, and at the thirteenth, which joins a call. Where memory is
+/// wanting, a line is engaged at the second try.
+fn engage_lines(book: &mut LineBook<&Refusing<Global>>) -> Came {
+    let mut all = Came::Right;
+    for count in 1..14u8 {
+        let number = [b'1', b'0', b'0', b'0' + count / 10, b'0' + count % 10];
+        let Some(line) = book.find(CodeId::at(0), &number) else {
+            return Came::Wrong;
+        };
+        let mut came = engage(book, &line, count > 7);
+        if came == Came::Wanting {
+            all = Came::Wanting;
+            came = engage(book, &line, count > 7);
+        }
+        if came != Came::Right {
+            return Came::Wrong;
+        }
+    }
+    all
+}
+
+/// A book of lines, of which some are engaged.
+fn make_book<'m>(alloc: &'m Refusing<Global>, plan: &Plan<&'m Refusing<Global>>) -> Came {
+    match LineBook::build(alloc, plan) {
+        Ok(mut book) => engage_lines(&mut book),
+        Err(_) => Came::Wanting,
+    }
+}
+
+/// Reads the plan, and makes what is to be made: where it has a plan, over that plan.
+fn make(alloc: &Refusing<Global>, made: Made, plan: &[u8]) -> Came {
+    match read_plan(alloc, plan) {
+        Ok(plan) => {
+            let came = match made {
+                Made::Feeder => make_feeder(alloc),
+                Made::Sink => make_sink(alloc),
+                Made::Trie => make_trie(alloc, &plan),
+                Made::Book => make_book(alloc, &plan),
+                Made::Table => make_table(alloc, &plan),
+            };
+            drop(plan);
+            came
+        }
+        Err(fault) => match fault.kind {
+            FaultKind::Frame(FrameFault::Line(LineFault::Text(TextFault::NoMemory)))
+            | FaultKind::Word(PlanWord::Refused(PlanRefusal::NoMemory)) => Came::NoPlan,
+            _ => Came::Wrong,
+        },
+    }
+}
+
+/// Refuses each request for memory in turn, until none is refused, and tells how many are not the plan's.
+pub(crate) fn play_growths(alloc: Global, made: Option<Made>, plan: &[u8], out: &mut Told) {
+    let Some(made) = made else {
+        return tell_broken(b"no such type", 0, out);
+    };
+    let mut wanting = 0u64;
+    for request in 1..1000u64 {
+        let refusing = Refusing::new(alloc, request);
+        let came = make(&refusing, made, plan);
+        let refused = refusing.has_refused();
+        if came == Came::Wanting {
+            wanting = wanting.saturating_add(1);
+        }
+        if came == Came::Wrong || (came == Came::Right) == refused {
+            tell_broken(b"refused request", request, out);
+        }
+        if !refused {
+            break;
+        }
+    }
+    tell_count(b"", wanting, b" requests beside the plan's\n", out);
+}

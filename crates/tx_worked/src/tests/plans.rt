@@ -1,0 +1,64 @@
+// Cases that have a plan, and what stands over it.
+use crate::cases::{Told, tell_broken};
+use crate::tests::book::play_book;
+use crate::tests::circuits::{tell_circuits, try_sequences};
+use crate::tests::trie::tell_trie;
+use std::alloc::Global;
+use tx_circuits::CircuitTable;
+use tx_lines::LineBook;
+use tx_plan::Plan;
+use tx_plantext::read_plan;
+use tx_trie::CodeTrie;
+
+/// What is made over a plan, and called.
+#[derive(Clone, Copy)]
+pub(crate) enum Over {
+    Trie,
+    Book,
+    Circuits,
+    /// Circuits, beside a plain model of them.
+    Sequences,
+}
+
+/// Makes a trie, and tells what it reads.
+fn over_trie(alloc: Global, plan: &Plan, lines: &[u8], out: &mut Told) {
+    match CodeTrie::build(alloc, plan) {
+        Ok(trie) => tell_trie(plan, &trie, lines, out),
+        Err(_) => tell_broken(b"no memory", 0, out),
+    }
+}
+
+/// Makes a line book, and tells what is found in it.
+fn over_book(alloc: Global, plan: &Plan, lines: &[u8], out: &mut Told) {
+    match LineBook::build(alloc, plan) {
+        Ok(mut book) => {
+            play_book(&mut book, lines, out);
+            drop(book);
+        }
+        Err(_) => tell_broken(b"no memory", 0, out),
+    }
+}
+
+/// Makes a table of circuits, and tells what it gives behind each call.
+fn over_table(alloc: Global, plan: &Plan, calls: &[u8], out: &mut Told) {
+    match CircuitTable::build(alloc, plan) {
+        Ok(mut table) => tell_circuits(&mut table, calls, out),
+        Err(_) => tell_broken(b"no memory", 0, out),
+    }
+}
+
+/// Reads a plan, and plays a kind that has one.
+pub(crate) fn with_plan(alloc: Global, over: Over, plan: &[u8], calls: &[u8], out: &mut Told) {
+    match read_plan(alloc, plan) {
+        Ok(plan) => {
+            match over {
+                Over::Trie => over_trie(alloc, &plan, calls, out),
+                Over::Book => over_book(alloc, &plan, calls, out),
+                Over::Circuits => over_table(alloc, &plan, calls, out),
+                Over::Sequences => try_sequences(alloc, &plan, out),
+            }
+            drop(plan);
+        }
+        Err(fault) => tell_broken(b"no plan, line", fault.line, out),
+    }
+}

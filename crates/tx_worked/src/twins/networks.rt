@@ -1,0 +1,118 @@
+// The two networks: the plain one, and the engine.
+use crate::cases::Refusing;
+use crate::twins::script::{Script, play};
+use crate::twins::stop::Stop;
+use crate::twins::tally::Tally;
+use std::alloc::Global;
+use tx_engine::Engine;
+use tx_machine::Plain;
+use tx_plan::Plan;
+use tx_plantext::read_plan;
+use tx_text::NoMemory;
+
+/// Plays a script through a plain network and a new engine, whose plan says the same and whose memory is another's.
+fn play_engine<'m>(
+    alloc: Global,
+    plan: &Plan,
+    script: Script,
+    plain: &mut Plain<'_>,
+    memory: &'m Refusing<Global>,
+    engine_plan: &Plan<&'m Refusing<Global>>,
+    tally: &mut Tally,
+) -> Result<(), Stop> {
+    match Engine::starting_at(memory, engine_plan, script.numbers, script.events) {
+        Ok(mut engine) => {
+            let played = play(alloc, plan, script, plain, &mut engine, memory, tally);
+            engine.close();
+            played
+        }
+        Err(NoMemory) => Err(Stop::NoMemory),
+    }
+}
+
+/// Plays a script through a new plain network and a new engine.
+fn play_both<'m>(
+    alloc: Global,
+    plan: &Plan,
+    script: Script,
+    memory: &'m Refusing<Global>,
+    engine_plan: &Plan<&'m Refusing<Global>>,
+    tally: &mut Tally,
+) -> Result<(), Stop> {
+    match Plain::starting_at(alloc, plan, script.numbers, script.events) {
+        Ok(mut plain) => {
+            let played = play_engine(alloc, plan, script, &mut plain, memory, engine_plan, tally);
+            drop(plain);
+            played
+        }
+        Err(NoMemory) => Err(Stop::NoMemory),
+    }
+}
+
+/// Plays a script through both networks, of which the engine has its plan read with its own memory.
+fn play_reading(
+    alloc: Global,
+    plan: &Plan,
+    script: Script,
+    memory: &Refusing<Global>,
+    text: &[u8],
+    tally: &mut Tally,
+) -> Result<(), Stop> {
+    match read_plan(memory, text) {
+        Ok(engine_plan) => {
+            let played = play_both(alloc, plan, script, memory, &engine_plan, tally);
+            drop(engine_plan);
+            played
+        }
+        Err(_) => Err(Stop::NoMemory),
+    }
+}
+
+/// Plays a script through both networks, with no request refused.
+pub fn play_script(
+    alloc: Global,
+    plan: &Plan,
+    script: Script,
+    text: &[u8],
+    tally: &mut Tally,
+) -> Result<(), Stop> {
+    let memory = Refusing::new(alloc, 0);
+    let played = play_reading(alloc, plan, script, &memory, text, tally);
+    drop(memory);
+    played
+}
+
+/// Plays a script with one request for memory refused to the engine: false where there are fewer requests.
+fn play_refusing(
+    alloc: Global,
+    plan: &Plan,
+    script: Script,
+    request: u64,
+    text: &[u8],
+    tally: &mut Tally,
+) -> Result<bool, Stop> {
+    let refusing = Refusing::new(alloc, request);
+    let played = play_reading(alloc, plan, script, &refusing, text, tally);
+    let came = refusing.has_refused();
+    match played {
+        Ok(()) => Ok(came),
+        Err(Stop::NoMemory) if came => Ok(true),
+        Err(stop) => Err(stop),
+    }
+}
+
+/// Plays a script with each request for memory refused to the engine in turn.
+pub fn play_refusing_each(
+    alloc: Global,
+    plan: &Plan,
+    script: Script,
+    text: &[u8],
+    tally: &mut Tally,
+) -> Result<(), Stop> {
+    for request in 1..u64::MAX {
+        if !play_refusing(alloc, plan, script, request, text, tally)? {
+            break;
+        }
+    }
+    Ok(())
+}

@@ -1,0 +1,181 @@
+// Scripts that are made from a seed, and played through two networks.
+use crate::cases::Refusing;
+use crate::twins::chance::Chance;
+use crate::twins::drawing::next_event;
+use crate::twins::picture::Picture;
+use crate::twins::stop::{Differs, Stop};
+use crate::twins::tally::Tally;
+use crate::twins::twins::{Difference, apply_to_both, compare_tickets};
+use std::alloc::Global;
+use tx_engine::Engine;
+use tx_machine::Plain;
+use tx_plan::Plan;
+use tx_state::{Event, Network, Ticket};
+use tx_text::NoMemory;
+
+/// The mood changes with each so many events.
+const MOOD_EVENTS: u32 = 100;
+
+/// A script that is made from a seed.
+#[derive(Clone, Copy)]
+pub struct Script {
+    pub seed: u64,
+    /// How many call numbers were given before it.
+    pub numbers: u32,
+    /// How many events were accepted before it.
+    pub events: u64,
+    /// How many events it has.
+    pub length: u32,
+    /// At most so many calls are to be open.
+    pub most: usize,
+}
+
+/// Why an event is the last one.
+#[derive(Clone, Copy)]
+enum Halt {
+    Differs(Difference),
+    NoMemory,
+}
+
+impl From<Difference> for Halt {
+    fn from(difference: Difference) -> Halt {
+        Halt::Differs(difference)
+    }
+}
+
+impl From<NoMemory> for Halt {
+    fn from(_: NoMemory) -> Halt {
+        Halt::NoMemory
+    }
+}
+
+/// Applies an event to both networks, of which the engine takes this memory.
+fn play_event(
+    plain: &mut Plain<'_>,
+    engine: &mut Engine<'_, &Refusing<Global>>,
+    memory: &Refusing<Global>,
+    event: &Event,
+    picture: &mut Picture,
+    tally: &mut Tally,
+) -> Result<(), Halt> {
+    let answer = apply_to_both(plain, engine, memory, event)?;
+    if answer.was_refused {
+        tally.note_want(event);
+    }
+    tally.note_reply(&answer.reply);
+    picture.note(event, &answer.reply)?;
+    Ok(())
+}
+
+/// Compares two tickets, and takes in what the one of the plain network tells. Tells whether there are any.
+fn note_tickets(
+    wanted: Option<&Ticket>,
+    ticket: Option<&Ticket<&Refusing<Global>>>,
+    picture: &mut Picture,
+    tally: &mut Tally,
+) -> Result<bool, Halt> {
+    compare_tickets(wanted, ticket)?;
+    match wanted {
+        Some(ticket) => {
+            tally.note_cause(ticket.cause);
+            picture.note_ticket(ticket)?;
+            Ok(true)
+        }
+        None => Ok(false),
+    }
+}
+
+/// Takes the oldest ticket of both networks. Tells whether there was one.
+fn take_ticket(
+    plain: &mut Plain<'_>,
+    engine: &mut Engine<'_, &Refusing<Global>>,
+    picture: &mut Picture,
+    tally: &mut Tally,
+) -> Result<bool, Halt> {
+    let wanted = plain.next_ticket();
+    let ticket = engine.next_ticket();
+    let noted = note_tickets(wanted.as_ref(), ticket.as_ref(), picture, tally);
+    drop(wanted);
+    drop(ticket);
+    noted
+}
+
+/// Takes all tickets of both networks.
+fn take_tickets(
+    plain: &mut Plain<'_>,
+    engine: &mut Engine<'_, &Refusing<Global>>,
+    picture: &mut Picture,
+    tally: &mut Tally,
+) -> Result<(), Halt> {
+    for _ in 0..u64::MAX {
+        if !take_ticket(plain, engine, picture, tally)? {
+            break;
+        }
+    }
+    Ok(())
+}
+
+/// Applies an event to both networks, and takes the tickets, if it is time for that: else more of them wait.
+fn go_on(
+    plain: &mut Plain<'_>,
+    engine: &mut Engine<'_, &Refusing<Global>>,
+    memory: &Refusing<Global>,
+    event: &Event,
+    takes_tickets: bool,
+    picture: &mut Picture,
+    tally: &mut Tally,
+) -> Result<(), Halt> {
+    play_event(plain, engine, memory, event, picture, tally)?;
+    if takes_tickets {
+        take_tickets(plain, engine, picture, tally)?;
+    }
+    Ok(())
+}
+
+/// Plays the events.
+fn play_events(
+    plan: &Plan,
+    script: Script,
+    plain: &mut Plain<'_>,
+    engine: &mut Engine<'_, &Refusing<Global>>,
+    memory: &Refusing<Global>,
+    picture: &mut Picture,
+    tally: &mut Tally,
+) -> Result<(), Stop> {
+    let mut chance = Chance::new(script.seed);
+    for place in 0..script.length {
+        let mood = script.seed.wrapping_add(u64::from(place / MOOD_EVENTS));
+        let event = next_event(plan, picture, &mut chance, mood, script.most);
+        let takes_tickets = !chance.one_in(4);
+        let played = go_on(plain, engine, memory, &event, takes_tickets, picture, tally);
+        match played {
+            Ok(()) => {}
+            Err(Halt::NoMemory) => return Err(Stop::NoMemory),
+            Err(Halt::Differs(difference)) => {
+                tally.differs = Some(Differs {
+                    seed: script.seed,
+                    place,
+                    difference,
+                });
+                return Err(Stop::Differs);
+            }
+        }
+    }
+    Ok(())
+}
+
+/// Plays a script through both networks, of which the engine takes this memory.
+pub fn play(
+    alloc: Global,
+    plan: &Plan,
+    script: Script,
+    plain: &mut Plain<'_>,
+    engine: &mut Engine<'_, &Refusing<Global>>,
+    memory: &Refusing<Global>,
+    tally: &mut Tally,
+) -> Result<(), Stop> {
+    let mut picture = Picture::new(alloc, script.numbers);
+    let played = play_events(plan, script, plain, engine, memory, &mut picture, tally);
+    drop(picture);
+    played
+}

@@ -1,0 +1,117 @@
+// Two networks, and one event after another.
+use crate::cases::Refusing;
+use std::alloc::Global;
+use tx_engine::Engine;
+use tx_machine::Plain;
+use tx_state::{Event, Network, Reply, Ticket};
+use tx_text::NoMemory;
+
+/// In what two networks differ after an event.
+#[derive(Clone, Copy)]
+pub enum Difference {
+    Reply,
+    /// How many calls are open, or how many events were accepted.
+    Counts,
+    /// The oldest ticket that waits, or that there is none.
+    Ticket,
+    /// Memory was refused, and then the counts were other ones than before.
+    ChangedByRefusal,
+    /// Memory was wanting again, where no request was refused any more.
+    NoMemory,
+    /// Memory was wanting where no request was refused, or a refused request was passed over.
+    Wanting,
+}
+
+impl Difference {
+    /// The law that is broken.
+    pub fn law(self) -> &'static [u8] {
+        match self {
+            Difference::Reply => b"the replies are the same, event",
+            Difference::Counts => b"the counts are the same, event",
+            Difference::Ticket => b"the tickets are the same, event",
+            Difference::ChangedByRefusal => b"refused memory changes nothing, event",
+            Difference::NoMemory => b"memory is refused once, event",
+            Difference::Wanting => b"memory is wanting where it is refused, event",
+        }
+    }
+}
+
+/// A reply, and whether memory was refused before it came.
+#[derive(Clone, Copy)]
+pub struct Answer {
+    pub reply: Reply,
+    pub was_refused: bool,
+}
+
+/// Applies an event to the engine, and again where memory was refused, which must have changed nothing.
+fn apply(engine: &mut Engine<'_, &Refusing<Global>>, event: &Event) -> Result<Answer, Difference> {
+    let (open_calls, events) = (engine.open_calls(), engine.events());
+    if let Ok(reply) = engine.apply(*event) {
+        let was_refused = false;
+        return Ok(Answer { reply, was_refused });
+    }
+    if engine.open_calls() != open_calls || engine.events() != events {
+        return Err(Difference::ChangedByRefusal);
+    }
+    match engine.apply(*event) {
+        Ok(reply) => {
+            let was_refused = true;
+            Ok(Answer { reply, was_refused })
+        }
+        Err(NoMemory) => Err(Difference::NoMemory),
+    }
+}
+
+/// Applies an event to both networks, and compares their replies and counts. The answer is that of the engine, in which memory has to be wanting just where
+/// its memory refuses a request.
+pub fn apply_to_both(
+    plain: &mut Plain<'_>,
+    engine: &mut Engine<'_, &Refusing<Global>>,
+    memory: &Refusing<Global>,
+    event: &Event,
+) -> Result<Answer, Difference> {
+    let Ok(wanted) = plain.apply(*event) else {
+        return Err(Difference::Wanting);
+    };
+    let was_over = memory.has_refused();
+    let answer = apply(engine, event)?;
+    if answer.was_refused != (memory.has_refused() && !was_over) {
+        return Err(Difference::Wanting);
+    }
+    if answer.reply != wanted {
+        return Err(Difference::Reply);
+    }
+    if engine.open_calls() != plain.open_calls() || engine.events() != plain.events() {
+        return Err(Difference::Counts);
+    }
+    Ok(answer)
+}
+
+/// Whether two tickets say the same.
+fn is_same(ticket: &Ticket, other: &Ticket<&Refusing<Global>>) -> bool {
+    ticket.number == other.number
+        && ticket.line == other.line
+        && ticket.start == other.start
+        && ticket.keyed == other.keyed
+        && ticket.cause == other.cause
+        && ticket.keyed_at == other.keyed_at
+        && ticket.ended_at == other.ended_at
+        && ticket.path.hops() == other.path.hops()
+}
+
+/// Compares the oldest tickets of two networks, if there are any.
+pub fn compare_tickets(
+    wanted: Option<&Ticket>,
+    ticket: Option<&Ticket<&Refusing<Global>>>,
+) -> Result<(), Difference> {
+    let is_right = match (wanted, ticket) {
+        (Some(wanted), Some(ticket)) => is_same(wanted, ticket),
+        (None, None) => true,
+        _ => false,
+    };
+    if is_right {
+        Ok(())
+    } else {
+        Err(Difference::Ticket)
+    }
+}

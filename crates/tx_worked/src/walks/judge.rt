@@ -1,0 +1,270 @@
+// The plans of families, judged one after another.
+ghost use Rattle.std.specs.Prelude.{◌≤◌};
+ghost use Rattle.std.specs.List.{AllByRecursion};
+ghost use Rattle.tx_rank.specs.Findings.{IsTrueOf};
+
+use crate::cases::{Told, next_case, tell};
+use crate::walks::compare::{Difference, findings_differ, ranks_differ};
+use crate::walks::families::{count_plans, put_plan};
+use crate::walks::grades::grade_agrees;
+use crate::walks::replay::Replay;
+use crate::walks::scripts::{Judged, ScriptTally, scripts_differ};
+use crate::walks::stop::{Stop, tell_stop};
+use crate::walks::survey::Survey;
+use crate::walks::tally::{Tally, tell_tally};
+use crate::walks::walks::{Steps, note_all_walks};
+use crate::walks::wanted::{Wanted, put_wanted};
+use std::alloc::Global;
+use tx_cert::Cert;
+use tx_check::{Verdict, check};
+use tx_plan::{CodeId, Plan};
+use tx_plantext::read_plan;
+use tx_rank::{Finding, Ranking, rank};
+use tx_text::NoMemory;
+
+/// The limits 0 to 2 are tried, and the spare numbers 0 to 2.
+const NUMBERS: u8 = 3;
+
+/// What the walks of a plan show, and what a run of its events: one of each kind serves all plans.
+#[derive(Drop)]
+struct Work {
+    steps: Steps,
+    surveys: Vec<Survey>,
+    wanted: Vec<Wanted>,
+    told: Replay,
+    differs: Option<Difference>,
+}
+
+/// The text of the plan in hand, and the work on it.
+#[derive(Drop)]
+struct Room {
+    plan: Vec<u8>,
+    work: Work,
+}
+
+impl Room {
+    fn new(alloc: Global) -> Room {
+        Room {
+            plan: Vec::new(alloc),
+            work: Work {
+                steps: Vec::new(alloc),
+                surveys: Vec::new(alloc),
+                wanted: Vec::new(alloc),
+                told: Replay::new(alloc),
+                differs: None,
+            },
+        }
+    }
+
+    /// How an answer differs from what the walks show, where one does.
+    fn difference(&self) -> Option<Difference> {
+        self.work.differs
+    }
+}
+
+/// How a certificate differs from what the walks show.
+fn found_differs(
+    plan: &Plan,
+    surveys: &[Survey],
+    cert: &Cert,
+    limit: u8,
+    spare: u8,
+) -> Option<Difference>
+    requires limit { limit ≤ 62 }
+    requires spare { spare ≤ 15 }
+{
+    match check(plan, cert, limit, spare) {
+        Verdict::Yes => ranks_differ(plan, surveys, cert),
+        Verdict::No(_) => Some(Difference::Refused),
+    }
+}
+
+/// How findings differ from what the walks show, and their events from what they have to show.
+fn failed_differs(
+    alloc: Global,
+    plan: &Plan,
+    findings: &[Finding],
+    wanted: &[Wanted],
+    judged: Judged<'_>,
+    told: &mut Replay,
+    tally: &mut ScriptTally,
+) -> Result<Option<Difference>, NoMemory>
+    requires limit { judged.limit ≤ 62 }
+    requires spare { judged.spare ≤ 15 }
+    requires each { AllByRecursion (IsTrueOf plan.now judged.limit judged.spare) findings.now }
+{
+    let difference = findings_differ(plan, findings, wanted, judged.limit, judged.spare);
+    if difference.is_some() {
+        return Ok(difference);
+    }
+    scripts_differ(alloc, plan, findings, judged, told, tally)
+}
+
+/// How the ranking of a plan differs from what the walks show.
+fn ranking_differs(
+    alloc: Global,
+    plan: &Plan,
+    surveys: &[Survey],
+    wanted: &[Wanted],
+    judged: Judged<'_>,
+    told: &mut Replay,
+    tally: &mut ScriptTally,
+) -> Result<Option<Difference>, NoMemory>
+    requires limit { judged.limit ≤ 62 }
+    requires spare { judged.spare ≤ 15 }
+{
+    match rank(alloc, plan, judged.limit, judged.spare)? {
+        Ranking::Found(cert) => {
+            let difference = if wanted.is_empty() {
+                found_differs(plan, surveys, &cert, judged.limit, judged.spare)
+            } else {
+                Some(Difference::Found)
+            };
+            drop(cert);
+            Ok(difference)
+        }
+        Ranking::Fails(findings) => {
+            let difference = failed_differs(alloc, plan, &findings, wanted, judged, told, tally);
+            drop(findings);
+            difference
+        }
+    }
+}
+
+/// Judges the ranking of a plan for a limit and a spare number.
+fn judge_numbers(
+    alloc: Global,
+    plan: &Plan,
+    judged: Judged<'_>,
+    work: &mut Work,
+    tally: &mut Tally,
+) -> Result<(), Stop>
+    requires limit { judged.limit ≤ 62 }
+    requires spare { judged.spare ≤ 15 }
+{
+    let (limit, spare) = (judged.limit, judged.spare);
+    let surveys = work.surveys.as_slice();
+    put_wanted(plan, surveys, limit, spare, &mut work.wanted)?;
+    let wanted = work.wanted.as_slice();
+    let (told, scripts) = (&mut work.told, &mut tally.scripts);
+    if let Some(difference) = ranking_differs(
+        alloc, plan, surveys, wanted, judged, told, scripts,
+    )? {
+        work.differs = Some(difference);
+        return Err(Stop::Differs(limit, spare));
+    }
+    if wanted.is_empty() {
+        tally.add_found(surveys);
+    } else {
+        tally.add_failed(wanted);
+    }
+    Ok(())
+}
+
+/// Looks at all walks for a code.
+fn survey_of(
+    alloc: Global,
+    plan: &Plan,
+    code: CodeId,
+    steps: &mut Steps,
+) -> Result<Survey, NoMemory> {
+    let mut survey = Survey::new(alloc, plan, code)?;
+    match note_all_walks(plan, steps, &mut survey) {
+        Ok(()) => Ok(survey),
+        Err(fault) => {
+            drop(survey);
+            Err(fault)
+        }
+    }
+}
+
+/// Looks at all walks for each code.
+fn survey_codes(
+    alloc: Global,
+    plan: &Plan,
+    steps: &mut Steps,
+    surveys: &mut Vec<Survey>,
+) -> Result<(), NoMemory> {
+    surveys.clear();
+    for place in 0..plan.codes() {
+        if let Some(code) = plan.code_at(place) {
+            surveys.push(survey_of(alloc, plan, code, steps)?)?;
+        }
+    }
+    Ok(())
+}
+
+/// Judges the grade and the rankings of a plan, which has this text.
+fn judge_plan(
+    alloc: Global,
+    plan: &Plan,
+    text: &[u8],
+    work: &mut Work,
+    tally: &mut Tally,
+) -> Result<(), Stop> {
+    survey_codes(alloc, plan, &mut work.steps, &mut work.surveys)?;
+    if !grade_agrees(alloc, plan, &work.surveys, &mut work.wanted)? {
+        work.differs = Some(Difference::Grade);
+        return Err(Stop::Differs(0, 0));
+    }
+    tally.plans = tally.plans.saturating_add(1);
+    for limit in 0..NUMBERS {
+        for spare in 0..NUMBERS {
+            let judged = Judged { text, limit, spare };
+            judge_numbers(alloc, plan, judged, work, tally)?;
+        }
+    }
+    Ok(())
+}
+
+/// Makes the plan of a number, and judges its rankings.
+fn judge_number(
+    alloc: Global,
+    lines: &[u8],
+    number: u64,
+    room: &mut Room,
+    tally: &mut Tally,
+) -> Result<(), Stop> {
+    put_plan(lines, number, &mut room.plan)?;
+    let text = room.plan.as_slice();
+    match read_plan(alloc, text) {
+        Ok(plan) => {
+            let judged = judge_plan(alloc, &plan, text, &mut room.work, tally);
+            drop(plan);
+            judged
+        }
+        Err(fault) => Err(Stop::Refused(fault.line)),
+    }
+}
+
+/// Judges all plans that the lines of a family give.
+fn judge_family(alloc: Global, lines: &[u8], room: &mut Room) -> Result<Tally, Stop> {
+    let mut tally = Tally::default();
+    for number in 0..count_plans(lines) {
+        judge_number(alloc, lines, number, room, &mut tally)?;
+    }
+    Ok(tally)
+}
+
+/// Judges all families of a text, and tells what there was.
+fn judge_families(alloc: Global, text: &[u8], room: &mut Room, out: &mut Told) -> Result<(), Stop> {
+    let mut rest = text;
+    for _ in 0..text.len() {
+        let Some((family, more)) = next_case(rest) else {
+            break;
+        };
+        let tally = judge_family(alloc, family.texts, room)?;
+        tell_tally(family.head, &tally, out);
+        rest = more;
+    }
+    Ok(())
+}
+
+/// Judges all families of a text, and tells what there was, or why it stopped and the plan where it did.
+pub fn judge_all(alloc: Global, text: &[u8], out: &mut Told) {
+    let mut room = Room::new(alloc);
+    match judge_families(alloc, text, &mut room, out) {
+        Ok(()) => tell(b"all agree\n", out),
+        Err(stop) => tell_stop(stop, room.difference(), room.plan.as_slice(), out),
+    }
+}

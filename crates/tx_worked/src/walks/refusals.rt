@@ -1,0 +1,107 @@
+// Want of memory where the events of a finding are made.
+ghost use Rattle.std.specs.Prelude.{◌≤◌};
+ghost use Rattle.std.specs.List.{AllByRecursion};
+ghost use Rattle.tx_rank.specs.Findings.{IsTrueOf};
+
+use crate::cases::{Refusing, Told};
+use std::alloc::Global;
+use tx_audit::{first_counter, write_counter};
+use tx_plan::Plan;
+use tx_plantext::read_plan;
+use tx_rank::{Finding, Ranking, rank};
+
+/// How a try ends in which one request for memory may be refused.
+#[derive(Clone, Copy)]
+enum Tried {
+    /// Before events were asked for.
+    Early,
+    /// With want of memory, when events were asked for.
+    Told,
+    /// With events, whose script is told.
+    Made,
+    /// With none, or with a script that is cut.
+    Wrong,
+}
+
+/// Asks for the events of the first finding that has some, and tells their script.
+fn try_findings<'m>(
+    alloc: &'m Refusing<Global>,
+    plan: &Plan<&'m Refusing<Global>>,
+    findings: &[Finding<&'m Refusing<Global>>],
+    limit: u8,
+    spare: u8,
+    script: &mut Told,
+) -> Tried
+    requires { AllByRecursion (IsTrueOf plan.now limit spare) findings.now }
+{
+    match first_counter(alloc, plan, findings, limit, spare) {
+        Ok(Some(events)) => {
+            let is_told = write_counter(plan, events.as_slice(), script).is_ok();
+            drop(events);
+            if is_told { Tried::Made } else { Tried::Wrong }
+        }
+        Ok(None) => Tried::Wrong,
+        Err(_) => Tried::Told,
+    }
+}
+
+fn try_plan<'m>(
+    alloc: &'m Refusing<Global>,
+    plan: &Plan<&'m Refusing<Global>>,
+    limit: u8,
+    spare: u8,
+    script: &mut Told,
+) -> Tried
+    requires limit { limit ≤ 62 }
+    requires spare { spare ≤ 15 }
+{
+    match rank(alloc, plan, limit, spare) {
+        Ok(Ranking::Fails(findings)) => {
+            let tried = try_findings(alloc, plan, &findings, limit, spare, script);
+            drop(findings);
+            tried
+        }
+        Ok(Ranking::Found(cert)) => {
+            drop(cert);
+            Tried::Early
+        }
+        Err(_) => Tried::Early,
+    }
+}
+
+fn try_text(alloc: &Refusing<Global>, text: &[u8], limit: u8, spare: u8, script: &mut Told) -> Tried
+    requires limit { limit ≤ 62 }
+    requires spare { spare ≤ 15 }
+{
+    match read_plan(alloc, text) {
+        Ok(plan) => {
+            let tried = try_plan(alloc, &plan, limit, spare, script);
+            drop(plan);
+            tried
+        }
+        Err(_) => Tried::Early,
+    }
+}
+
+/// Refuses each request for memory in turn, from the plan's first one on, where the events of the first finding that has some are made. Whether each
+/// that was refused is told, and the events' script is this one where none is.
+pub fn refusals_are_told(alloc: Global, text: &[u8], limit: u8, spare: u8, wanted: &[u8]) -> bool
+    requires limit { limit ≤ 62 }
+    requires spare { spare ≤ 15 }
+{
+    let mut has_told = false;
+    for request in 1..1000u64 {
+        let heap = Refusing::new(alloc, request);
+        let mut script = Told::new(alloc);
+        let tried = try_text(&heap, text, limit, spare, &mut script);
+        let is_wanted = script.is(wanted);
+        drop(script);
+        match (tried, heap.has_refused()) {
+            (Tried::Early, true) => {}
+            (Tried::Told, true) => has_told = true,
+            (Tried::Made, false) => return has_told && is_wanted,
+            _ => return false,
+        }
+    }
+    false
+}

@@ -1,0 +1,85 @@
+// What the walks for a code show.
+use crate::walks::trail::Trail;
+use std::alloc::Global;
+use tx_plan::{CodeId, ExchangeId, Plan};
+use tx_text::NoMemory;
+
+/// What the walks for a code show.
+#[derive(Drop)]
+pub struct Survey {
+    pub code: CodeId,
+    pub home: ExchangeId,
+    /// Whether one of them is a loop.
+    pub has_loop: bool,
+    /// For each number of steps, whether one of so many steps repeats nothing and ends away from the home.
+    pub away: Vec<bool>,
+    /// For each exchange, the steps of a shortest walk to it.
+    pub nearest: Vec<Option<usize>>,
+    /// For each exchange, the steps of the longest part of a walk from it to the home; 0 for the home.
+    pub heights: Vec<Option<usize>>,
+}
+
+/// Takes in a count for an exchange, where it is the greater.
+fn note_greater(counts: &mut [Option<usize>], exchange: ExchangeId, count: usize) {
+    if let Some(known) = counts.get_mut(exchange.index()) {
+        *known = Some(known.unwrap_or(0).max(count));
+    }
+}
+
+/// Takes in a count for an exchange, where it is the lesser.
+fn note_lesser(counts: &mut [Option<usize>], exchange: ExchangeId, count: usize) {
+    if let Some(known) = counts.get_mut(exchange.index()) {
+        *known = Some(known.unwrap_or(count).min(count));
+    }
+}
+
+/// Takes in how far a walk that ends at the home goes from each exchange that it passes.
+fn note_heights(heights: &mut [Option<usize>], trail: &Trail<'_>) {
+    let mut left = trail.steps.len();
+    note_greater(heights, trail.start, left);
+    for (_, exchange) in trail.steps {
+        left = left.saturating_sub(1);
+        note_greater(heights, *exchange, left);
+    }
+}
+
+impl Survey {
+    /// What no walks show.
+    pub fn new(alloc: Global, plan: &Plan, code: CodeId) -> Result<Survey, NoMemory> {
+        let home = plan.home(code);
+        let mut heights = vec![in alloc; None; plan.exchanges()]?;
+        note_greater(&mut heights, home, 0);
+        Ok(Survey {
+            code,
+            home,
+            has_loop: false,
+            away: vec![in alloc; false; plan.exchanges()]?,
+            nearest: vec![in alloc; None; plan.exchanges()]?,
+            heights,
+        })
+    }
+
+    /// Takes in a walk.
+    pub fn note(&mut self, trail: &Trail<'_>) {
+        let steps = trail.steps.len();
+        note_lesser(&mut self.nearest, trail.end(), steps);
+        if trail.is_loop() {
+            self.has_loop = true;
+        }
+        if trail.end() == self.home {
+            note_heights(&mut self.heights, trail);
+        } else if trail.is_simple() {
+            if let Some(known) = self.away.get_mut(steps) {
+                *known = true;
+            }
+        }
+    }
+
+    /// Whether a walk is too long for a limit.
+    pub fn has_long(&self, limit: u8) -> bool {
+        match self.away.get(usize::from(limit).saturating_add(1)) {
+            Some(away) => *away,
+            None => false,
+        }
+    }
+}

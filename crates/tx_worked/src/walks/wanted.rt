@@ -1,0 +1,119 @@
+// The findings that the walks call for.
+use crate::walks::survey::Survey;
+use tx_plan::{CodeId, ExchangeId, Plan};
+use tx_text::NoMemory;
+
+/// A finding that there is to be.
+#[derive(Clone, Copy)]
+pub enum Wanted {
+    /// This pair.
+    Ambiguous(CodeId, CodeId),
+    /// A loop for the code.
+    Loop(CodeId),
+    /// A walk of so many steps for the code to this exchange, whose list is too short.
+    Short(CodeId, ExchangeId, usize),
+    /// A walk for the code that is too long.
+    Long(CodeId),
+}
+
+/// Whether a code begins another one.
+fn begins(plan: &Plan, shorter: CodeId, longer: CodeId) -> bool {
+    let figures = plan.code_figures(longer);
+    shorter != longer && figures.starts_with(plan.code_figures(shorter))
+}
+
+/// Whether a code that begins another one makes a pair before this one: by the figures of its first code, and then by those of its second.
+fn has_before(plan: &Plan, shorter: CodeId, longer: CodeId) -> bool {
+    let pair = (plan.code_figures(shorter), plan.code_figures(longer));
+    for i in 0..plan.codes() {
+        for j in 0..plan.codes() {
+            if let (Some(a), Some(b)) = (plan.code_at(i), plan.code_at(j)) {
+                if begins(plan, a, b) && (plan.code_figures(a), plan.code_figures(b)) < pair {
+                    return true;
+                }
+            }
+        }
+    }
+    false
+}
+
+/// The ambiguous pair before which there is none.
+fn ambiguous(plan: &Plan) -> Option<Wanted> {
+    for i in 0..plan.codes() {
+        for j in 0..plan.codes() {
+            if let (Some(a), Some(b)) = (plan.code_at(i), plan.code_at(j)) {
+                if begins(plan, a, b) && !has_before(plan, a, b) {
+                    return Some(Wanted::Ambiguous(a, b));
+                }
+            }
+        }
+    }
+    None
+}
+
+/// Adds a finding for each exchange to which a walk comes that lists no more than `spare` groups, and is not the home.
+fn add_shorts(
+    plan: &Plan,
+    survey: &Survey,
+    spare: u8,
+    wanted: &mut Vec<Wanted>,
+) -> Result<(), NoMemory> {
+    for (place, nearest) in survey.nearest.iter().enumerate() {
+        if let (Some(exchange), Some(steps)) = (plan.exchange_at(place), *nearest) {
+            let groups = plan.list(exchange, survey.code).len();
+            if exchange != survey.home && groups <= usize::from(spare) {
+                wanted.push(Wanted::Short(survey.code, exchange, steps))?;
+            }
+        }
+    }
+    Ok(())
+}
+
+/// Adds the findings of a code.
+fn add_code(
+    plan: &Plan,
+    survey: &Survey,
+    limit: u8,
+    spare: u8,
+    wanted: &mut Vec<Wanted>,
+) -> Result<(), NoMemory> {
+    if survey.has_loop {
+        wanted.push(Wanted::Loop(survey.code))?;
+        return Ok(());
+    }
+    add_shorts(plan, survey, spare, wanted)?;
+    if survey.has_long(limit) {
+        wanted.push(Wanted::Long(survey.code))?;
+    }
+    Ok(())
+}
+
+/// Makes the list of the findings of one code, in order.
+pub fn put_code(
+    plan: &Plan,
+    survey: &Survey,
+    limit: u8,
+    spare: u8,
+    wanted: &mut Vec<Wanted>,
+) -> Result<(), NoMemory> {
+    wanted.clear();
+    add_code(plan, survey, limit, spare, wanted)
+}
+
+/// Makes the list of all findings, in order.
+pub fn put_wanted(
+    plan: &Plan,
+    surveys: &[Survey],
+    limit: u8,
+    spare: u8,
+    wanted: &mut Vec<Wanted>,
+) -> Result<(), NoMemory> {
+    wanted.clear();
+    if let Some(finding) = ambiguous(plan) {
+        wanted.push(finding)?;
+    }
+    for survey in surveys {
+        add_code(plan, survey, limit, spare, wanted)?;
+    }
+    Ok(())
+}
