@@ -1,4 +1,4 @@
--- When two circuits, two lines or two pairs are one, and orders for sets.
+-- When two circuits or two lines are one, and orders for sets.
 use Rattle.std.specs.Prelude.{◌≡◌, ℕ, Bool, true, ◌&&◌, ◌==◌, List, [], ◌∷◌, ◌++◌, refl}
 use Rattle.std.specs.Ordering.{ordering_then, nat_cmp}
 use Rattle.std.specs.declared.cmp.Ordering.{Ordering}
@@ -10,21 +10,16 @@ use Rattle.std.specs.Str.{bytes_eq}
 use Rattle.std.proofs.Common.{ap, ◌∙◌, eqb-true, eq-eqb}
 use Rattle.std.proofs.lemmas.Bool.{and_parts, and_from}
 use Rattle.std.proofs.lemmas.Bool.Decides.{same_from_decides}
-use Rattle.std.proofs.lemmas.Cmp.{nat_eq_equiv, on_equiv, and_equiv}
 use Rattle.std.proofs.lemmas.Slice.Eq.{bytes_eq-Decides}
 use Rattle.tx_text.specs.Padded.{padded_to}
 use Rattle.tx_entries.specs.declared.circuit.Circuit.{Circuit}
 use Rattle.tx_entries.specs.declared.line.Line.{Line}
-use Rattle.tx_entries.specs.declared.pair.Pair.{Pair}
 
 abbrev pub same_circuit : Circuit → Circuit → Bool
 same_circuit x y = (x.group == y.group) && (x.number == y.number)
 
 abbrev pub same_line : Line → Line → Bool
 same_line l m = (l.code == m.code) && bytes_eq l.national m.national
-
-abbrev pub same_pair : Pair → Pair → Bool
-same_pair x y = (x.exchange == y.exchange) && (x.code == y.code)
 
 -- by group, and then by number
 abbrev pub circuit_cmp : Circuit → Circuit → Ordering
@@ -54,16 +49,6 @@ same_line_equiv = record {
   symm = λ l m. same_from_decides {P = same_line m l ≡ true} (same_line l m) (same_line m l) (λ h. ap (λ z. same_line m z) (same_line-is l m h) ∙ same_line-itself m, λ h. ap (λ z. same_line l z) (same_line-is m l h) ∙ same_line-itself l) (λ h. h, λ h. h);
   congr = λ l m n h. ap (λ z. same_line z n) (same_line-is l m h);
 }
-
--- the laws of `==` on pairs, and the bytes that are hashed
-pub same_pair_equiv : IsEquivalence same_pair
-same_pair_equiv = and_equiv (on_equiv (λ (x : Pair). x.exchange) nat_eq_equiv) (on_equiv (λ (x : Pair). x.code) nat_eq_equiv)
-
-pub same_pair-is : (x y : Pair) → same_pair x y ≡ true → x ≡ y
-same_pair-is x y h = let r = and_parts (x.exchange == y.exchange) (x.code == y.code) h in λ i. record { exchange = eqb-true x.exchange y.exchange r.0 i; code = eqb-true x.code y.code r.1 i }
-
-abbrev pub pair_bytes : Pair → List (List ℕ)
-pair_bytes x = fed.u16 x.exchange ++ fed.u16 x.code
 
 -- the bytes of a line that are hashed: its code, and its figures with zeros behind them up to nine
 abbrev pub line_bytes : Line → List (List ℕ)

@@ -1,28 +1,28 @@
 // The bars of a plan.
-ghost use Rattle.std.specs.Prelude.{◌≡◌, ◌++◌, ◌∷◌, ◌&&◌, ◌==◌, [], false, OnOk, OnErr, length, slice_get};
+ghost use Rattle.std.specs.Prelude.{◌≡◌, ◌<◌, ◌++◌, ◌∷◌, ◌&&◌, ◌==◌, [], false, OnOk, OnErr, length, slice_get};
 ghost use Rattle.std.specs.List.{list_any};
-ghost use Rattle.std.specs.Option.{option_copied};
 
+use crate::group_list::GroupList;
 use crate::pair::Pair;
-use indexmap::IndexSet;
+use crate::routes::Routes;
 use std::alloc::{Allocator, Global};
-use std::hash::{BuildHasherDefault, FoldHasher};
 use std::marker::Model;
 use tx_text::NoMemory;
 
-/// Pairs of an exchange and a code: calls that start there for that code are not admitted.
+/// Pairs of an exchange and a code: calls that start there for that code are not admitted. They stand in a table as that of the routes, each with no groups.
 #[derive(Drop)]
 pub struct Bars<A: Allocator = Global> {
-    pairs: IndexSet<Pair, BuildHasherDefault<FoldHasher>, A>,
+    pairs: Routes<A>,
 }
 
 impl<A: Allocator> Model for Bars<A> {
-    ghost use Rattle.std.specs.Prelude.{List};
+    ghost use Rattle.std.specs.Prelude.{List, map};
     ghost use Rattle.tx_entries.specs.declared.pair.Pair.{Pair};
+    ghost use Rattle.tx_entries.specs.inner.Places.{pair_of};
 
     ghost Value = { List Pair };
 
-    ghost view = { λ t. t.pairs.keys };
+    ghost view = { λ t. map pair_of t.pairs };
 }
 
 impl<A: Allocator + Copy> Bars<A> {
@@ -31,7 +31,7 @@ impl<A: Allocator + Copy> Bars<A> {
         ensures { result ≡ [] }
     {
         Bars {
-            pairs: IndexSet::new(alloc),
+            pairs: Routes::new(alloc),
         }
     }
 }
@@ -50,27 +50,25 @@ impl<A: Allocator> Bars<A> {
     pub fn has(&self, pair: &Pair) -> bool
         ensures { result ≡ list_any (λ b. (b.exchange == pair.now.exchange) && (b.code == pair.now.code)) self.now }
     {
-        self.pairs.get_index_of(pair).is_some()
+        self.pairs.has(pair)
     }
 
     /// The pair at a place.
     #[inline(always)]
-    pub fn at(&self, place: usize) -> Option<&Pair>
-        ensures { option_copied result ≡ slice_get self.now place }
+    pub fn at(&self, place: usize) -> Option<Pair>
+        ensures { result ≡ slice_get self.now place }
     {
-        self.pairs.get_index(place)
+        self.pairs.pair_at(place)
     }
 
     /// Appends a bar.
     #[inline(always)]
     pub fn add(&mut self, pair: Pair) -> Result<(), NoMemory>
-        requires { list_any (λ b. (b.exchange == pair.exchange) && (b.code == pair.code)) self.old ≡ false }
+        requires new { list_any (λ b. (b.exchange == pair.exchange) && (b.code == pair.code)) self.old ≡ false }
+        requires few { pair.exchange < 256 }
         ensures ok { OnOk result (self.new ≡ self.old ++ pair ∷ []) }
         ensures err { OnErr result (self.new ≡ self.old) }
     {
-        match self.pairs.insert(pair) {
-            Ok(_) => Ok(()),
-            Err(_) => Err(NoMemory),
-        }
+        self.pairs.add(pair, GroupList::new())
     }
 }

@@ -258,6 +258,7 @@ pub(crate) fn bar_entry<A: Allocator>(
     ensures ok { OnOk result (first_true (bar_refusals plan.now exchange.now code.now) ≡ None) }
     ensures entry { IfOk result (λ e. e ≡ record { exchange = exchange_at plan.now exchange.now; code = code_at plan.now code.now }) }
     ensures fresh { IfOk result (λ e. is_barred plan.now e.exchange e.code ≡ false) }
+    ensures few { IfOk result (λ e. e.exchange < 256) }
 {
     if !is_name(exchange) {
         return Err(PlanRefusal::BadName);

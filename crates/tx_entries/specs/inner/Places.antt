@@ -29,6 +29,10 @@ groups_at groups place = option_map_or (λ l. between l.0 l.1 groups) place []
 abbrev pub route_in : List ℕ → List ℕ → Pair → Route
 route_in cells groups p = record { exchange = p.exchange; code = p.code; groups = groups_at groups (place_at cells p.exchange p.code) }
 
+-- the pair of a route
+abbrev pub pair_of : Route → Pair
+pair_of r = record { exchange = r.exchange; code = r.code }
+
 -- the table has a place for each of the pairs and for no other, and groups stand there
 pub record IsIndex (pairs : List Pair) (cells groups : List ℕ) : Type 0 where
   pub found : (x c : ℕ) → is_some (place_at cells x c) ≡ list_any (λ p. (p.exchange == x) && (p.code == c)) pairs
