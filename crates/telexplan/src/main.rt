@@ -18,7 +18,7 @@ fn run(rt: &HostRuntime) -> io::Result<u8> {
         output: rt.stdout(),
         errors: rt.stderr(),
     };
-    Ok(run_words(rt.alloc(), words.as_slice(), ends))
+    Ok(run_words(rt.alloc(), rt.alloc(), words.as_slice(), ends))
 }
 
 fn main(rt: HostRuntime) -> ExitCode {

@@ -25,9 +25,11 @@ pub struct Ends<'a, F, I: Drop, O: Drop, E: Drop> {
 
 /// Does what the words after the program's name ask for, and answers the exit status: 0, or 1 after a No (of `codes`: where codes are ambiguous; of `grade`:
 /// where there is none), 2 for a refused text, 3 for a failed read or write (of help too), 4 for want of memory, 64 for refused words, and for a code that is
-/// to be drawn and that the plan has not. A fault is told by one line on standard error, and refused words by what the library of command lines says.
-pub fn run_words<F: Folder, I: Read + Drop, O: Write + Drop, E: Write + Drop>(
+/// to be drawn and that the plan has not. A fault is told by one line on standard error, and refused words by what the library of command lines says. The words
+/// are read with `alloc`, and what they ask for is done with `memory`.
+pub fn run_words<A: Allocator + Copy, F: Folder, I: Read + Drop, O: Write + Drop, E: Write + Drop>(
     alloc: Global,
+    memory: A,
     words: &[&str],
     ends: Ends<'_, F, I, O, E>,
 ) -> u8
@@ -35,7 +37,7 @@ pub fn run_words<F: Folder, I: Read + Drop, O: Write + Drop, E: Write + Drop>(
 {
     match read_command(alloc, words) {
         Ok(command) => {
-            let status = run_command(alloc, &command, ends);
+            let status = run_command(memory, &command, ends);
             drop(command);
             status
         }

@@ -1,5 +1,7 @@
-// Events that are driven through a network after a Yes of the checker.
-use crate::cases::{Told, next_line, says_no_event, tell, tell_broken, tell_count, two_texts};
+// Events that are driven through a network after a Yes of the checker. Its memory is of the type that can refuse a request, so that each network is built once.
+use crate::cases::{
+    Refusing, Told, next_line, says_no_event, tell, tell_broken, tell_count, two_texts,
+};
 use crate::driven::try_drives;
 use crate::runs::Over;
 use std::alloc::Global;
@@ -15,7 +17,7 @@ use tx_text::NoMemory;
 use tx_tickets::{write_reply, write_ticket};
 
 /// Adds the event that a line of a script says, if it says one.
-fn put_event(plan: &Plan, line: &[u8], events: &mut Vec<Event>, out: &mut Told) {
+fn put_event(plan: &Plan<&Refusing<Global>>, line: &[u8], events: &mut Vec<Event>, out: &mut Told) {
     if says_no_event(line) {
         return;
     }
@@ -29,7 +31,12 @@ fn put_event(plan: &Plan, line: &[u8], events: &mut Vec<Event>, out: &mut Told) 
 }
 
 /// Adds the events of a script.
-fn put_events(plan: &Plan, script: &[u8], events: &mut Vec<Event>, out: &mut Told) {
+fn put_events(
+    plan: &Plan<&Refusing<Global>>,
+    script: &[u8],
+    events: &mut Vec<Event>,
+    out: &mut Told,
+) {
     let mut rest = script;
     for _ in 0..script.len() {
         let Some((line, behind)) = next_line(rest) else {
@@ -40,14 +47,19 @@ fn put_events(plan: &Plan, script: &[u8], events: &mut Vec<Event>, out: &mut Tol
     }
 }
 
-fn tell_replies(plan: &Plan, replies: &[Reply], out: &mut Told) {
+fn tell_replies(plan: &Plan<&Refusing<Global>>, replies: &[Reply], out: &mut Told) {
     for reply in replies {
         let _ = write_reply(reply, plan, out);
     }
 }
 
 /// Writes the replies, then the tickets, and then how many events were accepted and calls are open.
-fn tell_driven(plan: &Plan, net: &mut Plain<'_>, replies: &[Reply], out: &mut Told) {
+fn tell_driven(
+    plan: &Plan<&Refusing<Global>>,
+    net: &mut Plain<'_, &Refusing<Global>>,
+    replies: &[Reply],
+    out: &mut Told,
+) {
     tell_replies(plan, replies, out);
     for _ in 0..=replies.len() {
         match net.next_ticket() {
@@ -63,14 +75,14 @@ fn tell_driven(plan: &Plan, net: &mut Plain<'_>, replies: &[Reply], out: &mut To
 }
 
 /// Drives the events through a new plain network of the plan, and tells what comes of it.
-fn drive_plain(
-    alloc: Global,
-    plan: &Plan,
+fn drive_plain<'m>(
+    memory: &'m Refusing<Global>,
+    plan: &Plan<&'m Refusing<Global>>,
     events: &[Event],
     replies: &mut Vec<Reply>,
     out: &mut Told,
 ) {
-    match Plain::new(alloc, plan) {
+    match Plain::new(memory, plan) {
         Ok(mut net) => {
             match drive(&mut net, events, replies) {
                 Ok(()) => tell_driven(plan, &mut net, replies.as_slice(), out),
@@ -83,7 +95,11 @@ fn drive_plain(
 }
 
 /// Tells what events that were played on the engine came to.
-fn tell_played(plan: &Plan, played: &Played<'_>, out: &mut Told) {
+fn tell_played(
+    plan: &Plan<&Refusing<Global>>,
+    played: &Played<'_, &Refusing<Global>>,
+    out: &mut Told,
+) {
     tell_replies(plan, played.replies.as_slice(), out);
     for ticket in played.tickets.as_slice() {
         let _ = write_ticket(ticket, plan, out);
@@ -93,8 +109,14 @@ fn tell_played(plan: &Plan, played: &Played<'_>, out: &mut Told) {
 }
 
 /// Whether the checker says Yes to a certificate of the plan.
-fn is_certified(alloc: Global, plan: &Plan, cert: &[u8], limit: u8, spare: u8) -> bool {
-    match read_cert(alloc, cert, plan) {
+fn is_certified<'m>(
+    memory: &'m Refusing<Global>,
+    plan: &Plan<&'m Refusing<Global>>,
+    cert: &[u8],
+    limit: u8,
+    spare: u8,
+) -> bool {
+    match read_cert(memory, cert, plan) {
         Ok(cert) => {
             let verdict = check(plan, &cert, limit.min(62), spare.min(15));
             drop(cert);
@@ -113,16 +135,30 @@ struct Texts<'a> {
 }
 
 /// Drives the events through a plain network, and again where memory is refused.
-fn drive_over_plain(alloc: Global, plan: &Plan, text: &[u8], events: &[Event], out: &mut Told) {
+fn drive_over_plain<'m>(
+    alloc: Global,
+    memory: &'m Refusing<Global>,
+    plan: &Plan<&'m Refusing<Global>>,
+    text: &[u8],
+    events: &[Event],
+    out: &mut Told,
+) {
     let mut replies = Vec::new(alloc);
-    drive_plain(alloc, plan, events, &mut replies, out);
+    drive_plain(memory, plan, events, &mut replies, out);
     try_drives(alloc, Over::Plain, text, events, replies.as_slice(), out);
     drop(replies);
 }
 
 /// Plays the events on the engine, and drives them again where memory is refused.
-fn play_on_engine(alloc: Global, plan: &Plan, text: &[u8], events: &[Event], out: &mut Told) {
-    match play(alloc, plan, 0, 0, events) {
+fn play_on_engine<'m>(
+    alloc: Global,
+    memory: &'m Refusing<Global>,
+    plan: &Plan<&'m Refusing<Global>>,
+    text: &[u8],
+    events: &[Event],
+    out: &mut Told,
+) {
+    match play(memory, plan, 0, 0, events) {
         Ok(played) => {
             tell_played(plan, &played, out);
             try_drives(
@@ -147,12 +183,19 @@ fn play_on_engine(alloc: Global, plan: &Plan, text: &[u8], events: &[Event], out
 }
 
 /// Drives the events of the script.
-fn drive_script(alloc: Global, over: Over, plan: &Plan, texts: Texts<'_>, out: &mut Told) {
+fn drive_script<'m>(
+    alloc: Global,
+    over: Over,
+    memory: &'m Refusing<Global>,
+    plan: &Plan<&'m Refusing<Global>>,
+    texts: Texts<'_>,
+    out: &mut Told,
+) {
     let mut events = Vec::new(alloc);
     put_events(plan, texts.script, &mut events, out);
     match over {
-        Over::Plain => drive_over_plain(alloc, plan, texts.plan, events.as_slice(), out),
-        Over::Engine => play_on_engine(alloc, plan, texts.plan, events.as_slice(), out),
+        Over::Plain => drive_over_plain(alloc, memory, plan, texts.plan, events.as_slice(), out),
+        Over::Engine => play_on_engine(alloc, memory, plan, texts.plan, events.as_slice(), out),
     }
     drop(events);
 }
@@ -168,11 +211,12 @@ pub(crate) fn play_certified(
 ) {
     let (cert, script) = two_texts(rest);
     let texts = Texts { plan, cert, script };
-    match read_plan(alloc, plan) {
+    let memory = Refusing::new(alloc, 0);
+    match read_plan(&memory, plan) {
         Ok(plan) => {
-            if is_certified(alloc, &plan, texts.cert, numbers.0, numbers.1) {
+            if is_certified(&memory, &plan, texts.cert, numbers.0, numbers.1) {
                 tell(b"YES\n", out);
-                drive_script(alloc, over, &plan, texts, out);
+                drive_script(alloc, over, &memory, &plan, texts, out);
             } else {
                 tell(b"NO\n", out);
             }

@@ -26,12 +26,13 @@ pub(crate) fn play(rt: &HostRuntime, case: &EndCase<'_>, log: &Log) {
     }
 }
 
-/// Runs the words of a case. Tells whether its ends could be made.
+/// Runs the words of a case. Tells whether its ends could be made. The memory is of the type that can refuse a request, so that the program is built once.
 fn run(rt: &HostRuntime, case: &EndCase<'_>, log: &Log) -> bool {
+    let memory = Refusing::new(rt.alloc(), 0);
     let stage = Stage { rt, case, log };
     match stage.ends() {
         Ok(ends) => {
-            let status = run_words(rt.alloc(), case.words.as_slice(), ends);
+            let status = run_words(rt.alloc(), &memory, case.words.as_slice(), ends);
             log.tell_number("status", u64::from(status));
             true
         }

@@ -1,7 +1,14 @@
-use Rattle.std.proofs.Common.{◌≡◌, sym, true}
+use Rattle.std.proofs.Common.{◌≡◌, ◌∙◌, ap, sym, true, Some}
+use Rattle.tx_plan.specs.Plan.{Plan, exchange_named}
 use Rattle.tx_text.specs.Words.{is_name}
 use Rattle.tx_plan.proofs.Absent.{unnamed, too_long, short_name}
 use Rattle.tx_plan.proofs.plan.Plan.exchange_named.Goals as goal
+
+pub returns-in-Some : goal.returns-in-Some
+returns-in-Some g c = ap Some c.of.ensures ∙ sym c.in-Some.is ∙ c.find.ensures.place ∙ ap (λ (p : Plan). exchange_named p c.args.name.now) c.self.view_is
+
+pub returns-in-None : goal.returns-in-None
+returns-in-None g c = sym c.in-None.is ∙ c.find.ensures.place ∙ ap (λ (p : Plan). exchange_named p c.args.name.now) c.self.view_is
 
 pub returns-then-name-gt8 : goal.returns-then-name-gt8
 returns-then-name-gt8 g c =
