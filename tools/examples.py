@@ -5,7 +5,7 @@
        tools/examples.py --cases FOLDER
 
 Runs each example of examples/list with a built program (crates/telexplan/out/telexplan where none is named), in a folder of its own, and compares what it prints,
-its exit status and the files that it makes with what stands in examples/. Then checks README.md and docs/FORMATS.md: each block there says, in a comment before
+its exit status and the files that it makes with what stands in examples/. A fault stands on standard error, and nothing else does. Then checks README.md and docs/FORMATS.md: each block there says, in a comment before
 it, what it shows, and has to show just that; the table of codes has to be the program's and to have the codes of the definitions, the map of the crates has to be that
 of crates.txt, what the pages name has to be there, each link of theirs has to lead to a file and a heading that are there, the player of the gate, crates/tx_worked,
 has to have the examples and the pictures as they stand, and all pictures of the plans of crates/tx_worked have to be ones that can be read. Prints a line
@@ -77,7 +77,7 @@ def shown(example):
 
 
 def run(program, example):
-    """The exit status, what is printed on both ends, and the files that are made."""
+    """The exit status, what is printed on standard output and on standard error, and the files that are made."""
     with tempfile.TemporaryDirectory() as room:
         os.mkdir(os.path.join(room, "examples"))
         for it in example.files + example.input:
@@ -91,7 +91,7 @@ def run(program, example):
             if path not in example.files + example.input:
                 with open(os.path.join(room, path), "rb") as file:
                     made[path] = file.read()
-        return ran.returncode, ran.stdout + ran.stderr, made
+        return ran.returncode, ran.stdout, ran.stderr, made
 
 
 def difference(wanted, given):
@@ -106,11 +106,13 @@ def check_examples(program, tell):
     named = {"examples/list", "examples/README.md"} | images()
     for example in examples():
         named.update(example.files + example.input + example.made + [out_of(example)])
-        status, printed, made = run(program, example)
+        status, printed, fault, made = run(program, example)
         if status != example.status:
             tell(f"{example.name}: the status is {status} and not {example.status}")
-        if printed != read(out_of(example)):
-            tell(f"{example.name}: {difference(read(out_of(example)), printed)}")
+        if bool(fault) != (status > 1) or fault and not fault.startswith(b"telexplan: "):
+            tell(f"{example.name}: standard error has {fault!r}")
+        if printed + fault != read(out_of(example)):
+            tell(f"{example.name}: {difference(read(out_of(example)), printed + fault)}")
         for path in sorted(set(example.made) | set(made)):
             if path not in made:
                 tell(f"{example.name}: {path} is not made")
@@ -119,6 +121,13 @@ def check_examples(program, tell):
     for it in sorted(os.listdir(os.path.join(TOP, "examples"))):
         if f"examples/{it}" not in named:
             tell(f"examples/{it}: no example has it")
+
+
+def check_arguments(program, tell):
+    """A word that is no UTF-8 text is refused. No example can say it."""
+    ran = subprocess.run(program + [b"\xff"], capture_output=True, timeout=60)
+    if (ran.returncode, ran.stdout, ran.stderr) != (64, b"", b"telexplan: a word is no UTF-8 text\n"):
+        tell(f"a word that is no UTF-8 text: the status is {ran.returncode}, and standard error has {ran.stderr!r}")
 
 
 def in_examples(ending):
@@ -188,8 +197,8 @@ def check_pictures(tell):
 
 def write_examples(program):
     for example in examples():
-        status, printed, made = run(program, example)
-        for path, text in [(out_of(example), printed)] + sorted(made.items()):
+        status, printed, fault, made = run(program, example)
+        for path, text in [(out_of(example), printed + fault)] + sorted(made.items()):
             with open(os.path.join(TOP, path), "wb") as it:
                 it.write(text)
         if status != example.status:
@@ -483,6 +492,7 @@ def main(words):
     told = []
     if not only_pages:
         check_examples(program, told.append)
+        check_arguments(program, told.append)
     check_pages(told.append)
     check_names(told.append)
     check_links(told.append)
