@@ -3,6 +3,7 @@ pub mod Whole
 pub mod Choosing
 pub mod Routed
 pub mod Marking
+pub mod Marked
 pub mod Bits
 pub mod Views
 pub mod Sweeps

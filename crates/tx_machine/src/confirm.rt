@@ -144,6 +144,6 @@ impl<'p, A: Allocator + Copy> Plain<'p, A> {
         ensures { self.new ≡ record self.old { state = collide a b circuit.now self.old.state } }
     {
         throw_back(self.calls.as_mut_slice(), a, b);
-        self.releasing.set(circuit);
+        self.marks.releasing.set(circuit);
     }
 }

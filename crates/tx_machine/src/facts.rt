@@ -46,11 +46,11 @@ impl<'p, A: Allocator + Copy> Facts for Plain<'p, A> {
     }
 
     fn is_releasing(&self, circuit: &Circuit) -> bool {
-        self.releasing.has(circuit)
+        self.marks.releasing.has(circuit)
     }
 
     fn is_out(&self, circuit: &Circuit) -> bool {
-        self.out.has(circuit)
+        self.marks.out.has(circuit)
     }
 
     fn has_group(&self, group: GroupId) -> bool {
@@ -60,11 +60,11 @@ impl<'p, A: Allocator + Copy> Facts for Plain<'p, A> {
     }
 
     fn is_failed(&self, group: GroupId) -> bool {
-        self.failed.has(group)
+        self.marks.failed.has(group)
     }
 
     fn is_blocked(&self, group: GroupId) -> bool {
-        self.blocked.has(group)
+        self.marks.blocked.has(group)
     }
 
     fn numbers_given(&self) -> u32 {

@@ -12,14 +12,14 @@ use Rattle.tx_machine.proofs.plain.Plain.to_phase.Goals as goal
 
 pub invariant_of-self : goal.invariant_of-self
 invariant_of-self g c =
-    whole_same c.self.inside.plan.now c.self.inside.calls c.self.inside.tickets c.self.inside.failed c.self.inside.blocked c.self.inside.releasing c.self.inside.out c.self.inside.numbers c.self.invariant c.as_mut_slice.result.now c.reserve_hop.new.calls c.as_mut_slice.ensures.value c.as_mut_slice.ensures.len c.reserve_hop.ensures.seen c.reserve_hop.ensures.len c.reserve_hop.ensures.room
+    whole_same c.self.inside.plan.now c.self.inside.calls c.self.inside.tickets c.self.inside.marks c.self.inside.numbers c.self.invariant c.as_mut_slice.result.now c.reserve_hop.new.calls c.as_mut_slice.ensures.value c.as_mut_slice.ensures.len c.reserve_hop.ensures.seen c.reserve_hop.ensures.len c.reserve_hop.ensures.room
 
 pub returns-in_err-reserve_hop-clause-err : goal.returns-in_err-reserve_hop-clause-err
 returns-in_err-reserve_hop-clause-err g c =
     let n = c.self.inside in
     let calls = seen_same n.calls c.as_mut_slice.result.now c.reserve_hop.new.calls c.as_mut_slice.ensures.value c.as_mut_slice.ensures.len c.reserve_hop.ensures.seen c.reserve_hop.ensures.len in
     err_with c.from_residual.result _
-    ((λ i. record { plan = n.plan.now; state = record { calls = calls i; failed = n.failed.marked; blocked = n.blocked.marked; releasing = n.releasing.marked; out = n.out.marked; faulty = set.from_list n.faulty.items; away = set.from_list n.away.items; numbers = n.numbers; events = n.events; tickets = n.tickets.items } })
+    ((λ i. record { plan = n.plan.now; state = record { calls = calls i; failed = n.marks.failed.marked; blocked = n.marks.blocked.marked; releasing = n.marks.releasing.marked; out = n.marks.out.marked; faulty = set.from_list n.faulty.items; away = set.from_list n.away.items; numbers = n.numbers; events = n.events; tickets = n.tickets.items } })
     ∙ c.self.view_is)
 
 pub change_numbered-requires : goal.change_numbered-requires
@@ -30,6 +30,6 @@ invariant_of-self-2 g c =
     let n = c.self.inside in
     let p = n.plan.now in
     let calls = with_items n.calls c.reserve_hop.new.calls in
-    let w = whole_same c.self.inside.plan.now c.self.inside.calls c.self.inside.tickets c.self.inside.failed c.self.inside.blocked c.self.inside.releasing c.self.inside.out c.self.inside.numbers c.self.invariant c.as_mut_slice.result.now c.reserve_hop.new.calls c.as_mut_slice.ensures.value c.as_mut_slice.ensures.len c.reserve_hop.ensures.seen c.reserve_hop.ensures.len c.reserve_hop.ensures.room in
-    whole_changed p calls n.tickets n.failed n.blocked n.releasing n.out n.numbers w c.args.number (To c.args.phase) c.as_mut_slice-2.result.now c.change_numbered.new.calls c.as_mut_slice-2.ensures.value c.as_mut_slice-2.ensures.len c.change_numbered.ensures.seen c.change_numbered.ensures.len c.change_numbered.ensures.room
+    let w = whole_same c.self.inside.plan.now c.self.inside.calls c.self.inside.tickets c.self.inside.marks c.self.inside.numbers c.self.invariant c.as_mut_slice.result.now c.reserve_hop.new.calls c.as_mut_slice.ensures.value c.as_mut_slice.ensures.len c.reserve_hop.ensures.seen c.reserve_hop.ensures.len c.reserve_hop.ensures.room in
+    whole_changed p calls n.tickets n.marks n.numbers w c.args.number (To c.args.phase) c.as_mut_slice-2.result.now c.change_numbered.new.calls c.as_mut_slice-2.ensures.value c.as_mut_slice-2.ensures.len c.change_numbered.ensures.seen c.change_numbered.ensures.len c.change_numbered.ensures.room
     (marks_to (length p.groups) n.numbers c.args.number (map call_seen calls.items) w.held c.args.phase (λ x e. circuit_marked p w.rules x (subst (λ (v : Net). is_circuit v.plan x ≡ true) (sym c.self.view_is) (c.requires x e))))
