@@ -15,7 +15,7 @@ module _ (v w : Net) (e : w ≡ v) where
   ticket_step new is = ap (λ (l : List Ended). record w.state { tickets = l }) is ∙ ap (λ (n : Net). ticket_taken n.state) e
 
 -- a group fails: its calls end, to t, and then its marks change, to w
-pub fail_step : (s t w : Net) (g k : ℕ) → k ≡ length (filter (uses_group g) s.state.calls) → t ≡ record s { state = end_calls s.plan ByLoss (uses_group g) s.state } → w ≡ record t { state = record t.state { failed = set.insert t.state.failed g; releasing = set.retain t.state.releasing (λ x. not (x.group == g)) } } → counted (LostReply (length (filter (uses_group g) s.state.calls)), failed_at s.plan g s.state) ≡ (LostReply k, record w.state { events = w.state.events + 1 })
+pub fail_step : (s t w : Net) (g k : ℕ) → k ≡ length (filter (uses_group g) s.state.calls) → t ≡ record s { state = record (end_calls s.plan ByLoss (uses_group g) s.state) { events = s.state.events + 1 } } → w ≡ record t { state = record t.state { failed = set.insert t.state.failed g; releasing = set.retain t.state.releasing (λ x. not (x.group == g)) } } → counted (LostReply (length (filter (uses_group g) s.state.calls)), failed_at s.plan g s.state) ≡ (LostReply k, w.state)
 fail_step s t w g k lost ended is =
     ap (λ (n : ℕ). counted (LostReply n, failed_at s.plan g s.state)) (sym lost)
-    ∙ ap (λ (n : Net). counted (LostReply k, n.state)) (sym (is ∙ ap (λ (n : Net). record n { state = record n.state { failed = set.insert n.state.failed g; releasing = set.retain n.state.releasing (λ x. not (x.group == g)) } }) ended))
+    ∙ ap (λ (n : Net). (LostReply k, n.state)) (sym (is ∙ ap (λ (n : Net). record n { state = record n.state { failed = set.insert n.state.failed g; releasing = set.retain n.state.releasing (λ x. not (x.group == g)) } }) ended))

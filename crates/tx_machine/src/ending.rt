@@ -26,7 +26,6 @@ impl<'p, A: Allocator + Copy> Plain<'p, A> {
             Party::Called => Cause::ClearedByCalled,
         };
         self.end(&Ends::Numbered(number), cause);
-        self.events += 1;
         Reply::Cleared
     }
 
@@ -40,7 +39,6 @@ impl<'p, A: Allocator + Copy> Plain<'p, A> {
         let lost = self.count_on(group);
         self.end(&Ends::OnGroup(group), Cause::Lost);
         self.marks.fail(group);
-        self.events += 1;
         Reply::Lost(lost)
     }
 
@@ -51,11 +49,12 @@ impl<'p, A: Allocator + Copy> Plain<'p, A> {
         count_ending(self.calls.as_slice(), &Ends::OnGroup(group)) as u64
     }
 
-    /// Ends calls, with one cause.
+    /// An event ends calls, with one cause.
     pub(crate) fn end(&mut self, ends: &Ends, cause: Cause)
         requires { self.old.state.events < 2 ^ 64 - 1 }
-        ensures { self.new ≡ record self.old { state = end_calls self.old.plan cause (ends_by ends.now) self.old.state } }
+        ensures { self.new ≡ record self.old { state = record (end_calls self.old.plan cause (ends_by ends.now) self.old.state) { events = self.old.state.events + 1 } } }
     {
+        self.events += 1;
         end_calls(
             self.plan,
             &mut self.calls,
@@ -63,7 +62,7 @@ impl<'p, A: Allocator + Copy> Plain<'p, A> {
             &mut self.marks.releasing,
             ends,
             cause,
-            self.events + 1,
+            self.events,
         );
     }
 }

@@ -1,4 +1,4 @@
-use Rattle.std.proofs.Common.{ap, ◌∙◌, sym, subst, not, map}
+use Rattle.std.proofs.Common.{◌+◌, ap, ◌∙◌, sym, subst, not, map}
 use Rattle.std.specs.FinSet as set
 use Rattle.tx_plan.specs.Orders.{circuit_cmp}
 use Rattle.tx_plan.proofs.Among.{among_map}
@@ -26,5 +26,5 @@ returns g c =
     let p = n.plan.now in
     let calls = ap (map call_seen) c.end_calls.ensures.calls ∙ filter_map_seen (λ d. not (ends_by ends d)) call_seen n.calls.items in
     let releasing = ap (λ (v : Circuits). v.marked) c.end_calls.ensures.releasing ∙ ap (λ xs. set.union n.marks.releasing.marked (set.from_list {R = circuit_cmp} xs)) (given_same ends (map call_seen n.calls.items)) in
-    (λ i. record { plan = p; state = record { calls = calls i; failed = n.marks.failed.marked; blocked = n.marks.blocked.marked; releasing = releasing i; out = n.marks.out.marked; faulty = set.from_list n.faulty.items; away = set.from_list n.away.items; numbers = n.numbers; events = n.events; tickets = c.end_calls.ensures.tickets i } })
-    ∙ ap (λ (v : Net). record { plan = v.plan; state = end_calls v.plan cause (ends_by ends) v.state }) c.self.view_is
+    (λ i. record { plan = p; state = record { calls = calls i; failed = n.marks.failed.marked; blocked = n.marks.blocked.marked; releasing = releasing i; out = n.marks.out.marked; faulty = set.from_list n.faulty.items; away = set.from_list n.away.items; numbers = n.numbers; events = n.events + 1; tickets = c.end_calls.ensures.tickets i } })
+    ∙ ap (λ (v : Net). record v { state = record (end_calls v.plan cause (ends_by ends) v.state) { events = v.state.events + 1 } }) c.self.view_is
