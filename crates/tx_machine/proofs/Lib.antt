@@ -9,5 +9,6 @@ pub mod Views
 pub mod Sweeps
 pub mod Sweeping
 pub mod Giving
+pub mod Taking
 pub mod LineSets
 pub mod Finding

@@ -7,7 +7,7 @@ ghost use Rattle.tx_state.specs.Ending.{end_calls};
 ghost use Rattle.tx_machine.specs.inner.GivenUp.{ends_by};
 ghost use Rattle.tx_state.specs.declared.event.Event.TheVariants.{Fail, Clear};
 
-use crate::ended_calls::{count_ending, end_calls};
+use crate::ended_calls::{count_ending, give_up, take_out};
 use crate::ends::Ends;
 use crate::plain::Plain;
 use std::alloc::Allocator;
@@ -55,11 +55,11 @@ impl<'p, A: Allocator + Copy> Plain<'p, A> {
         ensures { self.new ≡ record self.old { state = record (end_calls self.old.plan cause (ends_by ends.now) self.old.state) { events = self.old.state.events + 1 } } }
     {
         self.events += 1;
-        end_calls(
+        give_up(self.calls.as_slice(), ends, &mut self.marks.releasing);
+        take_out(
             self.plan,
             &mut self.calls,
             &mut self.tickets,
-            &mut self.marks.releasing,
             ends,
             cause,
             self.events,
