@@ -31,6 +31,12 @@ drop_taken [] (suc i) = refl
 drop_taken (x ∷ xs) zero = refl
 drop_taken (x ∷ xs) (suc i) = drop_taken xs i
 
+-- what stands at a place does not hang on what stands for nothing
+pub one_read : {X : Type 0} (xs : List X) (i : ℕ) (x y : X) → i < length xs → x ≡ get_or xs i x → y ≡ get_or xs i y → x ≡ y
+one_read [] i x y h e f = absurd (omega arith)
+one_read (z ∷ zs) zero x y h e f = e ∙ sym f
+one_read (z ∷ zs) (suc i) x y h e f = one_read zs i x y (omega arith) e f
+
 module _ {A : Type 0} (p : Plan) (cause : Cause) (event : ℕ) (ends : Ends) (calls : List (OpenCall A)) (tickets : List Ended) where
   -- before the first call
   pub ending_none : (now : Vec (OpenCall A) A) (made : Vec Ended A) → now.items ≡ calls → made.items ≡ tickets → vec_len made + vec_len now ≤ vec_capacity made → IsEnding p cause event ends calls tickets 0 now made
@@ -49,8 +55,9 @@ module _ {A : Type 0} (p : Plan) (cause : Cause) (event : ℕ) (ends : Ends) (ca
           ∙ ap (λ y. filter (ends_by ends) (map call_seen (y ∷ drop (suc at) now.items))) (sym is)
 
       -- the call ends
-      pub ending_taken : (now' : Vec (OpenCall A) A) (made' : Vec Ended A) → ends_by ends (call_seen x) ≡ true → now'.items ≡ remove now.items at → vec_len now' + 1 ≡ vec_len now → made'.items ≡ made.items ++ ticket_of p cause event (call_seen x) ∷ [] → vec_len made' ≡ vec_len made + 1 → vec_capacity made' ≡ vec_capacity made → IsEnding p cause event ends calls tickets at now' made'
-      ending_taken now' made' t c cn m mn mc =
+      pub ending_taken : (now' : Vec (OpenCall A) A) (made' : Vec Ended A) (b : Bool) → b ≡ ends_by ends (call_seen x) → b ≡ true → now'.items ≡ remove now.items at → vec_len now' + 1 ≡ vec_len now → made'.items ≡ made.items ++ ticket_of p cause event (call_seen x) ∷ [] → vec_len made' ≡ vec_len made + 1 → vec_capacity made' ≡ vec_capacity made → IsEnding p cause event ends calls tickets at now' made'
+      ending_taken now' made' b is_b b_true c cn m mn mc =
+          let t = sym is_b ∙ b_true in
           let room = inv.room in
           let rest = map (ticket_of p cause event) (filter (ends_by ends) (map call_seen (drop (suc at) now.items))) in record {
             kept = ap (λ l. take at l ++ filter (λ c. not (ends_by ends (call_seen c))) (drop at l)) c ∙ taken (λ c. not (ends_by ends (call_seen c))) now.items at x within is (ap not t) ∙ inv.kept;
@@ -64,8 +71,8 @@ module _ {A : Type 0} (p : Plan) (cause : Cause) (event : ℕ) (ends : Ends) (ca
           }
 
       -- the call goes on
-      pub ending_passed : ends_by ends (call_seen x) ≡ false → IsEnding p cause event ends calls tickets (at + 1) now made
-      ending_passed t = record {
+      pub ending_passed : (b : Bool) → b ≡ ends_by ends (call_seen x) → b ≡ false → IsEnding p cause event ends calls tickets (at + 1) now made
+      ending_passed b is_b b_false = let t = sym is_b ∙ b_false in record {
         kept = ap (λ k. take k now.items ++ filter (λ c. not (ends_by ends (call_seen c))) (drop k now.items)) (add-one at) ∙ stayed (λ c. not (ends_by ends (call_seen c))) now.items at x within is (ap not t) ∙ inv.kept;
         ended = ap (λ k. made.items ++ map (ticket_of p cause event) (filter (ends_by ends) (map call_seen (drop k now.items)))) (add-one at)
             ∙ sym (ap (λ l. made.items ++ map (ticket_of p cause event) l) (opened ∙ ap (λ b. cond b (call_seen x ∷ filter (ends_by ends) (map call_seen (drop (suc at) now.items))) (filter (ends_by ends) (map call_seen (drop (suc at) now.items)))) t))
