@@ -1,13 +1,11 @@
 use Rattle.std.proofs.Common.{◌≡◌, ◌+◌, ap, ◌∙◌, sym, arith, ◌++◌, ◌∷◌, [], false, map}
-use Rattle.std.proofs.lemmas.List.{map_push}
 use Rattle.tx_state.specs.declared.phase.Phase.TheVariants.{Standing}
 use Rattle.tx_state.specs.declared.reply.Reply.TheVariants.{Keyed}
 use Rattle.tx_state.specs.declared.open_call.OpenCall.{OpenCall}
 use Rattle.tx_state.specs.State.{Net}
-use Rattle.tx_state.specs.Step.{counted, keyed_in}
-use Rattle.tx_state.specs.Seen.{call_seen}
+use Rattle.tx_state.specs.Step.{counted, keyed_in, keyed_call}
 use Rattle.tx_machine.specs.inner.Whole.{net_of}
-use Rattle.tx_machine.proofs.Whole.{whole_room, whole_more, err_with}
+use Rattle.tx_machine.proofs.Whole.{whole_room, whole_more, seen_more, err_with}
 use Rattle.tx_machine.proofs.plain.Plain.key.Goals as goal
 
 pub reserve_call-requires : goal.reserve_call-requires
@@ -39,7 +37,8 @@ returns-clause-ok g c =
     let event = n.events + 1 in
     let new : OpenCall g.row.A.Denot = record { number = number; line = c.args.line; keyed = c.args.keyed; keyed_at = event; hops = c.new.result; phase = Standing; collided = false } in
     let s = (net_of n.plan.now n.calls.items n.marks n.faulty.items n.away.items n.numbers n.events n.tickets.items).state in
-    let seen = ap (map call_seen) (c.push_reserved.ensures.items ∙ ap (λ l. l ++ new ∷ []) c.reserve_call.ensures.calls) ∙ map_push call_seen n.calls.items new
-        ∙ ap (λ l. map call_seen n.calls.items ++ record { number = number; line = c.args.line; keyed = c.args.keyed; keyed_at = event; hops = l; phase = Standing; collided = false } ∷ []) c.new.ensures.items in
+    let more = c.push_reserved.ensures.items ∙ ap (λ l. l ++ new ∷ []) c.reserve_call.ensures.calls in
+    let is = ap (λ l. record { number = number; line = c.args.line; keyed = c.args.keyed; keyed_at = event; hops = l; phase = Standing; collided = false }) c.new.ensures.items in
+    let seen = seen_more n.calls c.push_reserved.new.self new (keyed_call number c.args.line c.args.keyed event) more is in
     sym ((λ i. (Keyed number, record s { calls = seen i; numbers = number; events = event; tickets = c.reserve_call.ensures.tickets i }))
     ∙ ap (λ (v : Net). counted (Keyed (v.state.numbers + 1), keyed_in v.state c.args.line c.args.keyed)) c.self.view_is)
