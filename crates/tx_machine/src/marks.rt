@@ -25,11 +25,15 @@ impl<A: Allocator + Copy> Marks<A> {
         requires { groups ≤ 2 ^ 16 }
         ensures { IfOk result (λ m. m ≡ no_marks groups) }
     {
+        let failed = GroupMarks::new(alloc, groups)?;
+        let blocked = GroupMarks::new(alloc, groups)?;
+        let releasing = CircuitMarks::new(alloc, groups)?;
+        let out = CircuitMarks::new(alloc, groups)?;
         Ok(Marks {
-            failed: GroupMarks::new(alloc, groups)?,
-            blocked: GroupMarks::new(alloc, groups)?,
-            releasing: CircuitMarks::new(alloc, groups)?,
-            out: CircuitMarks::new(alloc, groups)?,
+            failed,
+            blocked,
+            releasing,
+            out,
         })
     }
 }
