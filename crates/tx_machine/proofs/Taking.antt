@@ -1,4 +1,4 @@
--- Calls that are taken out of a list one by one.
+-- What is taken out of a list one by one: lines, and calls that end.
 use Rattle.std.proofs.Common.{append_assoc, ◌≡◌, ℕ, zero, suc, ◌+◌, ◌<◌, ◌≤◌, Bool, true, false, not, cond, List, [], ◌∷◌, ◌++◌, map, take, drop, length, get_or, refl, ap, sym, ◌∙◌, subst, add-one, arith, vec_len, vec_capacity}
 use Rattle.std.specs.Prelude.{filter, Vec}
 use Rattle.std.specs.List.{remove}
@@ -24,6 +24,18 @@ module _ {X : Type 0} (stays : X → Bool) where
   stayed [] i x h e s = absurd (omega arith)
   stayed (z ∷ zs) zero x h e s = ap (λ b. cond b (z ∷ filter stays zs) (filter stays zs)) (sym s ∙ ap stays e)
   stayed (z ∷ zs) (suc i) x h e s = ap (λ l. z ∷ l) (stayed zs i x (omega arith) e s)
+
+-- a loop takes out what passes a test, and goes past the rest
+module _ {X : Type 0} (test : X → Bool) (xs : List X) (i : ℕ) where
+  module _ (x : X) (b : Bool) (low : i < length xs) (is : x ≡ get_or xs i x) (says : b ≡ test x) where
+    pub goes_past : b ≡ false → take (i + 1) xs ++ filter (λ y. not (test y)) (drop (i + 1) xs) ≡ take i xs ++ filter (λ y. not (test y)) (drop i xs)
+    goes_past t = ap (λ k. take k xs ++ filter (λ y. not (test y)) (drop k xs)) (add-one i) ∙ stayed (λ y. not (test y)) xs i x low is (ap not (sym says ∙ t))
+
+    pub takes_out : (ys : List X) → ys ≡ remove xs i → b ≡ true → take i ys ++ filter (λ y. not (test y)) (drop i ys) ≡ take i xs ++ filter (λ y. not (test y)) (drop i xs)
+    takes_out ys e t = ap (λ l. take i l ++ filter (λ y. not (test y)) (drop i l)) e ∙ taken (λ y. not (test y)) xs i x low is (ap not (sym says ∙ t))
+
+  pub all_past : length xs ≤ i → take i xs ++ filter (λ y. not (test y)) (drop i xs) ≡ xs
+  all_past past = (λ j. take_all i xs past j ++ filter (λ y. not (test y)) (drop_all i xs past j)) ∙ append-nil xs
 
 drop_taken : {X : Type 0} (xs : List X) (i : ℕ) → drop i (remove xs i) ≡ drop (suc i) xs
 drop_taken [] zero = refl
@@ -60,7 +72,7 @@ module _ {A : Type 0} (p : Plan) (cause : Cause) (event : ℕ) (ends : Ends) (ca
           let t = sym is_b ∙ b_true in
           let room = inv.room in
           let rest = map (ticket_of p cause event) (filter (ends_by ends) (map call_seen (drop (suc at) now.items))) in record {
-            kept = ap (λ l. take at l ++ filter (λ c. not (ends_by ends (call_seen c))) (drop at l)) c ∙ taken (λ c. not (ends_by ends (call_seen c))) now.items at x within is (ap not t) ∙ inv.kept;
+            kept = takes_out (λ c. ends_by ends (call_seen c)) now.items at x b within is is_b now'.items c b_true ∙ inv.kept;
             ended = (λ i. m i ++ map (ticket_of p cause event) (filter (ends_by ends) (map call_seen (drop at (c i)))))
                 ∙ ap (λ l. (made.items ++ ticket_of p cause event (call_seen x) ∷ []) ++ map (ticket_of p cause event) (filter (ends_by ends) (map call_seen l))) (drop_taken now.items at)
                 ∙ append_assoc made.items (ticket_of p cause event (call_seen x) ∷ []) rest
@@ -73,7 +85,7 @@ module _ {A : Type 0} (p : Plan) (cause : Cause) (event : ℕ) (ends : Ends) (ca
       -- the call goes on
       pub ending_passed : (b : Bool) → b ≡ ends_by ends (call_seen x) → b ≡ false → IsEnding p cause event ends calls tickets (at + 1) now made
       ending_passed b is_b b_false = let t = sym is_b ∙ b_false in record {
-        kept = ap (λ k. take k now.items ++ filter (λ c. not (ends_by ends (call_seen c))) (drop k now.items)) (add-one at) ∙ stayed (λ c. not (ends_by ends (call_seen c))) now.items at x within is (ap not t) ∙ inv.kept;
+        kept = goes_past (λ c. ends_by ends (call_seen c)) now.items at x b within is is_b b_false ∙ inv.kept;
         ended = ap (λ k. made.items ++ map (ticket_of p cause event) (filter (ends_by ends) (map call_seen (drop k now.items)))) (add-one at)
             ∙ sym (ap (λ l. made.items ++ map (ticket_of p cause event) l) (opened ∙ ap (λ b. cond b (call_seen x ∷ filter (ends_by ends) (map call_seen (drop (suc at) now.items))) (filter (ends_by ends) (map call_seen (drop (suc at) now.items)))) t))
             ∙ inv.ended;
@@ -84,7 +96,7 @@ module _ {A : Type 0} (p : Plan) (cause : Cause) (event : ℕ) (ends : Ends) (ca
     -- past the last call
     module _ (past : length now.items ≤ at) where
       pub ending_calls : now.items ≡ filter (λ c. not (ends_by ends (call_seen c))) calls
-      ending_calls = sym (append-nil now.items) ∙ (λ i. sym (take_all at now.items past) i ++ filter (λ c. not (ends_by ends (call_seen c))) (sym (drop_all at now.items past) i)) ∙ inv.kept
+      ending_calls = sym (all_past (λ c. ends_by ends (call_seen c)) now.items at past) ∙ inv.kept
 
       pub ending_tickets : made.items ≡ tickets ++ map (ticket_of p cause event) (filter (ends_by ends) (map call_seen calls))
       ending_tickets = sym (append-nil made.items) ∙ ap (λ l. made.items ++ map (ticket_of p cause event) (filter (ends_by ends) (map call_seen l))) (sym (drop_all at now.items past)) ∙ inv.ended
