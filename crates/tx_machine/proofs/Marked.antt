@@ -1,6 +1,6 @@
--- Events that mark a line, a circuit or a group: what they meet, and the state after them.
+-- Events that are not refused: what they may count on, and the state after those that mark a line, a circuit or a group.
 use Rattle.std.proofs.Common.{◌≡◌, ℕ, ◌+◌, ◌-◌, ◌^◌, ◌<◌, Bool, true, false, not, List, [], ◌∷◌, ◌++◌, Some, None, Option, refl, ap, sym, ◌∙◌, length, arith, subst}
-use Rattle.std.specs.Prelude.{is_some, slice_get, nat_le, if◌then◌else◌}
+use Rattle.std.specs.Prelude.{is_some, is_none, slice_get, nat_le, if◌then◌else◌}
 use Rattle.std.specs.List.{AllByRecursion}
 use Rattle.std.specs.FinSet as set
 use Rattle.std.proofs.lemmas.Bool.{false≢true, not-false}
@@ -19,9 +19,10 @@ use Rattle.tx_state.specs.declared.refusal.Refusal.TheVariants.{Exhausted}
 use Rattle.tx_state.specs.declared.reply.Reply.TheVariants.{Done}
 use Rattle.tx_state.specs.declared.open_call.OpenCall.{OpenCall}
 use Rattle.tx_state.specs.Ended.{Ended}
+use Rattle.tx_state.specs.Call.{Call, call_of, is_calling}
 use Rattle.tx_state.specs.State.{State}
 use Rattle.tx_state.specs.Step.{accepted, counted}
-use Rattle.tx_state.specs.Refusals.{refusals, refusal, is_group}
+use Rattle.tx_state.specs.Refusals.{refusals, refusal, is_group, is_other}
 use Rattle.tx_state.proofs.Steps.{tests_false}
 use Rattle.tx_machine.specs.inner.Marks.{HasMark}
 use Rattle.tx_machine.specs.inner.Marked.{is_mark, failed_after, blocked_after, releasing_after, out_after, faulty_after, away_after, marked_after, CanMark, AreFor}
@@ -77,7 +78,24 @@ can_count p s e h = let t = last (refusals p s e) (nat_le (2 ^ 64 - 1) s.events)
     last ((true, r) ∷ ts) b h = let bad : ⊥ = cc in absurd bad
     last ((false, r) ∷ ts) b h = last ts b h
 
--- the reply and the state after such an event
+pub can_key : (p : Plan) (s : State) (line : Line) (keyed : List ℕ) → refusal p s (Key line keyed) ≡ None → s.numbers < 2 ^ 32 - 1
+can_key p s line keyed h = let t = (tests_false (refusals p s (Key line keyed) ++ (nat_le (2 ^ 64 - 1) s.events, Exhausted) ∷ []) h).1.1.1.0 in grind (arith, nat_tests)
+
+-- the call of a Route or of a Confirm is open
+is_open : (o : Option Call) → is_none o ≡ false → is_some o ≡ true
+is_open None h = absurd (false≢true (sym h))
+is_open (Some c) h = refl
+
+pub can_route : (p : Plan) (s : State) (n : ℕ) → refusal p s (Route n) ≡ None → is_some (call_of n s.calls) ≡ true
+can_route p s n h = is_open (call_of n s.calls) (tests_false (refusals p s (Route n) ++ (nat_le (2 ^ 64 - 1) s.events, Exhausted) ∷ []) h).0
+
+pub can_confirm : (p : Plan) (s : State) (n : ℕ) → refusal p s (Confirm n) ≡ None → (is_some (call_of n s.calls) ≡ true) × (is_other is_calling (call_of n s.calls) ≡ false)
+can_confirm p s n h = let t = tests_false (refusals p s (Confirm n) ++ (nat_le (2 ^ 64 - 1) s.events, Exhausted) ∷ []) h in (is_open (call_of n s.calls) t.0, t.1.0)
+
+pub can_fail : (p : Plan) (s : State) (g : ℕ) → refusal p s (Fail g) ≡ None → g < length p.groups
+can_fail p s g h = group_within p g (tests_false (refusals p s (Fail g) ++ (nat_le (2 ^ 64 - 1) s.events, Exhausted) ∷ []) h).1.0
+
+-- the reply and the state after an event that marks
 pub marked_step : {A : Type 0} (p : Plan) (calls : List (OpenCall A)) (m m' : Marks A) (faulty away faulty' away' : List Line) (numbers events : ℕ) (tickets : List Ended) (e : Event) → is_mark e ≡ true → m' ≡ marked_after e m → set.from_list faulty' ≡ faulty_after e (set.from_list faulty) → set.from_list away' ≡ away_after e (set.from_list away)
     → counted (accepted p (net_of p calls m faulty away numbers events tickets).state e) ≡ (Done, (net_of p calls m' faulty' away' numbers (events + 1) tickets).state)
 marked_step p calls m m' faulty away faulty' away' numbers events tickets e is marks f a =

@@ -42,5 +42,5 @@ returns-clause-ok g c =
     let to = set_call c.args.number (in_phase c.args.phase) in
     let calls = with_items n.calls c.reserve_hop.new.calls in
     let seen = seen_changed calls c.args.number (To c.args.phase) c.as_mut_slice-2.result.now c.change_numbered.new.calls c.as_mut_slice-2.ensures.value c.as_mut_slice-2.ensures.len c.change_numbered.ensures.seen c.change_numbered.ensures.len
-        ∙ ap to (seen_same n.calls c.as_mut_slice.result.now c.reserve_hop.new.calls c.as_mut_slice.ensures.value c.as_mut_slice.ensures.len c.reserve_hop.ensures.seen c.reserve_hop.ensures.len) in
+    ∙ ap to (seen_same n.calls c.as_mut_slice.result.now c.reserve_hop.new.calls c.as_mut_slice.ensures.value c.as_mut_slice.ensures.len c.reserve_hop.ensures.seen c.reserve_hop.ensures.len) in
     sym ((λ i. (c.args.reply, record s { calls = seen i; events = n.events + 1 })) ∙ ap (λ (v : Net). counted (c.args.reply, record v.state { calls = to v.state.calls })) c.self.view_is)
