@@ -1,4 +1,4 @@
-use Rattle.std.proofs.Common.{◌≡◌, ◌<◌, ◌∙◌, ap, sym, subst, length, not, ◌==◌}
+use Rattle.std.proofs.Common.{◌<◌, ◌∙◌, ap, sym, subst, length, not, ◌==◌}
 use Rattle.std.specs.FinSet as set
 use Rattle.tx_plan.specs.Plan.{Plan}
 use Rattle.tx_state.specs.State.{Net}

@@ -1,4 +1,4 @@
-use Rattle.std.proofs.Common.{◌≡◌, ◌+◌, ap, ◌∙◌, sym, arith, ◌++◌, ◌∷◌, [], false, map}
+use Rattle.std.proofs.Common.{◌+◌, ap, ◌∙◌, sym, arith, ◌++◌, ◌∷◌, [], false}
 use Rattle.tx_state.specs.declared.phase.Phase.TheVariants.{Standing}
 use Rattle.tx_state.specs.declared.reply.Reply.TheVariants.{Keyed}
 use Rattle.tx_state.specs.declared.open_call.OpenCall.{OpenCall}
