@@ -132,9 +132,6 @@ seen_same calls now new e len seen same = ap (map call_seen) (with_items_is call
 pub seen_changed : {A : Type 0} (calls : Vec (OpenCall A) A) (n : ℕ) (change : Change) (now new : List (OpenCall A)) → now ≡ calls.items → length now ≡ vec_len calls → map call_seen new ≡ set_call n (changed change) (map call_seen now) → length new ≡ length now → map call_seen (with_items calls new).items ≡ set_call n (changed change) (map call_seen calls.items)
 seen_changed calls n change now new e len seen same = ap (map call_seen) (with_items_is calls new (same ∙ len)) ∙ seen ∙ ap (λ l. set_call n (changed change) (map call_seen l)) e
 
-pub seen_more : {A : Type 0} (calls calls' : Vec (OpenCall A) A) (c : OpenCall A) (k : Call) → calls'.items ≡ calls.items ++ c ∷ [] → call_seen c ≡ k → map call_seen calls'.items ≡ map call_seen calls.items ++ k ∷ []
-seen_more calls calls' c k e is = ap (map call_seen) e ∙ map_push call_seen calls.items c ∙ ap (λ (d : Call). map call_seen calls.items ++ d ∷ []) is
-
 -- two calls that are thrown back one after the other
 pub thrown_twice : (a b : ℕ) (cs : List Call) → set_call b (changed ThrowBack) (set_call a (changed ThrowBack) cs) ≡ map (λ k. if is_numbered a k || is_numbered b k then thrown_back k else k) cs
 thrown_twice a b [] = refl

@@ -1,12 +1,12 @@
 // The event Key: a new call.
-ghost use Rattle.std.specs.Prelude.{◌≡◌, ◌<◌, ◌≤◌, ◌+◌, ◌-◌, ◌^◌, IfOk, OnOk, OnErr, vec_len, vec_capacity};
+ghost use Rattle.std.specs.Prelude.{◌≡◌, ◌<◌, ◌-◌, ◌^◌, IfOk, OnErr};
 ghost use Rattle.tx_state.specs.Step.{accepted, counted};
 ghost use Rattle.tx_state.specs.declared.event.Event.TheVariants.{Key};
 
 use crate::plain::Plain;
 use std::alloc::Allocator;
 use tx_plan::Line;
-use tx_state::{OpenCall, Phase, Reply, Ticket};
+use tx_state::{OpenCall, Phase, Reply};
 use tx_text::{Figures, NoMemory};
 
 impl<'p, A: Allocator + Copy> Plain<'p, A> {
@@ -18,7 +18,9 @@ impl<'p, A: Allocator + Copy> Plain<'p, A> {
         ensures ok { IfOk result (λ reply. counted (accepted self.old.plan self.old.state (Key line keyed)) ≡ (reply, self.new.state)) }
         ensures err { OnErr result (self.new ≡ self.old) }
     {
-        reserve_call(&mut self.calls, &mut self.tickets)?;
+        self.calls.reserve(1)?;
+        let open = self.calls.len();
+        self.tickets.reserve(open + 1)?;
         let number = self.numbers + 1;
         let call = OpenCall {
             number,
@@ -34,21 +36,4 @@ impl<'p, A: Allocator + Copy> Plain<'p, A> {
         self.events += 1;
         Ok(Reply::Keyed(number))
     }
-}
-
-/// Makes room for one more call, and for its ticket.
-fn reserve_call<A: Allocator>(
-    calls: &mut Vec<OpenCall<A>, A>,
-    tickets: &mut Vec<Ticket<A>, A>,
-) -> Result<(), NoMemory>
-    requires { vec_len tickets.old + vec_len calls.old ≤ vec_capacity tickets.old }
-    ensures calls { calls.new.items ≡ calls.old.items }
-    ensures tickets { tickets.new.items ≡ tickets.old.items }
-    ensures room { vec_len tickets.new + vec_len calls.new ≤ vec_capacity tickets.new }
-    ensures call { OnOk result (vec_len calls.new < vec_capacity calls.new) }
-    ensures ticket { OnOk result (vec_len tickets.new + (vec_len calls.new + 1) ≤ vec_capacity tickets.new) }
-{
-    calls.reserve(1)?;
-    tickets.reserve(calls.len() + 1)?;
-    Ok(())
 }
