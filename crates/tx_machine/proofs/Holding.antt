@@ -59,14 +59,6 @@ module _ (groups numbers : ℕ) (cs : List Call) (h : AreHeld groups numbers cs)
       number : (c : Call) → (if c.number == n then f c else c).number ≡ c.number
       number c = elim (c.number == n) as (λ b. (if b then f c else c).number ≡ c.number) [ true ↦ same c | false ↦ refl ]
 
--- each call changes, and keeps its number
-pub held_map : (groups numbers : ℕ) (cs : List Call) (h : AreHeld groups numbers cs) (F : Call → Call) → ((c : Call) → (F c).number ≡ c.number) → ((c : Call) → Among c cs → AreMarked groups (circuits_used (F c))) → AreHeld groups numbers (map F cs)
-held_map groups numbers cs h F same marked = record {
-  marked = λ c m. let q = map_among F c cs m in subst (λ c. AreMarked groups (circuits_used c)) q.2 (marked q.0 q.1);
-  one = λ c d m k e. let q = map_among F c cs m in let r = map_among F d cs k in sym q.2 ∙ ap F (h.one q.0 r.0 q.1 r.1 (sym (same q.0) ∙ ap (λ (z : Call). z.number) q.2 ∙ e ∙ sym (ap (λ (z : Call). z.number) r.2) ∙ same r.0)) ∙ r.2;
-  given = λ c m. let q = map_among F c cs m in subst (λ k. k ≤ numbers) (sym (same q.0) ∙ ap (λ (z : Call). z.number) q.2) (h.given q.0 q.1);
-}
-
 -- the calls with the number of a call that seizes a circuit have room
 pub calling_ready : {A : Type 0} (groups numbers n : ℕ) (calls : List (OpenCall A)) → AreHeld groups numbers (map call_seen calls) → ((c : OpenCall A) → Among c calls → HasRoom c) → (k : Call) (x : Circuit) → Among k (map call_seen calls) → k.number ≡ n → k.phase ≡ Calling x → (c : OpenCall A) → Among c calls → IsReady n c
 calling_ready groups numbers n calls h room k x m e p c mc en =

@@ -6,13 +6,10 @@ use Rattle.tx_plan.proofs.Among.{among_at}
 use Rattle.tx_state.specs.Call.{Call}
 use Rattle.tx_plan.specs.Among.{Among}
 use Rattle.tx_state.specs.Seen.{call_seen}
-use Rattle.tx_machine.specs.inner.Seen.{changed, change_at, HasRoom, IsReady}
+use Rattle.tx_machine.specs.inner.Seen.{changed, change_at, HasRoom, IsReady, CanChange}
 use Rattle.tx_state.specs.declared.open_call.OpenCall.{OpenCall}
 use Rattle.tx_machine.specs.declared.change.Change.{Change}
 use Rattle.tx_machine.proofs.Sweeps.{step_seen, mem_set, mem_take_set}
-
-abbrev pub same : Call → Call
-same c = c
 
 -- the calls up to a place have room for a hop
 pub record IsReserving {A : Type 0} (n : ℕ) (old : List (OpenCall A)) (at : ℕ) (now : List (OpenCall A)) : Type 0 where
@@ -27,7 +24,7 @@ pub record IsChanging {A : Type 0} (n : ℕ) (change : Change) (old : List (Open
   pub seen : map call_seen (take at now) ++ map (change_at n (changed change)) (map call_seen (drop at now)) ≡ map (change_at n (changed change)) (map call_seen old)
   pub len : length now ≡ length old
   pub room : ((c : OpenCall A) → Among c old → HasRoom c) → (c : OpenCall A) → Among c now → HasRoom c
-  pub ready : (c : OpenCall A) → Among c (drop at now) → IsReady n c
+  pub ready : (c : OpenCall A) → Among c (drop at now) → CanChange change n c
   pub within : at ≤ length now
 
 map_set_seen : {X Y : Type 0} (f : X → Y) (xs : List X) (i : ℕ) (x y : X) → i < length xs → x ≡ get_or xs i x → f y ≡ f x → map f (slice_set xs i y) ≡ map f xs
@@ -53,7 +50,7 @@ module _ {A : Type 0} (n : ℕ) (old : List (OpenCall A)) (at : ℕ) (now : List
     }
 
   module _ (change : Change) (inv : IsChanging n change old at now) where
-    pub ready_here : IsReady n x
+    pub ready_here : CanChange change n x
     ready_here = inv.ready x (mem_drop now at x h is)
       where
         mem_drop : (xs : List (OpenCall A)) (i : ℕ) (x : OpenCall A) → i < length xs → x ≡ get_or xs i x → Among x (drop i xs)
@@ -78,30 +75,12 @@ module _ {A : Type 0} (n : ℕ) (old : List (OpenCall A)) (at : ℕ) (now : List
 pub all_ready : {A : Type 0} (n at : ℕ) (now : List (OpenCall A)) → ((c : OpenCall A) → Among c (take at now) → IsReady n c) → length now ≤ at → (c : OpenCall A) → Among c now → IsReady n c
 all_ready n at now r h c m = r c (subst (λ l. Among c l) (sym (take_all at now h)) m)
 
--- the calls up to a place are changed by a function
-pub record IsSweeping {A : Type 0} (F : Call → Call) (old : List (OpenCall A)) (at : ℕ) (now : List (OpenCall A)) : Type 0 where
-  pub seen : map call_seen (take at now) ++ map F (map call_seen (drop at now)) ≡ map F (map call_seen old)
-  pub len : length now ≡ length old
-  pub room : ((c : OpenCall A) → Among c old → HasRoom c) → (c : OpenCall A) → Among c now → HasRoom c
-  pub within : at ≤ length now
-
-pub swept_step : {A : Type 0} (F : Call → Call) (old : List (OpenCall A)) (at : ℕ) (now : List (OpenCall A)) (x y : OpenCall A) → at < length now → x ≡ get_or now at x → IsSweeping F old at now → call_seen y ≡ F (call_seen x) → (HasRoom x → HasRoom y) → IsSweeping F old (at + 1) (slice_set now at y)
-swept_step F old at now x y h is inv seen' room' = record {
-  seen = subst (λ k. map call_seen (take k (slice_set now at y)) ++ map F (map call_seen (drop k (slice_set now at y))) ≡ map F (map call_seen old)) (sym (add-one at)) (step_seen call_seen F now at x y h is seen' ∙ inv.seen);
-  len = length-set now at y ∙ inv.len;
-  room = λ r c m. elim (mem_set now at y c m) [ inl e ↦ subst HasRoom e (room' (inv.room r x (among_at now at x h is))) | inr o ↦ inv.room r c o ];
-  within = subst (λ k. at + 1 ≤ k) (sym (length-set now at y)) (omega arith);
-}
-
 -- before the first call
 pub reserving_none : {A : Type 0} (n : ℕ) (old : List (OpenCall A)) → IsReserving n old 0 old
 reserving_none n old = record { seen = refl; len = refl; room = λ r. r; ready = λ c m. absurd m; within = omega arith }
 
-pub changing_none : {A : Type 0} (n : ℕ) (change : Change) (old : List (OpenCall A)) → ((c : OpenCall A) → Among c old → IsReady n c) → IsChanging n change old 0 old
+pub changing_none : {A : Type 0} (n : ℕ) (change : Change) (old : List (OpenCall A)) → ((c : OpenCall A) → Among c old → CanChange change n c) → IsChanging n change old 0 old
 changing_none n change old ready' = record { seen = refl; len = refl; room = λ r. r; ready = ready'; within = omega arith }
-
-pub sweeping_none : {A : Type 0} (F : Call → Call) (old : List (OpenCall A)) → IsSweeping F old 0 old
-sweeping_none F old = record { seen = refl; len = refl; room = λ r. r; within = omega arith }
 
 -- past the last call
 pub swept_all : {A : Type 0} (F : Call → Call) (old : List (OpenCall A)) (at : ℕ) (now : List (OpenCall A)) → map call_seen (take at now) ++ map F (map call_seen (drop at now)) ≡ map F (map call_seen old) → length now ≤ at → map call_seen now ≡ map F (map call_seen old)

@@ -1,5 +1,5 @@
 -- What the fields keep, as they change.
-use Rattle.std.proofs.Common.{◌≡◌, ℕ, ◌+◌, ◌≤◌, ◌==◌, true, false, not, ◌&&◌, ◌||◌, List, [], ◌∷◌, ◌++◌, inl, inr, map, length, refl, ap, sym, ◌∙◌, subst, arith, eqb-true, vec_len, vec_capacity, Some, None, Option, Result, Ok, Err}
+use Rattle.std.proofs.Common.{◌≡◌, ℕ, ◌+◌, ◌≤◌, ◌==◌, Bool, true, false, not, ◌&&◌, ◌||◌, List, [], ◌∷◌, ◌++◌, inl, inr, map, length, refl, ap, sym, ◌∙◌, subst, arith, eqb-true, vec_len, vec_capacity, Some, None, Option, Result, Ok, Err}
 use Rattle.std.specs.Prelude.{filter, Vec, OnErr, nat_le, slice_get, if◌then◌else◌}
 use Rattle.std.specs.Vec.{with_items}
 use Rattle.std.specs.Option.{option_map_or}
@@ -26,9 +26,11 @@ use Rattle.tx_state.specs.InUse.{circuits_used, circuits_carried, seizes}
 use Rattle.tx_state.specs.Routing.{set_call}
 use Rattle.tx_state.specs.Ending.{given_up}
 use Rattle.tx_state.proofs.Lists.{find_mem, at_place}
-use Rattle.tx_machine.specs.inner.Marks.{Circuits, Groups, HasMark}
+use Rattle.tx_machine.specs.inner.Marks.{Circuits, HasMark}
+use Rattle.tx_machine.specs.inner.Marked.{AreFor}
+use Rattle.tx_machine.specs.declared.marks.Marks.{Marks}
 use Rattle.tx_state.specs.Seen.{call_seen}
-use Rattle.tx_machine.specs.inner.Seen.{changed, thrown_at, HasRoom, IsReady}
+use Rattle.tx_machine.specs.inner.Seen.{changed, HasRoom, IsReady}
 use Rattle.tx_machine.specs.inner.GivenUp.{ends_by, is_given, AreMarked}
 use Rattle.tx_machine.specs.inner.Whole.{AreHeld, IsWhole}
 use Rattle.tx_state.specs.declared.open_call.OpenCall.{OpenCall}
@@ -36,7 +38,7 @@ use Rattle.tx_machine.specs.declared.change.Change.{Change}
 use Rattle.tx_machine.specs.declared.change.Change.TheVariants.{To, Carry, ThrowBack}
 use Rattle.tx_machine.specs.declared.ends.Ends.{Ends}
 use Rattle.tx_machine.proofs.Views.{any_filter, filter_map_seen}
-use Rattle.tx_machine.proofs.Holding.{held_filter, held_set, held_more, held_map, calling_ready}
+use Rattle.tx_machine.proofs.Holding.{held_filter, held_set, held_more, calling_ready}
 
 pub circuit_marked : (p : Plan) → IsPlan p → (x : Circuit) → is_circuit p x ≡ true → HasMark (length p.groups) x
 circuit_marked p ok x h = at (slice_get p.groups x.group) refl h
@@ -79,29 +81,26 @@ module _ (groups numbers n : ℕ) (cs : List Call) (h : AreHeld groups numbers c
         | inr q ↦ absurd q
       ]
 
-module _ {A : Type 0} (p : Plan) (calls : Vec (OpenCall A) A) (tickets : Vec Ended A) (failed blocked : Groups) (releasing out : Circuits) (numbers : ℕ) (w : IsWhole p calls tickets failed blocked releasing out numbers) where
+module _ {A : Type 0} (p : Plan) (calls : Vec (OpenCall A) A) (tickets : Vec Ended A) (marks : Marks A) (numbers : ℕ) (w : IsWhole p calls tickets marks numbers) where
   -- other calls
-  pub whole_calls : (calls' : Vec (OpenCall A) A) → vec_len calls' ≡ vec_len calls → AreHeld (length p.groups) numbers (map call_seen calls'.items) → ((c : OpenCall A) → Among c calls'.items → HasRoom c) → IsWhole p calls' tickets failed blocked releasing out numbers
+  pub whole_calls : (calls' : Vec (OpenCall A) A) → vec_len calls' ≡ vec_len calls → AreHeld (length p.groups) numbers (map call_seen calls'.items) → ((c : OpenCall A) → Among c calls'.items → HasRoom c) → IsWhole p calls' tickets marks numbers
   whole_calls calls' len held hops = record {
     rules = w.rules;
     room = (let r = w.room in omega arith);
     held = held;
     hops = hops;
-    failed_all = w.failed_all;
-    blocked_all = w.blocked_all;
-    releasing_all = w.releasing_all;
-    out_all = w.out_all;
+    marks_all = w.marks_all;
   }
 
   -- calls in place of these, as they are seen
-  pub whole_same : (now new : List (OpenCall A)) → now ≡ calls.items → length now ≡ vec_len calls → map call_seen new ≡ map call_seen now → length new ≡ length now → (((c : OpenCall A) → Among c now → HasRoom c) → (c : OpenCall A) → Among c new → HasRoom c) → IsWhole p (with_items calls new) tickets failed blocked releasing out numbers
+  pub whole_same : (now new : List (OpenCall A)) → now ≡ calls.items → length now ≡ vec_len calls → map call_seen new ≡ map call_seen now → length new ≡ length now → (((c : OpenCall A) → Among c now → HasRoom c) → (c : OpenCall A) → Among c new → HasRoom c) → IsWhole p (with_items calls new) tickets marks numbers
   whole_same now new e len seen same room =
       let items = with_items_is calls new (same ∙ len) in
       whole_calls (with_items calls new) refl
       (subst (AreHeld (length p.groups) numbers) (ap (map call_seen) (sym e) ∙ sym seen ∙ ap (map call_seen) (sym items)) w.held)
       (λ c m. room (subst (λ l. (c : OpenCall A) → Among c l → HasRoom c) (sym e) w.hops) c (subst (λ l. Among c l) items m))
 
-  pub whole_changed : (n : ℕ) (change : Change) (now new : List (OpenCall A)) → now ≡ calls.items → length now ≡ vec_len calls → map call_seen new ≡ set_call n (changed change) (map call_seen now) → length new ≡ length now → (((c : OpenCall A) → Among c now → HasRoom c) → (c : OpenCall A) → Among c new → HasRoom c) → ((c : Call) → Among c (map call_seen calls.items) → c.number ≡ n → AreMarked (length p.groups) (circuits_used (changed change c))) → IsWhole p (with_items calls new) tickets failed blocked releasing out numbers
+  pub whole_changed : (n : ℕ) (change : Change) (now new : List (OpenCall A)) → now ≡ calls.items → length now ≡ vec_len calls → map call_seen new ≡ set_call n (changed change) (map call_seen now) → length new ≡ length now → (((c : OpenCall A) → Among c now → HasRoom c) → (c : OpenCall A) → Among c new → HasRoom c) → ((c : Call) → Among c (map call_seen calls.items) → c.number ≡ n → AreMarked (length p.groups) (circuits_used (changed change c))) → IsWhole p (with_items calls new) tickets marks numbers
   whole_changed n change now new e len seen same room marked =
       let items = with_items_is calls new (same ∙ len) in
       whole_calls (with_items calls new) refl
@@ -114,74 +113,55 @@ module _ {A : Type 0} (p : Plan) (calls : Vec (OpenCall A) A) (tickets : Vec End
       let r = find_mem (λ (c : Call). c.number == n) (map call_seen calls.items) k f in
       calling_ready (length p.groups) numbers n calls.items w.held w.hops k x r.0 (eqb-true k.number n r.1) q c (subst (λ l. Among c l) e m)
 
-  -- other releasing circuits
-  pub whole_releasing : (releasing' : Circuits) → releasing'.groups ≡ releasing.groups → IsWhole p calls tickets failed blocked releasing' out numbers
-  whole_releasing releasing' e = record { rules = w.rules; room = w.room; held = w.held; hops = w.hops; failed_all = w.failed_all; blocked_all = w.blocked_all; releasing_all = e ∙ w.releasing_all; out_all = w.out_all }
+  -- other marks, for as many groups
+  pub whole_marks : (marks' : Marks A) → AreFor (length p.groups) marks' → IsWhole p calls tickets marks' numbers
+  whole_marks marks' all = record { rules = w.rules; room = w.room; held = w.held; hops = w.hops; marks_all = all }
 
-  pub whole_ended : (ends : Ends) (calls' : Vec (OpenCall A) A) (tickets' : Vec Ended A) (releasing' : Circuits) → calls'.items ≡ filter (λ c. not (ends_by ends (call_seen c))) calls.items → vec_len tickets' + vec_len calls' ≤ vec_capacity tickets' → releasing'.groups ≡ releasing.groups → IsWhole p calls' tickets' failed blocked releasing' out numbers
+  pub whole_ended : (ends : Ends) (calls' : Vec (OpenCall A) A) (tickets' : Vec Ended A) (releasing' : Circuits) → calls'.items ≡ filter (λ c. not (ends_by ends (call_seen c))) calls.items → vec_len tickets' + vec_len calls' ≤ vec_capacity tickets' → releasing'.groups ≡ marks.releasing.groups → IsWhole p calls' tickets' (record marks { releasing = releasing' }) numbers
   whole_ended ends calls' tickets' releasing' kept room e = record {
     rules = w.rules;
     room = room;
     held = subst (AreHeld (length p.groups) numbers) (sym (filter_map_seen (λ c. not (ends_by ends c)) call_seen calls.items) ∙ ap (map call_seen) (sym kept)) (held_filter (length p.groups) numbers (map call_seen calls.items) w.held (λ c. not (ends_by ends c)));
     hops = λ c m. w.hops c (filter_among (λ c. not (ends_by ends (call_seen c))) c calls.items (subst (λ l. Among c l) kept m)).0;
-    failed_all = w.failed_all;
-    blocked_all = w.blocked_all;
-    releasing_all = e ∙ w.releasing_all;
-    out_all = w.out_all;
+    marks_all = record { failed = w.marks_all.failed; blocked = w.marks_all.blocked; releasing = e ∙ w.marks_all.releasing; out = w.marks_all.out };
   }
-
-thrown_number : (a b : ℕ) (k : Call) → (thrown_at a b k).number ≡ k.number
-thrown_number a b k = elim (is_numbered a k || is_numbered b k) as (λ t. (if t then thrown_back k else k).number ≡ k.number) [ true ↦ refl | false ↦ refl ]
-
-thrown_marked : (groups numbers a b : ℕ) (cs : List Call) → AreHeld groups numbers cs → (k : Call) → Among k cs → AreMarked groups (circuits_used (thrown_at a b k))
-thrown_marked groups numbers a b cs h k m = elim (is_numbered a k || is_numbered b k) as (λ t. AreMarked groups (circuits_used (if t then thrown_back k else k))) [
-  | true ↦ marks_back groups numbers k.number cs h k m refl
-  | false ↦ h.marked k m
-]
-
--- two calls are thrown back, and another circuit is releasing
-pub whole_thrown : {A : Type 0} (p : Plan) (calls : Vec (OpenCall A) A) (tickets : Vec Ended A) (failed blocked : Groups) (releasing out : Circuits) (numbers : ℕ) → IsWhole p calls tickets failed blocked releasing out numbers → (a b : ℕ) (now new : List (OpenCall A)) → now ≡ calls.items → length now ≡ vec_len calls → map call_seen new ≡ map (thrown_at a b) (map call_seen now) → length new ≡ length now → (((c : OpenCall A) → Among c now → HasRoom c) → (c : OpenCall A) → Among c new → HasRoom c) → IsWhole p (with_items calls new) tickets failed blocked releasing out numbers
-whole_thrown {A} p calls tickets failed blocked releasing out numbers w a b now new e len seen same room =
-    let items = with_items_is calls new (same ∙ len) in
-    whole_calls p calls tickets failed blocked releasing out numbers w (with_items calls new) refl
-    (subst (AreHeld (length p.groups) numbers) (ap (λ l. map (thrown_at a b) (map call_seen l)) (sym e) ∙ sym seen ∙ ap (map call_seen) (sym items)) (held_map (length p.groups) numbers (map call_seen calls.items) w.held (thrown_at a b) (thrown_number a b) (thrown_marked (length p.groups) numbers a b (map call_seen calls.items) w.held)))
-    (λ c m. room (subst (λ l. (c : OpenCall A) → Among c l → HasRoom c) (sym e) w.hops) c (subst (λ l. Among c l) items m))
 
 pub seen_same : {A : Type 0} (calls : Vec (OpenCall A) A) (now new : List (OpenCall A)) → now ≡ calls.items → length now ≡ vec_len calls → map call_seen new ≡ map call_seen now → length new ≡ length now → map call_seen (with_items calls new).items ≡ map call_seen calls.items
 seen_same calls now new e len seen same = ap (map call_seen) (with_items_is calls new (same ∙ len)) ∙ seen ∙ ap (map call_seen) e
+
+pub seen_changed : {A : Type 0} (calls : Vec (OpenCall A) A) (n : ℕ) (change : Change) (now new : List (OpenCall A)) → now ≡ calls.items → length now ≡ vec_len calls → map call_seen new ≡ set_call n (changed change) (map call_seen now) → length new ≡ length now → map call_seen (with_items calls new).items ≡ set_call n (changed change) (map call_seen calls.items)
+seen_changed calls n change now new e len seen same = ap (map call_seen) (with_items_is calls new (same ∙ len)) ∙ seen ∙ ap (λ l. set_call n (changed change) (map call_seen l)) e
+
+-- two calls that are thrown back one after the other
+pub thrown_twice : (a b : ℕ) (cs : List Call) → set_call b (changed ThrowBack) (set_call a (changed ThrowBack) cs) ≡ map (λ k. if is_numbered a k || is_numbered b k then thrown_back k else k) cs
+thrown_twice a b [] = refl
+thrown_twice a b (c ∷ cs) = λ i. one (is_numbered a c) i ∷ thrown_twice a b cs i
+  where
+    two : (t : Bool) → (if t then thrown_back (thrown_back c) else thrown_back c) ≡ thrown_back c
+    two true = refl
+    two false = refl
+
+    one : (t : Bool) → (if is_numbered b (if t then thrown_back c else c) then thrown_back (if t then thrown_back c else c) else (if t then thrown_back c else c)) ≡ (if t || is_numbered b c then thrown_back c else c)
+    one true = two (is_numbered b c)
+    one false = refl
 
 pub err_with : {T E : Type 0} (r : Result T E) (P : Type 0) → P → OnErr r P
 err_with (Ok x) P h = tt
 err_with (Err x) P h = h
 
-module _ {A : Type 0} (p : Plan) (calls : Vec (OpenCall A) A) (tickets : Vec Ended A) (failed blocked : Groups) (releasing out : Circuits) (numbers : ℕ) (w : IsWhole p calls tickets failed blocked releasing out numbers) where
+module _ {A : Type 0} (p : Plan) (calls : Vec (OpenCall A) A) (tickets : Vec Ended A) (marks : Marks A) (numbers : ℕ) (w : IsWhole p calls tickets marks numbers) where
   -- more room
-  pub whole_room : (calls' : Vec (OpenCall A) A) (tickets' : Vec Ended A) → calls'.items ≡ calls.items → vec_len tickets' + vec_len calls' ≤ vec_capacity tickets' → IsWhole p calls' tickets' failed blocked releasing out numbers
+  pub whole_room : (calls' : Vec (OpenCall A) A) (tickets' : Vec Ended A) → calls'.items ≡ calls.items → vec_len tickets' + vec_len calls' ≤ vec_capacity tickets' → IsWhole p calls' tickets' marks numbers
   whole_room calls' tickets' e room = record {
     rules = w.rules;
     room = room;
     held = subst (λ l. AreHeld (length p.groups) numbers (map call_seen l)) (sym e) w.held;
     hops = subst (λ l. (c : OpenCall A) → Among c l → HasRoom c) (sym e) w.hops;
-    failed_all = w.failed_all;
-    blocked_all = w.blocked_all;
-    releasing_all = w.releasing_all;
-    out_all = w.out_all;
+    marks_all = w.marks_all;
   }
 
-  -- other failed groups
-  pub whole_failed : (failed' : Groups) → failed'.groups ≡ failed.groups → IsWhole p calls tickets failed' blocked releasing out numbers
-  whole_failed failed' e = record { rules = w.rules; room = w.room; held = w.held; hops = w.hops; failed_all = e ∙ w.failed_all; blocked_all = w.blocked_all; releasing_all = w.releasing_all; out_all = w.out_all }
-
-  -- other blocked groups
-  pub whole_blocked : (blocked' : Groups) → blocked'.groups ≡ blocked.groups → IsWhole p calls tickets failed blocked' releasing out numbers
-  whole_blocked blocked' e = record { rules = w.rules; room = w.room; held = w.held; hops = w.hops; failed_all = w.failed_all; blocked_all = e ∙ w.blocked_all; releasing_all = w.releasing_all; out_all = w.out_all }
-
-  -- other circuits out
-  pub whole_out : (out' : Circuits) → out'.groups ≡ out.groups → IsWhole p calls tickets failed blocked releasing out' numbers
-  whole_out out' e = record { rules = w.rules; room = w.room; held = w.held; hops = w.hops; failed_all = w.failed_all; blocked_all = w.blocked_all; releasing_all = w.releasing_all; out_all = e ∙ w.out_all }
-
   -- one more call
-  pub whole_more : (calls' : Vec (OpenCall A) A) (tickets' : Vec Ended A) (c : OpenCall A) (line : Line) (keyed : List ℕ) (event : ℕ) → calls'.items ≡ calls.items ++ c ∷ [] → call_seen c ≡ keyed_call (numbers + 1) line keyed event → vec_len tickets' + vec_len calls' ≤ vec_capacity tickets' → IsWhole p calls' tickets' failed blocked releasing out (numbers + 1)
+  pub whole_more : (calls' : Vec (OpenCall A) A) (tickets' : Vec Ended A) (c : OpenCall A) (line : Line) (keyed : List ℕ) (event : ℕ) → calls'.items ≡ calls.items ++ c ∷ [] → call_seen c ≡ keyed_call (numbers + 1) line keyed event → vec_len tickets' + vec_len calls' ≤ vec_capacity tickets' → IsWhole p calls' tickets' marks (numbers + 1)
   whole_more calls' tickets' c line keyed event e is room = record {
     rules = w.rules;
     room = room;
@@ -190,10 +170,7 @@ module _ {A : Type 0} (p : Plan) (calls : Vec (OpenCall A) A) (tickets : Vec End
       | inl o ↦ w.hops d o
       | inr q ↦ elim q [ inl f ↦ subst HasRoom f (λ t. absurd (false≢true (sym (ap (λ (z : Call). is_calling z.phase) is) ∙ t))) | inr b ↦ absurd b ]
     ];
-    failed_all = w.failed_all;
-    blocked_all = w.blocked_all;
-    releasing_all = w.releasing_all;
-    out_all = w.out_all;
+    marks_all = w.marks_all;
   }
 
 -- what is given up, in the words of the machine

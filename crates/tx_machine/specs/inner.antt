@@ -2,4 +2,5 @@ pub mod Decided
 pub mod Whole
 pub mod GivenUp
 pub mod Marks
+pub mod Marked
 pub mod Seen

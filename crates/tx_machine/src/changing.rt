@@ -3,7 +3,7 @@ ghost use Rattle.std.specs.Prelude.{◌≡◌, ◌<◌, ◌==◌, OnOk, map, len
 ghost use Rattle.tx_plan.specs.Among.{Among};
 ghost use Rattle.tx_state.specs.Routing.{set_call};
 ghost use Rattle.tx_state.specs.Seen.{call_seen};
-ghost use Rattle.tx_machine.specs.inner.Seen.{changed, change_at, thrown_at, HasRoom, IsReady};
+ghost use Rattle.tx_machine.specs.inner.Seen.{changed, change_at, HasRoom, IsReady, CanChange};
 
 use crate::change::Change;
 use std::alloc::Allocator;
@@ -42,7 +42,7 @@ pub(crate) fn reserve_hop<A: Allocator>(
 
 /// Changes a call with the number.
 fn change_one<A: Allocator>(call: &mut OpenCall<A>, number: u32, change: &Change)
-    requires { IsReady number call.old }
+    requires { CanChange change.now number call.old }
     ensures seen { call_seen call.new ≡ change_at number (changed change.now) (call_seen call.old) }
     ensures room { HasRoom call.old → HasRoom call.new }
 {
@@ -64,7 +64,7 @@ fn change_one<A: Allocator>(call: &mut OpenCall<A>, number: u32, change: &Change
 
 /// Changes the calls with the number.
 pub(crate) fn change_numbered<A: Allocator>(calls: &mut [OpenCall<A>], number: u32, change: &Change)
-    requires { (c : _) → Among c calls.old → IsReady number c }
+    requires { (c : _) → Among c calls.old → CanChange change.now number c }
     ensures seen { map call_seen calls.new ≡ set_call number (changed change.now) (map call_seen calls.old) }
     ensures len { length calls.new ≡ length calls.old }
     ensures room { ((c : _) → Among c calls.old → HasRoom c) → (c : _) → Among c calls.new → HasRoom c }
@@ -72,30 +72,6 @@ pub(crate) fn change_numbered<A: Allocator>(calls: &mut [OpenCall<A>], number: u
     let mut at = 0;
     while at < calls.len() {
         change_one(&mut calls[at], number, change);
-        at += 1;
-    }
-}
-
-/// Throws one call back, if it is one of two.
-fn throw_one<A: Allocator>(call: &mut OpenCall<A>, a: u32, b: u32)
-    ensures seen { call_seen call.new ≡ thrown_at a b (call_seen call.old) }
-    ensures room { HasRoom call.old → HasRoom call.new }
-{
-    if call.number == a || call.number == b {
-        call.phase = Phase::Standing;
-        call.collided = true;
-    }
-}
-
-/// Throws two calls back.
-pub(crate) fn throw_back<A: Allocator>(calls: &mut [OpenCall<A>], a: u32, b: u32)
-    ensures seen { map call_seen calls.new ≡ map (thrown_at a b) (map call_seen calls.old) }
-    ensures len { length calls.new ≡ length calls.old }
-    ensures room { ((c : _) → Among c calls.old → HasRoom c) → (c : _) → Among c calls.new → HasRoom c }
-{
-    let mut at = 0;
-    while at < calls.len() {
-        throw_one(&mut calls[at], a, b);
         at += 1;
     }
 }

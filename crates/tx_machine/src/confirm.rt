@@ -5,10 +5,8 @@ ghost use Rattle.tx_state.specs.Step.{step, accepted, counted};
 ghost use Rattle.tx_state.specs.Call.{is_calling, call_of};
 ghost use Rattle.tx_state.specs.Refusals.{is_other};
 ghost use Rattle.tx_state.specs.Confirming.{confirmed, collide};
-ghost use Rattle.tx_state.specs.Routing.{set_call};
 ghost use Rattle.tx_machine.specs.inner.Marks.{HasMark};
 ghost use Rattle.tx_state.specs.Seen.{call_seen};
-ghost use Rattle.tx_machine.specs.inner.Seen.{changed};
 ghost use Rattle.tx_machine.specs.inner.Decided.{meeting_done, IsMet, IsOn};
 ghost use Rattle.tx_state.specs.declared.event.Event.TheVariants.{Confirm};
 ghost use Rattle.tx_state.specs.declared.phase.Phase.TheVariants.{Calling};
@@ -16,7 +14,7 @@ ghost use Rattle.tx_machine.specs.declared.change.Change.TheVariants.{Carry};
 
 use crate::calls::{call_of, rival_of};
 use crate::change::Change;
-use crate::changing::{change_numbered, throw_back};
+use crate::changing::change_numbered;
 use crate::ends::Ends;
 use crate::meeting::Meeting;
 use crate::plain::Plain;
@@ -75,7 +73,7 @@ impl<'p, A: Allocator + Copy> Plain<'p, A> {
     {
         let meeting = self.meeting_of(number);
         match &meeting {
-            Meeting::GoesOn(hop) => self.go_on(number, hop),
+            Meeting::GoesOn(hop) => self.carry(number, hop),
             Meeting::Collides {
                 circuit,
                 collided,
@@ -85,14 +83,14 @@ impl<'p, A: Allocator + Copy> Plain<'p, A> {
         }
     }
 
-    /// A call goes on over its circuit.
-    pub(crate) fn go_on(&mut self, number: u32, hop: &Hop) -> Reply
+    /// A call goes on over the circuit that it seizes.
+    pub(crate) fn carry(&mut self, number: u32, hop: &Hop) -> Reply
         requires events { self.old.state.events < 2 ^ 64 - 1 }
         requires met { IsMet self.old.plan self.old.state number (GoesOn hop.now) }
         ensures step { counted (meeting_done self.old.plan self.old.state number (GoesOn hop.now)) ≡ (result, self.new.state) }
         ensures plan { self.new.plan ≡ self.old.plan }
     {
-        self.carry(number, *hop);
+        change_numbered(self.calls.as_mut_slice(), number, &Change::Carry(*hop));
         self.events += 1;
         Reply::At(hop.far)
     }
@@ -121,7 +119,6 @@ impl<'p, A: Allocator + Copy> Plain<'p, A> {
             },
             Cause::Service(Service::Nc),
         );
-        self.events += 1;
         Reply::HeadOn {
             a: number,
             b: other,
@@ -130,20 +127,13 @@ impl<'p, A: Allocator + Copy> Plain<'p, A> {
         }
     }
 
-    /// A call goes on over the circuit that it seizes.
-    pub(crate) fn carry(&mut self, number: u32, hop: Hop)
-        requires { (c : _) × (call_of number self.old.state.calls ≡ Some c) × (c.phase ≡ Calling hop.circuit) }
-        ensures { self.new ≡ record self.old { state = record self.old.state { calls = set_call number (changed (Carry hop)) self.old.state.calls } } }
-    {
-        change_numbered(self.calls.as_mut_slice(), number, &Change::Carry(hop));
-    }
-
     /// Two calls collide on a circuit, which is releasing then.
     pub(crate) fn collide(&mut self, a: u32, b: u32, circuit: &Circuit)
         requires { HasMark (length self.old.plan.groups) circuit.now }
         ensures { self.new ≡ record self.old { state = collide a b circuit.now self.old.state } }
     {
-        throw_back(self.calls.as_mut_slice(), a, b);
-        self.releasing.set(circuit);
+        change_numbered(self.calls.as_mut_slice(), a, &Change::ThrowBack);
+        change_numbered(self.calls.as_mut_slice(), b, &Change::ThrowBack);
+        self.marks.releasing.set(circuit);
     }
 }

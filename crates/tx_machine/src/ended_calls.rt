@@ -141,7 +141,11 @@ fn give_if<A: Allocator>(
 }
 
 /// Gives up the circuits of the calls that end.
-fn give_up<A: Allocator>(calls: &[OpenCall<A>], ends: &Ends, releasing: &mut CircuitMarks<A>)
+pub(crate) fn give_up<A: Allocator>(
+    calls: &[OpenCall<A>],
+    ends: &Ends,
+    releasing: &mut CircuitMarks<A>,
+)
     requires { (c : _) → Among c calls.now → AreMarked releasing.old.groups (circuits_used (call_seen c)) }
     ensures { releasing.new ≡ with_more releasing.old (filter (is_given ends.now (map call_seen calls.now)) (flat_map circuits_used (filter (ends_by ends.now) (map call_seen calls.now)))) }
 {
@@ -177,7 +181,7 @@ fn ticket<A: Allocator>(plan: &Plan<A>, call: OpenCall<A>, cause: Cause, event: 
 }
 
 /// Takes out the calls that end, and writes their tickets.
-fn take_out<A: Allocator>(
+pub(crate) fn take_out<A: Allocator>(
     plan: &Plan<A>,
     calls: &mut Vec<OpenCall<A>, A>,
     tickets: &mut Vec<Ticket<A>, A>,
@@ -200,27 +204,6 @@ fn take_out<A: Allocator>(
             at += 1;
         }
     }
-}
-
-/// Ends calls: their circuits are given up, and their tickets written.
-pub(crate) fn end_calls<A: Allocator>(
-    plan: &Plan<A>,
-    calls: &mut Vec<OpenCall<A>, A>,
-    tickets: &mut Vec<Ticket<A>, A>,
-    releasing: &mut CircuitMarks<A>,
-    ends: &Ends,
-    cause: Cause,
-    event: u64,
-)
-    requires room { vec_len tickets.old + vec_len calls.old ≤ vec_capacity tickets.old }
-    requires marked { (c : _) → Among c calls.old.items → AreMarked releasing.old.groups (circuits_used (call_seen c)) }
-    ensures calls { calls.new.items ≡ filter (λ c. not (ends_by ends.now (call_seen c))) calls.old.items }
-    ensures tickets { tickets.new.items ≡ tickets.old.items ++ map (ticket_of plan.now cause event) (filter (ends_by ends.now) (map call_seen calls.old.items)) }
-    ensures room { vec_len tickets.new + vec_len calls.new ≤ vec_capacity tickets.new }
-    ensures releasing { releasing.new ≡ with_more releasing.old (filter (is_given ends.now (map call_seen calls.old.items)) (flat_map circuits_used (filter (ends_by ends.now) (map call_seen calls.old.items)))) }
-{
-    give_up(calls.as_slice(), ends, releasing);
-    take_out(plan, calls, tickets, ends, cause, event);
 }
 
 /// How many calls end.

@@ -1,14 +1,13 @@
 // Ending calls.
 ghost use Rattle.tx_state.specs.declared.party.Party.TheVariants.{Caller, Called};
-ghost use Rattle.std.specs.Prelude.{◌≡◌, ◌<◌, ◌+◌, ◌-◌, ◌^◌, not, filter, length, ◌==◌};
+ghost use Rattle.std.specs.Prelude.{◌≡◌, ◌<◌, ◌+◌, ◌-◌, ◌^◌, filter, length};
 ghost use Rattle.tx_state.specs.Step.{step, accepted, counted};
 ghost use Rattle.tx_state.specs.InUse.{uses_group};
 ghost use Rattle.tx_state.specs.Ending.{end_calls};
-ghost use Rattle.std.specs.FinSet as set;
 ghost use Rattle.tx_machine.specs.inner.GivenUp.{ends_by};
 ghost use Rattle.tx_state.specs.declared.event.Event.TheVariants.{Fail, Clear};
 
-use crate::ended_calls::{count_ending, end_calls};
+use crate::ended_calls::{count_ending, give_up, take_out};
 use crate::ends::Ends;
 use crate::plain::Plain;
 use std::alloc::Allocator;
@@ -27,7 +26,6 @@ impl<'p, A: Allocator + Copy> Plain<'p, A> {
             Party::Called => Cause::ClearedByCalled,
         };
         self.end(&Ends::Numbered(number), cause);
-        self.events += 1;
         Reply::Cleared
     }
 
@@ -40,8 +38,7 @@ impl<'p, A: Allocator + Copy> Plain<'p, A> {
     {
         let lost = self.count_on(group);
         self.end(&Ends::OnGroup(group), Cause::Lost);
-        self.drop_group(group);
-        self.events += 1;
+        self.marks.fail(group);
         Reply::Lost(lost)
     }
 
@@ -52,28 +49,20 @@ impl<'p, A: Allocator + Copy> Plain<'p, A> {
         count_ending(self.calls.as_slice(), &Ends::OnGroup(group)) as u64
     }
 
-    /// A group fails, and none of its circuits is releasing any longer.
-    pub(crate) fn drop_group(&mut self, group: GroupId)
-        requires group { group < length self.old.plan.groups }
-        ensures { self.new ≡ record self.old { state = record self.old.state { failed = set.insert self.old.state.failed group; releasing = set.retain self.old.state.releasing (λ x. not (x.group == group)) } } }
-    {
-        self.failed.set(group);
-        self.releasing.clear_group(group);
-    }
-
-    /// Ends calls, with one cause.
+    /// An event ends calls, with one cause.
     pub(crate) fn end(&mut self, ends: &Ends, cause: Cause)
         requires { self.old.state.events < 2 ^ 64 - 1 }
-        ensures { self.new ≡ record self.old { state = end_calls self.old.plan cause (ends_by ends.now) self.old.state } }
+        ensures { self.new ≡ record self.old { state = record (end_calls self.old.plan cause (ends_by ends.now) self.old.state) { events = self.old.state.events + 1 } } }
     {
-        end_calls(
+        self.events += 1;
+        give_up(self.calls.as_slice(), ends, &mut self.marks.releasing);
+        take_out(
             self.plan,
             &mut self.calls,
             &mut self.tickets,
-            &mut self.releasing,
             ends,
             cause,
-            self.events + 1,
+            self.events,
         );
     }
 }

@@ -1,6 +1,5 @@
 // What the plain network knows of a call, a line, a circuit and a group.
 use crate::calls::{call_of, engaged_in};
-use crate::lines::has_line;
 use crate::plain::Plain;
 use std::alloc::Allocator;
 use tx_plan::{Circuit, GroupId, Line};
@@ -31,11 +30,11 @@ impl<'p, A: Allocator + Copy> Facts for Plain<'p, A> {
     }
 
     fn is_faulty(&self, line: &Line) -> bool {
-        has_line(&self.faulty, line)
+        self.faulty.contains(line)
     }
 
     fn is_away(&self, line: &Line) -> bool {
-        has_line(&self.away, line)
+        self.away.contains(line)
     }
 
     #[tactic(auto, using(crate::proofs::Choosing::counted_circuit))]
@@ -46,11 +45,11 @@ impl<'p, A: Allocator + Copy> Facts for Plain<'p, A> {
     }
 
     fn is_releasing(&self, circuit: &Circuit) -> bool {
-        self.releasing.has(circuit)
+        self.marks.releasing.has(circuit)
     }
 
     fn is_out(&self, circuit: &Circuit) -> bool {
-        self.out.has(circuit)
+        self.marks.out.has(circuit)
     }
 
     fn has_group(&self, group: GroupId) -> bool {
@@ -60,11 +59,11 @@ impl<'p, A: Allocator + Copy> Facts for Plain<'p, A> {
     }
 
     fn is_failed(&self, group: GroupId) -> bool {
-        self.failed.has(group)
+        self.marks.failed.has(group)
     }
 
     fn is_blocked(&self, group: GroupId) -> bool {
-        self.blocked.has(group)
+        self.marks.blocked.has(group)
     }
 
     fn numbers_given(&self) -> u32 {

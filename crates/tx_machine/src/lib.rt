@@ -15,6 +15,7 @@ mod group_marks;
 mod keying;
 mod lines;
 mod looking;
+mod marks;
 mod meeting;
 mod plain;
 mod route;

@@ -1,18 +1,10 @@
 // Lists of lines.
 ghost use Rattle.std.specs.Prelude.{◌≡◌, not, filter};
-ghost use Rattle.std.specs.List.{list_any};
 ghost use Rattle.tx_plan.specs.Orders.{same_line};
 
 use crate::calls::same_line;
 use std::alloc::Allocator;
 use tx_plan::Line;
-
-/// Whether the line is in the list.
-pub(crate) fn has_line(lines: &[Line], line: &Line) -> bool
-    ensures { result ≡ list_any (λ m. same_line m line.now) lines.now }
-{
-    lines.iter().any(|other| same_line(other, line))
-}
 
 /// Takes a line out of the list.
 pub(crate) fn take_line<A: Allocator>(lines: &mut Vec<Line, A>, line: &Line)

@@ -14,7 +14,7 @@ impl<'p, A: Allocator + Copy> Plain<'p, A> {
     pub(crate) fn is_down(&self, group: GroupId) -> bool
         ensures { result ≡ is_down self.now.state group }
     {
-        self.failed.has(group) || self.blocked.has(group)
+        self.marks.failed.has(group) || self.marks.blocked.has(group)
     }
 
     /// Whether the exchange sees the circuit as free.
@@ -22,8 +22,8 @@ impl<'p, A: Allocator + Copy> Plain<'p, A> {
         ensures { result ≡ is_free_at self.now.plan self.now.state place circuit.now }
     {
         let carried = carried_by(self.calls.as_slice(), circuit);
-        let releasing = self.releasing.has(circuit);
-        let out = self.out.has(circuit);
+        let releasing = self.marks.releasing.has(circuit);
+        let out = self.marks.out.has(circuit);
         let seized = seized_from(self.plan, self.calls.as_slice(), circuit, place);
         none_of(carried, releasing, out, seized)
     }

@@ -4,8 +4,7 @@ ghost use Rattle.tx_state.specs.Step.{takes_memory, accepted, counted};
 ghost use Rattle.tx_state.specs.State.{opening};
 ghost use Rattle.tx_state.specs.Refusals.{refusal};
 
-use crate::circuit_marks::CircuitMarks;
-use crate::group_marks::GroupMarks;
+use crate::marks::Marks;
 use std::alloc::{Allocator, Global};
 use std::marker::Model;
 use tx_plan::{Line, Plan};
@@ -18,10 +17,7 @@ pub struct Plain<'p, A: Allocator = Global> {
     pub(crate) plan: &'p Plan<A>,
     pub(crate) alloc: A,
     pub(crate) calls: Vec<OpenCall<A>, A>,
-    pub(crate) failed: GroupMarks<A>,
-    pub(crate) blocked: GroupMarks<A>,
-    pub(crate) releasing: CircuitMarks<A>,
-    pub(crate) out: CircuitMarks<A>,
+    pub(crate) marks: Marks<A>,
     pub(crate) faulty: Vec<Line, A>,
     pub(crate) away: Vec<Line, A>,
     pub(crate) numbers: u32,
@@ -43,9 +39,9 @@ impl<'p, A: Allocator> Model for Plain<'p, A> {
 
     ghost use Rattle.tx_machine.specs.inner.Whole.{net_of, IsWhole};
 
-    ghost view = { λ n. net_of n.plan.now n.calls.items n.failed n.blocked n.releasing n.out n.faulty.items n.away.items n.numbers n.events n.tickets.items };
+    ghost view = { λ n. net_of n.plan.now n.calls.items n.marks n.faulty.items n.away.items n.numbers n.events n.tickets.items };
 
-    ghost invariant = { λ n. IsWhole n.plan.now n.calls n.tickets n.failed n.blocked n.releasing n.out n.numbers };
+    ghost invariant = { λ n. IsWhole n.plan.now n.calls n.tickets n.marks n.numbers };
 }
 
 impl<'p, A: Allocator + Copy> Plain<'p, A> {
@@ -67,18 +63,12 @@ impl<'p, A: Allocator + Copy> Plain<'p, A> {
     {
         plan.rules();
         let groups = plan.groups();
-        let failed = GroupMarks::new(alloc, groups)?;
-        let blocked = GroupMarks::new(alloc, groups)?;
-        let releasing = CircuitMarks::new(alloc, groups)?;
-        let out = CircuitMarks::new(alloc, groups)?;
+        let marks = Marks::new(alloc, groups)?;
         Ok(Plain {
             plan,
             alloc,
             calls: Vec::new(alloc),
-            failed,
-            blocked,
-            releasing,
-            out,
+            marks,
             faulty: Vec::new(alloc),
             away: Vec::new(alloc),
             numbers,
@@ -100,17 +90,8 @@ impl<'p, A: Allocator + Copy> Plain<'p, A> {
             Event::Route(number) => self.route(*number),
             Event::Confirm(number) => Ok(self.confirm(*number)),
             Event::Clear { call, party } => Ok(self.clear(*call, *party)),
-            Event::Released(circuit) => Ok(self.release(circuit)),
             Event::Fail(group) => Ok(self.fail(*group)),
-            Event::Restore(group) => Ok(self.restore(*group)),
-            Event::Block(group) => Ok(self.block(*group)),
-            Event::Unblock(group) => Ok(self.unblock(*group)),
-            Event::CircuitOut(circuit) => Ok(self.put_out(circuit)),
-            Event::CircuitIn(circuit) => Ok(self.put_in(circuit)),
-            Event::LineFault(line) => self.line_fault(*line),
-            Event::LineMend(line) => Ok(self.line_mend(line)),
-            Event::LineAway(line) => self.line_away(*line),
-            Event::LineBack(line) => Ok(self.line_back(line)),
+            _ => self.mark(event),
         }
     }
 }

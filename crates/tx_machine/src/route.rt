@@ -1,6 +1,6 @@
 // Routing a call.
-ghost use Rattle.tx_machine.specs.declared.routing.Routing.TheVariants.{Answer, Connect, Seize};
-ghost use Rattle.std.specs.Prelude.{◌≡◌, ◌<◌, ◌+◌, ◌-◌, ◌^◌, IfOk, OnErr, OnOk, Some, None, is_some, ◌==◌, true};
+ghost use Rattle.tx_machine.specs.declared.routing.Routing.TheVariants.{Answer};
+ghost use Rattle.std.specs.Prelude.{◌≡◌, ◌<◌, ◌+◌, ◌-◌, ◌^◌, IfOk, OnErr, Some, None, is_some, ◌==◌, true};
 ghost use Rattle.tx_state.specs.Step.{step, accepted, counted};
 ghost use Rattle.tx_state.specs.Call.{is_first, call_of};
 ghost use Rattle.tx_state.specs.Routing.{at_line, at_trunk, line_of, routed, set_call, in_phase};
@@ -116,8 +116,12 @@ impl<'p, A: Allocator + Copy> Plain<'p, A> {
         let routing = self.routing_of(number);
         match &routing {
             Routing::Answer(service) => Ok(self.answer(number, *service)),
-            Routing::Connect(line) => self.connect(number, line),
-            Routing::Seize(circuit) => self.seize(number, circuit),
+            Routing::Connect(line) => {
+                self.to_phase(number, Phase::Connected(*line), Reply::Connected(*line))
+            }
+            Routing::Seize(circuit) => {
+                self.to_phase(number, Phase::Calling(*circuit), Reply::Seized(*circuit))
+            }
         }
     }
 
@@ -128,44 +132,26 @@ impl<'p, A: Allocator + Copy> Plain<'p, A> {
         ensures plan { self.new.plan ≡ self.old.plan }
     {
         self.end(&Ends::Numbered(number), Cause::Service(service));
-        self.events += 1;
         Reply::Answered(service)
     }
 
-    /// A call is connected.
-    pub(crate) fn connect(&mut self, number: u32, line: &Line) -> Result<Reply, NoMemory>
-        requires { self.old.state.events < 2 ^ 64 - 1 }
-        ensures plan { self.new.plan ≡ self.old.plan }
-        ensures ok { IfOk result (λ reply. counted (routing_done self.old.plan self.old.state number (Connect line.now)) ≡ (reply, self.new.state)) }
-        ensures err { OnErr result (self.new ≡ self.old) }
-    {
-        self.to_phase(number, Phase::Connected(*line))?;
-        self.events += 1;
-        Ok(Reply::Connected(*line))
-    }
-
-    /// A call seizes a circuit.
-    pub(crate) fn seize(&mut self, number: u32, circuit: &Circuit) -> Result<Reply, NoMemory>
+    /// A call goes to another phase, and the event has this reply.
+    pub(crate) fn to_phase(
+        &mut self,
+        number: u32,
+        phase: Phase,
+        reply: Reply,
+    ) -> Result<Reply, NoMemory>
         requires events { self.old.state.events < 2 ^ 64 - 1 }
-        requires circuit { is_circuit self.old.plan circuit.now ≡ true }
+        requires circuit { (x : _) → phase ≡ Calling x → is_circuit self.old.plan x ≡ true }
         ensures plan { self.new.plan ≡ self.old.plan }
-        ensures ok { IfOk result (λ reply. counted (routing_done self.old.plan self.old.state number (Seize circuit.now)) ≡ (reply, self.new.state)) }
-        ensures err { OnErr result (self.new ≡ self.old) }
-    {
-        self.to_phase(number, Phase::Calling(*circuit))?;
-        self.events += 1;
-        Ok(Reply::Seized(*circuit))
-    }
-
-    /// A call goes to another phase.
-    pub(crate) fn to_phase(&mut self, number: u32, phase: Phase) -> Result<(), NoMemory>
-        requires { (x : _) → phase ≡ Calling x → is_circuit self.old.plan x ≡ true }
-        ensures ok { OnOk result (self.new ≡ record self.old { state = record self.old.state { calls = set_call number (in_phase phase) self.old.state.calls } }) }
+        ensures ok { IfOk result (λ r. counted (reply, record self.old.state { calls = set_call number (in_phase phase) self.old.state.calls }) ≡ (r, self.new.state)) }
         ensures err { OnErr result (self.new ≡ self.old) }
     {
         reserve_hop(self.calls.as_mut_slice(), number)?;
         change_numbered(self.calls.as_mut_slice(), number, &Change::To(phase));
-        Ok(())
+        self.events += 1;
+        Ok(reply)
     }
 }
 

@@ -1,7 +1,7 @@
 -- Room of open calls, and what changes of them come to.
-use Rattle.std.specs.Prelude.{◌≡◌, ℕ, ◌<◌, true, false, ◌||◌, ◌==◌, [], ◌∷◌, ◌++◌, vec_len, vec_capacity, if◌then◌else◌}
+use Rattle.std.specs.Prelude.{◌≡◌, ℕ, ◌<◌, true, false, ◌==◌, [], ◌∷◌, ◌++◌, vec_len, vec_capacity, if◌then◌else◌}
 use Rattle.tx_state.specs.declared.phase.Phase.TheVariants.{Standing}
-use Rattle.tx_state.specs.Call.{Call, is_calling, is_numbered}
+use Rattle.tx_state.specs.Call.{Call, is_calling}
 use Rattle.tx_state.specs.Routing.{in_phase}
 use Rattle.tx_state.specs.Confirming.{thrown_back}
 use Rattle.tx_state.specs.declared.open_call.OpenCall.{OpenCall}
@@ -26,6 +26,8 @@ changed ThrowBack c = thrown_back c
 abbrev pub change_at : ℕ → (Call → Call) → Call → Call
 change_at n f c = if c.number == n then f c else c
 
--- what becomes of a call where two are thrown back
-abbrev pub thrown_at : ℕ → ℕ → Call → Call
-thrown_at a b k = if is_numbered a k || is_numbered b k then thrown_back k else k
+-- a call that is not thrown back has room for a hop, if it has the number
+abbrev pub CanChange : {A : Type 0} → Change → ℕ → OpenCall A → Type 0
+CanChange (To phase) n c = IsReady n c
+CanChange (Carry h) n c = IsReady n c
+CanChange ThrowBack n c = Unit {0}

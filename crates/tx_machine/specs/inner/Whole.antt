@@ -9,7 +9,8 @@ use Rattle.tx_state.specs.Call.{Call}
 use Rattle.tx_state.specs.Ended.{Ended}
 use Rattle.tx_state.specs.State.{Net}
 use Rattle.tx_state.specs.InUse.{circuits_used}
-use Rattle.tx_machine.specs.inner.Marks.{Circuits, Groups}
+use Rattle.tx_machine.specs.inner.Marked.{AreFor}
+use Rattle.tx_machine.specs.declared.marks.Marks.{Marks}
 use Rattle.tx_state.specs.Seen.{call_seen}
 use Rattle.tx_machine.specs.inner.Seen.{HasRoom}
 use Rattle.tx_machine.specs.inner.GivenUp.{AreMarked}
@@ -23,27 +24,24 @@ pub record AreHeld (groups numbers : ℕ) (calls : List Call) : Type 0 where
 
 -- What the fields keep: the rules of the plan; room for a ticket of each open call; what holds of the calls; room for the hop of a call that has
 -- seized a circuit; marks for all groups of the plan.
-pub record IsWhole {A : Type 0} (p : Plan) (calls : Vec (OpenCall A) A) (tickets : Vec Ended A) (failed blocked : Groups) (releasing out : Circuits) (numbers : ℕ) : Type 0 where
+pub record IsWhole {A : Type 0} (p : Plan) (calls : Vec (OpenCall A) A) (tickets : Vec Ended A) (marks : Marks A) (numbers : ℕ) : Type 0 where
   pub rules : IsPlan p
   pub room : vec_len tickets + vec_len calls ≤ vec_capacity tickets
   pub held : AreHeld (length p.groups) numbers (map call_seen calls.items)
   pub hops : (c : OpenCall A) → Among c calls.items → HasRoom c
-  pub failed_all : failed.groups ≡ length p.groups
-  pub blocked_all : blocked.groups ≡ length p.groups
-  pub releasing_all : releasing.groups ≡ length p.groups
-  pub out_all : out.groups ≡ length p.groups
+  pub marks_all : AreFor (length p.groups) marks
 
 -- the network that the fields stand for
-abbrev pub net_of : {A : Type 0} → Plan → List (OpenCall A) → Groups → Groups → Circuits → Circuits → List Line → List Line → ℕ → ℕ → List Ended → Net
-net_of p calls failed blocked releasing out faulty away numbers events tickets =
+abbrev pub net_of : {A : Type 0} → Plan → List (OpenCall A) → Marks A → List Line → List Line → ℕ → ℕ → List Ended → Net
+net_of p calls marks faulty away numbers events tickets =
     record {
       plan = p;
       state = record {
         calls = map call_seen calls;
-        failed = failed.marked;
-        blocked = blocked.marked;
-        releasing = releasing.marked;
-        out = out.marked;
+        failed = marks.failed.marked;
+        blocked = marks.blocked.marked;
+        releasing = marks.releasing.marked;
+        out = marks.out.marked;
         faulty = set.from_list faulty;
         away = set.from_list away;
         numbers = numbers;

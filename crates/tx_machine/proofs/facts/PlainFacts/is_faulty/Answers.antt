@@ -8,7 +8,7 @@ use Rattle.tx_machine.proofs.facts.PlainFacts.is_faulty.Goals as goal
 
 pub returns : goal.returns
 returns g c =
-    c.has_line.ensures
+    c.contains.ensures.value
     ∙ ap (list_any (λ m. same_line m c.args.line.now)) c.deref.ensures.value
     ∙ sym (in_lines c.self.inside.faulty.items c.args.line.now)
     ∙ ap (λ (n : Net). set.contains n.state.faulty c.args.line.now) c.self.view_is

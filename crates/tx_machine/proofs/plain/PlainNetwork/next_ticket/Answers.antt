@@ -1,4 +1,4 @@
-use Rattle.std.proofs.Common.{◌≡◌, ◌≢◌, [], ap, ◌∙◌, sym, arith, drop, eqb-true}
+use Rattle.std.proofs.Common.{◌≡◌, ◌≢◌, refl, [], ap, ◌∙◌, sym, arith, drop, eqb-true}
 use Rattle.std.specs.Prelude.{slice_get}
 use Rattle.std.proofs.lemmas.Bool.{eqb-false}
 use Rattle.std.proofs.lemmas.List.{nil_from_length}
@@ -6,6 +6,7 @@ use Rattle.std.proofs.lemmas.Option.{slice_get_read}
 use Rattle.tx_state.specs.State.{Net}
 use Rattle.tx_state.specs.Drained.{drained}
 use Rattle.tx_machine.proofs.Marking.{ticket_step}
+use Rattle.tx_machine.proofs.Whole.{whole_room}
 use Rattle.tx_machine.proofs.plain.PlainNetwork.next_ticket.Goals as goal
 
 pub returns-then-is_empty-clause-first : goal.returns-then-is_empty-clause-first
@@ -29,3 +30,15 @@ returns-else-is_empty-clause-first g c =
 
 pub returns-else-is_empty-clause-rest : goal.returns-else-is_empty-clause-rest
 returns-else-is_empty-clause-rest g c = ticket_step _ _ c.self.view_is _ c.remove.ensures.items
+
+pub remove-requires : goal.remove-requires
+remove-requires g c =
+    let tickets = c.self.inside.tickets in
+    let some : tickets.len ≢ 0 = eqb-false tickets.len 0 (sym c.is_empty.ensures ∙ c.if-is_empty.false) in
+    omega arith
+
+pub invariant_of-self : goal.invariant_of-self
+invariant_of-self g c =
+    let n = c.self.inside in
+    let r = c.self.invariant.room in
+    whole_room n.plan.now n.calls n.tickets n.marks n.numbers c.self.invariant n.calls c.remove.new.self refl (omega (arith, c.remove.ensures.len, c.remove.ensures.capacity))
