@@ -78,17 +78,16 @@ fn verb_at(text: &[u8]) -> Option<(Verb, &[u8])>
 fn clear_left(text: &[u8]) -> Option<Event>
     ensures { IfSome result (λ e. clear_event (words_of text.now) ≡ Ok e) }
 {
-    match text {
-        [front @ .., b' ', b'C', b'A', b'L', b'L', b'E', b'R'] => Some(Event::Clear {
-            call: number(front, u32::MAX)?,
-            party: Party::Caller,
-        }),
-        [front @ .., b' ', b'C', b'A', b'L', b'L', b'E', b'D'] => Some(Event::Clear {
-            call: number(front, u32::MAX)?,
-            party: Party::Called,
-        }),
-        _ => None,
-    }
+    let [front @ .., b' ', b'C', b'A', b'L', b'L', b'E', last] = text else {
+        return None;
+    };
+    let party = match last {
+        b'R' => Party::Caller,
+        b'D' => Party::Called,
+        _ => return None,
+    };
+    let call = number(front, u32::MAX)?;
+    Some(Event::Clear { call, party })
 }
 
 /// The event of a first word and the words that follow it.
@@ -106,16 +105,16 @@ pub(crate) fn event_by<A: Allocator>(
         Verb::Confirm => confirm_event(words),
         Verb::Clear => clear_event(words),
         Verb::Released => released_event(words, plan),
-        Verb::Fail => Ok(Event::Fail(group_in(words, plan)?)),
-        Verb::Restore => Ok(Event::Restore(group_in(words, plan)?)),
-        Verb::Block => Ok(Event::Block(group_in(words, plan)?)),
-        Verb::Unblock => Ok(Event::Unblock(group_in(words, plan)?)),
-        Verb::Out => Ok(Event::CircuitOut(circuit_in(words, plan)?)),
-        Verb::In => Ok(Event::CircuitIn(circuit_in(words, plan)?)),
-        Verb::Fault => Ok(Event::LineFault(line_in(words, plan)?)),
-        Verb::Mend => Ok(Event::LineMend(line_in(words, plan)?)),
-        Verb::Away => Ok(Event::LineAway(line_in(words, plan)?)),
-        Verb::Back => Ok(Event::LineBack(line_in(words, plan)?)),
+        Verb::Fail => group_in(words, plan).map(Event::Fail),
+        Verb::Restore => group_in(words, plan).map(Event::Restore),
+        Verb::Block => group_in(words, plan).map(Event::Block),
+        Verb::Unblock => group_in(words, plan).map(Event::Unblock),
+        Verb::Out => circuit_in(words, plan).map(Event::CircuitOut),
+        Verb::In => circuit_in(words, plan).map(Event::CircuitIn),
+        Verb::Fault => line_in(words, plan).map(Event::LineFault),
+        Verb::Mend => line_in(words, plan).map(Event::LineMend),
+        Verb::Away => line_in(words, plan).map(Event::LineAway),
+        Verb::Back => line_in(words, plan).map(Event::LineBack),
         Verb::End => end_event(words),
     }
 }
@@ -125,8 +124,12 @@ pub(crate) fn event_by<A: Allocator>(
 pub(crate) fn key_event<A: Allocator>(words: Words<'_>, plan: &Plan<A>) -> Result<Event, ScriptWord>
     ensures { result ≡ key_event plan.now words.entry }
 {
-    let (code, national, keyed) = three_words(words).ok_or(ScriptWord::WrongCount)?;
-    let keyed = Figures::read(keyed).ok_or(ScriptWord::BadNumber)?;
+    let Some((code, national, keyed)) = three_words(words) else {
+        return Err(ScriptWord::WrongCount);
+    };
+    let Some(keyed) = Figures::read(keyed) else {
+        return Err(ScriptWord::BadNumber);
+    };
     let line = line_of(code, national, plan)?;
     Ok(Event::Key { line, keyed })
 }
@@ -136,7 +139,7 @@ pub(crate) fn key_event<A: Allocator>(words: Words<'_>, plan: &Plan<A>) -> Resul
 pub(crate) fn route_event(words: Words<'_>) -> Result<Event, ScriptWord>
     ensures { result ≡ said_of Route (call_in words.entry) }
 {
-    Ok(Event::Route(call_in(words)?))
+    call_in(words).map(Event::Route)
 }
 
 /// A call whose circuit is confirmed.
@@ -144,7 +147,7 @@ pub(crate) fn route_event(words: Words<'_>) -> Result<Event, ScriptWord>
 pub(crate) fn confirm_event(words: Words<'_>) -> Result<Event, ScriptWord>
     ensures { result ≡ said_of Confirm (call_in words.entry) }
 {
-    Ok(Event::Confirm(call_in(words)?))
+    call_in(words).map(Event::Confirm)
 }
 
 /// A call's number.
@@ -156,7 +159,9 @@ fn call_in(words: Words<'_>) -> Result<u32, ScriptWord>
     if let Some(call) = number(words.rest(), u32::MAX) {
         return Ok(call);
     }
-    let call = one_word(words).ok_or(ScriptWord::WrongCount)?;
+    let Some(call) = one_word(words) else {
+        return Err(ScriptWord::WrongCount);
+    };
     number(call, u32::MAX).ok_or(ScriptWord::BadNumber)
 }
 
@@ -168,9 +173,15 @@ pub(crate) fn clear_event(words: Words<'_>) -> Result<Event, ScriptWord>
     if let Some(event) = clear_left(words.rest()) {
         return Ok(event);
     }
-    let (call, party) = two_words(words).ok_or(ScriptWord::WrongCount)?;
-    let party = party_of(party).ok_or(ScriptWord::UnknownWord)?;
-    let call = number(call, u32::MAX).ok_or(ScriptWord::BadNumber)?;
+    let Some((call, party)) = two_words(words) else {
+        return Err(ScriptWord::WrongCount);
+    };
+    let Some(party) = party_of(party) else {
+        return Err(ScriptWord::UnknownWord);
+    };
+    let Some(call) = number(call, u32::MAX) else {
+        return Err(ScriptWord::BadNumber);
+    };
     Ok(Event::Clear { call, party })
 }
 
@@ -193,7 +204,7 @@ pub(crate) fn released_event<A: Allocator>(
 ) -> Result<Event, ScriptWord>
     ensures { result ≡ said_of Released (circuit_in plan.now words.entry) }
 {
-    Ok(Event::Released(circuit_in(words, plan)?))
+    circuit_in(words, plan).map(Event::Released)
 }
 
 /// A circuit.
@@ -201,7 +212,9 @@ pub(crate) fn released_event<A: Allocator>(
 fn circuit_in<A: Allocator>(words: Words<'_>, plan: &Plan<A>) -> Result<Circuit, ScriptWord>
     ensures { result ≡ circuit_in plan.now words.entry }
 {
-    let circuit = one_word(words).ok_or(ScriptWord::WrongCount)?;
+    let Some(circuit) = one_word(words) else {
+        return Err(ScriptWord::WrongCount);
+    };
     circuit_of(circuit, plan)
 }
 
@@ -210,9 +223,15 @@ fn circuit_in<A: Allocator>(words: Words<'_>, plan: &Plan<A>) -> Result<Circuit,
 fn circuit_of<A: Allocator>(word: &[u8], plan: &Plan<A>) -> Result<Circuit, ScriptWord>
     ensures { result ≡ circuit_of plan.now word.now }
 {
-    let (group, number) = cut_at_dot(word).ok_or(ScriptWord::BadNumber)?;
-    let number = circuit_number(number).ok_or(ScriptWord::BadNumber)?;
-    let group = plan.group_named(group).ok_or(ScriptWord::UnknownName)?;
+    let Some((group, number)) = cut_at_dot(word) else {
+        return Err(ScriptWord::BadNumber);
+    };
+    let Some(number) = circuit_number(number) else {
+        return Err(ScriptWord::BadNumber);
+    };
+    let Some(group) = plan.group_named(group) else {
+        return Err(ScriptWord::UnknownName);
+    };
     Ok(Circuit { group, number })
 }
 
@@ -252,7 +271,9 @@ fn first_dot(word: &[u8]) -> Option<usize>
 fn group_in<A: Allocator>(words: Words<'_>, plan: &Plan<A>) -> Result<GroupId, ScriptWord>
     ensures { result ≡ group_in plan.now words.entry }
 {
-    let name = one_word(words).ok_or(ScriptWord::WrongCount)?;
+    let Some(name) = one_word(words) else {
+        return Err(ScriptWord::WrongCount);
+    };
     plan.group_named(name).ok_or(ScriptWord::UnknownName)
 }
 
@@ -261,7 +282,9 @@ fn group_in<A: Allocator>(words: Words<'_>, plan: &Plan<A>) -> Result<GroupId, S
 fn line_in<A: Allocator>(words: Words<'_>, plan: &Plan<A>) -> Result<Line, ScriptWord>
     ensures { result ≡ line_in plan.now words.entry }
 {
-    let (code, national) = two_words(words).ok_or(ScriptWord::WrongCount)?;
+    let Some((code, national)) = two_words(words) else {
+        return Err(ScriptWord::WrongCount);
+    };
     line_of(code, national, plan)
 }
 
@@ -269,8 +292,12 @@ fn line_in<A: Allocator>(words: Words<'_>, plan: &Plan<A>) -> Result<Line, Scrip
 fn line_of<A: Allocator>(code: &[u8], national: &[u8], plan: &Plan<A>) -> Result<Line, ScriptWord>
     ensures { result ≡ line_of plan.now code.now national.now }
 {
-    let national = National::read(national).ok_or(ScriptWord::BadNumber)?;
-    let code = plan.code_named(code).ok_or(ScriptWord::UnknownName)?;
+    let Some(national) = National::read(national) else {
+        return Err(ScriptWord::BadNumber);
+    };
+    let Some(code) = plan.code_named(code) else {
+        return Err(ScriptWord::UnknownName);
+    };
     Ok(Line { code, national })
 }
 
@@ -292,10 +319,9 @@ fn one_word(words: Words<'_>) -> Option<&[u8]>
     ensures { MatchOption result (one_word words.entry ≡ None) (λ w. one_word words.entry ≡ Some w.now) }
 {
     let mut words = words;
-    let word = words.next()?;
-    match words.next() {
-        None => Some(word),
-        Some(_) => None,
+    match (words.next(), words.next()) {
+        (Some(word), None) => Some(word),
+        _ => None,
     }
 }
 
@@ -305,11 +331,9 @@ fn two_words(words: Words<'_>) -> Option<(&[u8], &[u8])>
     ensures { MatchOption result (two_words words.entry ≡ None) (λ w. two_words words.entry ≡ Some (w.0.now, w.1.now)) }
 {
     let mut words = words;
-    let first = words.next()?;
-    let second = words.next()?;
-    match words.next() {
-        None => Some((first, second)),
-        Some(_) => None,
+    match (words.next(), words.next(), words.next()) {
+        (Some(first), Some(second), None) => Some((first, second)),
+        _ => None,
     }
 }
 
@@ -319,11 +343,9 @@ fn three_words(words: Words<'_>) -> Option<(&[u8], &[u8], &[u8])>
     ensures { MatchOption result (three_words words.entry ≡ None) (λ w. three_words words.entry ≡ Some (w.0.now, w.1.now, w.2.now)) }
 {
     let mut words = words;
-    let first = words.next()?;
-    let second = words.next()?;
-    let third = words.next()?;
-    match words.next() {
-        None => Some((first, second, third)),
-        Some(_) => None,
+    let read = (words.next(), words.next(), words.next(), words.next());
+    match read {
+        (Some(first), Some(second), Some(third), None) => Some((first, second, third)),
+        _ => None,
     }
 }
