@@ -6,9 +6,9 @@ use crate::opened::{Bounds, Keep};
 use std::alloc::Allocator;
 use std::io::{Read, Write};
 use tx_audit::write_counter;
-use tx_cert::{Cert, write_cert};
-use tx_jobs::{CounterScript, Evidence, JobFault, evidence_job};
-use tx_plan::Plan;
+use tx_cert::write_cert;
+use tx_jobs::{Evidence, JobFault, evidence_job};
+use tx_text::Sink;
 
 /// `audit PLAN --limit L --spare K [--cert OUT] [--counter OUT]`.
 pub(crate) fn audit_file<A: Allocator + Copy, R: Read + Drop, F: Folder, O: Write + Drop>(
@@ -50,7 +50,7 @@ fn report<A: Allocator + Copy, R: Read + Drop, O: Write + Drop>(
     )
 }
 
-/// Once the report is out, makes the file of the certificate after a Yes, and the file of the script after a No that has one.
+/// Once the report is out, makes the file of the certificate after a Yes, and the file of the script after a No that has one, when there is room for its output.
 fn keep_evidence<A: Allocator + Copy, F: Folder, O: Write + Drop>(
     alloc: A,
     evidence: &Evidence<A>,
@@ -58,40 +58,31 @@ fn keep_evidence<A: Allocator + Copy, F: Folder, O: Write + Drop>(
     folder: &F,
     report: &Output<O, A>,
 ) -> Result<(), JobFault> {
-    match (evidence, keep.cert, keep.counter) {
-        (Evidence::Sound(plan, cert), Some(name), _) => {
-            report.let_out()?;
-            keep_cert(alloc, plan, cert, NewFile::new(folder, name))
-        }
-        (Evidence::Unsound(Some(script)), _, Some(name)) => {
-            report.let_out()?;
-            keep_script(alloc, script, NewFile::new(folder, name))
-        }
-        _ => Ok(()),
-    }
-}
-
-/// Writes a certificate to a file, once there is room for its output.
-fn keep_cert<A: Allocator + Copy, W: Write + Drop>(
-    alloc: A,
-    plan: &Plan<A>,
-    cert: &Cert<A>,
-    file: W,
-) -> Result<(), JobFault> {
-    let output = Output::new(alloc, file)?;
-    let written = write_cert(cert, plan, &mut output.sink()).map_err(|_| JobFault::Write);
+    let name = match evidence {
+        Evidence::Sound(_, _) => keep.cert,
+        Evidence::Unsound(Some(_)) => keep.counter,
+        Evidence::Unsound(None) => None,
+    };
+    let Some(name) = name else {
+        return Ok(());
+    };
+    report.let_out()?;
+    let output = Output::new(alloc, NewFile::new(folder, name))?;
+    let written = write_evidence(evidence, &mut output.sink());
     output.let_out().and(written)
 }
 
-/// Writes a counter script to a file, once there is room for its output.
-fn keep_script<A: Allocator + Copy, W: Write + Drop>(
-    alloc: A,
-    script: &CounterScript<A>,
-    file: W,
+/// Writes the certificate, or the script if there is one.
+fn write_evidence<A: Allocator, W: Sink>(
+    evidence: &Evidence<A>,
+    sink: &mut W,
 ) -> Result<(), JobFault> {
-    let output = Output::new(alloc, file)?;
-    let written = write_counter(&script.plan, script.events.as_slice(), &mut output.sink()).map_err(
-        |_| JobFault::Write,
-    );
-    output.let_out().and(written)
+    let written = match evidence {
+        Evidence::Sound(plan, cert) => write_cert(cert, plan, sink),
+        Evidence::Unsound(Some(script)) => {
+            write_counter(&script.plan, script.events.as_slice(), sink)
+        }
+        Evidence::Unsound(None) => Ok(()),
+    };
+    written.map_err(|_| JobFault::Write)
 }

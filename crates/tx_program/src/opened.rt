@@ -36,6 +36,15 @@ pub(crate) struct Keep<'a> {
     pub counter: Option<&'a str>,
 }
 
+/// What is printed of a plan alone.
+#[derive(Clone, Copy)]
+pub(crate) enum Print<'a> {
+    Codes,
+    Grade,
+    /// The code whose routes are drawn alone, and the numbers for which its first finding is shown.
+    Picture(Option<(&'a str, Option<Bounds>)>),
+}
+
 /// A command whose input files are open.
 #[derive(Drop)]
 pub(crate) enum Opened<'a, I: Read + Drop, R: Read + Drop> {
@@ -46,32 +55,21 @@ pub(crate) enum Opened<'a, I: Read + Drop, R: Read + Drop> {
         plan: R,
         script: Input<I, R>,
     },
-    Checked {
-        plan: R,
-        cert: R,
-        script: Input<I, R>,
-        bounds: Bounds,
-    },
+    /// The script, if there is one, is run after a Yes.
     Check {
         plan: R,
         cert: R,
         bounds: Bounds,
-    },
-    Codes {
-        plan: R,
+        script: Option<Input<I, R>>,
     },
     Audit {
         plan: R,
         bounds: Bounds,
         keep: Keep<'a>,
     },
-    Grade {
+    Print {
         plan: R,
-    },
-    Draw {
-        plan: R,
-        /// The code whose routes are drawn alone, and the numbers for which its first finding is shown.
-        routes: Option<(&'a str, Option<Bounds>)>,
+        what: Print<'a>,
     },
     Explain {
         entry: Option<&'static Entry>,
@@ -122,8 +120,8 @@ impl<'a, I: Read + Drop, R: Read + Drop> Opened<'a, I, R> {
                 limit,
                 spare,
             } => Opened::check(folder, plan, cert, Bounds::of(*limit, *spare)),
-            Command::Codes { plan } => Opened::codes(folder, plan),
-            Command::Grade { plan } => Opened::grade(folder, plan),
+            Command::Codes { plan } => Opened::print(folder, plan, Print::Codes),
+            Command::Grade { plan } => Opened::print(folder, plan, Print::Grade),
             Command::Draw { plan, routes } => Opened::draw(folder, plan, routes),
             Command::Explain { entry } => Ok(Opened::Explain { entry: *entry }),
             Command::Audit {
@@ -162,11 +160,11 @@ impl<'a, I: Read + Drop, R: Read + Drop> Opened<'a, I, R> {
                 let bounds = Bounds::of(*limit, *spare);
                 let (plan, cert) = open_both(folder, plan.as_str(), cert.as_str())?;
                 match open(folder, script.as_str()) {
-                    Ok(script) => Ok(Opened::Checked {
+                    Ok(script) => Ok(Opened::Check {
                         plan,
                         cert,
-                        script: Input::File(script),
                         bounds,
+                        script: Some(Input::File(script)),
                     }),
                     Err(fault) => {
                         drop(cert);
@@ -185,23 +183,21 @@ impl<'a, I: Read + Drop, R: Read + Drop> Opened<'a, I, R> {
         bounds: Bounds,
     ) -> Result<Opened<'a, I, R>, JobFault> {
         let (plan, cert) = open_both(folder, plan.as_str(), cert.as_str())?;
-        Ok(Opened::Check { plan, cert, bounds })
+        Ok(Opened::Check {
+            plan,
+            cert,
+            bounds,
+            script: None,
+        })
     }
 
-    fn codes<F: Folder<Input = R>>(
+    fn print<F: Folder<Input = R>>(
         folder: &F,
         plan: &String,
+        what: Print<'a>,
     ) -> Result<Opened<'a, I, R>, JobFault> {
         let plan = open(folder, plan.as_str())?;
-        Ok(Opened::Codes { plan })
-    }
-
-    fn grade<F: Folder<Input = R>>(
-        folder: &F,
-        plan: &String,
-    ) -> Result<Opened<'a, I, R>, JobFault> {
-        let plan = open(folder, plan.as_str())?;
-        Ok(Opened::Grade { plan })
+        Ok(Opened::Print { plan, what })
     }
 
     fn draw<F: Folder<Input = R>>(
@@ -218,8 +214,7 @@ impl<'a, I: Read + Drop, R: Read + Drop> Opened<'a, I, R> {
                 Some((code.as_str(), Some(Bounds::of(*limit, *spare))))
             }
         };
-        let plan = open(folder, plan.as_str())?;
-        Ok(Opened::Draw { plan, routes })
+        Opened::print(folder, plan, Print::Picture(routes))
     }
 
     fn audit<F: Folder<Input = R>>(
