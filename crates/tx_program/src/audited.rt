@@ -8,7 +8,6 @@ use std::io::{Read, Write};
 use tx_audit::write_counter;
 use tx_cert::write_cert;
 use tx_jobs::{Evidence, JobFault, evidence_job};
-use tx_text::Sink;
 
 /// `audit PLAN --limit L --spare K [--cert OUT] [--counter OUT]`.
 pub(crate) fn audit_file<A: Allocator + Copy, R: Read + Drop, F: Folder, O: Write + Drop>(
@@ -50,7 +49,7 @@ fn report<A: Allocator + Copy, R: Read + Drop, O: Write + Drop>(
     )
 }
 
-/// Once the report is out, makes the file of the certificate after a Yes, and the file of the script after a No that has one, when there is room for its output.
+/// Once the report is out, makes the file of the certificate after a Yes, and the file of the script after a No that has one.
 fn keep_evidence<A: Allocator + Copy, F: Folder, O: Write + Drop>(
     alloc: A,
     evidence: &Evidence<A>,
@@ -63,26 +62,29 @@ fn keep_evidence<A: Allocator + Copy, F: Folder, O: Write + Drop>(
         Evidence::Unsound(Some(_)) => keep.counter,
         Evidence::Unsound(None) => None,
     };
-    let Some(name) = name else {
-        return Ok(());
-    };
-    report.let_out()?;
-    let output = Output::new(alloc, NewFile::new(folder, name))?;
-    let written = write_evidence(evidence, &mut output.sink());
-    output.let_out().and(written)
+    match name {
+        Some(name) => {
+            report.let_out()?;
+            write_evidence(alloc, evidence, NewFile::new(folder, name))
+        }
+        None => Ok(()),
+    }
 }
 
-/// Writes the certificate, or the script if there is one.
-fn write_evidence<A: Allocator, W: Sink>(
+/// Writes the certificate or the script to a file, once there is room for its output.
+fn write_evidence<A: Allocator + Copy, W: Write + Drop>(
+    alloc: A,
     evidence: &Evidence<A>,
-    sink: &mut W,
+    file: W,
 ) -> Result<(), JobFault> {
+    let output = Output::new(alloc, file)?;
+    let mut sink = output.sink();
     let written = match evidence {
-        Evidence::Sound(plan, cert) => write_cert(cert, plan, sink),
+        Evidence::Sound(plan, cert) => write_cert(cert, plan, &mut sink),
         Evidence::Unsound(Some(script)) => {
-            write_counter(&script.plan, script.events.as_slice(), sink)
+            write_counter(&script.plan, script.events.as_slice(), &mut sink)
         }
         Evidence::Unsound(None) => Ok(()),
     };
-    written.map_err(|_| JobFault::Write)
+    output.let_out().and(written.or(Err(JobFault::Write)))
 }

@@ -36,15 +36,6 @@ pub(crate) struct Keep<'a> {
     pub counter: Option<&'a str>,
 }
 
-/// What is printed of a plan alone.
-#[derive(Clone, Copy)]
-pub(crate) enum Print<'a> {
-    Codes,
-    Grade,
-    /// The code whose routes are drawn alone, and the numbers for which its first finding is shown.
-    Picture(Option<(&'a str, Option<Bounds>)>),
-}
-
 /// A command whose input files are open.
 #[derive(Drop)]
 pub(crate) enum Opened<'a, I: Read + Drop, R: Read + Drop> {
@@ -55,29 +46,49 @@ pub(crate) enum Opened<'a, I: Read + Drop, R: Read + Drop> {
         plan: R,
         script: Input<I, R>,
     },
-    /// The script, if there is one, is run after a Yes.
+    Checked {
+        plan: R,
+        cert: R,
+        script: Input<I, R>,
+        bounds: Bounds,
+    },
     Check {
         plan: R,
         cert: R,
         bounds: Bounds,
-        script: Option<Input<I, R>>,
+    },
+    Codes {
+        plan: R,
     },
     Audit {
         plan: R,
         bounds: Bounds,
         keep: Keep<'a>,
     },
-    Print {
+    Grade {
         plan: R,
-        what: Print<'a>,
+    },
+    Draw {
+        plan: R,
+        /// The code whose routes are drawn alone.
+        code: Option<&'a str>,
+        /// The numbers for which its first finding is shown.
+        bounds: Option<Bounds>,
     },
     Explain {
         entry: Option<&'static Entry>,
     },
 }
 
+fn name_of(file: &Option<String>) -> Option<&str> {
+    match file {
+        Some(name) => Some(name.as_str()),
+        None => None,
+    }
+}
+
 fn open<F: Folder>(folder: &F, name: &str) -> Result<F::Input, JobFault> {
-    folder.open(name).map_err(|_| JobFault::Read)
+    folder.open(name).or(Err(JobFault::Read))
 }
 
 /// Opens two files, the first one first.
@@ -120,8 +131,8 @@ impl<'a, I: Read + Drop, R: Read + Drop> Opened<'a, I, R> {
                 limit,
                 spare,
             } => Opened::check(folder, plan, cert, Bounds::of(*limit, *spare)),
-            Command::Codes { plan } => Opened::print(folder, plan, Print::Codes),
-            Command::Grade { plan } => Opened::print(folder, plan, Print::Grade),
+            Command::Codes { plan } => Opened::codes(folder, plan),
+            Command::Grade { plan } => Opened::grade(folder, plan),
             Command::Draw { plan, routes } => Opened::draw(folder, plan, routes),
             Command::Explain { entry } => Ok(Opened::Explain { entry: *entry }),
             Command::Audit {
@@ -132,8 +143,8 @@ impl<'a, I: Read + Drop, R: Read + Drop> Opened<'a, I, R> {
                 counter,
             } => {
                 let keep = Keep {
-                    cert: cert.as_ref().map(|name| name.as_str()),
-                    counter: counter.as_ref().map(|name| name.as_str()),
+                    cert: name_of(cert),
+                    counter: name_of(counter),
                 };
                 Opened::audit(folder, plan, Bounds::of(*limit, *spare), keep)
             }
@@ -160,11 +171,11 @@ impl<'a, I: Read + Drop, R: Read + Drop> Opened<'a, I, R> {
                 let bounds = Bounds::of(*limit, *spare);
                 let (plan, cert) = open_both(folder, plan.as_str(), cert.as_str())?;
                 match open(folder, script.as_str()) {
-                    Ok(script) => Ok(Opened::Check {
+                    Ok(script) => Ok(Opened::Checked {
                         plan,
                         cert,
+                        script: Input::File(script),
                         bounds,
-                        script: Some(Input::File(script)),
                     }),
                     Err(fault) => {
                         drop(cert);
@@ -183,21 +194,23 @@ impl<'a, I: Read + Drop, R: Read + Drop> Opened<'a, I, R> {
         bounds: Bounds,
     ) -> Result<Opened<'a, I, R>, JobFault> {
         let (plan, cert) = open_both(folder, plan.as_str(), cert.as_str())?;
-        Ok(Opened::Check {
-            plan,
-            cert,
-            bounds,
-            script: None,
-        })
+        Ok(Opened::Check { plan, cert, bounds })
     }
 
-    fn print<F: Folder<Input = R>>(
+    fn codes<F: Folder<Input = R>>(
         folder: &F,
         plan: &String,
-        what: Print<'a>,
     ) -> Result<Opened<'a, I, R>, JobFault> {
         let plan = open(folder, plan.as_str())?;
-        Ok(Opened::Print { plan, what })
+        Ok(Opened::Codes { plan })
+    }
+
+    fn grade<F: Folder<Input = R>>(
+        folder: &F,
+        plan: &String,
+    ) -> Result<Opened<'a, I, R>, JobFault> {
+        let plan = open(folder, plan.as_str())?;
+        Ok(Opened::Grade { plan })
     }
 
     fn draw<F: Folder<Input = R>>(
@@ -207,14 +220,15 @@ impl<'a, I: Read + Drop, R: Read + Drop> Opened<'a, I, R> {
     ) -> Result<Opened<'a, I, R>, JobFault>
         requires { IsInRange (Draw plan.now routes.now) }
     {
-        let routes = match routes {
-            None => None,
-            Some((code, None)) => Some((code.as_str(), None)),
+        let (code, bounds) = match routes {
+            None => (None, None),
+            Some((code, None)) => (Some(code.as_str()), None),
             Some((code, Some((limit, spare)))) => {
-                Some((code.as_str(), Some(Bounds::of(*limit, *spare))))
+                (Some(code.as_str()), Some(Bounds::of(*limit, *spare)))
             }
         };
-        Opened::print(folder, plan, Print::Picture(routes))
+        let plan = open(folder, plan.as_str())?;
+        Ok(Opened::Draw { plan, code, bounds })
     }
 
     fn audit<F: Folder<Input = R>>(

@@ -5,7 +5,7 @@ ghost use Rattle.tx_program.specs.Commands.{IsInRange};
 use crate::audited::audit_file;
 use crate::ends::Output;
 use crate::folder::Folder;
-use crate::opened::{Bounds, Opened, Print};
+use crate::opened::{Bounds, Opened};
 use crate::{Command, Entry, write_explanation};
 use std::alloc::Allocator;
 use std::io::{Read, Write};
@@ -47,13 +47,16 @@ fn do_job<A: Allocator + Copy, F: Folder, I: Read + Drop, O: Write + Drop>(
     match opened {
         Opened::Pipe { input } => run_input(alloc, input, output),
         Opened::Run { plan, script } => run_files(alloc, plan, script, output),
-        Opened::Check {
+        Opened::Checked {
             plan,
             cert,
-            bounds,
             script,
-        } => check_files(alloc, plan, cert, bounds, script, output),
-        Opened::Print { plan, what } => print_plan(alloc, plan, what, output),
+            bounds,
+        } => run_checked_files(alloc, plan, cert, bounds, script, output),
+        Opened::Check { plan, cert, bounds } => check_files(alloc, plan, cert, bounds, output),
+        Opened::Codes { plan } => list_codes(alloc, plan, output),
+        Opened::Grade { plan } => grade_file(alloc, plan, output),
+        Opened::Draw { plan, code, bounds } => draw_file(alloc, plan, code, bounds, output),
         Opened::Audit { plan, bounds, keep } => {
             audit_file(alloc, plan, bounds, keep, folder, output)
         }
@@ -79,50 +82,48 @@ fn run_files<A: Allocator + Copy, P: Read + Drop, R: Read + Drop, O: Write + Dro
     output: &Output<O, A>,
 ) -> Result<u8, JobFault> {
     let mut plan = output.source(alloc, plan)?;
-    let mut script = output.script(alloc, script)?;
-    run_job(alloc, &mut plan, &mut script, &mut output.sink()).and(Ok(0))
+    run_script(alloc, &mut plan, script, output)
 }
 
-/// `check PLAN CERT --limit L --spare K`, and `run PLAN SCRIPT` with these, which runs the script after a Yes.
-fn check_files<A: Allocator + Copy, P: Read + Drop, R: Read + Drop, O: Write + Drop>(
-    alloc: A,
-    plan: P,
-    cert: P,
-    bounds: Bounds,
-    script: Option<R>,
-    output: &Output<O, A>,
-) -> Result<u8, JobFault> {
-    let mut plan = output.source(alloc, plan)?;
-    let mut cert = output.source(alloc, cert)?;
-    match script {
-        Some(script) => run_after_yes(alloc, &mut plan, &mut cert, bounds, script, output),
-        None => {
-            check_status(
-                alloc,
-                &mut plan,
-                &mut cert,
-                bounds.limit,
-                bounds.spare,
-                &mut output.sink(),
-            )
-        }
-    }
-}
-
-/// Runs the script over the plan after a Yes to the certificate. A function of its own, since each exit lets go of what is open there.
-fn run_after_yes<A: Allocator + Copy, P: Source, C: Source, R: Read + Drop, O: Write + Drop>(
+/// Runs the script over the plan. A function of its own, since each exit lets go of what is open there.
+fn run_script<A: Allocator + Copy, P: Source, R: Read + Drop, O: Write + Drop>(
     alloc: A,
     plan: &mut P,
-    cert: &mut C,
-    bounds: Bounds,
     script: R,
     output: &Output<O, A>,
 ) -> Result<u8, JobFault> {
     let mut script = output.script(alloc, script)?;
+    run_job(alloc, plan, &mut script, &mut output.sink()).and(Ok(0))
+}
+
+/// `run PLAN SCRIPT --cert CERT --limit L --spare K`.
+fn run_checked_files<A: Allocator + Copy, P: Read + Drop, R: Read + Drop, O: Write + Drop>(
+    alloc: A,
+    plan: P,
+    cert: P,
+    bounds: Bounds,
+    script: R,
+    output: &Output<O, A>,
+) -> Result<u8, JobFault> {
+    let mut plan = output.source(alloc, plan)?;
+    run_after_yes(alloc, &mut plan, cert, bounds, script, output)
+}
+
+/// Runs the script over the plan after a Yes to the certificate. A function of its own, since each exit lets go of what is open there.
+fn run_after_yes<A: Allocator + Copy, P: Source, C: Read + Drop, R: Read + Drop, O: Write + Drop>(
+    alloc: A,
+    plan: &mut P,
+    cert: C,
+    bounds: Bounds,
+    script: R,
+    output: &Output<O, A>,
+) -> Result<u8, JobFault> {
+    let mut cert = output.source(alloc, cert)?;
+    let mut script = output.script(alloc, script)?;
     run_checked_status(
         alloc,
         plan,
-        cert,
+        &mut cert,
         bounds.limit,
         bounds.spare,
         &mut script,
@@ -130,24 +131,60 @@ fn run_after_yes<A: Allocator + Copy, P: Source, C: Source, R: Read + Drop, O: W
     )
 }
 
-/// `codes PLAN`, `grade PLAN` and `draw PLAN [--code C [--limit L --spare K]]`.
-fn print_plan<A: Allocator + Copy, R: Read + Drop, O: Write + Drop>(
+/// `codes PLAN`.
+fn list_codes<A: Allocator + Copy, R: Read + Drop, O: Write + Drop>(
     alloc: A,
     plan: R,
-    what: Print<'_>,
     output: &Output<O, A>,
 ) -> Result<u8, JobFault> {
     let mut plan = output.source(alloc, plan)?;
-    let mut sink = output.sink();
-    match what {
-        Print::Codes => codes_status(alloc, &mut plan, &mut sink),
-        Print::Grade => grade_status(alloc, &mut plan, &mut sink),
-        Print::Picture(None) => draw_job(alloc, &mut plan, None, None, &mut sink).and(Ok(0)),
-        Print::Picture(Some((code, bounds))) => {
-            let code = Some(code.as_bytes());
-            draw_job(alloc, &mut plan, code, numbers(bounds), &mut sink).and(Ok(0))
-        }
-    }
+    codes_status(alloc, &mut plan, &mut output.sink())
+}
+
+/// `grade PLAN`.
+fn grade_file<A: Allocator + Copy, R: Read + Drop, O: Write + Drop>(
+    alloc: A,
+    plan: R,
+    output: &Output<O, A>,
+) -> Result<u8, JobFault> {
+    let mut plan = output.source(alloc, plan)?;
+    grade_status(alloc, &mut plan, &mut output.sink())
+}
+
+/// `check PLAN CERT --limit L --spare K`.
+fn check_files<A: Allocator + Copy, R: Read + Drop, O: Write + Drop>(
+    alloc: A,
+    plan: R,
+    cert: R,
+    bounds: Bounds,
+    output: &Output<O, A>,
+) -> Result<u8, JobFault> {
+    let mut plan = output.source(alloc, plan)?;
+    let mut cert = output.source(alloc, cert)?;
+    check_status(
+        alloc,
+        &mut plan,
+        &mut cert,
+        bounds.limit,
+        bounds.spare,
+        &mut output.sink(),
+    )
+}
+
+/// `draw PLAN [--code C [--limit L --spare K]]`.
+fn draw_file<A: Allocator + Copy, R: Read + Drop, O: Write + Drop>(
+    alloc: A,
+    plan: R,
+    code: Option<&str>,
+    bounds: Option<Bounds>,
+    output: &Output<O, A>,
+) -> Result<u8, JobFault> {
+    let mut plan = output.source(alloc, plan)?;
+    let code = match code {
+        Some(code) => Some(code.as_bytes()),
+        None => None,
+    };
+    draw_job(alloc, &mut plan, code, numbers(bounds), &mut output.sink()).and(Ok(0))
 }
 
 /// A limit and a spare number, if there are any.
