@@ -6,9 +6,8 @@ use crate::opened::{Bounds, Keep};
 use std::alloc::Allocator;
 use std::io::{Read, Write};
 use tx_audit::write_counter;
-use tx_cert::{Cert, write_cert};
-use tx_jobs::{CounterScript, Evidence, JobFault, evidence_job};
-use tx_plan::Plan;
+use tx_cert::write_cert;
+use tx_jobs::{Evidence, JobFault, evidence_job};
 
 /// `audit PLAN --limit L --spare K [--cert OUT] [--counter OUT]`.
 pub(crate) fn audit_file<A: Allocator + Copy, R: Read + Drop, F: Folder, O: Write + Drop>(
@@ -58,40 +57,34 @@ fn keep_evidence<A: Allocator + Copy, F: Folder, O: Write + Drop>(
     folder: &F,
     report: &Output<O, A>,
 ) -> Result<(), JobFault> {
-    match (evidence, keep.cert, keep.counter) {
-        (Evidence::Sound(plan, cert), Some(name), _) => {
+    let name = match evidence {
+        Evidence::Sound(_, _) => keep.cert,
+        Evidence::Unsound(Some(_)) => keep.counter,
+        Evidence::Unsound(None) => None,
+    };
+    match name {
+        Some(name) => {
             report.let_out()?;
-            keep_cert(alloc, plan, cert, NewFile::new(folder, name))
+            write_evidence(alloc, evidence, NewFile::new(folder, name))
         }
-        (Evidence::Unsound(Some(script)), _, Some(name)) => {
-            report.let_out()?;
-            keep_script(alloc, script, NewFile::new(folder, name))
-        }
-        _ => Ok(()),
+        None => Ok(()),
     }
 }
 
-/// Writes a certificate to a file, once there is room for its output.
-fn keep_cert<A: Allocator + Copy, W: Write + Drop>(
+/// Writes the certificate or the script to a file, once there is room for its output.
+fn write_evidence<A: Allocator + Copy, W: Write + Drop>(
     alloc: A,
-    plan: &Plan<A>,
-    cert: &Cert<A>,
+    evidence: &Evidence<A>,
     file: W,
 ) -> Result<(), JobFault> {
     let output = Output::new(alloc, file)?;
-    let written = write_cert(cert, plan, &mut output.sink()).map_err(|_| JobFault::Write);
-    output.let_out().and(written)
-}
-
-/// Writes a counter script to a file, once there is room for its output.
-fn keep_script<A: Allocator + Copy, W: Write + Drop>(
-    alloc: A,
-    script: &CounterScript<A>,
-    file: W,
-) -> Result<(), JobFault> {
-    let output = Output::new(alloc, file)?;
-    let written = write_counter(&script.plan, script.events.as_slice(), &mut output.sink()).map_err(
-        |_| JobFault::Write,
-    );
-    output.let_out().and(written)
+    let mut sink = output.sink();
+    let written = match evidence {
+        Evidence::Sound(plan, cert) => write_cert(cert, plan, &mut sink),
+        Evidence::Unsound(Some(script)) => {
+            write_counter(&script.plan, script.events.as_slice(), &mut sink)
+        }
+        Evidence::Unsound(None) => Ok(()),
+    };
+    output.let_out().and(written.or(Err(JobFault::Write)))
 }

@@ -308,6 +308,12 @@ pub fn read_command(alloc: Global, words: &[&str]) -> Result<Command, WordsFault
     if words.is_empty() {
         return Ok(Command::Pipe);
     }
-    let mut grammar = grammar(alloc)?;
-    command_in(alloc, &mut grammar, words)
+    match grammar(alloc) {
+        Ok(mut grammar) => {
+            let command = command_in(alloc, &mut grammar, words);
+            drop(grammar);
+            command
+        }
+        Err(error) => Err(WordsFault::from(error)),
+    }
 }

@@ -65,7 +65,7 @@ impl<W: Write + Drop, A: Allocator> Output<W, A> {
 
     /// Lets out what was written.
     pub(crate) fn let_out(&self) -> Result<(), JobFault> {
-        self.flush().map_err(|_| JobFault::Write)
+        self.flush().or(Err(JobFault::Write))
     }
 
     fn flush(&self) -> io::Result<()> {

@@ -1,6 +1,6 @@
 // The words that the program takes, with what it tells of them when asked for help.
 ghost use Rattle.std.specs.Prelude.{◌≡◌, false, Ok, IfOk, codes};
-ghost use Rattle.clap.specs.Words.{AddsSubcommand, App, app_of, rule_of, with_rule};
+ghost use Rattle.clap.specs.Words.{AddsSubcommand, App, app_of, rule_of, with_rule, with_subcommand};
 ghost use Rattle.clap.specs.declared.builder.command.Command.{Command};
 ghost use Rattle.tx_program.specs.Grammar as grammar;
 
@@ -250,15 +250,13 @@ fn explain_grammar<'a>(alloc: Global) -> Result<clap::Command<'a>, AllocError>
 fn top_grammar<'a>(alloc: Global) -> Result<clap::Command<'a>, AllocError>
     ensures { IfOk result (λ c. app_of c ≡ grammar.top_words) }
 {
-    let named = clap::Command::new(alloc, "telexplan").bin_name("telexplan")?;
-    Ok(
-        named
-            .version(VERSION)
-            .about(
-                "Audit the route plan of an automatic telex network, and simulate calls over it. Without words, a plan and a script are read from standard input.",
-            )
-            .no_binary_name(true),
-    )
+    clap::Command::new(alloc, "telexplan")
+        .version(VERSION)
+        .about(
+            "Audit the route plan of an automatic telex network, and simulate calls over it. Without words, a plan and a script are read from standard input.",
+        )
+        .no_binary_name(true)
+        .bin_name("telexplan")
 }
 
 /// The program with one command more, if both could be made.
@@ -283,16 +281,29 @@ fn with_command<'a>(
     }
 }
 
+/// The program with the commands that judge a plan.
+fn judging_grammar<'a>(alloc: Global) -> Result<clap::Command<'a>, AllocError>
+    ensures { IfOk result (λ c. app_of c ≡ with_subcommand (with_subcommand (with_subcommand grammar.top_words grammar.audit_words.top) grammar.grade_words.top) grammar.check_words.top) }
+{
+    with_command(
+        with_command(
+            with_command(top_grammar(alloc), audit_grammar(alloc)),
+            grade_grammar(alloc),
+        ),
+        check_grammar(alloc),
+    )
+}
+
 /// The words that the program takes.
 pub(crate) fn grammar<'a>(alloc: Global) -> Result<clap::Command<'a>, AllocError>
     ensures { IfOk result (λ c. app_of c ≡ grammar.program_words) }
 {
-    let program = top_grammar(alloc);
-    let program = with_command(program, audit_grammar(alloc));
-    let program = with_command(program, grade_grammar(alloc));
-    let program = with_command(program, check_grammar(alloc));
-    let program = with_command(program, run_grammar(alloc));
-    let program = with_command(program, codes_grammar(alloc));
-    let program = with_command(program, draw_grammar(alloc));
-    with_command(program, explain_grammar(alloc))
+    let program = with_command(
+        with_command(judging_grammar(alloc), run_grammar(alloc)),
+        codes_grammar(alloc),
+    );
+    with_command(
+        with_command(program, draw_grammar(alloc)),
+        explain_grammar(alloc),
+    )
 }

@@ -70,16 +70,25 @@ pub(crate) enum Opened<'a, I: Read + Drop, R: Read + Drop> {
     },
     Draw {
         plan: R,
-        /// The code whose routes are drawn alone, and the numbers for which its first finding is shown.
-        routes: Option<(&'a str, Option<Bounds>)>,
+        /// The code whose routes are drawn alone.
+        code: Option<&'a str>,
+        /// The numbers for which its first finding is shown.
+        bounds: Option<Bounds>,
     },
     Explain {
         entry: Option<&'static Entry>,
     },
 }
 
+fn name_of(file: &Option<String>) -> Option<&str> {
+    match file {
+        Some(name) => Some(name.as_str()),
+        None => None,
+    }
+}
+
 fn open<F: Folder>(folder: &F, name: &str) -> Result<F::Input, JobFault> {
-    folder.open(name).map_err(|_| JobFault::Read)
+    folder.open(name).or(Err(JobFault::Read))
 }
 
 /// Opens two files, the first one first.
@@ -134,8 +143,8 @@ impl<'a, I: Read + Drop, R: Read + Drop> Opened<'a, I, R> {
                 counter,
             } => {
                 let keep = Keep {
-                    cert: cert.as_ref().map(|name| name.as_str()),
-                    counter: counter.as_ref().map(|name| name.as_str()),
+                    cert: name_of(cert),
+                    counter: name_of(counter),
                 };
                 Opened::audit(folder, plan, Bounds::of(*limit, *spare), keep)
             }
@@ -211,15 +220,15 @@ impl<'a, I: Read + Drop, R: Read + Drop> Opened<'a, I, R> {
     ) -> Result<Opened<'a, I, R>, JobFault>
         requires { IsInRange (Draw plan.now routes.now) }
     {
-        let routes = match routes {
-            None => None,
-            Some((code, None)) => Some((code.as_str(), None)),
+        let (code, bounds) = match routes {
+            None => (None, None),
+            Some((code, None)) => (Some(code.as_str()), None),
             Some((code, Some((limit, spare)))) => {
-                Some((code.as_str(), Some(Bounds::of(*limit, *spare))))
+                (Some(code.as_str()), Some(Bounds::of(*limit, *spare)))
             }
         };
         let plan = open(folder, plan.as_str())?;
-        Ok(Opened::Draw { plan, routes })
+        Ok(Opened::Draw { plan, code, bounds })
     }
 
     fn audit<F: Folder<Input = R>>(

@@ -26,9 +26,16 @@ pub(crate) fn perform<A: Allocator + Copy, F: Folder, I: Read + Drop, O: Write +
     requires { IsInRange command.now }
 {
     let opened = Opened::new(command, folder, input)?;
-    let output = Output::new(alloc, output)?;
-    let done = do_job(alloc, opened, folder, &output);
-    output.let_out().and(done)
+    match Output::new(alloc, output) {
+        Ok(output) => {
+            let done = do_job(alloc, opened, folder, &output);
+            output.let_out().and(done)
+        }
+        Err(fault) => {
+            drop(opened);
+            Err(fault)
+        }
+    }
 }
 
 fn do_job<A: Allocator + Copy, F: Folder, I: Read + Drop, O: Write + Drop>(
@@ -49,7 +56,7 @@ fn do_job<A: Allocator + Copy, F: Folder, I: Read + Drop, O: Write + Drop>(
         Opened::Check { plan, cert, bounds } => check_files(alloc, plan, cert, bounds, output),
         Opened::Codes { plan } => list_codes(alloc, plan, output),
         Opened::Grade { plan } => grade_file(alloc, plan, output),
-        Opened::Draw { plan, routes } => draw_file(alloc, plan, routes, output),
+        Opened::Draw { plan, code, bounds } => draw_file(alloc, plan, code, bounds, output),
         Opened::Audit { plan, bounds, keep } => {
             audit_file(alloc, plan, bounds, keep, folder, output)
         }
@@ -75,8 +82,18 @@ fn run_files<A: Allocator + Copy, P: Read + Drop, R: Read + Drop, O: Write + Dro
     output: &Output<O, A>,
 ) -> Result<u8, JobFault> {
     let mut plan = output.source(alloc, plan)?;
+    run_script(alloc, &mut plan, script, output)
+}
+
+/// Runs the script over the plan. A function of its own, since each exit lets go of what is open there.
+fn run_script<A: Allocator + Copy, P: Source, R: Read + Drop, O: Write + Drop>(
+    alloc: A,
+    plan: &mut P,
+    script: R,
+    output: &Output<O, A>,
+) -> Result<u8, JobFault> {
     let mut script = output.script(alloc, script)?;
-    run_job(alloc, &mut plan, &mut script, &mut output.sink()).and(Ok(0))
+    run_job(alloc, plan, &mut script, &mut output.sink()).and(Ok(0))
 }
 
 /// `run PLAN SCRIPT --cert CERT --limit L --spare K`.
@@ -158,19 +175,16 @@ fn check_files<A: Allocator + Copy, R: Read + Drop, O: Write + Drop>(
 fn draw_file<A: Allocator + Copy, R: Read + Drop, O: Write + Drop>(
     alloc: A,
     plan: R,
-    routes: Option<(&str, Option<Bounds>)>,
+    code: Option<&str>,
+    bounds: Option<Bounds>,
     output: &Output<O, A>,
 ) -> Result<u8, JobFault> {
     let mut plan = output.source(alloc, plan)?;
-    let mut sink = output.sink();
-    let drawn = match routes {
-        None => draw_job(alloc, &mut plan, None, None, &mut sink),
-        Some((code, bounds)) => {
-            let code = Some(code.as_bytes());
-            draw_job(alloc, &mut plan, code, numbers(bounds), &mut sink)
-        }
+    let code = match code {
+        Some(code) => Some(code.as_bytes()),
+        None => None,
     };
-    drawn.and(Ok(0))
+    draw_job(alloc, &mut plan, code, numbers(bounds), &mut output.sink()).and(Ok(0))
 }
 
 /// A limit and a spare number, if there are any.
