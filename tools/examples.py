@@ -8,8 +8,8 @@ Runs each example of examples/list with a built program (crates/telexplan/out/te
 its exit status and the files that it makes with what stands in examples/. A fault stands on standard error, and nothing else does. Then checks README.md and docs/FORMATS.md: each block there says, in a comment before
 it, what it shows, and has to show just that; the table of codes has to be the program's and to have the codes of the definitions, the map of the crates has to be that
 of crates.txt, what the pages name has to be there, each link of theirs has to lead to a file and a heading that are there, the player of the gate, crates/tx_worked,
-has to have the examples and the pictures as they stand, and all pictures of the plans of crates/tx_worked have to be ones that can be read. Prints a line
-for each difference; the status is 1 if there is one.
+has to have the examples and the pictures as they stand, all pictures of the plans of crates/tx_worked have to be ones that can be read, and docs/telexplan.bash and
+docs/telexplan.1 have to have the commands and options that the program's help tells. Prints a line for each difference; the status is 1 if there is one.
 
 --pages runs nothing: it checks the pages and the player's cases alone. Each example is such a case, and the gate plays them, so the pages then show what the
 program prints.
@@ -474,6 +474,56 @@ def check_ends(tell):
             tell(f"crates/tx_worked: no case has what {example.name} prints")
 
 
+# THE WORDS OF THE PROGRAM
+
+
+def words_told():
+    """The options of each command, as its help tells them in the player of the program's ends; None where no case prints that help."""
+    cases = map(case_of_ends, re.split(r"(?m)^=== ", read("crates/tx_worked/stdout").decode()))
+    told = {words: text for words, text, _ in cases if "\nUsage: " in text}
+    commands = re.findall(r"(?m)^  ([a-z]+) ", told["--help"].partition("Commands:")[2])
+    helps = {it: told.get(f"{it} --help", told.get(f"help {it}")) for it in commands if it != "help"}
+    return {it: text and set(re.findall(r"(?m)^ +(?:-\w, )?(--\w+)", text)) for it, text in helps.items()}
+
+
+def check_completion(tell, told):
+    """The completion for bash offers each command, and behind a command the options that its help tells."""
+    text = read("docs/telexplan.bash").decode()
+    offered = {head: words for heads, words in re.findall(r'(?m)^ +(\S*:.*?)\) words="([^"]*)"', text) for head in heads.split(" | ")}
+    wanted = {f"*:{it}:-*": options for it, options in told.items() if it != "explain"}
+    wanted |= {"1:*": {*told, "help", "--help", "--version"}, "*:help:*": set(told), "*:explain:*": told["explain"]}
+    for head, words in wanted.items():
+        given = offered.get(head, "").partition(" $(telexplan explain ")[0].split()
+        if set(given) != words:
+            tell(f"docs/telexplan.bash: behind {head} it offers {' '.join(sorted(given)) or 'nothing'} and not {' '.join(sorted(words))}")
+
+
+def check_manual(tell, told):
+    """The manual page has each command with the options that its help tells, and says what each of them is."""
+    text = read("docs/telexplan.1").decode()
+    lines = re.findall(r"(?ms)^\.SY telexplan\n(.*?)^\.YS", text)
+    shown = {found[1]: set(re.findall(r"\\-\\-\w+", it)) for it in lines for found in [re.match(r"\.B (\w+)\n", it)] if found}
+    for it in [*told, "help"]:
+        wanted = {f"\\-\\-{option[2:]}" for option in told.get(it, ()) if option != "--help"}
+        if shown.get(it) != wanted:
+            tell(f"docs/telexplan.1: the synopsis of {it} is missing or has other options than its help")
+        if it != "help" and f"\n.TP\n.B {it}\n" not in text:
+            tell(f"docs/telexplan.1: it does not say what {it} is")
+    for option in sorted(set().union(*told.values())):
+        if not re.search(rf"(?m)^\.TP\n\.B\w? .*\\-\\-{option[2:]}\b", text):
+            tell(f"docs/telexplan.1: it does not say what {option} is")
+
+
+def check_words(tell):
+    told = words_told()
+    lacking = [it for it, options in told.items() if options is None]
+    for it in lacking:
+        tell(f"crates/tx_worked: no case has the help of {it}")
+    if not lacking:
+        check_completion(tell, told)
+        check_manual(tell, told)
+
+
 def main(words):
     if words[:1] == ["--cases"] and len(words) == 2:
         write_cases(words[1])
@@ -501,6 +551,7 @@ def main(words):
     check_images(told.append)
     check_pictures(told.append)
     check_ends(told.append)
+    check_words(told.append)
     print("".join(f"{it}\n" for it in told) + f"{len(examples())} examples, {len(told)} differences")
     return 1 if told else 0
 

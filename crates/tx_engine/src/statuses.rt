@@ -15,7 +15,7 @@ use tx_state::{Event, Facts, Refusal, Reply};
 use tx_text::NoMemory;
 
 impl<'p, A: Allocator + Copy> Engine<'p, A> {
-    /// A circuit is released, unless that is refused. Its state is read once.
+    /// A circuit is released, unless that is refused.
     pub(crate) fn released(&mut self, circuit: &Circuit) -> Reply
         ensures step { step self.old.plan self.old.state (Released circuit.now) ≡ (result, self.new.state) }
         ensures plan { self.new.plan ≡ self.old.plan }

@@ -1,4 +1,4 @@
-// The names of exchanges and groups, as keys.
+// The names of exchanges and groups, and the figures of codes, as keys.
 ghost use Rattle.std.specs.Prelude.{◌≡◌, ◌≤◌, length};
 ghost use Rattle.std.specs.Int.{w32, w64, from_le_bytes, to_le_bytes};
 ghost use Rattle.tx_text.specs.Padded.{padded_to};

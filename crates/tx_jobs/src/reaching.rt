@@ -91,7 +91,7 @@ fn far<A: Allocator>(
     }
 }
 
-/// Marks each exchange to which a marked one leads.
+/// Marks each exchange to which a marked one leads. The home leads nowhere.
 fn open<A: Allocator>(plan: &Plan<A>, code: CodeId, exchange: ExchangeId, seen: &mut [bool])
     requires code { code < length plan.now.codes }
     requires seen { AreSeen (net_of plan.now code) seen.old }

@@ -1,5 +1,6 @@
 // What each line declares.
 ghost use Rattle.std.specs.Prelude.{◌≡◌};
+ghost use Rattle.std.specs.Str.{bytes_eq};
 ghost use Rattle.tx_text.specs.Said.{Declared};
 ghost use Rattle.tx_plantext.specs.PlanText.{declare, exchange_line, code_line, lines_line, group_line, group_by, route_line, bar_line, direction_of, count_of, is_memory, word_told};
 
@@ -25,13 +26,10 @@ fn exchange_line<A: Allocator>(plan: &mut PlanBuilder<A>, words: Words<'_>) -> R
     ensures { Declared is_memory (exchange_line plan.old words.entry) plan.new result }
 {
     let mut words = words;
-    let Some(name) = words.next() else {
-        return Err(PlanWord::Refused(PlanRefusal::WrongCount));
-    };
-    if words.next().is_some() {
-        return Err(PlanWord::Refused(PlanRefusal::WrongCount));
+    match (words.next(), words.next()) {
+        (Some(name), None) => told(plan.exchange(name)),
+        _ => Err(PlanWord::Refused(PlanRefusal::WrongCount)),
     }
-    told(plan.exchange(name))
 }
 
 /// CODE code home.
@@ -40,16 +38,10 @@ fn code_line<A: Allocator>(plan: &mut PlanBuilder<A>, words: Words<'_>) -> Resul
     ensures { Declared is_memory (code_line plan.old words.entry) plan.new result }
 {
     let mut words = words;
-    let Some(code) = words.next() else {
-        return Err(PlanWord::Refused(PlanRefusal::WrongCount));
-    };
-    let Some(home) = words.next() else {
-        return Err(PlanWord::Refused(PlanRefusal::WrongCount));
-    };
-    if words.next().is_some() {
-        return Err(PlanWord::Refused(PlanRefusal::WrongCount));
+    match (words.next(), words.next(), words.next()) {
+        (Some(code), Some(home), None) => told(plan.code(code, home)),
+        _ => Err(PlanWord::Refused(PlanRefusal::WrongCount)),
     }
-    told(plan.code(code, home))
 }
 
 /// LINES code low high.
@@ -58,19 +50,10 @@ fn lines_line<A: Allocator>(plan: &mut PlanBuilder<A>, words: Words<'_>) -> Resu
     ensures { Declared is_memory (lines_line plan.old words.entry) plan.new result }
 {
     let mut words = words;
-    let Some(code) = words.next() else {
-        return Err(PlanWord::Refused(PlanRefusal::WrongCount));
-    };
-    let Some(low) = words.next() else {
-        return Err(PlanWord::Refused(PlanRefusal::WrongCount));
-    };
-    let Some(high) = words.next() else {
-        return Err(PlanWord::Refused(PlanRefusal::WrongCount));
-    };
-    if words.next().is_some() {
-        return Err(PlanWord::Refused(PlanRefusal::WrongCount));
+    match (words.next(), words.next(), words.next(), words.next()) {
+        (Some(code), Some(low), Some(high), None) => told(plan.lines(code, low, high)),
+        _ => Err(PlanWord::Refused(PlanRefusal::WrongCount)),
     }
-    told(plan.lines(code, low, high))
 }
 
 /// The words after GROUP, where there are as many as there must be.
@@ -140,26 +123,28 @@ fn bar_line<A: Allocator>(plan: &mut PlanBuilder<A>, words: Words<'_>) -> Result
     ensures { Declared is_memory (bar_line plan.old words.entry) plan.new result }
 {
     let mut words = words;
-    let Some(exchange) = words.next() else {
-        return Err(PlanWord::Refused(PlanRefusal::WrongCount));
-    };
-    let Some(code) = words.next() else {
-        return Err(PlanWord::Refused(PlanRefusal::WrongCount));
-    };
-    if words.next().is_some() {
-        return Err(PlanWord::Refused(PlanRefusal::WrongCount));
+    match (words.next(), words.next(), words.next()) {
+        (Some(exchange), Some(code), None) => told(plan.bar(exchange, code)),
+        _ => Err(PlanWord::Refused(PlanRefusal::WrongCount)),
     }
-    told(plan.bar(exchange, code))
+}
+
+/// Whether a word is this one.
+#[inline(always)]
+fn is(word: &[u8], wanted: &[u8]) -> bool
+    ensures { result ≡ bytes_eq word.now wanted.now }
+{
+    word == wanted
 }
 
 #[inline(always)]
 fn direction_of(word: &[u8]) -> Option<Direction>
     ensures { result ≡ direction_of word.now }
 {
-    if word == b"ONEWAY".as_slice() {
+    if is(word, b"ONEWAY") {
         return Some(Direction::OneWay);
     }
-    if word == b"BOTHWAY".as_slice() {
+    if is(word, b"BOTHWAY") {
         return Some(Direction::BothWay);
     }
     None
@@ -186,25 +171,25 @@ pub(crate) fn declare<A: Allocator>(
     let Some(first) = words.next() else {
         return Err(PlanWord::UnknownWord);
     };
-    if first == b"ROUTE".as_slice() {
+    if is(first, b"ROUTE") {
         return route_line(plan, words);
     }
-    if first == b"EXCHANGE".as_slice() {
+    if is(first, b"EXCHANGE") {
         return exchange_line(plan, words);
     }
-    if first == b"CODE".as_slice() {
+    if is(first, b"CODE") {
         return code_line(plan, words);
     }
-    if first == b"LINES".as_slice() {
+    if is(first, b"LINES") {
         return lines_line(plan, words);
     }
-    if first == b"GROUP".as_slice() {
+    if is(first, b"GROUP") {
         return group_line(plan, words);
     }
-    if version == 2 && first == b"BAR".as_slice() {
+    if version == 2 && is(first, b"BAR") {
         return bar_line(plan, words);
     }
-    if first == b"END".as_slice() {
+    if is(first, b"END") {
         return Err(PlanWord::Refused(PlanRefusal::WrongCount));
     }
     Err(PlanWord::UnknownWord)

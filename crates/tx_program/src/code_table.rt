@@ -21,7 +21,7 @@ pub static TABLE: [Entry; 63] = [
         "X3",
         "NoMemory",
         "No memory was left for the reader's line.",
-        "Told as telexplan: no memory: give the program more memory.",
+        "Give the program more memory. It tells this as telexplan: no memory.",
     ],
     [
         "P3",
@@ -87,7 +87,7 @@ pub static TABLE: [Entry; 63] = [
         "P13",
         "NotOutgoing",
         "The exchange may not seize a group of its list: it is no end of it, or the far end of a one-way group.",
-        "Take the group out of the list, or declare it BOTHWAY.",
+        "Take the group out of the list. If the exchange is its far end, BOTHWAY lets it seize the group.",
     ],
     [
         "P14",
@@ -111,7 +111,7 @@ pub static TABLE: [Entry; 63] = [
         "P17",
         "NoHeader",
         "The first line with words is not PLAN 1 or PLAN 2.",
-        "Begin the text with it.",
+        "Begin the text with it, or see whether the files are in the right order: the plan comes first.",
     ],
     [
         "P18",
@@ -124,13 +124,13 @@ pub static TABLE: [Entry; 63] = [
         "P20",
         "ReadFault",
         "The source of the text failed.",
-        "Told as telexplan: read fault: see whether the file can be read.",
+        "See whether the file can be read. The program tells this as telexplan: read fault.",
     ],
     [
         "P21",
         "NoMemory",
         "No memory was left.",
-        "Told as telexplan: no memory.",
+        "Give the program more memory. It tells this as telexplan: no memory.",
     ],
     [
         "P22",
@@ -172,7 +172,7 @@ pub static TABLE: [Entry; 63] = [
         "C6",
         "NoHeader",
         "The first line with words is not CERT 1.",
-        "See whether the files are in the right order: the plan, and then the certificate.",
+        "Begin the text with it, or see whether this file is a certificate.",
     ],
     [
         "C7",
@@ -185,13 +185,13 @@ pub static TABLE: [Entry; 63] = [
         "C9",
         "NoMemory",
         "No memory was left.",
-        "Told as telexplan: no memory.",
+        "Give the program more memory. It tells this as telexplan: no memory.",
     ],
     [
         "C10",
         "ReadFault",
         "The source of the text failed.",
-        "Told as telexplan: read fault.",
+        "See whether the file can be read. The program tells this as telexplan: read fault.",
     ],
     [
         "S1",
@@ -209,7 +209,7 @@ pub static TABLE: [Entry; 63] = [
         "S3",
         "BadNumber",
         "A national number, the keyed figures, a call or a circuit is not what it must be.",
-        "Write 1 to 9 figures, 1 to 12 figures, a number, and a group with a dot and 1 to 240.",
+        "A national number has 1 to 9 figures, what is keyed 1 to 12, a call is a number, and a circuit is a group, a dot and 1 to 240.",
     ],
     [
         "S4",
@@ -359,7 +359,7 @@ pub static TABLE: [Entry; 63] = [
         "F2",
         "LOOP",
         "The lists lead back to an exchange that the walk has passed.",
-        "Take one group of the walk out of the list that leads back.",
+        "Take one group of the loop out of the list of the exchange that stands before it in the walk.",
     ],
     [
         "F3",

@@ -5,8 +5,10 @@ use std::io::{Read, Write};
 
 /// Where files are found by their names.
 pub trait Folder {
+    /// A file that is read.
     type Input: Read + Drop;
 
+    /// A file that is written.
     type Output: Write + Drop;
 
     /// Opens a file to be read.

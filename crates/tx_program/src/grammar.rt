@@ -109,7 +109,7 @@ fn spare<'a>(alloc: Global) -> Arg<'a>
         alloc,
         "spare",
         "K",
-        "After YES, a call is answered NC only after a second head-on collision, or where more than K groups are listed and each of them is down or has no free circuit: 0 to 15",
+        "How many groups may be down: 0 to 15. After YES, a call is answered NC only after a second head-on collision, or where more than K groups are listed and each of them is down or has no free circuit",
     )
     .value_parser(value_parser!(u8).range(0..=15))
 }

@@ -80,6 +80,7 @@ pub(crate) enum Opened<'a, I: Read + Drop, R: Read + Drop> {
     },
 }
 
+/// The name of a file, if one is named.
 fn name_of(file: &Option<String>) -> Option<&str> {
     match file {
         Some(name) => Some(name.as_str()),

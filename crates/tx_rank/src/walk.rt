@@ -33,6 +33,13 @@ impl<A: Allocator> Steps<A> {
     {
         self.steps.as_slice()
     }
+
+    /// The steps, as the vector that they are kept in. Takes no memory.
+    pub fn into_vec(self) -> Vec<(GroupId, ExchangeId), A>
+        ensures { result.items ≡ self }
+    {
+        self.steps
+    }
 }
 
 /// A walk: where it starts, and its steps.

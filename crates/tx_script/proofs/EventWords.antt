@@ -61,9 +61,9 @@ party_bytes : (party : Party) → list_all is_word_byte (party_word party) ≡ t
 party_bytes Caller = refl
 party_bytes Called = refl
 
-party_six : (party : Party) → length (party_word party) ≡ 6
-party_six Caller = refl
-party_six Called = refl
+party_some : (party : Party) → 0 < length (party_word party)
+party_some Caller = omega arith
+party_some Called = omega arith
 
 read_party : (party : Party) (n : ℕ) (w : List ℕ) → call_number w ≡ Some n → clear_event (w ∷ party_word party ∷ []) ≡ Ok (Clear n party)
 read_party Caller n w h = ap (λ o. spelt o (λ k. Ok (Clear k Caller))) h
@@ -72,14 +72,13 @@ read_party Called n w h = ap (λ o. spelt o (λ k. Ok (Clear k Called))) h
 number_and_party : (front text : List ℕ) (n : ℕ) (party : Party) → call_number front ≡ Some n → text ≡ front ++ 32 ∷ party_word party → clear_event (words_of text) ≡ Ok (Clear n party)
 number_and_party front text n party h e =
     let f = figures_of_number (2 ^ 32 - 1) n front h in
-    let behind : words_of (32 ∷ party_word party) ≡ party_word party ∷ [] = blank_before 32 (party_word party) refl ∙ word_alone (party_word party) (party_bytes party) (omega (arith, party_six party)) in
+    let behind : words_of (32 ∷ party_word party) ≡ party_word party ∷ [] = blank_before 32 (party_word party) refl ∙ word_alone (party_word party) (party_bytes party) (party_some party) in
     let w : words_of text ≡ front ∷ party_word party ∷ [] = ap words_of e ∙ blank_behind front (party_word party) 32 f.all f.some refl ∙ ap (λ ws. front ∷ ws) behind in
     ap clear_event w ∙ read_party party n front h
 
 -- a number and a party are left
-pub party_last : (text : List ℕ) (n : ℕ) (party : Party) → 7 ≤ length text → call_number (take (length text - 7) text) ≡ Some n → HasBytesAt text (length text - 7) (32 ∷ party_word party) → clear_event (words_of text) ≡ Ok (Clear n party)
-party_last text n party long h reads =
-    let six = party_six party in
+pub party_last : (text : List ℕ) (n : ℕ) (party : Party) → 7 ≤ length text → length (party_word party) ≡ 6 → call_number (take (length text - 7) text) ≡ Some n → HasBytesAt text (length text - 7) (32 ∷ party_word party) → clear_event (words_of text) ≡ Ok (Clear n party)
+party_last text n party long six h reads =
     let e = end_from_reads 0 text (32 ∷ party_word party) (omega (arith, six)) (λ i l. ap (λ k. get_or text (k + i) 0) (omega (arith, six)) ∙ read_at text (32 ∷ party_word party) (length text - 7) reads i l) in
     number_and_party (take (length text - 7) text) text n party h (e ∙ ap (λ k. take k text ++ 32 ∷ party_word party) (omega (arith, six)))
 

@@ -78,16 +78,17 @@ fn verb_at(text: &[u8]) -> Option<(Verb, &[u8])>
 fn clear_left(text: &[u8]) -> Option<Event>
     ensures { IfSome result (λ e. clear_event (words_of text.now) ≡ Ok e) }
 {
-    let [front @ .., b' ', b'C', b'A', b'L', b'L', b'E', last] = text else {
-        return None;
-    };
-    let party = match last {
-        b'R' => Party::Caller,
-        b'D' => Party::Called,
-        _ => return None,
-    };
-    let call = number(front, u32::MAX)?;
-    Some(Event::Clear { call, party })
+    match text {
+        [front @ .., b' ', b'C', b'A', b'L', b'L', b'E', b'R'] => Some(Event::Clear {
+            call: number(front, u32::MAX)?,
+            party: Party::Caller,
+        }),
+        [front @ .., b' ', b'C', b'A', b'L', b'L', b'E', b'D'] => Some(Event::Clear {
+            call: number(front, u32::MAX)?,
+            party: Party::Called,
+        }),
+        _ => None,
+    }
 }
 
 /// The event of a first word and the words that follow it.
@@ -124,12 +125,8 @@ pub(crate) fn event_by<A: Allocator>(
 pub(crate) fn key_event<A: Allocator>(words: Words<'_>, plan: &Plan<A>) -> Result<Event, ScriptWord>
     ensures { result ≡ key_event plan.now words.entry }
 {
-    let Some((code, national, keyed)) = three_words(words) else {
-        return Err(ScriptWord::WrongCount);
-    };
-    let Some(keyed) = Figures::read(keyed) else {
-        return Err(ScriptWord::BadNumber);
-    };
+    let (code, national, keyed) = three_words(words).ok_or(ScriptWord::WrongCount)?;
+    let keyed = Figures::read(keyed).ok_or(ScriptWord::BadNumber)?;
     let line = line_of(code, national, plan)?;
     Ok(Event::Key { line, keyed })
 }
@@ -139,7 +136,7 @@ pub(crate) fn key_event<A: Allocator>(words: Words<'_>, plan: &Plan<A>) -> Resul
 pub(crate) fn route_event(words: Words<'_>) -> Result<Event, ScriptWord>
     ensures { result ≡ said_of Route (call_in words.entry) }
 {
-    call_in(words).map(Event::Route)
+    Ok(Event::Route(call_in(words)?))
 }
 
 /// A call whose circuit is confirmed.
@@ -147,7 +144,7 @@ pub(crate) fn route_event(words: Words<'_>) -> Result<Event, ScriptWord>
 pub(crate) fn confirm_event(words: Words<'_>) -> Result<Event, ScriptWord>
     ensures { result ≡ said_of Confirm (call_in words.entry) }
 {
-    call_in(words).map(Event::Confirm)
+    Ok(Event::Confirm(call_in(words)?))
 }
 
 /// A call's number.
@@ -159,9 +156,7 @@ fn call_in(words: Words<'_>) -> Result<u32, ScriptWord>
     if let Some(call) = number(words.rest(), u32::MAX) {
         return Ok(call);
     }
-    let Some(call) = one_word(words) else {
-        return Err(ScriptWord::WrongCount);
-    };
+    let call = one_word(words).ok_or(ScriptWord::WrongCount)?;
     number(call, u32::MAX).ok_or(ScriptWord::BadNumber)
 }
 
@@ -173,15 +168,9 @@ pub(crate) fn clear_event(words: Words<'_>) -> Result<Event, ScriptWord>
     if let Some(event) = clear_left(words.rest()) {
         return Ok(event);
     }
-    let Some((call, party)) = two_words(words) else {
-        return Err(ScriptWord::WrongCount);
-    };
-    let Some(party) = party_of(party) else {
-        return Err(ScriptWord::UnknownWord);
-    };
-    let Some(call) = number(call, u32::MAX) else {
-        return Err(ScriptWord::BadNumber);
-    };
+    let (call, party) = two_words(words).ok_or(ScriptWord::WrongCount)?;
+    let party = party_of(party).ok_or(ScriptWord::UnknownWord)?;
+    let call = number(call, u32::MAX).ok_or(ScriptWord::BadNumber)?;
     Ok(Event::Clear { call, party })
 }
 
@@ -204,7 +193,7 @@ pub(crate) fn released_event<A: Allocator>(
 ) -> Result<Event, ScriptWord>
     ensures { result ≡ said_of Released (circuit_in plan.now words.entry) }
 {
-    circuit_in(words, plan).map(Event::Released)
+    Ok(Event::Released(circuit_in(words, plan)?))
 }
 
 /// A circuit.
@@ -212,9 +201,7 @@ pub(crate) fn released_event<A: Allocator>(
 fn circuit_in<A: Allocator>(words: Words<'_>, plan: &Plan<A>) -> Result<Circuit, ScriptWord>
     ensures { result ≡ circuit_in plan.now words.entry }
 {
-    let Some(circuit) = one_word(words) else {
-        return Err(ScriptWord::WrongCount);
-    };
+    let circuit = one_word(words).ok_or(ScriptWord::WrongCount)?;
     circuit_of(circuit, plan)
 }
 
@@ -223,15 +210,9 @@ fn circuit_in<A: Allocator>(words: Words<'_>, plan: &Plan<A>) -> Result<Circuit,
 fn circuit_of<A: Allocator>(word: &[u8], plan: &Plan<A>) -> Result<Circuit, ScriptWord>
     ensures { result ≡ circuit_of plan.now word.now }
 {
-    let Some((group, number)) = cut_at_dot(word) else {
-        return Err(ScriptWord::BadNumber);
-    };
-    let Some(number) = circuit_number(number) else {
-        return Err(ScriptWord::BadNumber);
-    };
-    let Some(group) = plan.group_named(group) else {
-        return Err(ScriptWord::UnknownName);
-    };
+    let (group, number) = cut_at_dot(word).ok_or(ScriptWord::BadNumber)?;
+    let number = circuit_number(number).ok_or(ScriptWord::BadNumber)?;
+    let group = plan.group_named(group).ok_or(ScriptWord::UnknownName)?;
     Ok(Circuit { group, number })
 }
 
@@ -292,12 +273,8 @@ fn line_in<A: Allocator>(words: Words<'_>, plan: &Plan<A>) -> Result<Line, Scrip
 fn line_of<A: Allocator>(code: &[u8], national: &[u8], plan: &Plan<A>) -> Result<Line, ScriptWord>
     ensures { result ≡ line_of plan.now code.now national.now }
 {
-    let Some(national) = National::read(national) else {
-        return Err(ScriptWord::BadNumber);
-    };
-    let Some(code) = plan.code_named(code) else {
-        return Err(ScriptWord::UnknownName);
-    };
+    let national = National::read(national).ok_or(ScriptWord::BadNumber)?;
+    let code = plan.code_named(code).ok_or(ScriptWord::UnknownName)?;
     Ok(Line { code, national })
 }
 
@@ -319,9 +296,10 @@ fn one_word(words: Words<'_>) -> Option<&[u8]>
     ensures { MatchOption result (one_word words.entry ≡ None) (λ w. one_word words.entry ≡ Some w.now) }
 {
     let mut words = words;
-    match (words.next(), words.next()) {
-        (Some(word), None) => Some(word),
-        _ => None,
+    let word = words.next()?;
+    match words.next() {
+        None => Some(word),
+        Some(_) => None,
     }
 }
 
@@ -331,9 +309,11 @@ fn two_words(words: Words<'_>) -> Option<(&[u8], &[u8])>
     ensures { MatchOption result (two_words words.entry ≡ None) (λ w. two_words words.entry ≡ Some (w.0.now, w.1.now)) }
 {
     let mut words = words;
-    match (words.next(), words.next(), words.next()) {
-        (Some(first), Some(second), None) => Some((first, second)),
-        _ => None,
+    let first = words.next()?;
+    let second = words.next()?;
+    match words.next() {
+        None => Some((first, second)),
+        Some(_) => None,
     }
 }
 
@@ -343,9 +323,11 @@ fn three_words(words: Words<'_>) -> Option<(&[u8], &[u8], &[u8])>
     ensures { MatchOption result (three_words words.entry ≡ None) (λ w. three_words words.entry ≡ Some (w.0.now, w.1.now, w.2.now)) }
 {
     let mut words = words;
-    let read = (words.next(), words.next(), words.next(), words.next());
-    match read {
-        (Some(first), Some(second), Some(third), None) => Some((first, second, third)),
-        _ => None,
+    let first = words.next()?;
+    let second = words.next()?;
+    let third = words.next()?;
+    match words.next() {
+        None => Some((first, second, third)),
+        Some(_) => None,
     }
 }

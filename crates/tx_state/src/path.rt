@@ -34,4 +34,11 @@ impl<A: Allocator> Path<A> {
     {
         self.hops.as_slice()
     }
+
+    /// The hops, as the vector that they are kept in. Takes no memory.
+    pub fn into_hops(self) -> Vec<Hop, A>
+        ensures { result.items ≡ self }
+    {
+        self.hops
+    }
 }

@@ -20,29 +20,20 @@ impl Phase {
     pub fn is_standing(&self) -> bool
         ensures { result ≡ is_standing self.now }
     {
-        match self {
-            Phase::Standing => true,
-            _ => false,
-        }
+        matches!(self, Phase::Standing)
     }
 
     /// Whether it is Calling.
     pub fn is_calling(&self) -> bool
         ensures { result ≡ is_calling self.now }
     {
-        match self {
-            Phase::Calling(_) => true,
-            _ => false,
-        }
+        matches!(self, Phase::Calling(_))
     }
 
     /// Whether it is Connected.
     pub fn is_connected(&self) -> bool
         ensures { result ≡ is_connected self.now }
     {
-        match self {
-            Phase::Connected(_) => true,
-            _ => false,
-        }
+        matches!(self, Phase::Connected(_))
     }
 }

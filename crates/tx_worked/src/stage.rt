@@ -31,7 +31,7 @@ impl<'a> Stage<'a> {
             name: String::from_str(self.rt.alloc(), name)?,
             log: self.log,
             piece: self.case.piece,
-            fails: self.case.failing_read(name),
+            fails: self.case.failing_call(name),
             reads: 0,
         })
     }
@@ -42,6 +42,8 @@ impl<'a> Stage<'a> {
             name: String::from_str(self.rt.alloc(), name)?,
             log: self.log,
             room: self.case.room(name),
+            fails: self.case.failing_call(name),
+            flushes: 0,
         })
     }
 }

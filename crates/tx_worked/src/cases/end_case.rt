@@ -9,7 +9,7 @@ pub struct EndCase<'a> {
     pub input: &'a str,
     /// How many bytes a read gives at most.
     pub piece: usize,
-    /// The file of which a read fails, and which read.
+    /// The file of which a read fails, or a flush where it is written, and which of them.
     pub fails: Option<(&'a str, u64)>,
     /// The file that fails when it has taken so many bytes.
     pub room: Option<(&'a str, usize)>,
@@ -114,10 +114,10 @@ impl<'a> EndCase<'a> {
         0
     }
 
-    /// Which read of a file fails, or 0.
-    pub fn failing_read(&self, name: &str) -> u64 {
+    /// Which read or flush of a file fails, or 0.
+    pub fn failing_call(&self, name: &str) -> u64 {
         match self.fails {
-            Some((failing, read)) if failing == name => read,
+            Some((failing, call)) if failing == name => call,
             _ => 0,
         }
     }

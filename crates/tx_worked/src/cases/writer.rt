@@ -4,7 +4,7 @@ use std::fs::File;
 use std::io;
 use std::io::Write;
 
-/// A writer whose writes and flushes are told, and which fails when it has taken so many bytes.
+/// A writer whose writes and flushes are told, which fails when it has taken so many bytes, and of which a flush may fail.
 #[derive(Drop)]
 pub struct Writer<'a> {
     /// Where the bytes go; those of a standard end are only told.
@@ -12,6 +12,9 @@ pub struct Writer<'a> {
     pub name: String,
     pub log: &'a Log,
     pub room: usize,
+    /// The flush that fails, or 0.
+    pub fails: u64,
+    pub flushes: u64,
 }
 
 impl<'a> Write for Writer<'a> {
@@ -37,6 +40,11 @@ impl<'a> Write for Writer<'a> {
     fn flush(&mut self) -> io::Result<()> {
         let name = self.name.as_str();
         self.log.tell("flush", name);
+        self.flushes = self.flushes.saturating_add(1);
+        if self.flushes == self.fails {
+            self.log.tell("fails", name);
+            return Err(io::Error::from(io::ErrorKind::Other));
+        }
         match &mut self.file {
             Some(file) => file.flush(),
             None => Ok(()),
