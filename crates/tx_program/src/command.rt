@@ -1,9 +1,9 @@
 // Commands, and the words that ask for them.
-ghost use Rattle.std.specs.Prelude.{◌≡◌, ◌≢◌, ◌≤◌, ℕ, List, Option, [], Ok, Some, None, IfOk, IfErr, IfSome, is_some, not, codes, option_map, string_bytes};
+ghost use Rattle.std.specs.Prelude.{◌≡◌, ◌≢◌, ◌≤◌, ℕ, List, Option, [], Ok, Some, None, IfOk, IfErr, IfSome, ◌||◌, codes, option_map, string_bytes};
 ghost use Rattle.clap.specs.Words.{Row, app_of, first_of, found_of, rows_of, subcommand_rows_of};
 ghost use Rattle.tx_program.specs.Commands.{IsInRange, Names, Gives, Asks, AskFor, IsFoundIn};
 ghost use Rattle.tx_program.specs.Grammar.{program_words};
-ghost use Rattle.tx_program.specs.Faults.{HasNumber, IsRefusalIn, IsRefusalOf, status_of};
+ghost use Rattle.tx_program.specs.Faults.{HasNumber, IsRefusalIn, IsRefusalOf, has, status_of};
 
 use crate::fault::WordsFault;
 use crate::grammar::grammar;
@@ -67,11 +67,11 @@ fn text(alloc: Global, matches: &ArgMatches<'_>, id: &str) -> Result<Option<Stri
     }
 }
 
-/// Whether no word stands for an id.
-fn is_absent(matches: &ArgMatches<'_>, id: &str) -> bool
-    ensures { result ≡ not (is_some (first_of id.now (rows_of (found_of matches.now)))) }
+/// Whether a word stands for an id.
+fn is_given(matches: &ArgMatches<'_>, id: &str) -> bool
+    ensures { result ≡ has (rows_of (found_of matches.now)) id.now }
 {
-    matches.get_str(id).is_none()
+    matches.get_str(id).is_some()
 }
 
 /// The number of an option, tested once more against its range.
@@ -86,6 +86,25 @@ fn number(matches: &ArgMatches<'_>, id: &str, most: u8) -> Option<u8>
     }
 }
 
+/// The limit and the spare number, if both are given.
+fn bounds(matches: &ArgMatches<'_>) -> Option<(u8, u8)>
+    ensures range { IfSome result (λ b. (b.0 ≤ 62) × (b.1 ≤ 15)) }
+    ensures given { IfSome result (λ b. Gives (rows_of (found_of matches.now)) (codes "limit") b.0 × Gives (rows_of (found_of matches.now)) (codes "spare") b.1) }
+    ensures none { result ≡ None → HasNumber (rows_of (found_of matches.now)) (codes "limit") 62 → HasNumber (rows_of (found_of matches.now)) (codes "spare") 15 → ⊥ }
+{
+    match (number(matches, "limit", 62), number(matches, "spare", 15)) {
+        (Some(limit), Some(spare)) => Some((limit, spare)),
+        _ => None,
+    }
+}
+
+/// Whether a word stands for the limit or for the spare number.
+fn has_bounds(matches: &ArgMatches<'_>) -> bool
+    ensures { result ≡ (has (rows_of (found_of matches.now)) (codes "limit") || has (rows_of (found_of matches.now)) (codes "spare")) }
+{
+    is_given(matches, "limit") || is_given(matches, "spare")
+}
+
 /// The words of `check` behind the plan.
 fn check_of(
     alloc: Global,
@@ -97,11 +116,9 @@ fn check_of(
     ensures asked { IfOk result (λ c. IfSome c (Asks (codes "check") (rows_of (found_of matches.now)))) }
     ensures refused { IfErr result (IsRefusalIn (Some (codes "check", rows_of (found_of matches.now)))) }
 {
-    let limit = number(matches, "limit", 62);
-    let spare = number(matches, "spare", 15);
     let cert = text(alloc, matches, "cert")?;
-    match (cert, limit, spare) {
-        (Some(cert), Some(limit), Some(spare)) => Ok(Some(Command::Check {
+    match (cert, bounds(matches)) {
+        (Some(cert), Some((limit, spare))) => Ok(Some(Command::Check {
             plan,
             cert,
             limit,
@@ -122,19 +139,17 @@ fn audit_of(
     ensures asked { IfOk result (λ c. IfSome c (Asks (codes "audit") (rows_of (found_of matches.now)))) }
     ensures refused { IfErr result (IsRefusalIn (Some (codes "audit", rows_of (found_of matches.now)))) }
 {
-    let limit = number(matches, "limit", 62);
-    let spare = number(matches, "spare", 15);
     let cert = text(alloc, matches, "cert")?;
     let counter = text(alloc, matches, "counter")?;
-    match (limit, spare) {
-        (Some(limit), Some(spare)) => Ok(Some(Command::Audit {
+    match bounds(matches) {
+        Some((limit, spare)) => Ok(Some(Command::Audit {
             plan,
             limit,
             spare,
             cert,
             counter,
         })),
-        _ => Ok(None),
+        None => Ok(None),
     }
 }
 
@@ -152,12 +167,10 @@ fn run_of(
     let Some(script) = text(alloc, matches, "script")? else {
         return Ok(None);
     };
-    let limit = number(matches, "limit", 62);
-    let spare = number(matches, "spare", 15);
     let cert = text(alloc, matches, "cert")?;
-    let checked = match (cert, limit, spare) {
-        (Some(cert), Some(limit), Some(spare)) => Some((cert, limit, spare)),
-        (None, _, _) if is_absent(matches, "limit") && is_absent(matches, "spare") => None,
+    let checked = match (cert, bounds(matches), has_bounds(matches)) {
+        (Some(cert), Some((limit, spare)), _) => Some((cert, limit, spare)),
+        (None, _, false) => None,
         _ => return Err(WordsFault::Together),
     };
     Ok(Some(Command::Run {
@@ -178,20 +191,12 @@ fn draw_of(
     ensures asked { IfOk result (λ c. IfSome c (Asks (codes "draw") (rows_of (found_of matches.now)))) }
     ensures refused { IfErr result (IsRefusalIn (Some (codes "draw", rows_of (found_of matches.now)))) }
 {
-    let limit = number(matches, "limit", 62);
-    let spare = number(matches, "spare", 15);
-    let no_bounds = is_absent(matches, "limit") && is_absent(matches, "spare");
     let code = text(alloc, matches, "code")?;
-    let routes = if no_bounds {
-        match code {
-            Some(code) => Some((code, None)),
-            None => None,
-        }
-    } else {
-        match (code, limit, spare) {
-            (Some(code), Some(limit), Some(spare)) => Some((code, Some((limit, spare)))),
-            _ => return Err(WordsFault::DrawTogether),
-        }
+    let routes = match (code, bounds(matches), has_bounds(matches)) {
+        (Some(code), Some(bounds), _) => Some((code, Some(bounds))),
+        (Some(code), None, false) => Some((code, None)),
+        (None, _, false) => None,
+        _ => return Err(WordsFault::DrawTogether),
     };
     Ok(Some(Command::Draw { plan, routes }))
 }

@@ -35,13 +35,13 @@ fn write_entry<W: Sink>(entry: &Entry, sink: &mut W) -> Result<(), WriteFault>
     write_parts(
         &[
             code.as_bytes(),
-            b" ".as_slice(),
+            b" ",
             name.as_bytes(),
-            b"\n".as_slice(),
+            b"\n",
             meaning.as_bytes(),
-            b"\nWhat to do: ".as_slice(),
+            b"\nWhat to do: ",
             advice.as_bytes(),
-            b"\n".as_slice(),
+            b"\n",
         ],
         sink,
     )
@@ -69,11 +69,11 @@ fn write_line<W: Sink>(entry: &Entry, sink: &mut W) -> Result<(), WriteFault>
     write_parts(
         &[
             code.as_bytes(),
-            b" ".as_slice(),
+            b" ",
             name.as_bytes(),
-            b": ".as_slice(),
+            b": ",
             meaning.as_bytes(),
-            b"\n".as_slice(),
+            b"\n",
         ],
         sink,
     )

@@ -1,6 +1,7 @@
 // The words that the program takes, with what it tells of them when asked for help.
-ghost use Rattle.std.specs.Prelude.{◌≡◌, false, Ok, IfOk, codes};
-ghost use Rattle.clap.specs.Words.{AddsSubcommand, App, app_of, rule_of, with_rule, with_subcommand};
+ghost use Rattle.std.specs.Prelude.{◌≡◌, false, Ok, Some, IfOk, codes};
+ghost use Rattle.clap.specs.Words.{AddsSubcommand, App, app_of, new_rule, rule_of, with_rule, with_subcommand};
+ghost use Rattle.clap.specs.declared.builder.action.ArgAction.TheVariants.{Set};
 ghost use Rattle.clap.specs.declared.builder.command.Command.{Command};
 ghost use Rattle.tx_program.specs.Grammar as grammar;
 
@@ -55,12 +56,18 @@ fn with_file<'a>(
 ) -> Result<clap::Command<'a>, AllocError>
     ensures { (app : App) → IfOk command.entry (λ c. app_of c ≡ app) → IfOk result (λ c. app_of c ≡ with_rule app (grammar.file id.now)) }
 {
-    let file = Arg::new(alloc, id)
+    with_arg(command, word(alloc, id, shown, help).required(true))
+}
+
+/// A word that goes by its place.
+fn word<'a>(alloc: Global, id: &'a str, shown: &'a str, help: &'a str) -> Arg<'a>
+    ensures rule { rule_of result ≡ record (new_rule id.now) { value_names = 1; action = Some Set } }
+    ensures local { result.global ≡ false }
+{
+    Arg::new(alloc, id)
         .value_name(shown)
         .help(help)
-        .required(true)
-        .action(ArgAction::Set);
-    with_arg(command, file)
+        .action(ArgAction::Set)
 }
 
 /// An option with a word.
@@ -68,11 +75,7 @@ fn option<'a>(alloc: Global, id: &'a str, shown: &'a str, help: &'a str) -> Arg<
     ensures rule { rule_of result ≡ grammar.option id.now }
     ensures local { result.global ≡ false }
 {
-    Arg::new(alloc, id)
-        .long(id)
-        .value_name(shown)
-        .help(help)
-        .action(ArgAction::Set)
+    word(alloc, id, shown, help).long(id)
 }
 
 /// The same with an option with a word.
@@ -235,10 +238,12 @@ fn draw_grammar<'a>(alloc: Global) -> Result<clap::Command<'a>, AllocError>
 fn explain_grammar<'a>(alloc: Global) -> Result<clap::Command<'a>, AllocError>
     ensures { IfOk result (λ c. app_of c ≡ grammar.explain_words) }
 {
-    let code = Arg::new(alloc, "code")
-        .value_name("CODE")
-        .help("A code that was printed, as P11, S6, M5, K7 or F2")
-        .action(ArgAction::Set);
+    let code = word(
+        alloc,
+        "code",
+        "CODE",
+        "A code that was printed, as P11, S6, M5, K7 or F2",
+    );
     clap::Command::new(alloc, "explain")
         .about(
             "Say what a code of a fault, a refusal or a finding means, and what to do about it; without one, list all codes",

@@ -36,6 +36,19 @@ pub(crate) struct Keep<'a> {
     pub counter: Option<&'a str>,
 }
 
+/// What is done over a plan alone.
+#[derive(Clone, Copy)]
+pub(crate) enum PlanJob<'a> {
+    Codes,
+    Grade,
+    Draw {
+        /// The code whose routes are drawn alone.
+        code: Option<&'a [u8]>,
+        /// The numbers for which its first finding is shown.
+        bounds: Option<Bounds>,
+    },
+}
+
 /// A command whose input files are open.
 #[derive(Drop)]
 pub(crate) enum Opened<'a, I: Read + Drop, R: Read + Drop> {
@@ -57,23 +70,14 @@ pub(crate) enum Opened<'a, I: Read + Drop, R: Read + Drop> {
         cert: R,
         bounds: Bounds,
     },
-    Codes {
-        plan: R,
-    },
     Audit {
         plan: R,
         bounds: Bounds,
         keep: Keep<'a>,
     },
-    Grade {
+    Plan {
         plan: R,
-    },
-    Draw {
-        plan: R,
-        /// The code whose routes are drawn alone.
-        code: Option<&'a str>,
-        /// The numbers for which its first finding is shown.
-        bounds: Option<Bounds>,
+        job: PlanJob<'a>,
     },
     Explain {
         entry: Option<&'static Entry>,
@@ -132,8 +136,8 @@ impl<'a, I: Read + Drop, R: Read + Drop> Opened<'a, I, R> {
                 limit,
                 spare,
             } => Opened::check(folder, plan, cert, Bounds::of(*limit, *spare)),
-            Command::Codes { plan } => Opened::codes(folder, plan),
-            Command::Grade { plan } => Opened::grade(folder, plan),
+            Command::Codes { plan } => Opened::over_plan(folder, plan, PlanJob::Codes),
+            Command::Grade { plan } => Opened::over_plan(folder, plan, PlanJob::Grade),
             Command::Draw { plan, routes } => Opened::draw(folder, plan, routes),
             Command::Explain { entry } => Ok(Opened::Explain { entry: *entry }),
             Command::Audit {
@@ -142,13 +146,7 @@ impl<'a, I: Read + Drop, R: Read + Drop> Opened<'a, I, R> {
                 spare,
                 cert,
                 counter,
-            } => {
-                let keep = Keep {
-                    cert: name_of(cert),
-                    counter: name_of(counter),
-                };
-                Opened::audit(folder, plan, Bounds::of(*limit, *spare), keep)
-            }
+            } => Opened::audit(folder, plan, Bounds::of(*limit, *spare), cert, counter),
         }
     }
 
@@ -169,21 +167,30 @@ impl<'a, I: Read + Drop, R: Read + Drop> Opened<'a, I, R> {
                 })
             }
             Some((cert, limit, spare)) => {
-                let bounds = Bounds::of(*limit, *spare);
-                let (plan, cert) = open_both(folder, plan.as_str(), cert.as_str())?;
-                match open(folder, script.as_str()) {
-                    Ok(script) => Ok(Opened::Checked {
-                        plan,
-                        cert,
-                        script: Input::File(script),
-                        bounds,
-                    }),
-                    Err(fault) => {
-                        drop(cert);
-                        drop(plan);
-                        Err(fault)
-                    }
-                }
+                Opened::checked(folder, plan, cert, script, Bounds::of(*limit, *spare))
+            }
+        }
+    }
+
+    fn checked<F: Folder<Input = R>>(
+        folder: &F,
+        plan: &String,
+        cert: &String,
+        script: &String,
+        bounds: Bounds,
+    ) -> Result<Opened<'a, I, R>, JobFault> {
+        let (plan, cert) = open_both(folder, plan.as_str(), cert.as_str())?;
+        match open(folder, script.as_str()) {
+            Ok(script) => Ok(Opened::Checked {
+                plan,
+                cert,
+                script: Input::File(script),
+                bounds,
+            }),
+            Err(fault) => {
+                drop(cert);
+                drop(plan);
+                Err(fault)
             }
         }
     }
@@ -198,20 +205,13 @@ impl<'a, I: Read + Drop, R: Read + Drop> Opened<'a, I, R> {
         Ok(Opened::Check { plan, cert, bounds })
     }
 
-    fn codes<F: Folder<Input = R>>(
+    fn over_plan<F: Folder<Input = R>>(
         folder: &F,
         plan: &String,
+        job: PlanJob<'a>,
     ) -> Result<Opened<'a, I, R>, JobFault> {
         let plan = open(folder, plan.as_str())?;
-        Ok(Opened::Codes { plan })
-    }
-
-    fn grade<F: Folder<Input = R>>(
-        folder: &F,
-        plan: &String,
-    ) -> Result<Opened<'a, I, R>, JobFault> {
-        let plan = open(folder, plan.as_str())?;
-        Ok(Opened::Grade { plan })
+        Ok(Opened::Plan { plan, job })
     }
 
     fn draw<F: Folder<Input = R>>(
@@ -223,22 +223,26 @@ impl<'a, I: Read + Drop, R: Read + Drop> Opened<'a, I, R> {
     {
         let (code, bounds) = match routes {
             None => (None, None),
-            Some((code, None)) => (Some(code.as_str()), None),
+            Some((code, None)) => (Some(code.as_bytes()), None),
             Some((code, Some((limit, spare)))) => {
-                (Some(code.as_str()), Some(Bounds::of(*limit, *spare)))
+                (Some(code.as_bytes()), Some(Bounds::of(*limit, *spare)))
             }
         };
-        let plan = open(folder, plan.as_str())?;
-        Ok(Opened::Draw { plan, code, bounds })
+        Opened::over_plan(folder, plan, PlanJob::Draw { code, bounds })
     }
 
     fn audit<F: Folder<Input = R>>(
         folder: &F,
         plan: &String,
         bounds: Bounds,
-        keep: Keep<'a>,
+        cert: &'a Option<String>,
+        counter: &'a Option<String>,
     ) -> Result<Opened<'a, I, R>, JobFault> {
         let plan = open(folder, plan.as_str())?;
+        let keep = Keep {
+            cert: name_of(cert),
+            counter: name_of(counter),
+        };
         Ok(Opened::Audit { plan, bounds, keep })
     }
 }

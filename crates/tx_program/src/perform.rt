@@ -5,7 +5,7 @@ ghost use Rattle.tx_program.specs.Commands.{IsInRange};
 use crate::audited::audit_file;
 use crate::ends::Output;
 use crate::folder::Folder;
-use crate::opened::{Bounds, Opened};
+use crate::opened::{Bounds, Opened, PlanJob};
 use crate::{Command, Entry, write_explanation};
 use std::alloc::Allocator;
 use std::io::{Read, Write};
@@ -54,9 +54,7 @@ fn do_job<A: Allocator + Copy, F: Folder, I: Read + Drop, O: Write + Drop>(
             bounds,
         } => run_checked_files(alloc, plan, cert, bounds, script, output),
         Opened::Check { plan, cert, bounds } => check_files(alloc, plan, cert, bounds, output),
-        Opened::Codes { plan } => list_codes(alloc, plan, output),
-        Opened::Grade { plan } => grade_file(alloc, plan, output),
-        Opened::Draw { plan, code, bounds } => draw_file(alloc, plan, code, bounds, output),
+        Opened::Plan { plan, job } => do_over_plan(alloc, plan, job, output),
         Opened::Audit { plan, bounds, keep } => {
             audit_file(alloc, plan, bounds, keep, folder, output)
         }
@@ -131,24 +129,32 @@ fn run_after_yes<A: Allocator + Copy, P: Source, C: Read + Drop, R: Read + Drop,
     )
 }
 
-/// `codes PLAN`.
-fn list_codes<A: Allocator + Copy, R: Read + Drop, O: Write + Drop>(
+/// Opens the plan, and does a job over it.
+fn do_over_plan<A: Allocator + Copy, R: Read + Drop, O: Write + Drop>(
     alloc: A,
     plan: R,
+    job: PlanJob<'_>,
     output: &Output<O, A>,
 ) -> Result<u8, JobFault> {
     let mut plan = output.source(alloc, plan)?;
-    codes_status(alloc, &mut plan, &mut output.sink())
+    do_plan_job(alloc, &mut plan, job, output)
 }
 
-/// `grade PLAN`.
-fn grade_file<A: Allocator + Copy, R: Read + Drop, O: Write + Drop>(
+/// `codes PLAN`, `grade PLAN`, or `draw PLAN [--code C [--limit L --spare K]]`.
+fn do_plan_job<A: Allocator + Copy, P: Source, O: Write + Drop>(
     alloc: A,
-    plan: R,
+    plan: &mut P,
+    job: PlanJob<'_>,
     output: &Output<O, A>,
 ) -> Result<u8, JobFault> {
-    let mut plan = output.source(alloc, plan)?;
-    grade_status(alloc, &mut plan, &mut output.sink())
+    let mut sink = output.sink();
+    match job {
+        PlanJob::Codes => codes_status(alloc, plan, &mut sink),
+        PlanJob::Grade => grade_status(alloc, plan, &mut sink),
+        PlanJob::Draw { code, bounds } => {
+            draw_job(alloc, plan, code, numbers(bounds), &mut sink).and(Ok(0))
+        }
+    }
 }
 
 /// `check PLAN CERT --limit L --spare K`.
@@ -160,31 +166,20 @@ fn check_files<A: Allocator + Copy, R: Read + Drop, O: Write + Drop>(
     output: &Output<O, A>,
 ) -> Result<u8, JobFault> {
     let mut plan = output.source(alloc, plan)?;
-    let mut cert = output.source(alloc, cert)?;
-    check_status(
-        alloc,
-        &mut plan,
-        &mut cert,
-        bounds.limit,
-        bounds.spare,
-        &mut output.sink(),
-    )
+    check_cert(alloc, &mut plan, cert, bounds, output)
 }
 
-/// `draw PLAN [--code C [--limit L --spare K]]`.
-fn draw_file<A: Allocator + Copy, R: Read + Drop, O: Write + Drop>(
+/// Checks a certificate of the plan. A function of its own, since each exit lets go of what is open there.
+fn check_cert<A: Allocator + Copy, P: Source, C: Read + Drop, O: Write + Drop>(
     alloc: A,
-    plan: R,
-    code: Option<&str>,
-    bounds: Option<Bounds>,
+    plan: &mut P,
+    cert: C,
+    bounds: Bounds,
     output: &Output<O, A>,
 ) -> Result<u8, JobFault> {
-    let mut plan = output.source(alloc, plan)?;
-    let code = match code {
-        Some(code) => Some(code.as_bytes()),
-        None => None,
-    };
-    draw_job(alloc, &mut plan, code, numbers(bounds), &mut output.sink()).and(Ok(0))
+    let mut cert = output.source(alloc, cert)?;
+    let (limit, spare) = (bounds.limit, bounds.spare);
+    check_status(alloc, plan, &mut cert, limit, spare, &mut output.sink())
 }
 
 /// A limit and a spare number, if there are any.
