@@ -4,20 +4,20 @@ use crate::cases::{
 };
 use crate::driven::try_drives;
 use crate::runs::Over;
-use std::alloc::Global;
+use std::alloc::{Allocator, Global};
 use tx_cert::read_cert;
 use tx_check::{Verdict, check};
-use tx_engine::{Played, play};
+use tx_engine::{Engine, Played, play};
 use tx_machine::Plain;
 use tx_plan::Plan;
 use tx_plantext::read_plan;
 use tx_script::read_event;
-use tx_state::{Event, Network, Reply, drive};
+use tx_state::{Event, Network, Reply, Ticket, drive};
 use tx_text::NoMemory;
 use tx_tickets::{write_reply, write_ticket};
 
 /// Adds the event that a line of a script says, if it says one.
-fn put_event(plan: &Plan<&Refusing<Global>>, line: &[u8], events: &mut Vec<Event>, out: &mut Told) {
+fn put_event<A: Allocator>(plan: &Plan<A>, line: &[u8], events: &mut Vec<Event>, out: &mut Told) {
     if says_no_event(line) {
         return;
     }
@@ -31,8 +31,8 @@ fn put_event(plan: &Plan<&Refusing<Global>>, line: &[u8], events: &mut Vec<Event
 }
 
 /// Adds the events of a script.
-fn put_events(
-    plan: &Plan<&Refusing<Global>>,
+fn put_events<A: Allocator>(
+    plan: &Plan<A>,
     script: &[u8],
     events: &mut Vec<Event>,
     out: &mut Told,
@@ -47,78 +47,122 @@ fn put_events(
     }
 }
 
-fn tell_replies(plan: &Plan<&Refusing<Global>>, replies: &[Reply], out: &mut Told) {
+fn tell_replies<A: Allocator>(plan: &Plan<A>, replies: &[Reply], out: &mut Told) {
     for reply in replies {
         let _ = write_reply(reply, plan, out);
     }
 }
 
+/// Tells how many events a network accepted and calls are open.
+fn tell_end<N: Network>(net: &N, out: &mut Told) {
+    tell_count(b"END EVENTS ", net.events(), b"", out);
+    tell_count(b" OPEN ", net.open_calls(), b"\n", out);
+}
+
+/// Takes the oldest ticket and writes it. Tells whether there was one.
+fn tell_ticket<A: Allocator, N: Network>(plan: &Plan<A>, net: &mut N, out: &mut Told) -> bool {
+    match net.next_ticket() {
+        Some(ticket) => {
+            let _ = write_ticket(&ticket, plan, out);
+            drop(ticket);
+            true
+        }
+        None => false,
+    }
+}
+
 /// Writes the replies, then the tickets, and then how many events were accepted and calls are open.
-fn tell_driven(
-    plan: &Plan<&Refusing<Global>>,
-    net: &mut Plain<'_, &Refusing<Global>>,
+fn tell_driven<A: Allocator, N: Network>(
+    plan: &Plan<A>,
+    net: &mut N,
     replies: &[Reply],
     out: &mut Told,
 ) {
     tell_replies(plan, replies, out);
     for _ in 0..=replies.len() {
-        match net.next_ticket() {
-            Some(ticket) => {
-                let _ = write_ticket(&ticket, plan, out);
-                drop(ticket);
-            }
-            None => break,
+        if !tell_ticket(plan, net, out) {
+            break;
         }
     }
-    tell_count(b"END EVENTS ", net.events(), b"", out);
-    tell_count(b" OPEN ", net.open_calls(), b"\n", out);
+    tell_end(net, out);
+}
+
+/// Drives the events through a plain network, and tells what comes of it.
+fn drive_and_tell<A: Allocator, N: Network>(
+    plan: &Plan<A>,
+    net: &mut N,
+    events: &[Event],
+    replies: &mut Vec<Reply>,
+    out: &mut Told,
+) {
+    match drive(net, events, replies) {
+        Ok(()) => tell_driven(plan, net, replies.as_slice(), out),
+        Err(NoMemory) => tell_broken(b"no memory", 0, out),
+    }
 }
 
 /// Drives the events through a new plain network of the plan, and tells what comes of it.
-fn drive_plain<'m>(
-    memory: &'m Refusing<Global>,
-    plan: &Plan<&'m Refusing<Global>>,
+fn drive_plain<A: Allocator + Copy>(
+    memory: A,
+    plan: &Plan<A>,
     events: &[Event],
     replies: &mut Vec<Reply>,
     out: &mut Told,
 ) {
     match Plain::new(memory, plan) {
         Ok(mut net) => {
-            match drive(&mut net, events, replies) {
-                Ok(()) => tell_driven(plan, &mut net, replies.as_slice(), out),
-                Err(NoMemory) => tell_broken(b"no memory", 0, out),
-            }
+            drive_and_tell(plan, &mut net, events, replies, out);
             drop(net);
         }
         Err(NoMemory) => tell_broken(b"no memory", 0, out),
     }
 }
 
-/// Tells what events that were played on the engine came to.
-fn tell_played(
-    plan: &Plan<&Refusing<Global>>,
-    played: &Played<'_, &Refusing<Global>>,
-    out: &mut Told,
-) {
-    tell_replies(plan, played.replies.as_slice(), out);
-    for ticket in played.tickets.as_slice() {
+/// Writes tickets, and lets them go.
+fn tell_tickets<A: Allocator>(plan: &Plan<A>, tickets: Vec<Ticket<A>, A>, out: &mut Told) {
+    for ticket in tickets.as_slice() {
         let _ = write_ticket(ticket, plan, out);
     }
-    tell_count(b"END EVENTS ", played.network.events(), b"", out);
-    tell_count(b" OPEN ", played.network.open_calls(), b"\n", out);
+    drop(tickets);
+}
+
+/// Tells how many events an engine accepted and calls are open, and lets it go.
+fn tell_and_close<A: Allocator + Copy>(engine: Engine<'_, A>, out: &mut Told) {
+    tell_end(&engine, out);
+    engine.close();
+}
+
+/// Tells what events that were played on the engine came to, and drives them again where memory is refused.
+fn tell_played<A: Allocator + Copy>(
+    alloc: Global,
+    plan: &Plan<A>,
+    text: &[u8],
+    events: &[Event],
+    played: Played<'_, A>,
+    out: &mut Told,
+) {
+    let Played {
+        replies,
+        tickets,
+        network,
+    } = played;
+    tell_replies(plan, replies.as_slice(), out);
+    tell_tickets(plan, tickets, out);
+    tell_and_close(network, out);
+    try_drives(alloc, Over::Engine, text, events, replies.as_slice(), out);
+    drop(replies);
 }
 
 /// Whether the checker says Yes to a certificate of the plan.
-fn is_certified<'m>(
-    memory: &'m Refusing<Global>,
-    plan: &Plan<&'m Refusing<Global>>,
+fn is_certified<A: Allocator + Copy>(
+    memory: A,
+    plan: &Plan<A>,
     cert: &[u8],
-    limit: u8,
-    spare: u8,
+    numbers: (u8, u8),
 ) -> bool {
     match read_cert(memory, cert, plan) {
         Ok(cert) => {
-            let verdict = check(plan, &cert, limit.min(62), spare.min(15));
+            let verdict = check(plan, &cert, numbers.0.min(62), numbers.1.min(15));
             drop(cert);
             verdict == Verdict::Yes
         }
@@ -135,10 +179,10 @@ struct Texts<'a> {
 }
 
 /// Drives the events through a plain network, and again where memory is refused.
-fn drive_over_plain<'m>(
+fn drive_over_plain<A: Allocator + Copy>(
     alloc: Global,
-    memory: &'m Refusing<Global>,
-    plan: &Plan<&'m Refusing<Global>>,
+    memory: A,
+    plan: &Plan<A>,
     text: &[u8],
     events: &[Event],
     out: &mut Told,
@@ -150,44 +194,26 @@ fn drive_over_plain<'m>(
 }
 
 /// Plays the events on the engine, and drives them again where memory is refused.
-fn play_on_engine<'m>(
+fn play_on_engine<A: Allocator + Copy>(
     alloc: Global,
-    memory: &'m Refusing<Global>,
-    plan: &Plan<&'m Refusing<Global>>,
+    memory: A,
+    plan: &Plan<A>,
     text: &[u8],
     events: &[Event],
     out: &mut Told,
 ) {
     match play(memory, plan, 0, 0, events) {
-        Ok(played) => {
-            tell_played(plan, &played, out);
-            try_drives(
-                alloc,
-                Over::Engine,
-                text,
-                events,
-                played.replies.as_slice(),
-                out,
-            );
-            let Played {
-                replies,
-                tickets,
-                network,
-            } = played;
-            network.close();
-            drop(tickets);
-            drop(replies);
-        }
+        Ok(played) => tell_played(alloc, plan, text, events, played, out),
         Err(NoMemory) => tell_broken(b"no memory", 0, out),
     }
 }
 
 /// Drives the events of the script.
-fn drive_script<'m>(
+fn drive_script<A: Allocator + Copy>(
     alloc: Global,
     over: Over,
-    memory: &'m Refusing<Global>,
-    plan: &Plan<&'m Refusing<Global>>,
+    memory: A,
+    plan: &Plan<A>,
     texts: Texts<'_>,
     out: &mut Told,
 ) {
@@ -198,6 +224,24 @@ fn drive_script<'m>(
         Over::Engine => play_on_engine(alloc, memory, plan, texts.plan, events.as_slice(), out),
     }
     drop(events);
+}
+
+/// Tells whether the checker says Yes to the certificate, and drives the events of the script after a Yes.
+fn check_and_drive<A: Allocator + Copy>(
+    alloc: Global,
+    over: Over,
+    memory: A,
+    plan: &Plan<A>,
+    numbers: (u8, u8),
+    texts: Texts<'_>,
+    out: &mut Told,
+) {
+    if is_certified(memory, plan, texts.cert, numbers) {
+        tell(b"YES\n", out);
+        drive_script(alloc, over, memory, plan, texts, out);
+    } else {
+        tell(b"NO\n", out);
+    }
 }
 
 /// Checks a certificate of a plan, with a limit and a spare number, and after a Yes drives the events of the script behind it.
@@ -214,12 +258,7 @@ pub(crate) fn play_certified(
     let memory = Refusing::new(alloc, 0);
     match read_plan(&memory, plan) {
         Ok(plan) => {
-            if is_certified(&memory, &plan, texts.cert, numbers.0, numbers.1) {
-                tell(b"YES\n", out);
-                drive_script(alloc, over, &memory, &plan, texts, out);
-            } else {
-                tell(b"NO\n", out);
-            }
+            check_and_drive(alloc, over, &memory, &plan, numbers, texts, out);
             drop(plan);
         }
         Err(_) => tell_broken(b"no plan", 0, out),

@@ -1,7 +1,7 @@
 // Lists of events that are driven where memory is refused.
 use crate::cases::{Refusing, Told, tell_broken};
 use crate::runs::Over;
-use std::alloc::Global;
+use std::alloc::{Allocator, Global};
 use tx_engine::Engine;
 use tx_machine::Plain;
 use tx_plan::Plan;
@@ -21,24 +21,24 @@ fn accepted(replies: &[Reply]) -> u64 {
 }
 
 /// Drives the events, and where memory was wanted the rest of them again. Tells whether the replies were those of the events that were applied.
-fn drive_on<N: Network>(
+fn drive_on<A: Allocator, N: Network>(
     net: &mut N,
     events: &[Event],
-    replies: &mut Vec<Reply, &Refusing<Global>>,
+    replies: &mut Vec<Reply, A>,
 ) -> Result<bool, NoMemory> {
-    if drive(net, events, replies).is_err() {
-        if net.events() != accepted(replies.as_slice()) {
-            return Ok(false);
-        }
-        let (_, rest) = events.split_at(replies.len().min(events.len()));
-        drive(net, rest, replies)?;
+    if drive(net, events, replies).is_ok() {
+        return Ok(true);
     }
-    Ok(true)
+    if net.events() != accepted(replies.as_slice()) {
+        return Ok(false);
+    }
+    let (_, rest) = events.split_at(replies.len().min(events.len()));
+    drive(net, rest, replies).and(Ok(true))
 }
 
 /// Drives the events through a network, and tells whether the replies are those of a network that never wants memory.
-fn drives_on<N: Network>(
-    alloc: &Refusing<Global>,
+fn drives_on<A: Allocator + Copy, N: Network>(
+    alloc: A,
     net: &mut N,
     events: &[Event],
     whole: &[Reply],
@@ -50,37 +50,43 @@ fn drives_on<N: Network>(
     Ok(driven? && is_whole)
 }
 
-/// The same over a new network of the plan.
-fn makes_and_drives_on<'m>(
-    alloc: &'m Refusing<Global>,
-    over: Over,
-    plan: &Plan<&'m Refusing<Global>>,
+/// The same over a new plain network of the plan.
+fn drives_on_plain<A: Allocator + Copy>(
+    alloc: A,
+    plan: &Plan<A>,
     events: &[Event],
     whole: &[Reply],
 ) -> Result<bool, NoMemory> {
-    match over {
-        Over::Plain => match Plain::new(alloc, plan) {
-            Ok(mut net) => {
-                let keeps = drives_on(alloc, &mut net, events, whole);
-                drop(net);
-                keeps
-            }
-            Err(fault) => Err(fault),
-        },
-        Over::Engine => match Engine::new(alloc, plan) {
-            Ok(mut net) => {
-                let keeps = drives_on(alloc, &mut net, events, whole);
-                net.close();
-                keeps
-            }
-            Err(fault) => Err(fault),
-        },
+    match Plain::new(alloc, plan) {
+        Ok(mut net) => {
+            let keeps = drives_on(alloc, &mut net, events, whole);
+            drop(net);
+            keeps
+        }
+        Err(fault) => Err(fault),
+    }
+}
+
+/// The same over a new engine for the plan.
+fn drives_on_engine<A: Allocator + Copy>(
+    alloc: A,
+    plan: &Plan<A>,
+    events: &[Event],
+    whole: &[Reply],
+) -> Result<bool, NoMemory> {
+    match Engine::new(alloc, plan) {
+        Ok(mut net) => {
+            let keeps = drives_on(alloc, &mut net, events, whole);
+            net.close();
+            keeps
+        }
+        Err(fault) => Err(fault),
     }
 }
 
 /// The same over a plan that is read with the allocator.
-fn reads_and_drives_on(
-    alloc: &Refusing<Global>,
+fn reads_and_drives_on<A: Allocator + Copy>(
+    alloc: A,
     over: Over,
     plan: &[u8],
     events: &[Event],
@@ -88,7 +94,10 @@ fn reads_and_drives_on(
 ) -> Result<bool, NoMemory> {
     match read_plan(alloc, plan) {
         Ok(plan) => {
-            let keeps = makes_and_drives_on(alloc, over, &plan, events, whole);
+            let keeps = match over {
+                Over::Plain => drives_on_plain(alloc, &plan, events, whole),
+                Over::Engine => drives_on_engine(alloc, &plan, events, whole),
+            };
             drop(plan);
             keeps
         }

@@ -3,14 +3,15 @@ ghost use Rattle.std.specs.Prelude.{◌≤◌, IfSome};
 
 use crate::cases::{End, Ends, Job, ROOM, Refusing, Task, Told, tell, tell_broken};
 use itoa::Buffer;
-use std::alloc::Global;
+use std::alloc::{Allocator, Global};
 use tx_audit::write_counter;
-use tx_cert::write_cert;
+use tx_cert::{Cert, write_cert};
 use tx_jobs::{
-    CounterScript, Evidence, JobFault, check_status, codes_job, draw_job, evidence_job,
+    CounterScript, Evidence, JobFault, check_status, codes_status, draw_job, evidence_job,
     grade_status, pipe_job, run_checked_status, run_job,
 };
-use tx_text::{MemorySink, MemorySource, NoMemory};
+use tx_plan::Plan;
+use tx_text::{MemorySink, MemorySource, NoMemory, WriteFault};
 
 /// What a whole job does, beside which others are judged: its exit status or its fault, and what it writes.
 #[derive(Clone, Copy)]
@@ -49,24 +50,41 @@ fn status<T: Copy>(answer: Result<T, JobFault>) -> Result<u8, JobFault> {
     }
 }
 
-/// Writes the certificate, or the counter script, if there is one.
-fn keep(evidence: &Evidence<&Refusing<Global>>, out: &mut MemorySink) -> Result<u8, JobFault> {
-    let written = match evidence {
-        Evidence::Sound(plan, cert) => write_cert(cert, plan, out),
-        Evidence::Unsound(Some(script)) => {
-            write_counter(&script.plan, script.events.as_slice(), out)
-        }
-        Evidence::Unsound(None) => Ok(()),
-    };
+/// The exit status of an audit that wrote something behind its report.
+fn status_behind(status: u8, written: Result<(), WriteFault>) -> Result<u8, JobFault> {
     match written {
-        Ok(()) => Ok(evidence.status()),
-        Err(_) => Err(JobFault::Write),
+        Ok(()) => Ok(status),
+        Err(WriteFault) => Err(JobFault::Write),
     }
 }
 
+/// Writes the certificate of a plan.
+fn keep_cert<A: Allocator>(
+    plan: Plan<A>,
+    cert: Cert<A>,
+    out: &mut MemorySink,
+) -> Result<(), WriteFault> {
+    let written = write_cert(&cert, &plan, out);
+    drop(cert);
+    drop(plan);
+    written
+}
+
+/// Writes a counter script.
+fn keep_script<A: Allocator>(
+    script: CounterScript<A>,
+    out: &mut MemorySink,
+) -> Result<(), WriteFault> {
+    let written = write_counter(&script.plan, script.events.as_slice(), out);
+    let CounterScript { plan, events } = script;
+    drop(events);
+    drop(plan);
+    written
+}
+
 /// Audits a plan, and writes behind the report what shows its verdict.
-fn do_audit(
-    alloc: &Refusing<Global>,
+fn do_audit<A: Allocator + Copy>(
+    alloc: A,
     plan: &mut MemorySource<'_>,
     limit: u8,
     spare: u8,
@@ -76,44 +94,62 @@ fn do_audit(
     requires spare { spare ≤ 15 }
 {
     match evidence_job(alloc, plan, limit, spare, true, out) {
-        Ok(evidence) => {
-            let status = keep(&evidence, out);
-            match evidence {
-                Evidence::Sound(plan, cert) => {
-                    drop(cert);
-                    drop(plan);
-                }
-                Evidence::Unsound(Some(CounterScript { plan, events })) => {
-                    drop(events);
-                    drop(plan);
-                }
-                Evidence::Unsound(None) => {}
-            }
-            status
-        }
+        Ok(Evidence::Sound(plan, cert)) => status_behind(0, keep_cert(plan, cert, out)),
+        Ok(Evidence::Unsound(Some(script))) => status_behind(1, keep_script(script, out)),
+        Ok(Evidence::Unsound(None)) => Ok(1),
         Err(fault) => Err(fault),
     }
 }
 
 /// Draws the code of some figures, the first of them not 0.
-fn do_draw_code(
-    alloc: &Refusing<Global>,
+fn do_draw_code<A: Allocator + Copy>(
+    alloc: A,
     plan: &mut MemorySource<'_>,
     code: u16,
     bounds: Option<(u8, u8)>,
     out: &mut MemorySink,
-) -> Result<u8, JobFault>
+) -> Result<(), JobFault>
     requires limit { IfSome bounds (λ b. b.0 ≤ 62) }
     requires spare { IfSome bounds (λ b. b.1 ≤ 15) }
 {
     let mut figures = Buffer::new();
     let code = figures.format(code).as_bytes();
-    status(draw_job(alloc, plan, Some(code), bounds, out))
+    draw_job(alloc, plan, Some(code), bounds, out)
+}
+
+/// Draws a plan, or one of its codes.
+fn do_draw<A: Allocator + Copy>(
+    alloc: A,
+    job: Job,
+    plan: &mut MemorySource<'_>,
+    out: &mut MemorySink,
+) -> Result<(), JobFault> {
+    let (code, bounds) = match job {
+        Job::DrawCode { code } => (code, None),
+        Job::DrawFinding { code, limit, spare } => (code, Some((limit.min(62), spare.min(15)))),
+        _ => return draw_job(alloc, plan, None, None, out),
+    };
+    do_draw_code(alloc, plan, code, bounds, out)
+}
+
+/// Does a job over a plan alone, and answers its exit status.
+fn do_plan_job<A: Allocator + Copy>(
+    alloc: A,
+    job: Job,
+    plan: &mut MemorySource<'_>,
+    out: &mut MemorySink,
+) -> Result<u8, JobFault> {
+    match job {
+        Job::Codes => codes_status(alloc, plan, out),
+        Job::Grade => grade_status(alloc, plan, out),
+        Job::Audit { limit, spare } => do_audit(alloc, plan, limit.min(62), spare.min(15), out),
+        _ => status(do_draw(alloc, job, plan, out)),
+    }
 }
 
 /// Does a job over its sources, and answers its exit status: that of a pipe has but one.
-fn do_job(
-    alloc: &Refusing<Global>,
+fn do_job<A: Allocator + Copy>(
+    alloc: A,
     job: Job,
     first: &mut MemorySource<'_>,
     second: &mut MemorySource<'_>,
@@ -122,32 +158,20 @@ fn do_job(
 ) -> Result<u8, JobFault> {
     match job {
         Job::Pipe | Job::Run => status(run_job(alloc, first, second, out)),
-        Job::Codes => match codes_job(alloc, first, out) {
-            Ok(None) => Ok(0),
-            Ok(Some(_)) => Ok(1),
-            Err(fault) => Err(fault),
-        },
-        Job::Grade => grade_status(alloc, first, out),
         Job::Check { limit, spare } => {
             check_status(alloc, first, second, limit.min(62), spare.min(15), out)
         }
-        Job::Audit { limit, spare } => { do_audit(alloc, first, limit.min(62), spare.min(15), out) }
         Job::Checked { limit, spare } => {
             let (limit, spare) = (limit.min(62), spare.min(15));
             run_checked_status(alloc, first, second, limit, spare, third, out)
         }
-        Job::Draw => status(draw_job(alloc, first, None, None, out)),
-        Job::DrawCode { code } => do_draw_code(alloc, first, code, None, out),
-        Job::DrawFinding { code, limit, spare } => {
-            let bounds = (limit.min(62), spare.min(15));
-            do_draw_code(alloc, first, code, Some(bounds), out)
-        }
+        _ => do_plan_job(alloc, job, first, out),
     }
 }
 
 /// Does a task, and answers its exit status.
-pub(crate) fn do_task(
-    alloc: &Refusing<Global>,
+pub(crate) fn do_task<A: Allocator + Copy>(
+    alloc: A,
     task: Task<'_>,
     ends: Ends,
     out: &mut MemorySink,

@@ -1,6 +1,6 @@
 // Runs of a script, with the event at which they stop.
 use crate::cases::{End, Ends, Refusing};
-use std::alloc::Global;
+use std::alloc::{Allocator, Global};
 use tx_engine::Engine;
 use tx_jobs::JobFault;
 use tx_machine::Plain;
@@ -70,9 +70,9 @@ const NOT_BEGUN: RunFault = RunFault {
 };
 
 /// Runs a script over a new plain network of the plan.
-fn run_plain<'m>(
-    alloc: &'m Refusing<Global>,
-    plan: &Plan<&'m Refusing<Global>>,
+fn run_plain<A: Allocator + Copy>(
+    alloc: A,
+    plan: &Plan<A>,
     text: Script<'_>,
     source: &mut MemorySource<'_>,
     out: &mut MemorySink,
@@ -88,9 +88,9 @@ fn run_plain<'m>(
 }
 
 /// Runs a script over a new engine for the plan.
-fn run_engine<'m>(
-    alloc: &'m Refusing<Global>,
-    plan: &Plan<&'m Refusing<Global>>,
+fn run_engine<A: Allocator + Copy>(
+    alloc: A,
+    plan: &Plan<A>,
     text: Script<'_>,
     source: &mut MemorySource<'_>,
     out: &mut MemorySink,
@@ -106,9 +106,9 @@ fn run_engine<'m>(
 }
 
 /// Runs a script over a new network of the plan.
-fn run_over<'m>(
-    alloc: &'m Refusing<Global>,
-    plan: &Plan<&'m Refusing<Global>>,
+fn run_over<A: Allocator + Copy>(
+    alloc: A,
+    plan: &Plan<A>,
     text: Script<'_>,
     source: &mut MemorySource<'_>,
     out: &mut MemorySink,
@@ -120,8 +120,8 @@ fn run_over<'m>(
 }
 
 /// Reads the plan, which is a good one, and runs the script that the source gives.
-pub(crate) fn run_text(
-    alloc: &Refusing<Global>,
+pub(crate) fn run_text<A: Allocator + Copy>(
+    alloc: A,
     text: Script<'_>,
     source: &mut MemorySource<'_>,
     out: &mut MemorySink,

@@ -22,6 +22,11 @@ pub fn written_after(output: &[u8], events: u64) -> usize {
     output.len().saturating_sub(rest.len())
 }
 
+/// The first word of a line, if it has one.
+fn first_word(line: &[u8]) -> Option<&[u8]> {
+    words(line).next()
+}
+
 /// The first word of the line that says an event of a script, counted from 1.
 pub fn event_word(script: &[u8], event: u64) -> &[u8] {
     let mut rest = script;
@@ -30,7 +35,7 @@ pub fn event_word(script: &[u8], event: u64) -> &[u8] {
         let Some((line, behind)) = next_line(rest) else {
             break;
         };
-        if let Some(word) = words(line).next() {
+        if let Some(word) = first_word(line) {
             if left == 0 {
                 return word;
             }
@@ -43,16 +48,10 @@ pub fn event_word(script: &[u8], event: u64) -> &[u8] {
 
 /// Whether an event of this first word takes memory: a call that is keyed or routed, and a line that gets a status.
 pub fn takes_memory(word: &[u8]) -> bool {
-    word == b"KEY".as_slice()
-        || word == b"ROUTE".as_slice()
-        || word == b"FAULT".as_slice()
-        || word == b"AWAY".as_slice()
+    matches!(word, b"KEY" | b"ROUTE" | b"FAULT" | b"AWAY")
 }
 
 /// Whether a line of a script says no event: it has no words, or is the header or END.
 pub fn says_no_event(line: &[u8]) -> bool {
-    match words(line).next() {
-        Some(word) => word == b"SCRIPT".as_slice() || word == b"END".as_slice(),
-        None => true,
-    }
+    matches!(first_word(line), None | Some(b"SCRIPT" | b"END"))
 }

@@ -1,11 +1,11 @@
 // What takes memory, made with each request refused in turn.
 use crate::cases::{Refusing, Told, tell_broken, tell_count};
 use crate::tests::circuits::calls::{ALFA, BETA, next};
-use std::alloc::Global;
+use std::alloc::{Allocator, Global};
 use tx_circuits::CircuitTable;
 use tx_lines::{LineAnswer, LineBook, Side};
 use tx_plan::{CodeId, Line, Plan, PlanRefusal};
-use tx_plantext::{PlanWord, read_plan};
+use tx_plantext::{PlanFault, PlanWord, read_plan};
 use tx_text::{
     FaultKind, FrameFault, LineFault, LineFeeder, MemorySink, Sink, TextFault, write_bytes,
 };
@@ -48,7 +48,7 @@ fn judged(is_right: bool) -> Came {
 }
 
 /// A feeder, which takes no memory when it is fed.
-fn make_feeder(alloc: &Refusing<Global>) -> Came {
+fn make_feeder<A: Allocator + Copy>(alloc: A) -> Came {
     match LineFeeder::new(alloc) {
         Ok(mut feeder) => judged(feeder.feed(&[b'#'; 513]) == Err(TextFault::LineTooLong)),
         Err(TextFault::NoMemory) => Came::Wanting,
@@ -57,7 +57,7 @@ fn make_feeder(alloc: &Refusing<Global>) -> Came {
 }
 
 /// A sink, which takes no memory when it is written to.
-fn make_sink(alloc: &Refusing<Global>) -> Came {
+fn make_sink<A: Allocator + Copy>(alloc: A) -> Came {
     match MemorySink::new(alloc, 8) {
         Ok(mut sink) => judged(write_bytes(b"SCRIPT 1", &mut sink).is_ok()),
         Err(_) => Came::Wanting,
@@ -65,7 +65,7 @@ fn make_sink(alloc: &Refusing<Global>) -> Came {
 }
 
 /// A trie of codes of which one begins another.
-fn make_trie<'m>(alloc: &'m Refusing<Global>, plan: &Plan<&'m Refusing<Global>>) -> Came {
+fn make_trie<A: Allocator + Copy>(alloc: A, plan: &Plan<A>) -> Came {
     match CodeTrie::build(alloc, plan) {
         Ok(trie) => judged(trie.ambiguous().is_some()),
         Err(_) => Came::Wanting,
@@ -73,7 +73,7 @@ fn make_trie<'m>(alloc: &'m Refusing<Global>, plan: &Plan<&'m Refusing<Global>>)
 }
 
 /// A table of circuits, of which ALFA takes the first next and BETA the third.
-fn make_table<'m>(alloc: &'m Refusing<Global>, plan: &Plan<&'m Refusing<Global>>) -> Came {
+fn make_table<A: Allocator + Copy>(alloc: A, plan: &Plan<A>) -> Came {
     match CircuitTable::build(alloc, plan) {
         Ok(table) => judged(next(&table, ALFA) == 1 && next(&table, BETA) == 3),
         Err(_) => Came::Wanting,
@@ -81,7 +81,7 @@ fn make_table<'m>(alloc: &'m Refusing<Global>, plan: &Plan<&'m Refusing<Global>>
 }
 
 /// Engages a free line: it joins a call, or room is made for it first. Where memory is wanting it has to stay free.
-fn engage(book: &mut LineBook<&Refusing<Global>>, line: &Line, joins: bool) -> Came {
+fn engage<A: Allocator + Copy>(book: &mut LineBook<A>, line: &Line, joins: bool) -> Came {
     let mut came = Came::Right;
     if joins {
         came = match book.join(line, Side::Caller) {
@@ -103,7 +103,7 @@ fn engage(book: &mut LineBook<&Refusing<Global>>, line: &Line, joins: bool) -> C
 
 /// Engages lines until their table has grown twice: at the seventh line, for which room is made, and at the thirteenth, which joins a call. Where memory is
 /// wanting, a line is engaged at the second try.
-fn engage_lines(book: &mut LineBook<&Refusing<Global>>) -> Came {
+fn engage_lines<A: Allocator + Copy>(book: &mut LineBook<A>) -> Came {
     let mut all = Came::Right;
     for count in 1..14u8 {
         let number = [b'1', b'0', b'0', b'0' + count / 10, b'0' + count % 10];
@@ -123,32 +123,42 @@ fn engage_lines(book: &mut LineBook<&Refusing<Global>>) -> Came {
 }
 
 /// A book of lines, of which some are engaged.
-fn make_book<'m>(alloc: &'m Refusing<Global>, plan: &Plan<&'m Refusing<Global>>) -> Came {
+fn make_book<A: Allocator + Copy>(alloc: A, plan: &Plan<A>) -> Came {
     match LineBook::build(alloc, plan) {
         Ok(mut book) => engage_lines(&mut book),
         Err(_) => Came::Wanting,
     }
 }
 
-/// Reads the plan, and makes what is to be made: where it has a plan, over that plan.
-fn make(alloc: &Refusing<Global>, made: Made, plan: &[u8]) -> Came {
+/// Makes what is to be made: where it has a plan, over this one.
+fn make_over<A: Allocator + Copy>(alloc: A, made: Made, plan: &Plan<A>) -> Came {
+    match made {
+        Made::Feeder => make_feeder(alloc),
+        Made::Sink => make_sink(alloc),
+        Made::Trie => make_trie(alloc, plan),
+        Made::Book => make_book(alloc, plan),
+        Made::Table => make_table(alloc, plan),
+    }
+}
+
+/// What came of a plan that could not be read.
+fn came_of(fault: PlanFault) -> Came {
+    match fault.kind {
+        FaultKind::Frame(FrameFault::Line(LineFault::Text(TextFault::NoMemory)))
+        | FaultKind::Word(PlanWord::Refused(PlanRefusal::NoMemory)) => Came::NoPlan,
+        _ => Came::Wrong,
+    }
+}
+
+/// Reads the plan, and makes what is to be made.
+fn make<A: Allocator + Copy>(alloc: A, made: Made, plan: &[u8]) -> Came {
     match read_plan(alloc, plan) {
         Ok(plan) => {
-            let came = match made {
-                Made::Feeder => make_feeder(alloc),
-                Made::Sink => make_sink(alloc),
-                Made::Trie => make_trie(alloc, &plan),
-                Made::Book => make_book(alloc, &plan),
-                Made::Table => make_table(alloc, &plan),
-            };
+            let came = make_over(alloc, made, &plan);
             drop(plan);
             came
         }
-        Err(fault) => match fault.kind {
-            FaultKind::Frame(FrameFault::Line(LineFault::Text(TextFault::NoMemory)))
-            | FaultKind::Word(PlanWord::Refused(PlanRefusal::NoMemory)) => Came::NoPlan,
-            _ => Came::Wrong,
-        },
+        Err(fault) => came_of(fault),
     }
 }
 

@@ -4,7 +4,7 @@ ghost use Rattle.std.specs.List.{AllByRecursion};
 ghost use Rattle.tx_rank.specs.Findings.{IsTrueOf};
 
 use crate::cases::{Refusing, Told};
-use std::alloc::Global;
+use std::alloc::{Allocator, Global};
 use tx_audit::{first_counter, write_counter};
 use tx_plan::Plan;
 use tx_plantext::read_plan;
@@ -24,10 +24,10 @@ enum Tried {
 }
 
 /// Asks for the events of the first finding that has some, and tells their script.
-fn try_findings<'m>(
-    alloc: &'m Refusing<Global>,
-    plan: &Plan<&'m Refusing<Global>>,
-    findings: &[Finding<&'m Refusing<Global>>],
+fn try_findings<A: Allocator + Copy>(
+    alloc: A,
+    plan: &Plan<A>,
+    findings: &[Finding<A>],
     limit: u8,
     spare: u8,
     script: &mut Told,
@@ -45,9 +45,9 @@ fn try_findings<'m>(
     }
 }
 
-fn try_plan<'m>(
-    alloc: &'m Refusing<Global>,
-    plan: &Plan<&'m Refusing<Global>>,
+fn try_plan<A: Allocator + Copy>(
+    alloc: A,
+    plan: &Plan<A>,
     limit: u8,
     spare: u8,
     script: &mut Told,
@@ -69,7 +69,13 @@ fn try_plan<'m>(
     }
 }
 
-fn try_text(alloc: &Refusing<Global>, text: &[u8], limit: u8, spare: u8, script: &mut Told) -> Tried
+fn try_text<A: Allocator + Copy>(
+    alloc: A,
+    text: &[u8],
+    limit: u8,
+    spare: u8,
+    script: &mut Told,
+) -> Tried
     requires limit { limit ≤ 62 }
     requires spare { spare ≤ 15 }
 {
