@@ -15,7 +15,8 @@ mod told;
 mod writer;
 
 pub(crate) use case::{
-    Case, long_number, named, next_case, next_line, next_number, next_word, number_of, two_texts,
+    Case, count_words, long_number, named, next_case, next_line, next_number, next_word, number_of,
+    two_texts,
 };
 pub(crate) use end_case::{EndCase, What};
 pub(crate) use ends::{End, Ends, ROOM, calls_left};

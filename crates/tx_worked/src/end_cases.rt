@@ -20,27 +20,28 @@ fn tell_arguments(alloc: Global, kind: io::ErrorKind, out: &mut Told) {
 fn tell_line(rt: &HostRuntime, line: &str, out: &mut Told) {
     tell_parts(&[b"=== ", line.as_bytes(), b"\n"], out);
     let log = Log::new(rt.alloc());
-    match EndCase::read(rt.alloc(), line) {
-        Ok(case) => {
-            play(rt, &case, &log);
-            drop(case);
-        }
-        Err(_) => log.tell("BROKEN:", "no memory"),
-    }
+    let case = EndCase::read(rt.alloc(), line);
+    play(rt, &case, &log);
+    drop(case);
     log.print(out);
     drop(log);
 }
 
-/// Tells how the program refuses its arguments, and then plays each case of a text. Empty lines and lines with # at their head are passed over.
-pub(crate) fn play_ends(rt: &HostRuntime, text: &[u8], out: &mut Told) {
-    tell_arguments(rt.alloc(), io::ErrorKind::InvalidData, out);
-    tell_arguments(rt.alloc(), io::ErrorKind::OutOfMemory, out);
-    let Ok(text) = str::from_utf8(text) else {
-        return tell_broken(b"the cases are no UTF-8 text", 0, out);
-    };
+/// Plays the case of each line. Empty lines and lines with # at their head are passed over.
+fn play_lines(rt: &HostRuntime, text: &str, out: &mut Told) {
     for line in text.lines() {
         if !line.is_empty() && !line.starts_with('#') {
             tell_line(rt, line, out);
         }
+    }
+}
+
+/// Tells how the program refuses its arguments, and then plays each case of a text.
+pub(crate) fn play_ends(rt: &HostRuntime, text: &[u8], out: &mut Told) {
+    tell_arguments(rt.alloc(), io::ErrorKind::InvalidData, out);
+    tell_arguments(rt.alloc(), io::ErrorKind::OutOfMemory, out);
+    match str::from_utf8(text) {
+        Ok(text) => play_lines(rt, text, out),
+        Err(_) => tell_broken(b"the cases are no UTF-8 text", 0, out),
     }
 }

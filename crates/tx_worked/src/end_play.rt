@@ -8,7 +8,7 @@ use tx_program::{Command, WordsFault, read_command, run_command, run_words};
 /// Plays a case, and tells what happens.
 pub(crate) fn play(rt: &HostRuntime, case: &EndCase<'_>, log: &Log) {
     if case.is_bad {
-        log.tell("BROKEN:", "no such setting");
+        log.tell("BROKEN:", "no such case");
     }
     let played = match case.what {
         What::Run => run(rt, case, log),
@@ -30,28 +30,19 @@ pub(crate) fn play(rt: &HostRuntime, case: &EndCase<'_>, log: &Log) {
 fn run(rt: &HostRuntime, case: &EndCase<'_>, log: &Log) -> bool {
     let memory = Refusing::new(rt.alloc(), 0);
     let stage = Stage { rt, case, log };
-    match stage.ends() {
-        Ok(ends) => {
-            let status = run_words(rt.alloc(), &memory, case.words.as_slice(), ends);
-            log.tell_number("status", u64::from(status));
-            true
-        }
-        Err(e) => {
-            drop(e);
-            false
-        }
-    }
+    let Ok(ends) = stage.ends() else {
+        return false;
+    };
+    let status = run_words(rt.alloc(), &memory, case.words.as_slice(), ends);
+    log.tell_number("status", u64::from(status));
+    true
 }
 
 /// Runs the command with each of its requests for memory refused in turn, and then with none refused. Tells whether there was a command, and its ends could be
 /// made.
 fn run_without(rt: &HostRuntime, case: &EndCase<'_>, log: &Log) -> bool {
-    let command = match read_command(rt.alloc(), case.words.as_slice()) {
-        Ok(command) => command,
-        Err(fault) => {
-            drop(fault);
-            return false;
-        }
+    let Ok(command) = read_command(rt.alloc(), case.words.as_slice()) else {
+        return false;
     };
     let mut last = Log::new(rt.alloc());
     let mut played = true;
@@ -97,17 +88,12 @@ fn run_refused(
 {
     let refusing = Refusing::new(rt.alloc(), request);
     let stage = Stage { rt, case, log };
-    match stage.ends() {
-        Ok(ends) => {
-            let status = run_command(&refusing, command, ends);
-            log.tell_number("status", u64::from(status));
-            Some(refusing.has_refused())
-        }
-        Err(e) => {
-            drop(e);
-            None
-        }
-    }
+    let Ok(ends) = stage.ends() else {
+        return None;
+    };
+    let status = run_command(&refusing, command, ends);
+    log.tell_number("status", u64::from(status));
+    Some(refusing.has_refused())
 }
 
 /// Reads the words of a case, and tells all of what they ask for, or why they ask for nothing.

@@ -16,35 +16,44 @@ pub(crate) struct Stage<'a> {
 pub(crate) type Watched<'a> = Ends<'a, Stage<'a>, Reader<'a>, Writer<'a>, Writer<'a>>;
 
 impl<'a> Stage<'a> {
+    /// The ends of the case, whose input is open.
     pub(crate) fn ends(&'a self) -> io::Result<Watched<'a>> {
+        let input = Folder::open(self.rt, self.case.input)?;
         Ok(Ends {
             folder: self,
-            input: self.reader(Folder::open(self.rt, self.case.input)?, "in")?,
-            output: self.writer(None, "out")?,
-            errors: self.writer(None, "errors")?,
+            input: self.reader(input, "in"),
+            output: self.writer(None, "out"),
+            errors: self.writer(None, "errors"),
         })
     }
 
-    fn reader(&self, file: File, name: &str) -> io::Result<Reader<'a>> {
-        Ok(Reader {
+    /// The name by which an end is told. Where memory is wanting for it, it is left out.
+    fn told_name(&self, name: &str) -> String {
+        let mut told = String::new(self.rt.alloc());
+        let _ = told.push_str(name);
+        told
+    }
+
+    fn reader(&self, file: File, name: &str) -> Reader<'a> {
+        Reader {
             file,
-            name: String::from_str(self.rt.alloc(), name)?,
+            name: self.told_name(name),
             log: self.log,
             piece: self.case.piece,
             fails: self.case.failing_call(name),
             reads: 0,
-        })
+        }
     }
 
-    fn writer(&self, file: Option<File>, name: &str) -> io::Result<Writer<'a>> {
-        Ok(Writer {
+    fn writer(&self, file: Option<File>, name: &str) -> Writer<'a> {
+        Writer {
             file,
-            name: String::from_str(self.rt.alloc(), name)?,
+            name: self.told_name(name),
             log: self.log,
             room: self.case.room(name),
             fails: self.case.failing_call(name),
             flushes: 0,
-        })
+        }
     }
 }
 
@@ -55,11 +64,13 @@ impl<'a> Folder for Stage<'a> {
 
     fn open(&self, name: &str) -> io::Result<Reader<'a>> {
         self.log.tell("open", name);
-        self.reader(Folder::open(self.rt, name)?, name)
+        let file = Folder::open(self.rt, name)?;
+        Ok(self.reader(file, name))
     }
 
     fn create(&self, name: &str) -> io::Result<Writer<'a>> {
         self.log.tell("make", name);
-        self.writer(Some(Folder::create(self.rt, name)?), name)
+        let file = Folder::create(self.rt, name)?;
+        Ok(self.writer(Some(file), name))
     }
 }

@@ -61,6 +61,15 @@ pub fn two_texts(texts: &[u8]) -> (&[u8], &[u8]) {
     }
 }
 
+/// How many words there are.
+pub fn count_words(words: &Words<'_>) -> u64 {
+    let mut count = 0u64;
+    for _word in words.again() {
+        count = count.saturating_add(1);
+    }
+    count
+}
+
 /// The next word, or one of no bytes where there is none.
 pub fn next_word<'a>(words: &mut Words<'a>) -> &'a [u8] {
     match words.next() {

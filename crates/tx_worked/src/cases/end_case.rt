@@ -1,6 +1,6 @@
 // The cases of the program at its ends.
 use crate::cases::case::named;
-use std::alloc::{AllocError, Global};
+use std::alloc::Global;
 
 /// A case: how the ends behave, and the words of the program.
 #[derive(Drop)]
@@ -16,7 +16,7 @@ pub struct EndCase<'a> {
     /// The file to be shown in the end.
     pub shows: Option<&'a str>,
     pub what: What,
-    /// Whether a setting is none, or a number is missing.
+    /// Whether a setting is none, a number is missing, or memory was wanting for a word.
     pub is_bad: bool,
     pub words: Vec<&'a str>,
 }
@@ -55,13 +55,9 @@ static SETTINGS: [(&str, (Setting, bool, bool)); 7] = [
 ];
 
 impl<'a> EndCase<'a> {
-    pub fn read(alloc: Global, line: &'a str) -> Result<EndCase<'a>, AllocError> {
-        let (settings, rest) = line.split_once(':').unwrap_or((line, ""));
-        let mut words = Vec::new(alloc);
-        for word in rest.split_whitespace() {
-            words.push(word)?;
-        }
-        let mut case = EndCase {
+    /// A case with no settings and no words.
+    fn new(alloc: Global) -> EndCase<'a> {
+        EndCase {
             input: "empty",
             piece: 4096,
             fails: None,
@@ -69,10 +65,21 @@ impl<'a> EndCase<'a> {
             shows: None,
             what: What::Run,
             is_bad: false,
-            words,
-        };
+            words: Vec::new(alloc),
+        }
+    }
+
+    /// The case of a line.
+    pub fn read(alloc: Global, line: &'a str) -> EndCase<'a> {
+        let (settings, words) = line.split_once(':').unwrap_or((line, ""));
+        let mut case = EndCase::new(alloc);
         case.set_all(settings);
-        Ok(case)
+        for word in words.split_whitespace() {
+            if case.words.push(word).is_err() {
+                case.is_bad = true;
+            }
+        }
+        case
     }
 
     /// Takes the settings, which stand behind the name of the case.

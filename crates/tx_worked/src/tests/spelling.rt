@@ -1,5 +1,5 @@
 // What lines are read as: words, names, figures and numbers.
-use crate::cases::{Told, next_line, tell, tell_count, tell_parts};
+use crate::cases::{Told, count_words, next_line, tell, tell_count, tell_parts};
 use tx_text::{Figures, Name, Words, are_figures, is_name, number, words};
 
 /// What a line is read as.
@@ -15,11 +15,7 @@ pub(crate) enum Spelling {
 
 /// Tells words, and how many the same once more are.
 pub(crate) fn tell_words(words: &Words<'_>, out: &mut Told) {
-    let mut count = 0u64;
-    for _word in words.again() {
-        count = count.saturating_add(1);
-    }
-    tell_count(b"", count, b" words:", out);
+    tell_count(b"", count_words(words), b" words:", out);
     for word in words.again() {
         tell_parts(&[b" [", word, b"]"], out);
     }

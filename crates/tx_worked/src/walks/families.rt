@@ -6,8 +6,8 @@
 // - `CODES n HOME FIGURES ..` stands for any list of 0 to n of the codes, in any order and none of them twice.
 //
 // The plans of a family are numbered from 0. Each line takes from the number, by division, which of its ways the plan goes.
-use crate::cases::{named, next_line, next_number, next_word};
-use crate::walks::lists::{count_lists, count_words, put_list, put_words};
+use crate::cases::{count_words, named, next_line, next_number, next_word};
+use crate::walks::lists::{count_lists, put_list, put_words};
 use tx_text::{NoMemory, Words, words};
 
 /// What a line of a family is.

@@ -1,14 +1,6 @@
 // Ordered lists of words.
+use crate::cases::count_words;
 use tx_text::{NoMemory, Words};
-
-/// How many words there are.
-pub fn count_words(words: &Words<'_>) -> u64 {
-    let mut count = 0u64;
-    for _word in words.again() {
-        count = count.saturating_add(1);
-    }
-    count
-}
 
 /// How many lists there are of at most so many of some words, in any order and none of them twice.
 pub fn count_lists(words: u64, most: u32) -> u64 {
