@@ -1,6 +1,6 @@
 // Certificates and plans that are written and read back.
 use crate::cases::{Refusing, Told, tell, tell_broken};
-use std::alloc::Global;
+use std::alloc::{Allocator, Global};
 use tx_cert::{Cert, CertFault, CertWord, read_cert, write_cert};
 use tx_plan::{CodeId, ExchangeId, Plan};
 use tx_plantext::{read_plan, write_plan};
@@ -64,11 +64,7 @@ const NO_BUFFER: CertFault = CertFault {
 };
 
 /// Whether memory is wanting for a certificate.
-fn cert_wants<'m>(
-    alloc: &'m Refusing<Global>,
-    plan: &Plan<&'m Refusing<Global>>,
-    cert: &[u8],
-) -> bool {
+fn cert_wants<A: Allocator + Copy>(alloc: A, plan: &Plan<A>, cert: &[u8]) -> bool {
     match read_cert(alloc, cert, plan) {
         Ok(cert) => {
             drop(cert);
@@ -79,7 +75,7 @@ fn cert_wants<'m>(
 }
 
 /// Whether memory is wanting for a plan, which is a good one, or for its certificate.
-fn wants(alloc: &Refusing<Global>, plan: &[u8], cert: &[u8]) -> bool {
+fn wants<A: Allocator + Copy>(alloc: A, plan: &[u8], cert: &[u8]) -> bool {
     match read_plan(alloc, plan) {
         Ok(plan) => {
             let wants = cert_wants(alloc, &plan, cert);

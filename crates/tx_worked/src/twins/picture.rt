@@ -1,5 +1,5 @@
 // What the replies and the tickets tell of a network.
-use std::alloc::Global;
+use std::alloc::{Allocator, Global};
 use tx_plan::{Circuit, GroupId, Line};
 use tx_state::{Event, Phase, Reply, Ticket};
 use tx_text::NoMemory;
@@ -10,6 +10,11 @@ pub struct KnownCall {
     pub number: u32,
     pub line: Line,
     pub phase: Phase,
+}
+
+/// Adds an item to a list.
+fn put_in<T: Copy>(list: &mut Vec<T>, item: &T) -> Result<(), NoMemory> {
+    list.push(*item).or(Err(NoMemory))
 }
 
 /// Takes an item out of a list.
@@ -143,23 +148,32 @@ impl Picture {
     /// Takes in that something other than a call was changed.
     fn note_change(&mut self, event: &Event) -> Result<(), NoMemory> {
         match event {
-            Event::Fail(group) => self.failed.push(*group)?,
+            Event::Fail(group) => put_in(&mut self.failed, group),
+            Event::Block(group) => put_in(&mut self.blocked, group),
+            Event::CircuitOut(circuit) => put_in(&mut self.out, circuit),
+            Event::LineFault(line) => put_in(&mut self.faulty, line),
+            Event::LineAway(line) => put_in(&mut self.away, line),
+            _ => {
+                self.note_return(event);
+                Ok(())
+            }
+        }
+    }
+
+    /// Takes in that something is in use again, or at its place.
+    fn note_return(&mut self, event: &Event) {
+        match event {
             Event::Restore(group) => take_out(&mut self.failed, group),
-            Event::Block(group) => self.blocked.push(*group)?,
             Event::Unblock(group) => take_out(&mut self.blocked, group),
-            Event::CircuitOut(circuit) => self.out.push(*circuit)?,
             Event::CircuitIn(circuit) => take_out(&mut self.out, circuit),
-            Event::LineFault(line) => self.faulty.push(*line)?,
             Event::LineMend(line) => take_out(&mut self.faulty, line),
-            Event::LineAway(line) => self.away.push(*line)?,
             Event::LineBack(line) => take_out(&mut self.away, line),
             _ => {}
         }
-        Ok(())
     }
 
     /// Takes in that a call ended, and gave its circuits up.
-    pub fn note_ticket(&mut self, ticket: &Ticket) -> Result<(), NoMemory> {
+    pub fn note_ticket<A: Allocator>(&mut self, ticket: &Ticket<A>) -> Result<(), NoMemory> {
         if let Some(circuit) = self.seized_by(ticket.number) {
             self.note_given_up(circuit)?;
         }

@@ -6,9 +6,7 @@ use crate::twins::picture::Picture;
 use crate::twins::stop::{Differs, Stop};
 use crate::twins::tally::Tally;
 use crate::twins::twins::{Difference, apply_to_both, compare_tickets};
-use std::alloc::Global;
-use tx_engine::Engine;
-use tx_machine::Plain;
+use std::alloc::{Allocator, Global};
 use tx_plan::Plan;
 use tx_state::{Event, Network, Ticket};
 use tx_text::NoMemory;
@@ -50,9 +48,9 @@ impl From<NoMemory> for Halt {
 }
 
 /// Applies an event to both networks, of which the engine takes this memory.
-fn play_event(
-    plain: &mut Plain<'_>,
-    engine: &mut Engine<'_, &Refusing<Global>>,
+fn play_event<P: Network, E: Network>(
+    plain: &mut P,
+    engine: &mut E,
     memory: &Refusing<Global>,
     event: &Event,
     picture: &mut Picture,
@@ -68,9 +66,9 @@ fn play_event(
 }
 
 /// Compares two tickets, and takes in what the one of the plain network tells. Tells whether there are any.
-fn note_tickets(
-    wanted: Option<&Ticket>,
-    ticket: Option<&Ticket<&Refusing<Global>>>,
+fn note_tickets<A: Allocator, B: Allocator>(
+    wanted: Option<&Ticket<A>>,
+    ticket: Option<&Ticket<B>>,
     picture: &mut Picture,
     tally: &mut Tally,
 ) -> Result<bool, Halt> {
@@ -86,9 +84,9 @@ fn note_tickets(
 }
 
 /// Takes the oldest ticket of both networks. Tells whether there was one.
-fn take_ticket(
-    plain: &mut Plain<'_>,
-    engine: &mut Engine<'_, &Refusing<Global>>,
+fn take_ticket<P: Network, E: Network>(
+    plain: &mut P,
+    engine: &mut E,
     picture: &mut Picture,
     tally: &mut Tally,
 ) -> Result<bool, Halt> {
@@ -101,9 +99,9 @@ fn take_ticket(
 }
 
 /// Takes all tickets of both networks.
-fn take_tickets(
-    plain: &mut Plain<'_>,
-    engine: &mut Engine<'_, &Refusing<Global>>,
+fn take_tickets<P: Network, E: Network>(
+    plain: &mut P,
+    engine: &mut E,
     picture: &mut Picture,
     tally: &mut Tally,
 ) -> Result<(), Halt> {
@@ -116,9 +114,9 @@ fn take_tickets(
 }
 
 /// Applies an event to both networks, and takes the tickets, if it is time for that: else more of them wait.
-fn go_on(
-    plain: &mut Plain<'_>,
-    engine: &mut Engine<'_, &Refusing<Global>>,
+fn go_on<P: Network, E: Network>(
+    plain: &mut P,
+    engine: &mut E,
     memory: &Refusing<Global>,
     event: &Event,
     takes_tickets: bool,
@@ -127,17 +125,33 @@ fn go_on(
 ) -> Result<(), Halt> {
     play_event(plain, engine, memory, event, picture, tally)?;
     if takes_tickets {
-        take_tickets(plain, engine, picture, tally)?;
+        take_tickets(plain, engine, picture, tally)
+    } else {
+        Ok(())
     }
-    Ok(())
+}
+
+/// Why a script stops at the event of this place. Where the networks differ there, the tally takes it in.
+fn stop_at(halt: Halt, seed: u64, place: u32, tally: &mut Tally) -> Stop {
+    match halt {
+        Halt::NoMemory => Stop::NoMemory,
+        Halt::Differs(difference) => {
+            tally.differs = Some(Differs {
+                seed,
+                place,
+                difference,
+            });
+            Stop::Differs
+        }
+    }
 }
 
 /// Plays the events.
-fn play_events(
+fn play_events<P: Network, E: Network>(
     plan: &Plan,
     script: Script,
-    plain: &mut Plain<'_>,
-    engine: &mut Engine<'_, &Refusing<Global>>,
+    plain: &mut P,
+    engine: &mut E,
     memory: &Refusing<Global>,
     picture: &mut Picture,
     tally: &mut Tally,
@@ -148,29 +162,20 @@ fn play_events(
         let event = next_event(plan, picture, &mut chance, mood, script.most);
         let takes_tickets = !chance.one_in(4);
         let played = go_on(plain, engine, memory, &event, takes_tickets, picture, tally);
-        match played {
-            Ok(()) => {}
-            Err(Halt::NoMemory) => return Err(Stop::NoMemory),
-            Err(Halt::Differs(difference)) => {
-                tally.differs = Some(Differs {
-                    seed: script.seed,
-                    place,
-                    difference,
-                });
-                return Err(Stop::Differs);
-            }
+        if let Err(halt) = played {
+            return Err(stop_at(halt, script.seed, place, tally));
         }
     }
     Ok(())
 }
 
 /// Plays a script through both networks, of which the engine takes this memory.
-pub fn play(
+pub fn play<P: Network, E: Network>(
     alloc: Global,
     plan: &Plan,
     script: Script,
-    plain: &mut Plain<'_>,
-    engine: &mut Engine<'_, &Refusing<Global>>,
+    plain: &mut P,
+    engine: &mut E,
     memory: &Refusing<Global>,
     tally: &mut Tally,
 ) -> Result<(), Stop> {

@@ -1,8 +1,6 @@
 // Two networks, and one event after another.
 use crate::cases::Refusing;
-use std::alloc::Global;
-use tx_engine::Engine;
-use tx_machine::Plain;
+use std::alloc::{Allocator, Global};
 use tx_state::{Event, Network, Reply, Ticket};
 use tx_text::NoMemory;
 
@@ -44,7 +42,7 @@ pub struct Answer {
 }
 
 /// Applies an event to the engine, and again where memory was refused, which must have changed nothing.
-fn apply(engine: &mut Engine<'_, &Refusing<Global>>, event: &Event) -> Result<Answer, Difference> {
+fn apply<E: Network>(engine: &mut E, event: &Event) -> Result<Answer, Difference> {
     let (open_calls, events) = (engine.open_calls(), engine.events());
     if let Ok(reply) = engine.apply(*event) {
         let was_refused = false;
@@ -64,9 +62,9 @@ fn apply(engine: &mut Engine<'_, &Refusing<Global>>, event: &Event) -> Result<An
 
 /// Applies an event to both networks, and compares their replies and counts. The answer is that of the engine, in which memory has to be wanting just where
 /// its memory refuses a request.
-pub fn apply_to_both(
-    plain: &mut Plain<'_>,
-    engine: &mut Engine<'_, &Refusing<Global>>,
+pub fn apply_to_both<P: Network, E: Network>(
+    plain: &mut P,
+    engine: &mut E,
     memory: &Refusing<Global>,
     event: &Event,
 ) -> Result<Answer, Difference> {
@@ -88,7 +86,7 @@ pub fn apply_to_both(
 }
 
 /// Whether two tickets say the same.
-fn is_same(ticket: &Ticket, other: &Ticket<&Refusing<Global>>) -> bool {
+fn is_same<A: Allocator, B: Allocator>(ticket: &Ticket<A>, other: &Ticket<B>) -> bool {
     ticket.number == other.number
         && ticket.line == other.line
         && ticket.start == other.start
@@ -100,9 +98,9 @@ fn is_same(ticket: &Ticket, other: &Ticket<&Refusing<Global>>) -> bool {
 }
 
 /// Compares the oldest tickets of two networks, if there are any.
-pub fn compare_tickets(
-    wanted: Option<&Ticket>,
-    ticket: Option<&Ticket<&Refusing<Global>>>,
+pub fn compare_tickets<A: Allocator, B: Allocator>(
+    wanted: Option<&Ticket<A>>,
+    ticket: Option<&Ticket<B>>,
 ) -> Result<(), Difference> {
     let is_right = match (wanted, ticket) {
         (Some(wanted), Some(ticket)) => is_same(wanted, ticket),
