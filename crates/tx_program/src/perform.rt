@@ -166,20 +166,15 @@ fn check_files<A: Allocator + Copy, R: Read + Drop, O: Write + Drop>(
     output: &Output<O, A>,
 ) -> Result<u8, JobFault> {
     let mut plan = output.source(alloc, plan)?;
-    check_cert(alloc, &mut plan, cert, bounds, output)
-}
-
-/// Checks a certificate of the plan. A function of its own, since each exit lets go of what is open there.
-fn check_cert<A: Allocator + Copy, P: Source, C: Read + Drop, O: Write + Drop>(
-    alloc: A,
-    plan: &mut P,
-    cert: C,
-    bounds: Bounds,
-    output: &Output<O, A>,
-) -> Result<u8, JobFault> {
     let mut cert = output.source(alloc, cert)?;
-    let (limit, spare) = (bounds.limit, bounds.spare);
-    check_status(alloc, plan, &mut cert, limit, spare, &mut output.sink())
+    check_status(
+        alloc,
+        &mut plan,
+        &mut cert,
+        bounds.limit,
+        bounds.spare,
+        &mut output.sink(),
+    )
 }
 
 /// A limit and a spare number, if there are any.
