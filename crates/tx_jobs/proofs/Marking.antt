@@ -1,8 +1,8 @@
 -- Marking the exchanges that calls come to.
 use Rattle.std.proofs.Common.{◌≡◌, ◌≢◌, ℕ, zero, suc, ◌+◌, ◌<◌, ◌≤◌, Bool, true, false, List, [], ◌∷◌, ◌++◌, length, take, ◌⊎◌, inl, inr, Some, refl, sym, ap, subst, ◌∙◌, arith}
-use Rattle.std.specs.Prelude.{◌&&◌, not, slice_get}
+use Rattle.std.specs.Prelude.{◌&&◌, not, slice_get, replicate}
 use Rattle.std.proofs.lemmas.Bool.{false≢true, cases_lt}
-use Rattle.std.proofs.lemmas.List.{take_all}
+use Rattle.std.proofs.lemmas.List.{take_all, length-replicate}
 use Rattle.std.proofs.Math.ListN.{set, length-set}
 use Rattle.std.proofs.Math.Seq.{take-append_seam}
 use Rattle.tx_plan.specs.Plan.{Plan}
@@ -71,12 +71,30 @@ length_push : (bs : List Bool) (b : Bool) → length (bs ++ b ∷ []) ≡ length
 length_push [] b = refl
 length_push (c ∷ bs) b = let e = length_push bs b in omega arith
 
+before_end : (bs : List Bool) (b : Bool) (x : ℕ) → x < length bs → is_marked (bs ++ b ∷ []) x ≡ is_marked bs x
+before_end [] b x h = absurd (omega (arith, h))
+before_end (c ∷ bs) b zero h = refl
+before_end (c ∷ bs) b (suc x) h = before_end bs b x (omega (arith, h))
+
 -- the origins before place i are marked
 pub record AreOriginsBefore (p : Plan) (c i : ℕ) (marks : List Bool) : Type 0 where
   pub long : length marks ≡ i
   pub each : (x : ℕ) → x < i → is_marked marks x ≡ is_origin_for p x c
 
 module _ (p : Plan) (c : ℕ) where
+  pub origins_next : (i : ℕ) (marks new : List Bool) (b : Bool) → AreOriginsBefore p c i marks → new ≡ marks ++ b ∷ [] → b ≡ is_origin_for p i c → AreOriginsBefore p c (i + 1) new
+  origins_next i marks new b o more e =
+      subst (AreOriginsBefore p c (i + 1)) (sym more)
+      (record {
+        long = let n = length_push marks b in let l = o.long in omega arith;
+        each = λ x h. elim (cases_lt x i) [
+          | inl l ↦ before_end marks b x (omega (arith, l, o.long)) ∙ o.each x l
+          | inr ge ↦
+              let same : x ≡ i = omega (arith, h, ge) in
+              subst (λ (y : ℕ). is_marked (marks ++ b ∷ []) y ≡ is_origin_for p y c) (o.long ∙ sym same) (at_end marks b ∙ e ∙ ap (λ (y : ℕ). is_origin_for p y c) (sym o.long))
+        ];
+      })
+
   pub origins_seen : (i : ℕ) (marks : List Bool) → IsPlan p → c < length p.codes → i ≡ length p.exchanges → AreOriginsBefore p c i marks → AreSeen (net_of p c) marks
   origins_seen i marks ok known all o =
       let l = o.long in
@@ -168,7 +186,20 @@ pub record IsMarking (n : Net) (marks done : List Bool) : Type 0 where
   pub long : length done ≡ n.exchanges
   pub opened : (x : ℕ) → is_marked done x ≡ true → LeadsToSeen n marks x
 
+unmarked : (k x : ℕ) → is_marked (replicate k false) x ≡ false
+unmarked zero x = refl
+unmarked (suc k) zero = refl
+unmarked (suc k) (suc x) = unmarked k x
+
 module _ (n : Net) where
+  pub marking_none : (k : ℕ) (seen opened : List Bool) → AreSeen n seen → opened ≡ replicate k false → k ≡ n.exchanges → IsMarking n seen opened
+  marking_none k seen opened s e h =
+      record {
+        seen = s;
+        long = ap length e ∙ length-replicate k false ∙ h;
+        opened = λ x m. absurd (false≢true (sym (ap (λ (l : List Bool). is_marked l x) e ∙ unmarked k x) ∙ m));
+      }
+
   pub marking_more : (old seen opened : List Bool) (x : ℕ) → IsMarking n old opened → AreSeen n seen → StaysSeen old seen → LeadsToSeen n seen x → IsMarking n seen (set opened x true)
   marking_more old seen opened x m s stay leads =
       record {

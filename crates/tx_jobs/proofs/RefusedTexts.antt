@@ -1,5 +1,5 @@
 -- Refused texts and the sink's mark.
-use Rattle.std.proofs.Common.{◌≡◌, Bool, refl}
+use Rattle.std.proofs.Common.{◌≡◌, Bool, refl, sym}
 use Rattle.tx_text.specs.declared.text_fault.TextFault.TheVariants.{LineTooLong, BadByte, NoMemory as TextNoMemory}
 use Rattle.tx_text.specs.declared.line_fault.LineFault.TheVariants.{Text, Read as LineRead}
 use Rattle.tx_text.specs.declared.frame.FrameFault.TheVariants.{Line, Form}
@@ -15,7 +15,11 @@ use Rattle.tx_script.specs.declared.script_word.ScriptWord.{ScriptWord}
 use Rattle.tx_script.specs.declared.run_cause.RunCause.{RunCause}
 use Rattle.tx_script.specs.declared.run_cause.RunCause.TheVariants.{Read as RunRead, Write as RunWrite, Script as RunScript, NoMemory as RunNoMemory}
 use Rattle.tx_script.specs.Answers.{mark_by as run_mark_by}
+use Rattle.tx_audit.specs.declared.audited.AuditFault.{AuditFault}
+use Rattle.tx_audit.specs.declared.audited.AuditFault.TheVariants.{Plan as AuditPlan, Write as AuditWrite, NoMemory as AuditNoMemory}
+use Rattle.tx_audit.specs.Audits.{mark_by as audit_mark_by}
 use Rattle.tx_jobs.specs.JobFaults.{plan_fault_by, cert_fault_by, script_fault_by, cause_fault, mark_by}
+use Rattle.tx_jobs.specs.AuditJobs.{audit_fault}
 
 plan_by : (old : Bool) (f : FaultAt PlanWord) (k : FaultKind PlanWord) → mark_by old (plan_fault_by f k) ≡ old
 plan_by old f (Frame (Line LineRead)) = refl
@@ -74,3 +78,8 @@ run_marked old RunRead = refl
 run_marked old RunWrite = refl
 run_marked old RunNoMemory = refl
 run_marked old (RunScript f) = script_by old f f.kind
+
+pub audit_marked : (old : Bool) (f : AuditFault) → audit_mark_by old f ≡ mark_by old (audit_fault f)
+audit_marked old (AuditPlan f) = sym (plan_unmarked old f)
+audit_marked old AuditWrite = refl
+audit_marked old AuditNoMemory = refl

@@ -10,12 +10,11 @@ ghost use Rattle.tx_jobs.specs.AuditJobs.{AuditJobAnswers};
 
 use crate::job_fault::JobFault;
 use std::alloc::Allocator;
-use tx_audit::{AuditFault, Audited, audit};
+use tx_audit::{Audited, audit};
 use tx_text::{Sink, Source};
 
 /// Reads a plan, and writes the report of its audit for at most `limit` transits (0 to 62) and `spare` groups to spare (0 to 15). Answers the plan, with a
 /// certificate or with the findings. `Err` is the fault of the first call that failed.
-#[tactic(auto, using(crate::proofs::RefusedTexts::plan_unmarked))]
 pub fn audit_job<A: Allocator + Copy, P: Source, W: Sink>(
     alloc: A,
     plan: &mut P,
@@ -32,8 +31,6 @@ pub fn audit_job<A: Allocator + Copy, P: Source, W: Sink>(
 {
     match audit(alloc, plan, limit, spare, out) {
         Ok(audited) => Ok(audited),
-        Err(AuditFault::Plan(fault)) => Err(JobFault::of_plan(fault)),
-        Err(AuditFault::Write) => Err(JobFault::Write),
-        Err(AuditFault::NoMemory) => Err(JobFault::NoMemory),
+        Err(fault) => Err(JobFault::of_audit(fault)),
     }
 }

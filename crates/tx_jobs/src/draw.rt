@@ -106,9 +106,10 @@ fn findings_to_show<A: Allocator + Copy>(
 {
     match bounds {
         None => Ok(Vec::new(alloc)),
-        Some((limit, spare)) => match rank(alloc, plan, limit, spare)? {
-            Ranking::Found(_) => Ok(Vec::new(alloc)),
-            Ranking::Fails(findings) => Ok(findings),
+        Some((limit, spare)) => match rank(alloc, plan, limit, spare) {
+            Ok(Ranking::Found(_)) => Ok(Vec::new(alloc)),
+            Ok(Ranking::Fails(findings)) => Ok(findings),
+            Err(NoMemory) => Err(NoMemory),
         },
     }
 }

@@ -88,13 +88,13 @@ fn write_group_label<A: Allocator, W: Sink>(
     let name = plan.group_name(group);
     write_text(
         &[
-            b"\"".as_slice(),
+            b"\"",
             name,
-            b" ".as_slice(),
+            b" ",
             count,
-            b"\"".as_slice(),
+            b"\"",
             arrow_text(plan.direction(group)),
-            b"];\n".as_slice(),
+            b"];\n",
         ],
         sink,
     )

@@ -17,16 +17,16 @@ pub fn write_fault<W: Sink>(fault: &JobFault, sink: &mut W) -> Result<(), WriteF
 {
     match fault {
         JobFault::Plan(fault) => {
-            let (code, name) = tx_plantext::code_and_name(fault.kind);
-            write_text_fault(b"plan", fault.line, code, name, sink)
+            let row = tx_plantext::code_and_name(fault.kind);
+            write_text_fault(b"plan", fault.line, row, sink)
         }
         JobFault::Cert(fault) => {
-            let (code, name) = tx_cert::code_and_name(fault.kind);
-            write_text_fault(b"certificate", fault.line, code, name, sink)
+            let row = tx_cert::code_and_name(fault.kind);
+            write_text_fault(b"certificate", fault.line, row, sink)
         }
         JobFault::Script(fault) => {
-            let (code, name) = tx_script::code_and_name(fault.kind);
-            write_text_fault(b"script", fault.line, code, name, sink)
+            let row = tx_script::code_and_name(fault.kind);
+            write_text_fault(b"script", fault.line, row, sink)
         }
         JobFault::Read => write_bytes(b"telexplan: read fault\n", sink),
         JobFault::Write => write_bytes(b"telexplan: write fault\n", sink),
@@ -35,30 +35,30 @@ pub fn write_fault<W: Sink>(fault: &JobFault, sink: &mut W) -> Result<(), WriteF
     }
 }
 
+/// Writes the line of a fault of a text: which text it is, and its row, of a code and a name.
 fn write_text_fault<'a, W: Sink>(
     text: &'a [u8],
     line: u64,
-    code: &'a [u8],
-    name: &'a [u8],
+    row: (&'a [u8], &'a [u8]),
     sink: &mut W,
 ) -> Result<(), WriteFault>
-    ensures ok { OnOk result (W.taken sink.new ≡ append_known (W.taken sink.old) (text_fault_line text.now line (code.now, name.now))) }
-    ensures err { OnErr result (StopsIn (W.taken sink.old) (W.taken sink.new) (text_fault_line text.now line (code.now, name.now))) }
+    ensures ok { OnOk result (W.taken sink.new ≡ append_known (W.taken sink.old) (text_fault_line text.now line (row.entry.0.now, row.entry.1.now))) }
+    ensures err { OnErr result (StopsIn (W.taken sink.old) (W.taken sink.new) (text_fault_line text.now line (row.entry.0.now, row.entry.1.now))) }
     ensures mark { OnErr result (W.failed sink.new ≡ true) }
     ensures unmarked { OnOk result (W.failed sink.new ≡ W.failed sink.old) }
 {
     let mut number = Buffer::new();
     write_parts(
         &[
-            b"telexplan: ".as_slice(),
+            b"telexplan: ",
             text,
-            b" line ".as_slice(),
+            b" line ",
             number.format(line).as_bytes(),
-            b": ".as_slice(),
-            code,
-            b" ".as_slice(),
-            name,
-            b"\n".as_slice(),
+            b": ",
+            row.0,
+            b" ",
+            row.1,
+            b"\n",
         ],
         sink,
     )

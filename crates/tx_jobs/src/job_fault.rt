@@ -1,7 +1,9 @@
 // Why a job stopped.
 ghost use Rattle.std.specs.Prelude.{◌≡◌};
 ghost use Rattle.tx_jobs.specs.JobFaults.{status_of, plan_fault, cert_fault, script_fault, run_fault};
+ghost use Rattle.tx_jobs.specs.AuditJobs.{audit_fault};
 
+use tx_audit::AuditFault;
 use tx_cert::{CertFault, CertWord};
 use tx_plan::PlanRefusal;
 use tx_plantext::{PlanFault, PlanWord};
@@ -60,6 +62,16 @@ impl JobFault {
             FaultKind::Frame(FrameFault::Line(LineFault::Text(TextFault::NoMemory)))
             | FaultKind::Word(CertWord::NoMemory) => JobFault::NoMemory,
             _ => JobFault::Cert(fault),
+        }
+    }
+
+    pub(crate) fn of_audit(fault: AuditFault) -> JobFault
+        ensures { result ≡ audit_fault fault }
+    {
+        match fault {
+            AuditFault::Plan(fault) => JobFault::of_plan(fault),
+            AuditFault::Write => JobFault::Write,
+            AuditFault::NoMemory => JobFault::NoMemory,
         }
     }
 

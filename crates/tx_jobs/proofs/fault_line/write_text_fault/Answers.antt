@@ -6,4 +6,4 @@ use Rattle.tx_jobs.proofs.fault_line.write_text_fault.Goals as goal
 pub returns-clause-ok : goal.returns-clause-ok
 returns-clause-ok g c =
     ok_so c.write_parts.result c.write_parts.ensures.ok (λ e.
-    e ∙ ap (append_known (g.W.Sink.taken c.args.sink.now)) (rw (c.as_slice.ensures, c.as_slice-2.ensures, c.as_bytes.ensures.value, c.format.ensures.text, c.as_slice-3.ensures, c.as_slice-4.ensures, c.as_slice-5.ensures) refl))
+    e ∙ ap (append_known (g.W.Sink.taken c.args.sink.now)) (rw (c.as_bytes.ensures.value, c.format.ensures.text) refl))

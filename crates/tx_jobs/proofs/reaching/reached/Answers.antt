@@ -1,7 +1,7 @@
 use Rattle.std.proofs.Common.{◌≡◌, false, length, drop, ap, arith}
 use Rattle.tx_rank.specs.Walks.{net_of}
 use Rattle.tx_jobs.specs.Reached.{is_marked}
-use Rattle.tx_jobs.proofs.Marking.{left_less, put_back, marking_more, marking_all}
+use Rattle.tx_jobs.proofs.Marking.{left_less, put_back, marking_none, marking_more, marking_all}
 use Rattle.tx_jobs.proofs.reaching.reached.Goals as goal
 
 pub next-requires-clause-few : goal.next-requires-clause-few
@@ -10,6 +10,9 @@ next-requires-clause-few g c =
     let l = c.loop-exchange.invariant.seen.long in
     let f = c.rules.ensures.few_exchanges in
     omega arith
+
+pub loop-exchange-init : goal.loop-exchange-init
+loop-exchange-init g c = marking_none (net_of c.args.plan.now c.args.code) c.exchanges.result c.in_ok-seen.seen.items c.in_ok-opened.opened.items c.in_ok-seen.ensures (c.in_ok-opened.ensures.items_if_clones_equal (λ y e. e)) c.exchanges.ensures
 
 pub loop-exchange-smaller : goal.loop-exchange-smaller
 loop-exchange-smaller g c =
