@@ -1,13 +1,13 @@
 // The line of an event.
-ghost use Rattle.std.specs.Prelude.{◌≡◌, ◌++◌, true, Ok, OnOk, OnErr, codes, decimal};
+ghost use Rattle.std.specs.Prelude.{◌≡◌, ◌++◌, [], true, Ok, OnOk, OnErr, codes, decimal, get_or};
 ghost use Rattle.std.specs.Io.KnownBytes.{append_known};
 ghost use Rattle.tx_text.specs.Ends.{StopsIn};
 ghost use Rattle.tx_text.specs.Words.{are_figures};
 ghost use Rattle.tx_text.specs.Wrote.{Wrote};
-ghost use Rattle.tx_plan.specs.Plan.{group_name};
+ghost use Rattle.tx_plan.specs.Plan.{Plan as PlanValue, group_name};
 ghost use Rattle.tx_plan.specs.Rules.{is_national};
 ghost use Rattle.tx_tickets.specs.Texts.{line_text};
-ghost use Rattle.tx_script.specs.Events.{IsWritable, IsEvent, event_in, event_line, event_text, party_word};
+ghost use Rattle.tx_script.specs.Events.{IsWritable, IsEvent, event_in, event_line, event_text, event_words, party_word};
 
 use itoa::Buffer;
 use std::alloc::Allocator;
@@ -43,27 +43,49 @@ fn write_said<A: Allocator, W: Sink>(
     ensures event { IsEvent event.now }
     ensures wrote { Wrote (W.taken sink.old) (W.taken sink.new) (W.failed sink.old) (W.failed sink.new) (event_text plan.now event.now) result }
 {
+    let first = first_word(event);
     match event {
-        Event::Key { line, keyed } => write_key(line, keyed, plan, sink),
-        Event::Route(call) => write_call(b"ROUTE ", *call, b"\n", sink),
-        Event::Confirm(call) => write_call(b"CONFIRM ", *call, b"\n", sink),
-        Event::Clear { call, party } => write_call(b"CLEAR ", *call, party_end(*party), sink),
-        Event::Released(circuit) => write_circuit(b"RELEASED ", circuit, plan, sink),
-        Event::Fail(group) => write_group(b"FAIL ", *group, plan, sink),
-        Event::Restore(group) => write_group(b"RESTORE ", *group, plan, sink),
-        Event::Block(group) => write_group(b"BLOCK ", *group, plan, sink),
-        Event::Unblock(group) => write_group(b"UNBLOCK ", *group, plan, sink),
-        Event::CircuitOut(circuit) => write_circuit(b"OUT ", circuit, plan, sink),
-        Event::CircuitIn(circuit) => write_circuit(b"IN ", circuit, plan, sink),
-        Event::LineFault(line) => write_line(b"FAULT ", line, plan, sink),
-        Event::LineMend(line) => write_line(b"MEND ", line, plan, sink),
-        Event::LineAway(line) => write_line(b"AWAY ", line, plan, sink),
-        Event::LineBack(line) => write_line(b"BACK ", line, plan, sink),
+        Event::Key { line, keyed } => write_key(first, line, keyed, plan, sink),
+        Event::Route(call) | Event::Confirm(call) => write_call(first, *call, b"\n", sink),
+        Event::Clear { call, party } => write_call(first, *call, party_end(*party), sink),
+        Event::Fail(group) | Event::Restore(group) | Event::Block(group) | Event::Unblock(group) =>
+            write_group(first, *group, plan, sink),
+        Event::Released(circuit) | Event::CircuitOut(circuit) | Event::CircuitIn(circuit) => {
+            write_circuit(first, circuit, plan, sink)
+        }
+        Event::LineFault(line)
+        | Event::LineMend(line)
+        | Event::LineAway(line)
+        | Event::LineBack(line) => write_line(first, line, plan, sink),
     }
 }
 
-/// Writes a calling line and what is keyed.
+/// The first word of an event's line, with its space.
+fn first_word(event: &Event) -> &'static [u8]
+    ensures { (p : PlanValue) → result.now ≡ get_or (event_words p event.now) 0 [] ++ codes " " }
+{
+    match event {
+        Event::Key { .. } => b"KEY ",
+        Event::Route(_) => b"ROUTE ",
+        Event::Confirm(_) => b"CONFIRM ",
+        Event::Clear { .. } => b"CLEAR ",
+        Event::Released(_) => b"RELEASED ",
+        Event::Fail(_) => b"FAIL ",
+        Event::Restore(_) => b"RESTORE ",
+        Event::Block(_) => b"BLOCK ",
+        Event::Unblock(_) => b"UNBLOCK ",
+        Event::CircuitOut(_) => b"OUT ",
+        Event::CircuitIn(_) => b"IN ",
+        Event::LineFault(_) => b"FAULT ",
+        Event::LineMend(_) => b"MEND ",
+        Event::LineAway(_) => b"AWAY ",
+        Event::LineBack(_) => b"BACK ",
+    }
+}
+
+/// Writes a first word, given with its space, a calling line and what is keyed.
 fn write_key<A: Allocator, W: Sink>(
+    first: &[u8],
     line: &Line,
     keyed: &Figures,
     plan: &Plan<A>,
@@ -71,11 +93,11 @@ fn write_key<A: Allocator, W: Sink>(
 ) -> Result<(), WriteFault>
     ensures national { is_national line.now.national ≡ true }
     ensures keyed { are_figures 1 12 keyed.now ≡ true }
-    ensures wrote { Wrote (W.taken sink.old) (W.taken sink.new) (W.failed sink.old) (W.failed sink.new) (codes "KEY " ++ (line_text plan.now line.now ++ (codes " " ++ (keyed.now ++ codes "\n")))) result }
+    ensures wrote { Wrote (W.taken sink.old) (W.taken sink.new) (W.failed sink.old) (W.failed sink.new) (first.now ++ (line_text plan.now line.now ++ (codes " " ++ (keyed.now ++ codes "\n")))) result }
 {
     write_text(
         &[
-            b"KEY ",
+            first,
             plan.code_figures(line.code),
             b" ",
             line.national.bytes(),

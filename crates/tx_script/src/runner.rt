@@ -167,11 +167,11 @@ fn write_end<W: Sink>(events: u64, open_calls: u64, sink: &mut W) -> Result<(), 
     let mut open = Buffer::new();
     write_parts(
         &[
-            b"END EVENTS ".as_slice(),
+            b"END EVENTS ",
             accepted.format(events).as_bytes(),
-            b" OPEN ".as_slice(),
+            b" OPEN ",
             open.format(open_calls).as_bytes(),
-            b"\n".as_slice(),
+            b"\n",
         ],
         sink,
     )

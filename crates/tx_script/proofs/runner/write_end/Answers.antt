@@ -6,4 +6,4 @@ use Rattle.tx_script.proofs.runner.write_end.Goals as goal
 pub returns-clause-ok : goal.returns-clause-ok
 returns-clause-ok g c =
     ok_so c.write_parts.result c.write_parts.ensures.ok (λ e.
-    e ∙ ap (append_known (g.W.Sink.taken c.args.sink.now)) (rw (c.as_slice.ensures, c.as_bytes.ensures.value, c.format.ensures.text, c.as_slice-2.ensures, c.as_bytes-2.ensures.value, c.format-2.ensures.text, c.as_slice-3.ensures) refl))
+    e ∙ ap (append_known (g.W.Sink.taken c.args.sink.now)) (rw (c.as_bytes.ensures.value, c.format.ensures.text, c.as_bytes-2.ensures.value, c.format-2.ensures.text) refl))
