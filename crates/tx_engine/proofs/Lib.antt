@@ -12,3 +12,4 @@ pub mod Lost
 pub mod Taken
 pub mod Behind
 pub mod Found
+pub mod Choosing

@@ -1,6 +1,8 @@
 -- The answer of a checked run, after its verdict was written.
-use Rattle.std.proofs.Common.{◌≡◌, ◌∙◌, ℕ, List, Option, Ok, sym, ap, subst}
+use Rattle.std.proofs.Common.{◌≡◌, ◌∙◌, ℕ, List, Option, Ok, Err, inr, refl, sym, ap, subst}
 use Rattle.std.specs.Io.KnownBytes.{append_known}
+use Rattle.tx_text.specs.declared.sink.WriteFault.{WriteFault}
+use Rattle.tx_text.specs.Ends.{StopsIn}
 use Rattle.tx_plan.specs.Plan.{Plan}
 use Rattle.tx_cert.specs.Certificate.{Certificate}
 use Rattle.tx_state.specs.State.{opening}
@@ -10,6 +12,7 @@ use Rattle.tx_script.specs.Answers.{RanWhole}
 use Rattle.tx_audit.specs.declared.checked.Checked.{Checked}
 use Rattle.tx_audit.specs.declared.checked.Checked.TheVariants.{Ran, Denied}
 use Rattle.tx_audit.specs.CheckedRuns.{CheckedAnswers}
+use Rattle.tx_jobs.specs.declared.job_fault.JobFault.TheVariants.{Write}
 use Rattle.tx_jobs.specs.JobEnds.{Input, output, bytes_moved}
 use Rattle.tx_jobs.specs.CheckedJobs.{ToldRun, ToldNo}
 
@@ -28,3 +31,11 @@ module _ {W : Type 0} (taken : W → Option (List ℕ)) (p : Plan) (t : Certific
     },
   )
   told_run_by (Denied f) h e = (h.0, e ∙ ap (λ (w : W). append_known (taken w) (verdict_written p (No f))) h.1.1, h.1.0)
+
+  -- the verdict was not written
+  pub told_run_stopped : (checked : Checked) (e : WriteFault)
+      → CheckedAnswers p t limit spare (bytes_moved script (output taken a b)) script.broken (script.unread × (b ≡ a)) (Ok checked)
+      → ToldNo p checked (output taken b c) (Err e) → ToldRun p t limit spare script (output taken a c) (Err Write)
+  told_run_stopped (Ran summary) e h n = absurd n
+  told_run_stopped (Denied f) e h n =
+      inr (record { reason = f; denied = h.0; front = subst (λ (w : W). StopsIn (taken w) (taken c) (verdict_written p (No f))) h.1.1 n; rest = h.1.0; told = refl })

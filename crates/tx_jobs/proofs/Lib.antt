@@ -3,6 +3,7 @@ mod Piping
 mod Breaking
 mod CheckedRun
 mod Simulating
+mod Evidenced
 mod Grading
 mod DrawnCode
 pub mod Before

@@ -1,5 +1,5 @@
 -- Refused texts and the sink's mark.
-use Rattle.std.proofs.Common.{◌≡◌, Bool, refl, sym}
+use Rattle.std.proofs.Common.{◌≡◌, ◌∙◌, Bool, refl, sym, ap}
 use Rattle.tx_text.specs.declared.text_fault.TextFault.TheVariants.{LineTooLong, BadByte, NoMemory as TextNoMemory}
 use Rattle.tx_text.specs.declared.line_fault.LineFault.TheVariants.{Text, Read as LineRead}
 use Rattle.tx_text.specs.declared.frame.FrameFault.TheVariants.{Line, Form}
@@ -12,13 +12,15 @@ use Rattle.tx_plantext.specs.declared.fault.PlanWord.TheVariants.{UnknownWord, R
 use Rattle.tx_cert.specs.declared.fault.CertWord.{CertWord}
 use Rattle.tx_cert.specs.declared.fault.CertWord.TheVariants.{UnknownWord as CertUnknownWord, WrongCount as CertWrongCount, UnknownName, BadNumber as CertBadNumber, Duplicate as CertDuplicate, NoMemory as CertNoMemory}
 use Rattle.tx_script.specs.declared.script_word.ScriptWord.{ScriptWord}
+use Rattle.tx_script.specs.declared.run_fault.RunFault.{RunFault}
 use Rattle.tx_script.specs.declared.run_cause.RunCause.{RunCause}
 use Rattle.tx_script.specs.declared.run_cause.RunCause.TheVariants.{Read as RunRead, Write as RunWrite, Script as RunScript, NoMemory as RunNoMemory}
 use Rattle.tx_script.specs.Answers.{mark_by as run_mark_by}
 use Rattle.tx_audit.specs.declared.audited.AuditFault.{AuditFault}
 use Rattle.tx_audit.specs.declared.audited.AuditFault.TheVariants.{Plan as AuditPlan, Write as AuditWrite, NoMemory as AuditNoMemory}
 use Rattle.tx_audit.specs.Audits.{mark_by as audit_mark_by}
-use Rattle.tx_jobs.specs.JobFaults.{plan_fault_by, cert_fault_by, script_fault_by, cause_fault, mark_by}
+use Rattle.tx_jobs.specs.declared.job_fault.JobFault.{JobFault}
+use Rattle.tx_jobs.specs.JobFaults.{plan_fault, plan_fault_by, cert_fault, cert_fault_by, script_fault_by, cause_fault, run_fault, mark_by}
 use Rattle.tx_jobs.specs.AuditJobs.{audit_fault}
 
 plan_by : (old : Bool) (f : FaultAt PlanWord) (k : FaultKind PlanWord) → mark_by old (plan_fault_by f k) ≡ old
@@ -46,8 +48,12 @@ plan_by old f (Word (Refused r)) = elim r as (λ r. mark_by old (plan_fault_by f
   | PlanNoMemory ↦ refl
 ]
 
-pub plan_unmarked : (old : Bool) (f : FaultAt PlanWord) → mark_by old (plan_fault_by f f.kind) ≡ old
+plan_unmarked : (old : Bool) (f : FaultAt PlanWord) → mark_by old (plan_fault_by f f.kind) ≡ old
 plan_unmarked old f = plan_by old f f.kind
+
+-- a refused plan leaves the mark
+pub plan_mark : (old : Bool) (f : FaultAt PlanWord) (told : JobFault) → told ≡ plan_fault f → old ≡ mark_by old told
+plan_mark old f told e = sym (ap (mark_by old) e ∙ plan_unmarked old f)
 
 cert_by : (old : Bool) (f : FaultAt CertWord) (k : FaultKind CertWord) → mark_by old (cert_fault_by f k) ≡ old
 cert_by old f (Frame (Line LineRead)) = refl
@@ -62,8 +68,9 @@ cert_by old f (Word CertBadNumber) = refl
 cert_by old f (Word CertDuplicate) = refl
 cert_by old f (Word CertNoMemory) = refl
 
-pub cert_unmarked : (old : Bool) (f : FaultAt CertWord) → mark_by old (cert_fault_by f f.kind) ≡ old
-cert_unmarked old f = cert_by old f f.kind
+-- and so does a refused certificate
+pub cert_mark : (old : Bool) (f : FaultAt CertWord) (told : JobFault) → told ≡ cert_fault f → old ≡ mark_by old told
+cert_mark old f told e = sym (ap (mark_by old) e ∙ cert_by old f f.kind)
 
 script_by : (old : Bool) (f : FaultAt ScriptWord) (k : FaultKind ScriptWord) → mark_by old (script_fault_by f k) ≡ old
 script_by old f (Frame (Line LineRead)) = refl
@@ -73,11 +80,15 @@ script_by old f (Frame (Line (Text TextNoMemory))) = refl
 script_by old f (Frame (Form k)) = refl
 script_by old f (Word w) = refl
 
-pub run_marked : (old : Bool) (c : RunCause) → mark_by old (cause_fault c) ≡ run_mark_by old c
+run_marked : (old : Bool) (c : RunCause) → mark_by old (cause_fault c) ≡ run_mark_by old c
 run_marked old RunRead = refl
 run_marked old RunWrite = refl
 run_marked old RunNoMemory = refl
 run_marked old (RunScript f) = script_by old f f.kind
+
+-- a run that stopped leaves the mark that its cause tells
+pub run_mark : (old now : Bool) (f : RunFault) (told : JobFault) → told ≡ run_fault f → now ≡ run_mark_by old f.cause → now ≡ mark_by old told
+run_mark old now f told e m = m ∙ sym (ap (mark_by old) e ∙ run_marked old f.cause)
 
 pub audit_marked : (old : Bool) (f : AuditFault) → audit_mark_by old f ≡ mark_by old (audit_fault f)
 audit_marked old (AuditPlan f) = sym (plan_unmarked old f)

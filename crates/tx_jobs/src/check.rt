@@ -15,7 +15,6 @@ use tx_text::{Sink, Source, WriteFault};
 
 /// Reads a plan and then a certificate, and writes whether the plan is certified by its ranks for at most `limit` transits (0 to 62) and `spare` groups to
 /// spare (0 to 15). Answers the verdict. `Err` is the fault of the first call that failed.
-#[tactic(auto, using(crate::proofs::RefusedTexts::plan_unmarked))]
 pub fn check_job<A: Allocator + Copy, P: Source, R: Source, W: Sink>(
     alloc: A,
     plan: &mut P,
@@ -74,7 +73,6 @@ fn status_of(verdict: &Verdict) -> u8
 }
 
 /// Reads a certificate of the plan, and writes the verdict.
-#[tactic(auto, using(crate::proofs::RefusedTexts::cert_unmarked))]
 fn check_cert<A: Allocator + Copy, R: Source, W: Sink>(
     alloc: A,
     plan: &Plan<A>,

@@ -18,7 +18,6 @@ use tx_text::{NoMemory, Sink, Source, WriteFault};
 /// walk of the code's first finding.
 ///
 /// Nothing is written where the plan is refused or has no such code, or where memory is wanting. Without a code the limit and the spare number change nothing.
-#[tactic(auto, using(crate::proofs::RefusedTexts::plan_unmarked))]
 pub fn draw_job<A: Allocator + Copy, P: Source, W: Sink>(
     alloc: A,
     plan: &mut P,

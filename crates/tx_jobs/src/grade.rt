@@ -16,7 +16,6 @@ use tx_text::{NoMemory, Sink, Source, WriteFault};
 /// Reads a plan, and writes with which limits and spare numbers it is safe, and each of its codes, or what is wrong with it whatever they are. Answers the grade.
 ///
 /// Nothing is written where the plan is refused or memory is wanting.
-#[tactic(auto, using(crate::proofs::RefusedTexts::plan_unmarked))]
 pub fn grade_job<A: Allocator + Copy, P: Source, W: Sink>(
     alloc: A,
     plan: &mut P,

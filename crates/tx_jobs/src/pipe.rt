@@ -28,7 +28,6 @@ pub fn pipe_job<A: Allocator + Copy, R: Source + Drop, W: Sink>(
 }
 
 /// Reads a plan, and then runs the script that stands behind it in the same input.
-#[tactic(auto, using(crate::proofs::RefusedTexts::plan_unmarked))]
 fn run_two_texts<A: Allocator + Copy, R: Source, W: Sink>(
     alloc: A,
     input: &mut TwoTexts<R>,

@@ -15,7 +15,6 @@ use tx_text::{Sink, Source};
 /// Reads a plan, and then runs a script over it: writes the replies and the tickets of its events, and at its end the line END EVENTS.
 ///
 /// `Err` is the fault of the first call that failed. Nothing of the script is read where the plan is refused.
-#[tactic(auto, using(crate::proofs::RefusedTexts::plan_unmarked))]
 pub fn run_job<A: Allocator + Copy, P: Source, R: Source, W: Sink>(
     alloc: A,
     plan: &mut P,

@@ -16,7 +16,6 @@ use tx_text::{Sink, Source, WriteFault};
 
 /// Reads a plan and a certificate, and runs a script over the plan after a Yes of the checker for at most `limit` transits (0 to 62) and `spare` groups to
 /// spare (0 to 15). After a No it writes the verdict alone, and reads nothing of the script. `Err` is the fault of the first call that failed.
-#[tactic(auto, using(crate::proofs::RefusedTexts::plan_unmarked))]
 pub fn run_checked_job<A: Allocator + Copy, P: Source, C: Source, R: Source, W: Sink>(
     alloc: A,
     plan: &mut P,
@@ -73,7 +72,6 @@ pub fn run_checked_status<A: Allocator + Copy, P: Source, C: Source, R: Source, 
 }
 
 /// Reads a certificate of the plan, and runs the script after a Yes.
-#[tactic(auto, using(crate::proofs::RefusedTexts::cert_unmarked))]
 fn read_and_run<A: Allocator + Copy, C: Source, R: Source, W: Sink>(
     alloc: A,
     plan: &Plan<A>,
@@ -97,7 +95,6 @@ fn read_and_run<A: Allocator + Copy, C: Source, R: Source, W: Sink>(
 }
 
 /// Runs the script after a Yes, or writes the verdict.
-#[tactic(auto, using(crate::proofs::RefusedTexts::run_marked))]
 fn run_or_tell<A: Allocator + Copy, R: Source, W: Sink>(
     alloc: A,
     plan: &Plan<A>,

@@ -65,9 +65,7 @@ impl<'a> Shown<'a> {
     pub fn goes_by(&self, group: GroupId, to: ExchangeId) -> bool
         ensures { result ≡ goes_by self.now group to }
     {
-        self.steps
-            .iter()
-            .any(|step| step.0 == group && step.1 == to)
+        self.steps.contains(&(group, to))
     }
 }
 

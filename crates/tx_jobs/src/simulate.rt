@@ -12,7 +12,6 @@ use tx_script::Summary;
 use tx_text::{Sink, Source};
 
 /// Runs a script over a network of the plan, from its opening state.
-#[tactic(auto, using(crate::proofs::RefusedTexts::run_marked))]
 pub(crate) fn simulate<A: Allocator + Copy, R: Source, W: Sink>(
     alloc: A,
     plan: &Plan<A>,

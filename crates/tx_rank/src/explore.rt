@@ -40,13 +40,14 @@ pub fn unseen<'a, A: Allocator + Copy, N: Routes>(
     ensures none { IfOk result (λ s. NoneOpen s.marks.items) }
 {
     net.rules();
+    let home = net.home();
     let mut marks = vec![in alloc; Mark::Unseen; net.exchanges()]?;
-    marks[net.home().index()] = Mark::Ranked(0);
+    marks[home.index()] = Mark::Ranked(0);
     Ok(Search {
-        start: net.home(),
+        start: home,
         steps: Vec::new(alloc),
         before: Vec::new(alloc),
-        last: untried(net, net.home()),
+        last: untried(net, home),
         marks,
     })
 }

@@ -1,5 +1,5 @@
 -- A run that goes on from event to event, and the ways in which it ends.
-use Rattle.std.proofs.Common.{◌≡◌, ℕ, ◌+◌, ◌*◌, ◌^◌, ◌<◌, ◌≤◌, true, cond, List, [], ◌∷◌, ◌++◌, length, Option, Result, Ok, Err, codes, IfOk, IfErr, OnOk, OnErr, inl, inr, refl, sym, ap, ◌∙◌, subst, append-nil, arith, length-append}
+use Rattle.std.proofs.Common.{◌≡◌, ℕ, ◌+◌, ◌*◌, ◌^◌, ◌<◌, ◌≤◌, Bool, true, false, cond, List, [], ◌∷◌, ◌++◌, length, Option, ◌⊎◌, Result, Ok, Err, codes, IfOk, IfErr, OnOk, OnErr, inl, inr, refl, sym, ap, ◌∙◌, subst, append-nil, arith, length-append}
 use Rattle.std.specs.Prelude.{if◌then◌else◌}
 use Rattle.std.specs.List.{flat_map, count_by}
 use Rattle.std.specs.Io.KnownBytes.{append_known, IsAtEnd}
@@ -8,16 +8,21 @@ use Rattle.tx_text.specs.declared.text_fault.TextFault.TheVariants.{LineTooLong,
 use Rattle.tx_text.specs.declared.line_fault.LineFault.TheVariants.{Text, Read as line_read}
 use Rattle.tx_text.specs.declared.frame.FrameFault.{FrameFault}
 use Rattle.tx_text.specs.declared.frame.FrameFault.TheVariants.{Line as of_line, Form as of_form}
+use Rattle.tx_text.specs.declared.frame.FaultAt.{FaultAt}
 use Rattle.tx_text.specs.declared.frame.FaultKind.{FaultKind}
 use Rattle.tx_text.specs.declared.frame.FaultKind.TheVariants.{Frame, Word}
 use Rattle.tx_text.specs.Calls.{source_calls}
 use Rattle.tx_text.specs.Ends.{StopsIn}
 use Rattle.tx_text.specs.Told.{Ending, AtEnd, reading_start, reading_size}
 use Rattle.tx_text.specs.Frame.{Framed, Done, Stop, Headed, Has, ReadsOn, EndsAs, Stopped, is_read}
+use Rattle.tx_text.specs.Text.{Line}
 use Rattle.tx_text.specs.declared.frame.FramePart.TheVariants.{Start}
+use Rattle.tx_text.specs.declared.frame.FrameStep.{FrameStep}
+use Rattle.tx_text.specs.declared.frame.FrameStep.TheVariants.{Header, Line as LineStep, End}
 use Rattle.tx_text.specs.declared.frame_reader.FrameReader.{FrameReader}
-use Rattle.tx_text.specs.Framing.{to_come}
+use Rattle.tx_text.specs.Framing.{to_come, number_of_line, words_of_line, GoesOn}
 use Rattle.tx_text.specs.Said.{is_no_room}
+use Rattle.tx_text.proofs.CallCounts.{went_past}
 use Rattle.tx_text.proofs.NoRoom.{IsSaid, none_stops}
 use Rattle.tx_text.proofs.Writing.{append_known_twice}
 use Rattle.tx_plan.specs.Plan.{Plan}
@@ -40,7 +45,7 @@ use Rattle.tx_script.specs.Script.{faulty, script_said, script_of}
 use Rattle.tx_script.specs.Output.{tickets_made, events_text, end_text}
 use Rattle.tx_script.specs.Answered.{count_of, IsAnswered, Halted, LineAnswers}
 use Rattle.tx_script.specs.Untold.{IsUntold}
-use Rattle.tx_script.specs.Answers.{IsFresh, Moved, settled, next, Ran, Begins, RunAnswers}
+use Rattle.tx_script.specs.Answers.{IsFresh, Moved, settled, next, Ran, Begins, RunAnswers, mark_by}
 use Rattle.tx_script.proofs.Scripts.{SaidSoFar, at_start, header_said, event_said, fault_said, whole_said, stop_said}
 use Rattle.tx_script.proofs.Moments.{IsSoFar, none_so_far, one_more, one_answered, few_tickets, length_run, reply_same, made_same, after_same}
 
@@ -51,6 +56,13 @@ pub record IsRunning (p : Plan) (a b : Option (List ℕ)) (s t : State) (u v : O
   pub said : SaidSoFar p a b events T
   pub far : IsSoFar p s t u v events tally
   pub bounded : tally.answered + size ≤ 4097 * source_calls
+
+-- a header or a line is not the end
+pub past_header : {W : Type 0} (step : FrameStep) (n : ℕ) → step ≡ Header n → (step ≡ End) ⊎ W → W
+past_header step n is w = went_past w (λ e. let bad : Header n ≡ End = sym is ∙ e in let worse : ⊥ = cc in worse)
+
+pub past_line : {W : Type 0} (step : FrameStep) → step ≡ LineStep → (step ≡ End) ⊎ W → W
+past_line step is w = went_past w (λ e. let bad : LineStep ≡ End = sym is ∙ e in let worse : ⊥ = cc in worse)
 
 -- nothing was read yet
 pub start_runs : {A : Type 0} (p : Plan) (a : Option (List ℕ)) (s : State) (u : Option (List ℕ)) (v : FrameReader A) (tally : Tally) → v.key.now ≡ codes "SCRIPT" → v.most ≡ 1 → v.reader ≡ reading_start → v.phase ≡ Start → v.number ≡ 1
@@ -227,3 +239,40 @@ module _ (p : Plan) (a b : Option (List ℕ)) (s t : State) (u v : Option (List 
           front = subst (λ l. StopsIn (append_known u (events_text p s es)) w l) same_end (subst (λ z. StopsIn z w (end_text t)) on.far.wrote stop);
           network = on.far.network;
         }))
+
+  -- ---- a step of the frame
+
+  module _ (c : Option (List ℕ)) (step : FrameStep) (U : Ending → List ℕ → Framed) (l : Option Line) (gives : GoesOn b c T U l ⊥ (Ok step)) where
+    pub header_came : (n left : ℕ) → step ≡ Header n → (step ≡ End) ⊎ (left < size) → IsRunning p a c s t u v U tally left
+    header_came n left is falls = header_runs c n U left (subst (λ (x : FrameStep). GoesOn b c T U l ⊥ (Ok x)) is gives) (past_header step n is falls)
+
+    pub end_came : step ≡ End → EndsAs b c T AtEnd Done × IsAtEnd c
+    end_came is = subst (λ (x : FrameStep). GoesOn b c T U l ⊥ (Ok x)) is gives
+
+    module _ (is : step ≡ LineStep) (n : ℕ) (number : n ≡ number_of_line l) (r : State) (w : Option (List ℕ)) (said : Said) (says : event_of p (words_of_line l) ≡ said) where
+      has : ReadsOn b c T (λ e more. Has (number_of_line l) (words_of_line l) (U e more))
+      has = subst (λ (x : FrameStep). GoesOn b c T U l ⊥ (Ok x)) is gives
+
+      pub line_came : (new : Tally) (count : Answered) (left : ℕ) → (step ≡ End) ⊎ (left < size) → LineAnswers p n said t r v w (Ok count)
+          → new ≡ record { answered = tally.answered + 1; refused = tally.refused + cond count.refused 1 0; tickets = tally.tickets + count.tickets } → IsRunning p a c s r u w U new left
+      line_came new count left falls told i =
+          line_runs c r w (number_of_line l) (words_of_line l) U new count left has said says (subst (λ (k : ℕ). LineAnswers p k said t r v w (Ok count)) number told) i (past_line step is falls)
+
+      pub line_halted : (broken untouched : Type 0) (f : RunFault) (cause : RunCause) → LineAnswers p n said t r v w (Err cause) → f ≡ record { event = tally.answered + 1; cause = cause } → RunAnswers p (after c r w broken untouched) broken untouched (Err f)
+      line_halted broken untouched f cause told i =
+          line_answers c r w broken untouched f (number_of_line l) (words_of_line l) U cause has said says (subst (λ (k : ℕ). LineAnswers p k said t r v w (Err cause)) number told) i
+
+-- ---- the sink's mark
+
+module _ (first old : Bool) (same : old ≡ first) (n : ℕ) (cause : RunCause) (f : RunFault) (told : f ≡ record { event = n; cause = cause }) where
+  -- a line was not answered whole
+  pub line_mark : (new : Bool) → new ≡ mark_by old cause → new ≡ mark_by first f.cause
+  line_mark new m = m ∙ ap (λ b. mark_by b cause) same ∙ ap (λ (z : RunFault). mark_by first z.cause) (sym told)
+
+  unmarked : (b : Bool) (k : FaultAt ScriptWord) → mark_by first (if b then Read else OfScript k) ≡ first
+  unmarked true k = refl
+  unmarked false k = refl
+
+  -- the frame is faulty, or the source failed
+  pub stop_mark : (b : Bool) (k : FaultAt ScriptWord) → cause ≡ (if b then Read else OfScript k) → old ≡ mark_by first f.cause
+  stop_mark b k by = same ∙ sym (ap (λ (z : RunFault). mark_by first z.cause) told ∙ ap (mark_by first) by ∙ unmarked b k)

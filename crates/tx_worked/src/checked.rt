@@ -164,7 +164,7 @@ fn is_certified<A: Allocator + Copy>(
         Ok(cert) => {
             let verdict = check(plan, &cert, numbers.0.min(62), numbers.1.min(15));
             drop(cert);
-            verdict == Verdict::Yes
+            matches!(verdict, Verdict::Yes)
         }
         Err(_) => false,
     }

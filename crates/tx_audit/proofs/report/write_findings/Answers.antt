@@ -1,5 +1,6 @@
 use Rattle.tx_text.proofs.Wrote.{wrote_none, texts_stopped, texts_done}
 use Rattle.tx_audit.specs.Report.{finding_line}
+use Rattle.tx_audit.proofs.Loops.{texts_more}
 use Rattle.tx_audit.proofs.report.write_findings.Goals as goal
 
 pub returns-in_err-write_finding : goal.returns-in_err-write_finding
@@ -12,3 +13,6 @@ loop-i-init g c = wrote_none _ _
 
 pub returns : goal.returns
 returns g c = texts_done (finding_line c.args.plan.now) c.args.findings.now c.loop-i.i _ _ _ _ c.loop-i-test.false c.loop-i.invariant
+
+pub loop-i-preserved : goal.loop-i-preserved
+loop-i-preserved g c = texts_more (finding_line c.args.plan.now) c.args.findings.now c.loop-i.i c.index-findings-i.result _ _ _ _ _ _ c.loop-i-test.true c.index-findings-i.is c.loop-i.invariant c.in_ok-write_finding.ensures

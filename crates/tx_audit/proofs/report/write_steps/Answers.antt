@@ -2,6 +2,7 @@ use Rattle.std.proofs.Common.{codes, Err, refl}
 use Rattle.std.specs.List.{flat_map}
 use Rattle.tx_text.proofs.Wrote.{wrote_then, wrote_first, texts_stopped, texts_done}
 use Rattle.tx_audit.specs.Report.{step_text}
+use Rattle.tx_audit.proofs.Loops.{texts_more}
 use Rattle.tx_audit.proofs.report.write_steps.Goals as goal
 
 pub returns-in_err-write_step : goal.returns-in_err-write_step
@@ -15,3 +16,6 @@ pub returns : goal.returns
 returns g c =
     wrote_then _ _ _ _ _ _ (flat_map (step_text c.args.plan.now) c.args.steps.now) (codes "\n") _
     (texts_done (step_text c.args.plan.now) c.args.steps.now c.loop-i.i _ _ _ _ c.loop-i-test.false c.loop-i.invariant) c.write_text.ensures
+
+pub loop-i-preserved : goal.loop-i-preserved
+loop-i-preserved g c = texts_more (step_text c.args.plan.now) c.args.steps.now c.loop-i.i c.index-steps-i.result _ _ _ _ _ _ c.loop-i-test.true c.index-steps-i.is c.loop-i.invariant c.in_ok-write_step.ensures

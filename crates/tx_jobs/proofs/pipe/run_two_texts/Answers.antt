@@ -7,6 +7,7 @@ use Rattle.tx_jobs.specs.JobEnds.{input, output}
 use Rattle.tx_jobs.specs.Jobs.{ScriptRan}
 use Rattle.tx_jobs.specs.PipeJobs.{PipeBroken}
 use Rattle.tx_jobs.proofs.Piping.{begins_behind, pipe_calls, plan_broken, script_broken}
+use Rattle.tx_jobs.proofs.RefusedTexts.{plan_mark}
 use Rattle.tx_jobs.proofs.Breaking.{refused_with, simulated_with}
 use Rattle.tx_jobs.proofs.pipe.run_two_texts.Goals as goal
 
@@ -67,3 +68,6 @@ returns-in-Err-clause-answers g c =
             rest = refl;
           };
     })
+
+pub returns-in-Err-clause-mark : goal.returns-in-Err-clause-mark
+returns-in-Err-clause-mark g c = plan_mark (g.W.Sink.failed c.args.out.now) c.in-Err.fault c.of_plan.result c.of_plan.ensures

@@ -1,4 +1,4 @@
-use Rattle.std.proofs.Common.{◌≡◌, false, length, drop, ap, arith}
+use Rattle.std.proofs.Common.{◌≡◌, ◌∙◌, false, length, drop, ap, sym, arith}
 use Rattle.tx_rank.specs.Walks.{net_of}
 use Rattle.tx_jobs.specs.Reached.{is_marked}
 use Rattle.tx_jobs.proofs.Marking.{left_less, put_back, marking_none, marking_more, marking_all}
@@ -10,6 +10,17 @@ next-requires-clause-few g c =
     let l = c.loop-exchange.invariant.seen.long in
     let f = c.rules.ensures.few_exchanges in
     omega arith
+
+pub next-requires-clause-long : goal.next-requires-clause-long
+next-requires-clause-long g c = rw (c.deref.ensures.value, c.deref-in-loop-exchange.ensures.value) (c.loop-exchange.invariant.seen.long ∙ sym c.loop-exchange.invariant.long)
+
+pub open-requires : goal.open-requires
+open-requires g c =
+    record {
+      code = c.requires;
+      seen = rw c.deref_mut.ensures.value c.loop-exchange.invariant.seen;
+      here = rw c.deref_mut.ensures.value (rw c.deref.ensures.value at c.in-Some.ensures.some.1);
+    }
 
 pub loop-exchange-init : goal.loop-exchange-init
 loop-exchange-init g c = marking_none (net_of c.args.plan.now c.args.code) c.exchanges.result c.in_ok-seen.seen.items c.in_ok-opened.opened.items c.in_ok-seen.ensures (c.in_ok-opened.ensures.items_if_clones_equal (λ y e. e)) c.exchanges.ensures

@@ -47,3 +47,25 @@ returns-clause-answers g c =
       wrote = then_took _ _ _ (reply_text p reply) _ c.in_ok-write_reply.ensures.ok c.in_ok-tickets.ensures.ok ∙ ap (append_known (g.W.Sink.taken c.args.sink.now)) (sym a.text);
       network = c.in_ok-tickets.ensures.taken ∙ ap (λ (u : State). drained u []) (sym a.after);
     }
+
+pub returns-in_err-write_reply-clause-plan : goal.returns-in_err-write_reply-clause-plan
+returns-in_err-write_reply-clause-plan g c = c.apply-applied.ensures.plan ∙ c.requires.plan
+
+pub returns-in_err-tickets-clause-plan : goal.returns-in_err-tickets-clause-plan
+returns-in_err-tickets-clause-plan g c = c.write_tickets.ensures.plan ∙ c.apply-applied.ensures.plan ∙ c.requires.plan
+
+pub returns-clause-plan : goal.returns-clause-plan
+returns-clause-plan g c = c.write_tickets.ensures.plan ∙ c.apply-applied.ensures.plan ∙ c.requires.plan
+
+pub returns-in_err-write_reply-clause-mark : goal.returns-in_err-write_reply-clause-mark
+returns-in_err-write_reply-clause-mark g c =
+    let e = err_from_is_err_and c.from_residual.result c.from_residual.ensures.1 in
+    rw (e.1, e.2) c.in_err-write_reply.ensures.mark
+
+pub returns-in_err-tickets-clause-mark : goal.returns-in_err-tickets-clause-mark
+returns-in_err-tickets-clause-mark g c =
+    let e = err_from_is_err_and c.from_residual-in_err-tickets.result c.from_residual-in_err-tickets.ensures.1 in
+    rw (e.1, e.2) c.in_err-tickets.ensures.mark
+
+pub returns-clause-mark : goal.returns-clause-mark
+returns-clause-mark g c = c.in_ok-tickets.ensures.unmarked ∙ c.in_ok-write_reply.ensures.unmarked

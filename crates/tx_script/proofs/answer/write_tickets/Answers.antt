@@ -37,3 +37,15 @@ returns-clause-ok g c = (drain_end _ _ _ _ _ _ c.loop-ticket.invariant.draining 
 
 pub returns-clause-taken : goal.returns-clause-taken
 returns-clause-taken g c = (drain_end _ _ _ _ _ _ c.loop-ticket.invariant.draining _ (sym c.in_default.ensures.first) c.next_ticket.ensures.rest).0
+
+pub returns-in_err-write_ticket-clause-plan : goal.returns-in_err-write_ticket-clause-plan
+returns-in_err-write_ticket-clause-plan g c = c.next_ticket.ensures.plan ∙ c.loop-ticket.invariant.plan
+
+pub returns-in_err-write_ticket-clause-mark : goal.returns-in_err-write_ticket-clause-mark
+returns-in_err-write_ticket-clause-mark g c = on_err c.from_residual.result c.in_err-write_ticket.ensures.mark
+
+pub returns-clause-plan : goal.returns-clause-plan
+returns-clause-plan g c = c.next_ticket.ensures.plan ∙ c.loop-ticket.invariant.plan
+
+pub returns-clause-unmarked : goal.returns-clause-unmarked
+returns-clause-unmarked g c = c.loop-ticket.invariant.mark

@@ -1,14 +1,15 @@
-use Rattle.std.proofs.Common.{◌≡◌, ◌∙◌, ◌+◌, ap, sym, refl}
+use Rattle.std.proofs.Common.{◌≡◌, ◌∙◌, ◌+◌, Ok, ap, sym, refl}
 use Rattle.tx_text.specs.Calls.{source_calls}
 use Rattle.tx_text.specs.Frame.{is_read}
-use Rattle.tx_text.specs.Framing.{to_come, number_of_line, words_of_line}
+use Rattle.tx_text.specs.Framing.{to_come, words_of_line}
 use Rattle.tx_text.specs.Told.{Reading}
 use Rattle.tx_text.proofs.NoRoom.{come_said}
-use Rattle.tx_text.proofs.CallCounts.{went_none, went_on, went_past, went_same, calls_on, broken_on, stopped_with}
+use Rattle.tx_text.proofs.CallCounts.{went_none, went_on, went_same, calls_on, broken_on, stopped_with}
 use Rattle.tx_script.specs.declared.run_cause.RunCause.{RunCause}
+use Rattle.tx_script.specs.Answers.{mark_after}
 use Rattle.tx_script.specs.Events.{event_of}
 use Rattle.tx_script.proofs.EventWords.{said_by}
-use Rattle.tx_script.proofs.Running.{start_runs, header_runs, line_runs, few_answered, few_refused, few_calls, few_told, none_left, line_answers, stop_answers, whole_answers}
+use Rattle.tx_script.proofs.Running.{past_header, past_line, start_runs, header_came, line_came, line_halted, end_came, few_answered, few_refused, few_calls, few_told, none_left, stop_answers, whole_answers, line_mark, stop_mark}
 use Rattle.tx_script.proofs.runner.run_lines.Given.{Over}
 use Rattle.tx_script.proofs.runner.run_lines.Goals as goal
 use Rattle.tx_script.proofs.runner.run_lines.Goals.{After-answer_line, in-Some-Key, in-Some-Route, in-Some-Confirm, in-Some-Clear, in-Some-Released, in-Some, in-None}
@@ -37,19 +38,29 @@ lines-init g c =
       went = went_same g.R.Source.called _ _ _ _ _ (ap (λ (v : Reading). v.left) r.reader) (went_none g.R.Source.called source_calls c.args.source.now);
     }
 
+pub advance-requires : goal.advance-requires
+advance-requires g c = c.lines.invariant.sound
+
+pub lines-smaller-in-Ok-Header : goal.lines-smaller-in-Ok-Header
+lines-smaller-in-Ok-Header g c = past_header _ _ c.in-Ok-Header.field-0-is c.in-Ok-Header.ensures.falls
+
 pub lines-preserved-in-Ok-Header : goal.lines-preserved-in-Ok-Header
 lines-preserved-in-Ok-Header g c =
     let v = c.lines.invariant in
-    let q = rw c.in-Ok-Header.field-0-is at c.in-Ok-Header.ensures.gives in
-    let w = rw c.in-Ok-Header.field-0-is at c.in-Ok-Header.ensures.went in
-    let f = rw c.in-Ok-Header.field-0-is at c.in-Ok-Header.ensures.falls in
+    let k = c.in-Ok-Header in
     record {
       plan = v.plan;
-      runs = header_runs _ _ _ _ _ _ _ _ _ _ v.runs _ _ (to_come c.advance.new.self) _ q (went_past f (λ e. cc));
+      runs = header_came _ _ _ _ _ _ _ _ _ _ v.runs _ _ (to_come c.advance.new.self) c.advance.new.self.reader.feed.line k.ensures.gives _ _ k.field-0-is k.ensures.falls;
       mark = v.mark;
-      sound = c.in-Ok-Header.ensures.fault;
-      went = went_on g.R.Source.called _ _ _ _ _ _ v.went (went_past w (λ e. cc));
+      sound = k.ensures.fault;
+      went = went_on g.R.Source.called _ _ _ _ _ _ v.went (past_header _ _ k.field-0-is k.ensures.went);
     }
+
+pub words-words-requires : goal.words-words-requires
+words-words-requires g c = c.in-Ok-Line.ensures.line (ap Ok c.in-Ok-Line.field-0-is)
+
+pub number-requires : goal.number-requires
+number-requires g c = c.in-Ok-Line.ensures.line (ap Ok c.in-Ok-Line.field-0-is)
 
 pub answer_line-requires : goal.answer_line-requires
 answer_line-requires g c =
@@ -65,22 +76,21 @@ count-requires g c =
       tickets = few_told _ _ _ _ _ _ _ _ _ _ v.runs c.requires.fresh _ _ _ _ _ c.in-Ok.ensures.answers;
     }
 
+pub lines-smaller : goal.lines-smaller
+lines-smaller g c = past_line _ c.in-Ok-Line.field-0-is c.in-Ok-Line.ensures.falls
+
 pub lines-preserved : goal.lines-preserved
 lines-preserved g c =
     let v = c.lines.invariant in
+    let k = c.in-Ok-Line in
     let frame = c.advance.new.self in
-    let n = number_of_line frame.reader.feed.line in
-    let ws = words_of_line frame.reader.feed.line in
-    let q = rw c.in-Ok-Line.field-0-is at c.in-Ok-Line.ensures.gives in
-    let w = rw c.in-Ok-Line.field-0-is at c.in-Ok-Line.ensures.went in
-    let f = rw c.in-Ok-Line.field-0-is at c.in-Ok-Line.ensures.falls in
     let a = c.in-Ok.ensures in
     record {
       plan = a.plan;
-      runs = line_runs _ _ _ _ _ _ _ _ _ _ v.runs _ _ _ n ws (to_come frame) c.count.new.self _ _ q _ (said g (goal.at.lines-preserved g c).After-answer_line) (rw c.number.ensures at a.answers) c.count.ensures (went_past f (λ e. cc));
+      runs = line_came _ _ _ _ _ _ _ _ _ _ v.runs _ _ (to_come frame) frame.reader.feed.line k.ensures.gives k.field-0-is _ c.number.ensures _ _ _ (said g (goal.at.lines-preserved g c).After-answer_line) c.count.new.self _ _ k.ensures.falls a.answers c.count.ensures;
       mark = a.mark ∙ v.mark;
-      sound = c.in-Ok-Line.ensures.fault;
-      went = went_on g.R.Source.called _ _ _ _ _ _ v.went (went_past w (λ e. cc));
+      sound = k.ensures.fault;
+      went = went_on g.R.Source.called _ _ _ _ _ _ v.went (past_line _ k.field-0-is k.ensures.went);
     }
 
 pub finish-requires : goal.finish-requires
@@ -89,18 +99,27 @@ finish-requires g c = few_answered _ _ _ _ _ _ _ _ _ _ c.lines.invariant.runs
 pub stopped-requires : goal.stopped-requires
 stopped-requires g c = few_answered _ _ _ _ _ _ _ _ _ _ c.lines.invariant.runs
 
+pub returns-in-Err-answer_line-clause-plan : goal.returns-in-Err-answer_line-clause-plan
+returns-in-Err-answer_line-clause-plan g c = c.in-Err-answer_line.ensures.plan
+
+pub returns-in-Ok-End-clause-plan : goal.returns-in-Ok-End-clause-plan
+returns-in-Ok-End-clause-plan g c = c.lines.invariant.plan
+
+pub returns-in-Err-clause-plan : goal.returns-in-Err-clause-plan
+returns-in-Err-clause-plan g c = c.lines.invariant.plan
+
 pub returns-in-Err-answer_line-clause-answers : goal.returns-in-Err-answer_line-clause-answers
 returns-in-Err-answer_line-clause-answers g c =
+    let k = c.in-Ok-Line in
     let frame = c.advance.new.self in
-    let ws = words_of_line frame.reader.feed.line in
-    let q = rw c.in-Ok-Line.field-0-is at c.in-Ok-Line.ensures.gives in
-    line_answers _ _ _ _ _ _ _ _ _ _ c.lines.invariant.runs _ _ _ _ _ c.stopped.result (number_of_line frame.reader.feed.line) ws (to_come frame) c.in-Err-answer_line.cause q _ (said g (goal.at.returns-in-Err-answer_line-clause-answers g c).After-answer_line) (rw c.number.ensures at c.in-Err-answer_line.ensures.answers) c.stopped.ensures
+    let x = c.in-Err-answer_line in
+    line_halted _ _ _ _ _ _ _ _ _ _ c.lines.invariant.runs _ _ (to_come frame) frame.reader.feed.line k.ensures.gives k.field-0-is _ c.number.ensures _ _ _ (said g (goal.at.returns-in-Err-answer_line-clause-answers g c).After-answer_line) _ _ c.stopped.result x.cause x.ensures.answers c.stopped.ensures
 
 pub returns-in-Ok-End-clause-answers : goal.returns-in-Ok-End-clause-answers
 returns-in-Ok-End-clause-answers g c =
-    let q = rw c.in-Ok-End.field-0-is at c.in-Ok-End.ensures.gives in
+    let k = c.in-Ok-End in
     let f = c.finish.ensures in
-    whole_answers _ _ _ _ _ _ _ _ _ _ c.lines.invariant.runs _ _ _ _ c.finish.result q f.summary f.ok f.fault f.err
+    whole_answers _ _ _ _ _ _ _ _ _ _ c.lines.invariant.runs _ _ _ _ c.finish.result (end_came _ _ _ _ _ _ _ _ _ _ c.lines.invariant.runs _ _ (to_come c.advance.new.self) c.advance.new.self.reader.feed.line k.ensures.gives k.field-0-is) f.summary f.ok f.fault f.err
 
 pub returns-in-Err-clause-answers : goal.returns-in-Err-clause-answers
 returns-in-Err-clause-answers g c =
@@ -109,6 +128,15 @@ returns-in-Err-clause-answers g c =
     let failed = g.R.Source.failed c.advance.new.source in
     let q = stopped_with _ _ _ _ _ (is_read x.fault) _ (broken_on called failed source_calls c.lines.frame.reader.left _ _ _ c.lines.invariant.went) c.in-Err.ensures.gives in
     stop_answers _ _ _ _ _ _ _ _ _ _ c.lines.invariant.runs _ _ _ c.stopped-in-Err.result x.line x.fault (come_said c.lines.frame) q (c.stopped-in-Err.ensures ∙ ap (λ (z : RunCause). record { event = c.lines.tally.answered + 1; cause = z }) c.frame_cause.ensures)
+
+pub returns-in-Err-answer_line-clause-mark : goal.returns-in-Err-answer_line-clause-mark
+returns-in-Err-answer_line-clause-mark g c = line_mark _ _ c.lines.invariant.mark _ _ c.stopped.result c.stopped.ensures _ c.in-Err-answer_line.ensures.mark
+
+pub returns-in-Ok-End-clause-mark : goal.returns-in-Ok-End-clause-mark
+returns-in-Ok-End-clause-mark g c = c.finish.ensures.mark ∙ ap (λ b. mark_after b c.finish.result) c.lines.invariant.mark
+
+pub returns-in-Err-clause-mark : goal.returns-in-Err-clause-mark
+returns-in-Err-clause-mark g c = stop_mark _ _ c.lines.invariant.mark _ _ c.stopped-in-Err.result c.stopped-in-Err.ensures _ _ c.frame_cause.ensures
 
 pub returns-in-Err-answer_line-clause-calls : goal.returns-in-Err-answer_line-clause-calls
 returns-in-Err-answer_line-clause-calls g c = calls_on g.R.Source.called source_calls c.lines.frame.reader.left _ _ _ c.lines.invariant.went c.advance.ensures.calls
