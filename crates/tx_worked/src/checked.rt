@@ -244,6 +244,24 @@ fn check_and_drive<A: Allocator + Copy>(
     }
 }
 
+/// Reads the plan, tells whether the checker says Yes to its certificate, and drives the events of the script after a Yes.
+fn read_and_drive<A: Allocator + Copy>(
+    alloc: Global,
+    over: Over,
+    memory: A,
+    numbers: (u8, u8),
+    texts: Texts<'_>,
+    out: &mut Told,
+) {
+    match read_plan(memory, texts.plan) {
+        Ok(plan) => {
+            check_and_drive(alloc, over, memory, &plan, numbers, texts, out);
+            drop(plan);
+        }
+        Err(_) => tell_broken(b"no plan", 0, out),
+    }
+}
+
 /// Checks a certificate of a plan, with a limit and a spare number, and after a Yes drives the events of the script behind it.
 pub(crate) fn play_certified(
     alloc: Global,
@@ -256,11 +274,5 @@ pub(crate) fn play_certified(
     let (cert, script) = two_texts(rest);
     let texts = Texts { plan, cert, script };
     let memory = Refusing::new(alloc, 0);
-    match read_plan(&memory, plan) {
-        Ok(plan) => {
-            check_and_drive(alloc, over, &memory, &plan, numbers, texts, out);
-            drop(plan);
-        }
-        Err(_) => tell_broken(b"no plan", 0, out),
-    }
+    read_and_drive(alloc, over, &memory, numbers, texts, out);
 }

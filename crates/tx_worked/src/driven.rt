@@ -47,7 +47,10 @@ fn drives_on<A: Allocator + Copy, N: Network>(
     let driven = drive_on(net, events, &mut replies);
     let is_whole = replies.as_slice() == whole;
     drop(replies);
-    Ok(driven? && is_whole)
+    match driven {
+        Ok(keeps) => Ok(keeps && is_whole),
+        Err(fault) => Err(fault),
+    }
 }
 
 /// The same over a new plain network of the plan.

@@ -3,7 +3,7 @@ ghost use Rattle.tx_program.specs.Commands.{IsInRange};
 
 use crate::cases::{EndCase, Log, Refusing, What};
 use crate::stage::Stage;
-use tx_program::{Command, WordsFault, read_command, run_command, run_words};
+use tx_program::{Command, Folder, WordsFault, read_command, run_command, run_words};
 
 /// Plays a case, and tells what happens.
 pub(crate) fn play(rt: &HostRuntime, case: &EndCase<'_>, log: &Log) {
@@ -26,29 +26,40 @@ pub(crate) fn play(rt: &HostRuntime, case: &EndCase<'_>, log: &Log) {
     }
 }
 
-/// Runs the words of a case. Tells whether its ends could be made. The memory is of the type that can refuse a request, so that the program is built once.
+/// Runs the words of a case. Tells whether its input could be opened. The memory is of the type that can refuse a request, so that the program is built once.
 fn run(rt: &HostRuntime, case: &EndCase<'_>, log: &Log) -> bool {
-    let memory = Refusing::new(rt.alloc(), 0);
-    let stage = Stage { rt, case, log };
-    let Ok(ends) = stage.ends() else {
+    let Ok(input) = Folder::open(rt, case.input) else {
         return false;
     };
+    let memory = Refusing::new(rt.alloc(), 0);
+    let stage = Stage { rt, case, log };
+    let ends = stage.ends(input);
     let status = run_words(rt.alloc(), &memory, case.words.as_slice(), ends);
     log.tell_number("status", u64::from(status));
     true
 }
 
-/// Runs the command with each of its requests for memory refused in turn, and then with none refused. Tells whether there was a command, and its ends could be
-/// made.
+/// Runs the words of a case with each request for memory refused in turn. Tells whether there was a command, and its input could be opened.
 fn run_without(rt: &HostRuntime, case: &EndCase<'_>, log: &Log) -> bool {
-    let Ok(command) = read_command(rt.alloc(), case.words.as_slice()) else {
-        return false;
-    };
+    match read_command(rt.alloc(), case.words.as_slice()) {
+        Ok(command) => {
+            let played = refuse_each(rt, case, &command, log);
+            drop(command);
+            played
+        }
+        Err(_) => false,
+    }
+}
+
+/// Runs a command with each of its requests for memory refused in turn, and then with none refused. Tells whether its input could be opened.
+fn refuse_each(rt: &HostRuntime, case: &EndCase<'_>, command: &Command, log: &Log) -> bool
+    requires { IsInRange command.now }
+{
     let mut last = Log::new(rt.alloc());
     let mut played = true;
     for request in 1..100_000u64 {
         let now = Log::new(rt.alloc());
-        let came = run_refused(rt, case, &command, request, &now);
+        let came = run_refused(rt, case, command, request, &now);
         tell_change(came, &now, &last, log);
         last = now;
         if came != Some(true) {
@@ -57,7 +68,6 @@ fn run_without(rt: &HostRuntime, case: &EndCase<'_>, log: &Log) -> bool {
         }
     }
     drop(last);
-    drop(command);
     played
 }
 
@@ -76,7 +86,7 @@ fn tell_change(came: Option<bool>, now: &Log, last: &Log, log: &Log) {
     }
 }
 
-/// Runs a command with one request refused, and tells whether that request came, if the ends could be made.
+/// Runs a command with one request refused, and tells whether that request came, if the input could be opened.
 fn run_refused(
     rt: &HostRuntime,
     case: &EndCase<'_>,
@@ -86,12 +96,12 @@ fn run_refused(
 ) -> Option<bool>
     requires { IsInRange command.now }
 {
-    let refusing = Refusing::new(rt.alloc(), request);
-    let stage = Stage { rt, case, log };
-    let Ok(ends) = stage.ends() else {
+    let Ok(input) = Folder::open(rt, case.input) else {
         return None;
     };
-    let status = run_command(&refusing, command, ends);
+    let refusing = Refusing::new(rt.alloc(), request);
+    let stage = Stage { rt, case, log };
+    let status = run_command(&refusing, command, stage.ends(input));
     log.tell_number("status", u64::from(status));
     Some(refusing.has_refused())
 }

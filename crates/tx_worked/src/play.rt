@@ -30,12 +30,12 @@ pub(crate) fn play_cases(alloc: Global, cases: &[u8], out: &mut Told) {
 
 fn play(alloc: Global, case: Case<'_>, out: &mut Told) {
     tell_parts(&[b"=== ", case.head, b"\n"], out);
-    let mut texts = Vec::new(alloc);
-    match spell(case.texts, &mut texts) {
-        Ok(()) => play_texts(alloc, head_of(case.head), texts.as_slice(), out),
-        Err(_) => tell_broken(b"no memory", 0, out),
+    let mut texts = Told::new(alloc);
+    spell(case.texts, &mut texts);
+    match texts.whole() {
+        Some(texts) => play_texts(alloc, head_of(case.head), texts, out),
+        None => tell_broken(b"no memory", 0, out),
     }
-    drop(texts);
 }
 
 /// Plays a case's texts by its kind: as a job, or by writing and reading back, or over both networks.

@@ -16,15 +16,14 @@ pub(crate) struct Stage<'a> {
 pub(crate) type Watched<'a> = Ends<'a, Stage<'a>, Reader<'a>, Writer<'a>, Writer<'a>>;
 
 impl<'a> Stage<'a> {
-    /// The ends of the case, whose input is open.
-    pub(crate) fn ends(&'a self) -> io::Result<Watched<'a>> {
-        let input = Folder::open(self.rt, self.case.input)?;
-        Ok(Ends {
+    /// The ends of the case over its input, which is open.
+    pub(crate) fn ends(&'a self, input: File) -> Watched<'a> {
+        Ends {
             folder: self,
             input: self.reader(input, "in"),
             output: self.writer(None, "out"),
             errors: self.writer(None, "errors"),
-        })
+        }
     }
 
     /// The name by which an end is told. Where memory is wanting for it, it is left out.
@@ -64,13 +63,17 @@ impl<'a> Folder for Stage<'a> {
 
     fn open(&self, name: &str) -> io::Result<Reader<'a>> {
         self.log.tell("open", name);
-        let file = Folder::open(self.rt, name)?;
-        Ok(self.reader(file, name))
+        match Folder::open(self.rt, name) {
+            Ok(file) => Ok(self.reader(file, name)),
+            Err(fault) => Err(fault),
+        }
     }
 
     fn create(&self, name: &str) -> io::Result<Writer<'a>> {
         self.log.tell("make", name);
-        let file = Folder::create(self.rt, name)?;
-        Ok(self.writer(Some(file), name))
+        match Folder::create(self.rt, name) {
+            Ok(file) => Ok(self.writer(Some(file), name)),
+            Err(fault) => Err(fault),
+        }
     }
 }

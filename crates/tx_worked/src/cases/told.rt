@@ -25,6 +25,14 @@ impl Told {
         self.text.as_slice()
     }
 
+    /// All that was told, or none where memory was wanting for it.
+    pub fn whole(&self) -> Option<&[u8]> {
+        if self.failed {
+            return None;
+        }
+        Some(self.text.as_slice())
+    }
+
     /// Whether this was told, and nothing else.
     pub fn is(&self, text: &[u8]) -> bool {
         !self.failed && self.text.as_slice() == text

@@ -91,13 +91,13 @@ pub fn play_cases(alloc: Global, cases: &[u8], out: &mut Told) {
 fn play(alloc: Global, case: Case<'_>, out: &mut Told) {
     tell_parts(&[b"=== ", case.head, b"\n"], out);
     let (kind, head) = head_of(case.head);
-    let mut text = Vec::new(alloc);
-    match (kind, spell(case.texts, &mut text)) {
-        (Some(kind), Ok(())) => play_text(alloc, kind, head, text.as_slice(), out),
+    let mut text = Told::new(alloc);
+    spell(case.texts, &mut text);
+    match (kind, text.whole()) {
+        (Some(kind), Some(text)) => play_text(alloc, kind, head, text, out),
         (None, _) => tell_broken(b"no such kind of case", 0, out),
-        (_, Err(_)) => tell_broken(b"no memory", 0, out),
+        (_, None) => tell_broken(b"no memory", 0, out),
     }
-    drop(text);
 }
 
 fn play_text(alloc: Global, kind: Kind, head: Head<'_>, text: &[u8], out: &mut Told) {
