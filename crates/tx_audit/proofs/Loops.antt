@@ -107,5 +107,5 @@ pub texts_more : {A : Type 0} (text : A → List ℕ) (xs : List A) (i : ℕ) (x
 texts_more text xs i x a b c f g h low is v w =
     let before = flat_map text (take i xs) in
     let more : flat_map text (take (i + 1) xs) ≡ before ++ text x =
-        ap (flat_map text) (take_more xs i x low) ∙ flat_map-append text (take i xs) (get_or xs i x ∷ []) ∙ ap (λ l. before ++ l) (append-nil (text (get_or xs i x))) ∙ ap (λ y. before ++ text y) (sym is) in
+    ap (flat_map text) (take_more xs i x low) ∙ flat_map-append text (take i xs) (get_or xs i x ∷ []) ∙ ap (λ l. before ++ l) (append-nil (text (get_or xs i x))) ∙ ap (λ y. before ++ text y) (sym is) in
     text_is a c f h (flat_map text (take (i + 1) xs)) (before ++ text x) (Ok tt) more (wrote_then a b c f g h before (text x) (Ok tt) v w)
