@@ -113,11 +113,6 @@ firsts_more f g h i x a b r e s k l =
     l ∙ ap (λ w. firsts_or w b) e ∙ ap (firsts_or (firsts_of (flat_map f (range_with_len 0 i)) (flat_map g (range_with_len 0 i)) (flat_map h (range_with_len 0 i)))) u
     ∙ (λ j. record { short = first_more f i j; unranked = first_more g i j; not_lower = first_more h i j })
 
--- the first faults of three kinds at all places
-pub firsts_done : (f g h : ℕ → List CheckFault) (i n : ℕ) (a : Firsts) → i ≡ n → a ≡ firsts_of (flat_map f (range_with_len 0 i)) (flat_map g (range_with_len 0 i)) (flat_map h (range_with_len 0 i))
-    → a ≡ firsts_of (flat_map f (range_with_len 0 n)) (flat_map g (range_with_len 0 n)) (flat_map h (range_with_len 0 n))
-firsts_done f g h i n a e k = k ∙ ap (λ m. firsts_of (flat_map f (range_with_len 0 m)) (flat_map g (range_with_len 0 m)) (flat_map h (range_with_len 0 m))) e
-
 -- marks that tell a test, one more
 pub marked_more : (marks : List Bool) (f : ℕ → Bool) (i x : ℕ) (b : Bool) → i < length marks → x ≡ i → b ≡ f x → ((k : ℕ) → k < i → get_or marks k false ≡ f k) → (k : ℕ) → k < i + 1 → get_or (slice_set marks i b) k false ≡ f k
 marked_more marks f i x b lt s e h =

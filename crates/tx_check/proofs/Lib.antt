@@ -3,4 +3,4 @@ pub mod Faultless
 pub mod LeastFound
 pub mod Judging
 pub mod PairFaults
-pub mod FirstFound
+pub mod Wrong

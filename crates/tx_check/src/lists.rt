@@ -1,5 +1,5 @@
 // The faults of route lists.
-ghost use Rattle.std.specs.Prelude.{◌≡◌, is_none, find, length, nat_le, option_map};
+ghost use Rattle.std.specs.Prelude.{◌≡◌, ◌||◌, is_none, find, length, nat_le, option_map};
 ghost use Rattle.tx_check.specs.declared.fault.CheckFault.TheVariants.{Short, TargetUnranked, NotLower};
 ghost use Rattle.tx_check.specs.Firsts.{firsts_of, or_later};
 ghost use Rattle.tx_check.specs.Checks.{ranks_for, foremost, fault_if, at_pairs, at_exchanges, is_at_least, rank_beyond, too_short_at, target_unranked_at, not_lower_at, too_short_faults, target_unranked_faults, not_lower_faults};
@@ -149,14 +149,68 @@ fn first_wrong<A: Allocator>(
     ensures unranked { result.0 ≡ find (λ g. is_none (rank_beyond plan.now (ranks_for plan.now cert.now) code exchange g)) list.now }
     ensures not_lower { result.1 ≡ find (λ g. is_at_least (rank_beyond plan.now (ranks_for plan.now cert.now) code exchange g) rank) list.now }
 {
-    let mut unranked = None;
-    let mut not_lower = None;
-    for group in list {
-        let beyond = rank_beyond(plan, cert, code, exchange, *group);
-        unranked = unranked.or(beyond.is_none().then_some(*group));
-        not_lower = not_lower.or(is_at_least(beyond, rank).then_some(*group));
+    // Where nothing is wrong, one pass over the list tells it.
+    match first_either(plan, cert, code, exchange, rank, list) {
+        None => (None, None),
+        Some(_) => (
+            first_unranked(plan, cert, code, exchange, list),
+            first_not_lower(plan, cert, code, exchange, rank, list),
+        ),
     }
-    (unranked, not_lower)
+}
+
+/// The first group of the list that leads to an exchange without rank, or to a rank that is not smaller.
+fn first_either<A: Allocator>(
+    plan: &Plan<A>,
+    cert: &Cert<A>,
+    code: CodeId,
+    exchange: ExchangeId,
+    rank: u16,
+    list: &[GroupId],
+) -> Option<GroupId>
+    ensures { result ≡ find (λ g. is_none (rank_beyond plan.now (ranks_for plan.now cert.now) code exchange g)
+        || is_at_least (rank_beyond plan.now (ranks_for plan.now cert.now) code exchange g) rank) list.now }
+{
+    list.iter().copied().find(|group| is_wrong(
+        rank_beyond(plan, cert, code, exchange, *group),
+        rank,
+    ))
+}
+
+fn is_wrong(rank: Option<u16>, least: u16) -> bool
+    ensures { result ≡ (is_none rank || is_at_least rank least) }
+{
+    rank.is_none() || is_at_least(rank, least)
+}
+
+/// The first group of the list that leads to an exchange without rank.
+fn first_unranked<A: Allocator>(
+    plan: &Plan<A>,
+    cert: &Cert<A>,
+    code: CodeId,
+    exchange: ExchangeId,
+    list: &[GroupId],
+) -> Option<GroupId>
+    ensures { result ≡ find (λ g. is_none (rank_beyond plan.now (ranks_for plan.now cert.now) code exchange g)) list.now }
+{
+    list.iter().copied().find(|group| rank_beyond(plan, cert, code, exchange, *group).is_none())
+}
+
+/// The first group of the list that leads to a rank that is not smaller.
+fn first_not_lower<A: Allocator>(
+    plan: &Plan<A>,
+    cert: &Cert<A>,
+    code: CodeId,
+    exchange: ExchangeId,
+    rank: u16,
+    list: &[GroupId],
+) -> Option<GroupId>
+    ensures { result ≡ find (λ g. is_at_least (rank_beyond plan.now (ranks_for plan.now cert.now) code exchange g) rank) list.now }
+{
+    list.iter().copied().find(|group| is_at_least(
+        rank_beyond(plan, cert, code, exchange, *group),
+        rank,
+    ))
 }
 
 fn is_at_least(rank: Option<u16>, least: u16) -> bool

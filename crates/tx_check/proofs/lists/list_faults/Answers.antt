@@ -1,6 +1,5 @@
-use Rattle.std.proofs.Common.{length, arith}
 use Rattle.tx_check.specs.Checks.{ranks_for, at_exchanges, too_short_at, target_unranked_at, not_lower_at}
-use Rattle.tx_check.proofs.Finding.{firsts_more, firsts_done}
+use Rattle.tx_check.proofs.Finding.{firsts_more}
 use Rattle.tx_check.proofs.lists.list_faults.Goals as goal
 
 pub loop-place-preserved : goal.loop-place-preserved
@@ -8,12 +7,3 @@ loop-place-preserved g c =
     let p = c.args.plan.now in
     let ranks = ranks_for p c.args.cert.now in
     firsts_more (λ k. at_exchanges p (too_short_at p ranks c.args.spare k)) (λ k. at_exchanges p (target_unranked_at p ranks k)) (λ k. at_exchanges p (not_lower_at p ranks k)) c.loop-place.place _ _ _ _ c.loop-place.invariant c.at.ensures c.code_faults.ensures c.or-firsts.ensures
-
-pub returns : goal.returns
-returns g c =
-    let p = c.args.plan.now in
-    let ranks = ranks_for p c.args.cert.now in
-    let e = c.codes-place-end.ensures in
-    let t = c.loop-place-test.false in
-    let a = c.loop-place.auto.place-end in
-    firsts_done (λ k. at_exchanges p (too_short_at p ranks c.args.spare k)) (λ k. at_exchanges p (target_unranked_at p ranks k)) (λ k. at_exchanges p (not_lower_at p ranks k)) c.loop-place.place (length p.codes) _ (omega arith) c.loop-place.invariant

@@ -1,6 +1,6 @@
-use Rattle.std.proofs.Common.{◌≡◌, true, is_some, length, sym, ◌∙◌, arith, rules}
+use Rattle.std.proofs.Common.{◌≡◌, true, is_some, length, arith, rules}
 use Rattle.tx_check.specs.Checks.{ranks_for, at_exchanges, too_high_at}
-use Rattle.tx_check.proofs.Finding.{found_at, passed_at, found_none}
+use Rattle.tx_check.proofs.Finding.{found_at, found_none}
 use Rattle.tx_check.proofs.passes.height_fault.Goals as goal
 
 pub returns-then-is_some : goal.returns-then-is_some
@@ -15,9 +15,3 @@ returns g c =
     let p = c.args.plan.now in
     let ranks = ranks_for p c.args.cert.now in
     found_none (λ k. at_exchanges p (too_high_at ranks c.args.limit k)) (length p.codes) (λ k l. c.loop-place.invariant k (omega arith))
-
-pub loop-place-preserved : goal.loop-place-preserved
-loop-place-preserved g c =
-    let p = c.args.plan.now in
-    let ranks = ranks_for p c.args.cert.now in
-    passed_at (λ k. at_exchanges p (too_high_at ranks c.args.limit k)) c.loop-place.place _ _ c.at.ensures c.height_fault_for-found.ensures (sym c.is_some.ensures ∙ c.if-is_some.false) c.loop-place.invariant

@@ -1,6 +1,6 @@
-use Rattle.std.proofs.Common.{◌≡◌, true, is_some, length, sym, ◌∙◌, arith, rules}
+use Rattle.std.proofs.Common.{◌≡◌, true, is_some, length, arith, rules}
 use Rattle.tx_check.specs.Checks.{ranks_for, origin_unranked_at}
-use Rattle.tx_check.proofs.Finding.{found_at, passed_at, found_none}
+use Rattle.tx_check.proofs.Finding.{found_at, found_none}
 use Rattle.tx_check.proofs.passes.origin_fault_for.Goals as goal
 
 pub returns-then-is_some : goal.returns-then-is_some
@@ -15,9 +15,3 @@ returns g c =
     let p = c.args.plan.now in
     let ranks = ranks_for p c.args.cert.now in
     found_none (origin_unranked_at p ranks c.args.code) (length p.exchanges) (λ k l. c.loop-place.invariant k (omega arith))
-
-pub loop-place-preserved : goal.loop-place-preserved
-loop-place-preserved g c =
-    let p = c.args.plan.now in
-    let ranks = ranks_for p c.args.cert.now in
-    passed_at (origin_unranked_at p ranks c.args.code) c.loop-place.place _ _ c.at-exchange.ensures c.origin_fault_at-found.ensures (sym c.is_some.ensures ∙ c.if-is_some.false) c.loop-place.invariant
