@@ -1,20 +1,18 @@
 -- The slab and the index of calls, as contracts see them.
-use Rattle.std.proofs.Common.{◌≡◌, ◌≢◌, ◌⊎◌, inl, inr, ℕ, zero, suc, ◌<◌, true, false, eqb-true, eq-eqb, List, [], ◌∷◌, map, length, Option, Some, None, is_some, slice_index_or, refl, sym, ap, subst, ◌∙◌, arith, count_by}
-use Rattle.std.specs.Prelude.{if◌then◌else◌, ◌==◌, filter}
-use Rattle.std.specs.Option.{option_map, option_map_or}
+use Rattle.std.proofs.Common.{◌≡◌, ℕ, zero, suc, ◌<◌, true, false, List, [], ◌∷◌, map, length, Option, Some, None, is_some, slice_index_or, refl, sym, ap, subst, ◌∙◌, arith, count_by}
+use Rattle.std.specs.Prelude.{if◌then◌else◌, ◌==◌}
+use Rattle.std.specs.Option.{option_map}
 use Rattle.std.proofs.lemmas.List.Sums.{sum_by-cons}
 use Rattle.std.specs.Prelude.{cond}
 use Rattle.slab.specs.Slab as slab
 use Rattle.slab.specs.Slab.{Slab}
+use Rattle.indexmap.specs.IndexMap.{IndexMap}
 use Rattle.tx_state.specs.Call.{Call}
 use Rattle.tx_state.specs.Routing.{set_call}
 use Rattle.tx_calls.specs.Calls.{Kept, Calls, kept_at, Changes, sorted_calls, calls_in, kept_of, slots_of, calls_of}
 use Rattle.tx_state.specs.Seen.{call_seen}
-use Rattle.tx_calls.specs.inner.Numbered.{Numbered, is_open}
 use Rattle.tx_calls.specs.inner.Tied.{IsTied}
 use Rattle.tx_state.specs.declared.open_call.OpenCall.{OpenCall}
-use Rattle.tx_calls.specs.declared.numbered_keys.NumberedKey.{NumberedKey}
-use Rattle.tx_calls.proofs.Numbered.{kept_under}
 use Rattle.tx_calls.proofs.Sorted.{length_put, after_change, tied_distinct, tied_after_change}
 
 pub some_under : (v : Calls) (key : ℕ) → is_some (kept_at v key) ≡ true → (k : Kept) × (kept_at v key ≡ Some k)
@@ -36,93 +34,69 @@ module _ {A : Type 0} where
   length_calls (None ∷ xs) = omega (arith, length_calls xs, sum_by-cons (λ (o : Option (OpenCall A)). cond (is_some o) 1 0) None xs)
   length_calls (Some c ∷ xs) = omega (arith, length_calls xs, length_put (call_seen c) (sorted_calls (map (option_map kept_of) xs)), sum_by-cons (λ (o : Option (OpenCall A)). cond (is_some o) 1 0) (Some c) xs)
 
-module _ {A : Type 0} where
-  pub kept_is : (s : Slab (OpenCall A)) (m : Numbered) (key : ℕ) → kept_at (calls_of s m.room) key ≡ option_map kept_of (slab.get s key)
+module _ {A S : Type 0} where
+  pub kept_is : (s : Slab (OpenCall A)) (m : IndexMap ℕ ℕ S) (key : ℕ) → kept_at (calls_of s m) key ≡ option_map kept_of (slab.get s key)
   kept_is s m key = slot_is s.slots key
 
-  pub changes_of : (s s' : Slab (OpenCall A)) (m m' : Numbered) (key : ℕ) (o : Option (OpenCall A)) → slab.Updates s s' key o → Changes (calls_of s m.room) (calls_of s' m'.room) key (option_map kept_of o)
+  pub changes_of : (s s' : Slab (OpenCall A)) (m m' : IndexMap ℕ ℕ S) (key : ℕ) (o : Option (OpenCall A)) → slab.Updates s s' key o → Changes (calls_of s m) (calls_of s' m') key (option_map kept_of o)
   changes_of s s' m m' key o up = record {
     changed = slot_is s'.slots key ∙ ap (option_map kept_of) up.changed;
     others = λ k ne. slot_is s'.slots k ∙ ap (option_map kept_of) (up.others k ne) ∙ sym (slot_is s.slots k);
   }
 
   -- what is kept under a key is a call of the slab
-  pub call_under : (s : Slab (OpenCall A)) (m : Numbered) (key : ℕ) (k : Kept) → kept_at (calls_of s m.room) key ≡ Some k → (c : OpenCall A) × (slab.get s key ≡ Some c) × (kept_of c ≡ k)
+  pub call_under : (s : Slab (OpenCall A)) (m : IndexMap ℕ ℕ S) (key : ℕ) (k : Kept) → kept_at (calls_of s m) key ≡ Some k → (c : OpenCall A) × (slab.get s key ≡ Some c) × (kept_of c ≡ k)
   call_under s m key k e = by (slab.get s key) refl (sym (slot_is s.slots key) ∙ e)
     where
       by : (o : Option (OpenCall A)) → slab.get s key ≡ o → option_map kept_of o ≡ Some k → (c : OpenCall A) × (slab.get s key ≡ Some c) × (kept_of c ≡ k)
       by None q h = absurd (let bad : ⊥ = cc in bad)
       by (Some c) q h = (c, q, let same : kept_of c ≡ k = cc in same)
 
-  -- a key leads to a call of the number, or to none of it
-  pub open_is : (s : Slab (OpenCall A)) (m : Numbered) (n key : ℕ) → is_open s (record { number = n; key = key }) ≡ true → (k : Kept) × (kept_at (calls_of s m.room) key ≡ Some k) × (k.call.number ≡ n)
-  open_is s m n key h = by (slab.get s key) refl h
-    where
-      by : (o : Option (OpenCall A)) → slab.get s key ≡ o → option_map_or (λ (c : OpenCall A). c.number == n) o false ≡ true → (k : Kept) × (kept_at (calls_of s m.room) key ≡ Some k) × (k.call.number ≡ n)
-      by None e t = absurd (let bad : ⊥ = cc in bad)
-      by (Some c) e t = (kept_of c, kept_is s m key ∙ ap (option_map kept_of) e, eqb-true c.number n t)
-
-  pub not_open : (s : Slab (OpenCall A)) (m : Numbered) (n key : ℕ) → is_open s (record { number = n; key = key }) ≡ false → (k : Kept) → kept_at (calls_of s m.room) key ≡ Some k → k.call.number ≢ n
-  not_open s m n key h k e same =
-      let u = call_under s m key k e in
-      let number : (u.0.number == n) ≡ true = eq-eqb u.0.number n (ap (λ (z : Kept). z.call.number) u.2 ∙ same) in
-      let bad : true ≡ false = sym number ∙ sym (ap (λ o. option_map_or (λ (c : OpenCall A). c.number == n) o false) u.1) ∙ h in
-      absurd (let no : ⊥ = cc in no)
-
-  -- the keys of calls that are open stay
-  pub tied_cleared : (s : Slab (OpenCall A)) (m : Numbered) (ks : List NumberedKey) → IsTied (slots_of s) m.keys → (ks ≡ m.keys) ⊎ (ks ≡ filter (is_open s) m.keys) → IsTied (slots_of s) ks
-  tied_cleared s m ks tied (inl e) = subst (IsTied (slots_of s)) (sym e) tied
-  tied_cleared s m ks tied (inr e) = subst (IsTied (slots_of s)) (sym e) (λ key k at.
-      let u = call_under s m key k at in
-      let stays : is_open s (record { number = k.call.number; key = key }) ≡ true =
-      ap (λ o. option_map_or (λ (c : OpenCall A). c.number == k.call.number) o false) u.1 ∙ eq-eqb u.0.number k.call.number (ap (λ (z : Kept). z.call.number) u.2) in
-      kept_under k.call.number (is_open s) key m.keys (tied key k at) stays)
-
   -- A CALL CHANGES, AND KEEPS ITS NUMBER
-  module _ (s s' : Slab (OpenCall A)) (m : Numbered) (tied : IsTied (slots_of s) m.keys) (v : Calls) (view : calls_of s m.room ≡ v) (key : ℕ)
+  module _ (s s' : Slab (OpenCall A)) (m : IndexMap ℕ ℕ S) (tied : IsTied (slots_of s) m) (v : Calls) (view : calls_of s m ≡ v) (key : ℕ)
       (f : Call → Call) (keeps : (c : Call) → (f c).number ≡ c.number)
       (write : (c : OpenCall A) → slab.get s key ≡ Some c → (d : OpenCall A) × slab.Updates s s' key (Some d) × (call_seen d ≡ f (call_seen c))) where
     under : (k : Kept) → kept_at v key ≡ Some k → (c : OpenCall A) × (slab.get s key ≡ Some c) × (kept_of c ≡ k)
     under k was = call_under s m key k (subst (λ (w : Calls). kept_at w key ≡ Some k) (sym view) was)
 
-    tied_by : (k : Kept) → kept_at v key ≡ Some k → IsTied (slots_of s') m.keys
+    tied_by : (k : Kept) → kept_at v key ≡ Some k → IsTied (slots_of s') m
     tied_by k was =
         let u = under k was in
         let w = write u.0 u.1 in
-        tied_after_change (calls_of s m.room) (calls_of s' m.room) m.keys key (kept_of u.0) (kept_of w.0) tied (kept_is s m key ∙ ap (option_map kept_of) u.1)
+        tied_after_change (calls_of s m) (calls_of s' m) m key (kept_of u.0) (kept_of w.0) tied (kept_is s m key ∙ ap (option_map kept_of) u.1)
         (ap (λ (z : Call). z.number) w.2 ∙ keeps (call_seen u.0)) (changes_of s s' m m key (Some w.0) w.1)
 
-    pub tied_written : is_some (kept_at v key) ≡ true → IsTied (slots_of s') m.keys
+    pub tied_written : is_some (kept_at v key) ≡ true → IsTied (slots_of s') m
     tied_written there = let k = some_under v key there in tied_by k.0 k.1
 
-    pub changes_written : (k : Kept) → kept_at v key ≡ Some k → (r : ℕ) × Changes v (calls_of s' m.room) key (Some (record { call = f k.call; room = r }))
+    pub changes_written : (k : Kept) → kept_at v key ≡ Some k → (r : ℕ) × Changes v (calls_of s' m) key (Some (record { call = f k.call; room = r }))
     changes_written k was =
         let u = under k was in
         let w = write u.0 u.1 in (
           (kept_of w.0).room,
-          subst (λ (z : Calls). Changes z (calls_of s' m.room) key (Some (record { call = f k.call; room = (kept_of w.0).room }))) view
-              (subst (λ (z : Call). Changes (calls_of s m.room) (calls_of s' m.room) key (Some (record { call = z; room = (kept_of w.0).room }))) (w.2 ∙ ap (λ (z : Kept). f z.call) u.2) (changes_of s s' m m key (Some w.0) w.1)),
+          subst (λ (z : Calls). Changes z (calls_of s' m) key (Some (record { call = f k.call; room = (kept_of w.0).room }))) view
+              (subst (λ (z : Call). Changes (calls_of s m) (calls_of s' m) key (Some (record { call = z; room = (kept_of w.0).room }))) (w.2 ∙ ap (λ (z : Kept). f z.call) u.2) (changes_of s s' m m key (Some w.0) w.1)),
         )
 
-    pub calls_written : (k : Kept) → kept_at v key ≡ Some k → calls_in (calls_of s' m.room) ≡ set_call k.call.number f (calls_in v)
+    pub calls_written : (k : Kept) → kept_at v key ≡ Some k → calls_in (calls_of s' m) ≡ set_call k.call.number f (calls_in v)
     calls_written k was =
         let u = under k was in
         let w = write u.0 u.1 in
-        after_change (calls_of s m.room) (calls_of s' m.room) key (kept_of u.0) (kept_of w.0) f (tied_distinct (calls_of s m.room) m.keys tied) (tied_distinct (calls_of s' m.room) m.keys (tied_by k was)) keeps
+        after_change (calls_of s m) (calls_of s' m) key (kept_of u.0) (kept_of w.0) f (tied_distinct (calls_of s m) m tied) (tied_distinct (calls_of s' m) m (tied_by k was)) keeps
         (kept_is s m key ∙ ap (option_map kept_of) u.1) (changes_of s s' m m key (Some w.0) w.1) w.2
         ∙ (λ i. set_call (u.2 i).call.number f (calls_in (view i)))
 
   -- with what room it has
-  pub changes_exactly : (s s' : Slab (OpenCall A)) (m : Numbered) (v : Calls) (view : calls_of s m.room ≡ v) (key : ℕ) (h : Kept → Kept)
+  pub changes_exactly : (s s' : Slab (OpenCall A)) (m : IndexMap ℕ ℕ S) (v : Calls) (view : calls_of s m ≡ v) (key : ℕ) (h : Kept → Kept)
       → ((c : OpenCall A) → slab.get s key ≡ Some c → (d : OpenCall A) × slab.Updates s s' key (Some d) × (kept_of d ≡ h (kept_of c)))
-      → (k : Kept) → kept_at v key ≡ Some k → Changes v (calls_of s' m.room) key (Some (h k))
+      → (k : Kept) → kept_at v key ≡ Some k → Changes v (calls_of s' m) key (Some (h k))
   changes_exactly s s' m v view key h write k was =
       let u = call_under s m key k (subst (λ (w : Calls). kept_at w key ≡ Some k) (sym view) was) in
       let w = write u.0 u.1 in
-      subst (λ (z : Calls). Changes z (calls_of s' m.room) key (Some (h k))) view
-      (subst (λ z. Changes (calls_of s m.room) (calls_of s' m.room) key (Some z)) (w.2 ∙ ap h u.2) (changes_of s s' m m key (Some w.0) w.1))
+      subst (λ (z : Calls). Changes z (calls_of s' m) key (Some (h k))) view
+      (subst (λ z. Changes (calls_of s m) (calls_of s' m) key (Some z)) (w.2 ∙ ap h u.2) (changes_of s s' m m key (Some w.0) w.1))
 
-  pub room_under : (s : Slab (OpenCall A)) (m : Numbered) (v : Calls) → calls_of s m.room ≡ v → (key : ℕ) → ((k : Kept) → kept_at v key ≡ Some k → 0 < k.room)
+  pub room_under : (s : Slab (OpenCall A)) (m : IndexMap ℕ ℕ S) (v : Calls) → calls_of s m ≡ v → (key : ℕ) → ((k : Kept) → kept_at v key ≡ Some k → 0 < k.room)
       → (c : OpenCall A) → slab.get s key ≡ Some c → 0 < (kept_of c).room
   room_under s m v view key room c e = room (kept_of c) (ap (λ (w : Calls). kept_at w key) (sym view) ∙ kept_is s m key ∙ ap (option_map kept_of) e)
 

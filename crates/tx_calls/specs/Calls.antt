@@ -2,6 +2,8 @@
 use Rattle.std.specs.Prelude.{◌≡◌, ◌≢◌, ℕ, ◌-◌, ◌^◌, ◌<◌, List, [], ◌∷◌, map, nat_lt, if◌then◌else◌, Option, Some, None, slice_index_or, vec_len, vec_capacity}
 use Rattle.std.specs.Option.{option_map}
 use Rattle.slab.specs.Slab.{Slab, slab_len}
+use Rattle.indexmap.specs.IndexMap as index
+use Rattle.indexmap.specs.IndexMap.{IndexMap}
 use Rattle.tx_state.specs.Call.{Call}
 use Rattle.tx_state.specs.Seen.{call_seen}
 use Rattle.tx_state.specs.declared.open_call.OpenCall.{OpenCall}
@@ -55,6 +57,5 @@ module _ {A : Type 0} where
   abbrev pub slots_of : Slab (OpenCall A) → List (Option Kept)
   slots_of s = map (option_map kept_of) s.slots
 
-  -- with room for so many more numbers
-  abbrev pub calls_of : Slab (OpenCall A) → ℕ → Calls
-  calls_of s room = record { slots = slots_of s; call_room = s.capacity - slab_len s; number_room = room; next_key = s.vacant_key }
+  abbrev pub calls_of : {S : Type 0} → Slab (OpenCall A) → IndexMap ℕ ℕ S → Calls
+  calls_of s m = record { slots = slots_of s; call_room = s.capacity - slab_len s; number_room = index.spare m; next_key = s.vacant_key }

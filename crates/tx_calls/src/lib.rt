@@ -3,7 +3,6 @@
 
 mod circuit_keys;
 mod end_keys;
-mod numbered_keys;
 mod open_calls;
 
 pub use circuit_keys::CircuitKeys;

@@ -10,20 +10,19 @@ ghost use Rattle.tx_state.specs.declared.open_call.OpenCall.{OpenCall};
 ghost use Rattle.tx_calls.specs.Calls.{Kept, HasRoom, kept_at, Changes, calls_in, kept_of};
 ghost use Rattle.tx_state.specs.Seen.{call_seen};
 
-use crate::numbered_keys::{NumberedKey, NumberedKeys, is_open};
+use indexmap::IndexMap;
 use slab::Slab;
 use std::alloc::{Allocator, Global};
 use std::marker::Model;
+use tx_entries::ByWord;
 use tx_state::{Hop, OpenCall, Phase};
 use tx_text::NoMemory;
 
 /// The open calls. Each has a key of 32 bits from its opening to its end, and is found by its number.
-///
-/// The key of a call that has ended stays under its number until room is wanted, so `find` looks whether the call that has the key now is of the number.
 #[derive(Drop)]
 pub struct OpenCalls<A: Allocator = Global> {
     calls: Slab<OpenCall<A>, A>,
-    by_number: NumberedKeys<A>,
+    by_number: IndexMap<u32, u32, ByWord, A>,
 }
 
 impl<A: Allocator> Model for OpenCalls<A> {
@@ -32,9 +31,9 @@ impl<A: Allocator> Model for OpenCalls<A> {
 
     ghost Value = { Calls };
 
-    ghost view = { λ c. calls_of c.calls c.by_number.room };
+    ghost view = { λ c. calls_of c.calls c.by_number };
 
-    ghost invariant = { λ c. IsTied (slots_of c.calls) c.by_number.keys };
+    ghost invariant = { λ c. IsTied (slots_of c.calls) c.by_number };
 }
 
 impl<A: Allocator + Copy> OpenCalls<A> {
@@ -44,7 +43,7 @@ impl<A: Allocator + Copy> OpenCalls<A> {
     {
         OpenCalls {
             calls: Slab::new(alloc),
-            by_number: NumberedKeys::new(alloc),
+            by_number: IndexMap::with_hasher(alloc, ByWord),
         }
     }
 }
@@ -64,7 +63,7 @@ impl<A: Allocator> OpenCalls<A> {
     {
         self.calls.vacant_key() <= u32::MAX as usize
             && self.calls.len() < self.calls.capacity()
-            && self.by_number.has_room()
+            && self.by_number.len() < self.by_number.capacity()
     }
 
     /// Makes room for one more call. Where there is some, no memory is asked for. Where no key of 32 bits is left for it, memory is wanting. Want of memory
@@ -78,7 +77,10 @@ impl<A: Allocator> OpenCalls<A> {
             return Err(NoMemory);
         }
         self.calls.reserve(1)?;
-        self.by_number.reserve_one(&self.calls)
+        if self.by_number.len() == self.by_number.capacity() {
+            self.by_number.reserve(1)?;
+        }
+        Ok(())
     }
 
     /// The key of the call of a number.
@@ -86,13 +88,9 @@ impl<A: Allocator> OpenCalls<A> {
         ensures found { IfSome result (λ key. (k : Kept) × (kept_at self.now key ≡ Some k) × (call_of number (calls_in self.now) ≡ Some k.call) × (k.call.number ≡ number)) }
         ensures none { IfNone result (call_of number (calls_in self.now) ≡ None) }
     {
-        let Some(key) = self.by_number.find(number) else {
-            return None;
-        };
-        if is_open(&self.calls, NumberedKey { number, key }) {
-            Some(key)
-        } else {
-            None
+        match self.by_number.get(&number) {
+            Some(key) => Some(*key),
+            None => None,
         }
     }
 
@@ -116,7 +114,7 @@ impl<A: Allocator> OpenCalls<A> {
     {
         let number = call.number;
         let key = put_in(&mut self.calls, call);
-        self.by_number.put_last(number, key);
+        let _absent = self.by_number.insert(number, key).unwrap();
     }
 
     /// The call under a key goes to another phase.
@@ -163,7 +161,9 @@ impl<A: Allocator> OpenCalls<A> {
         ensures changes { Changes self.old self.new key None }
         ensures calls { calls_in self.new ≡ filter (λ c. not (is_numbered result.number c)) (calls_in self.old) }
     {
-        self.calls.try_remove(key as usize).unwrap()
+        let call = self.calls.try_remove(key as usize).unwrap();
+        let _key = self.by_number.swap_remove(&call.number);
+        call
     }
 }
 

@@ -2,8 +2,7 @@ pub mod Lists
 pub mod Named
 pub mod Tables
 pub mod PlaceTable
-pub mod NameTable
+pub mod Lookups
 pub mod NameWords
 pub mod GroupsApart
 pub mod RangeBlocks
-pub mod ZipRows

@@ -1,4 +1,4 @@
 pub mod Distinct
-pub mod NameTable
+pub mod Hashing
 pub mod Places
 pub mod Tables

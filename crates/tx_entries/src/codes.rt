@@ -33,7 +33,7 @@ impl<A: Allocator + Copy> Codes<A> {
         ensures { result ≡ [] }
     {
         Codes {
-            rows: Rows::new(alloc, 4095),
+            rows: Rows::new(alloc),
         }
     }
 }

@@ -5,7 +5,8 @@ ghost use Rattle.std.specs.Option.{option_copied};
 ghost use Rattle.std.specs.Str.{bytes_eq};
 
 use crate::name_key::NameKey;
-use crate::names::Names;
+use crate::word_hasher::ByWord;
+use indexmap::IndexSet;
 use std::alloc::{Allocator, Global};
 use std::marker::Model;
 use tx_text::NoMemory;
@@ -13,7 +14,7 @@ use tx_text::NoMemory;
 /// The names of exchanges.
 #[derive(Drop)]
 pub struct Exchanges<A: Allocator = Global> {
-    names: Names<A>,
+    names: IndexSet<NameKey, ByWord, A>,
 }
 
 impl<A: Allocator> Model for Exchanges<A> {
@@ -21,7 +22,7 @@ impl<A: Allocator> Model for Exchanges<A> {
 
     ghost Value = { List (List ℕ) };
 
-    ghost view = { λ t. t.names };
+    ghost view = { λ t. t.names.keys };
 }
 
 impl<A: Allocator + Copy> Exchanges<A> {
@@ -30,7 +31,7 @@ impl<A: Allocator + Copy> Exchanges<A> {
         ensures { result ≡ [] }
     {
         Exchanges {
-            names: Names::new(alloc, 1023),
+            names: IndexSet::with_hasher(alloc, ByWord),
         }
     }
 }
@@ -52,7 +53,7 @@ impl<A: Allocator> Exchanges<A> {
         ensures found { is_some result ≡ list_any (bytes_eq name.now) self.now }
         ensures within { IfSome result (λ i. i < length self.now) }
     {
-        self.names.find(&NameKey::new(name))
+        self.names.get_index_of(&NameKey::new(name))
     }
 
     /// The name at a place.
@@ -60,7 +61,7 @@ impl<A: Allocator> Exchanges<A> {
     pub fn name(&self, place: usize) -> Option<&NameKey>
         ensures { option_copied result ≡ slice_get self.now place }
     {
-        self.names.at(place)
+        self.names.get_index(place)
     }
 
     /// Appends a name.
@@ -70,6 +71,9 @@ impl<A: Allocator> Exchanges<A> {
         ensures ok { OnOk result (self.new ≡ self.old ++ name ∷ []) }
         ensures err { OnErr result (self.new ≡ self.old) }
     {
-        self.names.add(name)
+        match self.names.insert(name) {
+            Ok(_) => Ok(()),
+            Err(_) => Err(NoMemory),
+        }
     }
 }

@@ -34,7 +34,7 @@ impl<A: Allocator + Copy> Groups<A> {
         ensures { result ≡ [] }
     {
         Groups {
-            rows: Rows::new(alloc, 32767),
+            rows: Rows::new(alloc),
         }
     }
 }

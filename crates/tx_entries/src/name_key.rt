@@ -2,11 +2,11 @@
 ghost use Rattle.std.specs.Prelude.{◌≡◌, ◌≤◌, length};
 ghost use Rattle.std.specs.Int.{w32, w64, from_le_bytes, to_le_bytes};
 ghost use Rattle.tx_text.specs.Padded.{padded_to};
-ghost use Rattle.tx_entries.specs.inner.NameTable.{home_of};
 
+use std::hash::{Hash, Hasher};
 use std::marker::Model;
 
-/// A text of at most 8 bytes. Behind the text stand zeros, so that all of it is made and compared as one number.
+/// A text of at most 8 bytes. Behind the text stand zeros, so that all of it is made, compared and hashed as one number.
 #[derive(Clone, Copy)]
 pub struct NameKey {
     bytes: [u8; 8],
@@ -47,6 +47,22 @@ impl Eq for NameKey {
     ghost use Rattle.std.specs.Cmp.Lexicographic.{nat_list_eq_equiv};
 
     ghost laws = { nat_list_eq_equiv };
+}
+
+impl Hash for NameKey {
+    ghost use Rattle.std.specs.Prelude.{[], ◌∷◌};
+    ghost use Rattle.std.proofs.Common.{ap};
+    ghost use Rattle.std.specs.Cmp.Lexicographic.{bytes_decides};
+    ghost use Rattle.tx_text.specs.Padded.{padded_to};
+
+    ghost hash_input = { λ n. padded_to 8 n ∷ [] };
+
+    ghost respects_eq = { λ x y h. ap (λ n. padded_to 8 n ∷ []) ((bytes_decides x y).0 h) };
+
+    #[inline(always)]
+    fn hash<H: Hasher>(&self, state: &mut H) {
+        state.write(&self.bytes);
+    }
 }
 
 /// At most four bytes as a number, the first of them lowest.
@@ -99,15 +115,6 @@ impl NameKey {
         ensures bytes { to_le_bytes w64 result ≡ padded_to 8 self.now }
     {
         u64::from_le_bytes(self.bytes)
-    }
-
-    /// Where it is at home, from 0 to the last home: by the upper bits of its bytes as a number, times an odd one.
-    #[inline(always)]
-    pub(crate) fn home(&self, last: u16) -> usize
-        ensures { result ≡ home_of last self.now }
-    {
-        let bits = self.word().wrapping_mul(0x9E37_79B9_7F4A_7C15) >> 48;
-        (bits & u64::from(last)) as usize
     }
 
     /// The text.

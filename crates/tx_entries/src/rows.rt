@@ -6,37 +6,33 @@ ghost use Rattle.std.specs.Map.{keys_of};
 ghost use Rattle.std.specs.Str.{bytes_eq};
 
 use crate::name_key::NameKey;
-use crate::names::Names;
+use crate::word_hasher::ByWord;
+use indexmap::IndexMap;
 use std::alloc::{Allocator, Global};
 use std::marker::Model;
 use tx_text::NoMemory;
 
-/// Names with a value each, seen as the list of the pairs. The values stand by themselves, side by side.
+/// Names with a value each, seen as the list of the pairs.
 #[derive(Drop)]
 pub(crate) struct Rows<V: Drop, A: Allocator = Global> {
-    names: Names<A>,
-    values: Vec<V, A>,
+    rows: IndexMap<NameKey, V, ByWord, A>,
 }
 
 impl<V: Drop, A: Allocator> Model for Rows<V, A> {
-    ghost use Rattle.std.specs.Prelude.{◌≡◌, ℕ, List, length};
-    ghost use Rattle.std.specs.List.{zip};
+    ghost use Rattle.std.specs.Prelude.{ℕ, List};
 
     ghost Value = { List (List ℕ × V) };
 
-    ghost view = { λ t. zip t.names t.values.items };
-
-    ghost invariant = { λ t. length t.values.items ≡ length t.names };
+    ghost view = { λ t. t.rows.entries };
 }
 
 impl<V: Drop, A: Allocator + Copy> Rows<V, A> {
-    /// None, in a table whose last home is told. Takes no memory.
-    pub fn new(alloc: A, last: u16) -> Self
+    /// None. Takes no memory.
+    pub fn new(alloc: A) -> Self
         ensures { result ≡ [] }
     {
         Rows {
-            names: Names::new(alloc, last),
-            values: Vec::new(alloc),
+            rows: IndexMap::with_hasher(alloc, ByWord),
         }
     }
 }
@@ -47,7 +43,7 @@ impl<V: Drop, A: Allocator> Rows<V, A> {
     pub fn len(&self) -> usize
         ensures { result ≡ length self.now }
     {
-        self.names.len()
+        self.rows.len()
     }
 
     /// The place of a name.
@@ -57,7 +53,7 @@ impl<V: Drop, A: Allocator> Rows<V, A> {
         ensures found { is_some result ≡ list_any (bytes_eq name.now) (keys_of self.now) }
         ensures within { IfSome result (λ i. i < length self.now) }
     {
-        self.names.find(name)
+        self.rows.get_index_of(name)
     }
 
     /// The name at a place.
@@ -65,7 +61,8 @@ impl<V: Drop, A: Allocator> Rows<V, A> {
     pub fn name_at(&self, place: usize) -> Option<&NameKey>
         ensures { option_copied result ≡ option_map (λ e. e.0) (slice_get self.now place) }
     {
-        self.names.at(place)
+        let (name, _) = self.rows.get_index(place)?;
+        Some(name)
     }
 
     /// The value at a place.
@@ -73,7 +70,8 @@ impl<V: Drop, A: Allocator> Rows<V, A> {
     pub fn value_at(&self, place: usize) -> Option<&V>
         ensures { option_copied result ≡ option_map (λ e. e.1) (slice_get self.now place) }
     {
-        self.values.get(place)
+        let (_, value) = self.rows.get_index(place)?;
+        Some(value)
     }
 
     /// Appends a name with its value.
@@ -82,9 +80,9 @@ impl<V: Drop, A: Allocator> Rows<V, A> {
         ensures ok { OnOk result (self.new ≡ self.old ++ (name, value) ∷ []) }
         ensures err { OnErr result (self.new ≡ self.old) }
     {
-        self.values.reserve(1)?;
-        self.names.add(name)?;
-        self.values.push_reserved(value);
-        Ok(())
+        match self.rows.insert(name, value) {
+            Ok(_) => Ok(()),
+            Err(_) => Err(NoMemory),
+        }
     }
 }

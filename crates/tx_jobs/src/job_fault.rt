@@ -3,6 +3,8 @@ ghost use Rattle.std.specs.Prelude.{◌≡◌};
 ghost use Rattle.tx_jobs.specs.JobFaults.{status_of, plan_fault, cert_fault, script_fault, run_fault};
 ghost use Rattle.tx_jobs.specs.AuditJobs.{audit_fault};
 
+use std::fmt::{self, Debug, Display, Formatter, Write};
+use thiserror::Error;
 use tx_audit::AuditFault;
 use tx_cert::{CertFault, CertWord};
 use tx_plan::PlanRefusal;
@@ -10,23 +12,36 @@ use tx_plantext::{PlanFault, PlanWord};
 use tx_script::{RunCause, RunFault, ScriptFault};
 use tx_text::{FaultKind, FrameFault, LineFault, TextFault};
 
-/// Why a job stopped before its end.
-#[derive(Clone, Copy, PartialEq, Eq)]
+/// Why a job stopped before its end. `write_fault` says it in full.
+#[derive(Clone, Copy, PartialEq, Eq, Error)]
 pub enum JobFault {
     /// The plan's text is refused.
+    #[error("the plan is refused")]
     Plan(PlanFault),
     /// The certificate's text is refused.
+    #[error("the certificate is refused")]
     Cert(CertFault),
     /// The script's text is refused.
+    #[error("the script is refused")]
     Script(ScriptFault),
     /// An input failed.
+    #[error("a read failed")]
     Read,
     /// The output failed.
+    #[error("a write failed")]
     Write,
     /// No memory was left.
+    #[error("no memory")]
     NoMemory,
     /// The plan has no code of the figures that were asked for.
+    #[error("no such code in the plan")]
     UnknownCode,
+}
+
+impl Debug for JobFault {
+    fn fmt<W: Write>(&self, f: &mut Formatter<W>) -> fmt::Result {
+        Display::fmt(self, f)
+    }
 }
 
 impl JobFault {

@@ -3,7 +3,7 @@ use Rattle.std.proofs.Common.{◌≡◌, ◌≢◌, ℕ, suc, ◌+◌, ◌-◌, 
 use Rattle.std.proofs.lemmas.Bool.Decides.{leb_tells}
 use Rattle.std.proofs.lemmas.Nat.{and_le_r}
 use Rattle.std.specs.Prelude.{if◌then◌else◌, fold}
-use Rattle.tx_lines.specs.inner.Hashing.{start, written, spread}
+use Rattle.tx_entries.specs.inner.Hashing.{start, written, spread}
 use Rattle.tx_entries.specs.Orders.{line_bytes}
 use Rattle.tx_entries.specs.declared.line.Line.{Line}
 use Rattle.tx_lines.specs.inner.Table.{next, distance, home}

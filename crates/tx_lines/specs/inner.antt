@@ -1,5 +1,4 @@
 pub mod Ordered
 pub mod Table
 pub mod Statuses
-pub mod Hashing
 pub mod Marks

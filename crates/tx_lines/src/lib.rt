@@ -3,7 +3,6 @@
 
 mod answer;
 mod book;
-mod line_hasher;
 mod line_table;
 mod marks;
 mod ranges;

@@ -5,11 +5,11 @@ ghost use Rattle.tx_entries.specs.declared.line.Line.{Line};
 ghost use Rattle.tx_lines.specs.declared.line_table.Entry.{Entry};
 ghost use Rattle.tx_lines.specs.inner.Table.{at, home, next, distance, kept_of, lines_in, taken, status_at, IsTable, IsTableBut, IsPlace};
 
-use crate::line_hasher::LineHasher;
 use crate::marks::Marks;
 use std::alloc::{Allocator, Global};
-use std::hash::{Hash, Hasher};
+use std::hash::BuildHasher;
 use std::marker::Model;
+use tx_entries::ByWord;
 use tx_plan::Line;
 use tx_text::NoMemory;
 
@@ -47,10 +47,8 @@ fn home(line: &Line, cells: usize) -> usize
     ensures value { result ≡ home line.now cells }
     ensures within { result < cells }
 {
-    let mut hasher = LineHasher::new();
-    line.hash(&mut hasher);
     // There are 2, 4, 8 .. cells, so the mask reaches each of them.
-    hasher.finish() as usize & (cells - 1)
+    ByWord.hash_one(line) as usize & (cells - 1)
 }
 
 /// The cell behind another; the first one is behind the last.

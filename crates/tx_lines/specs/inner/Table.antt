@@ -1,7 +1,7 @@
 -- What the cells of a table of lines hold.
 use Rattle.std.specs.Prelude.{◌≡◌, ℕ, ◌+◌, ◌-◌, ◌*◌, ◌<◌, ◌≤◌, ◌≢◌, nat_le, nat_lt, fold, bit_and, Option, Some, None, IsSome, is_some, List, [], ◌∷◌, length, slice_index_or, if◌then◌else◌}
 use Rattle.std.specs.Option.{option_map, option_map_or}
-use Rattle.tx_lines.specs.inner.Hashing.{start, written, spread}
+use Rattle.tx_entries.specs.inner.Hashing.{start, written, spread}
 use Rattle.tx_plan.specs.Orders.{same_line}
 use Rattle.tx_entries.specs.Orders.{line_bytes}
 use Rattle.tx_entries.specs.declared.line.Line.{Line}
