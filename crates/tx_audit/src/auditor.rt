@@ -20,7 +20,7 @@ use tx_check::{Verdict, check};
 use tx_plan::Plan;
 use tx_plantext::read_plan_from;
 use tx_rank::{Finding, Ranking, rank};
-use tx_text::{NoMemory, Sink, Source, WriteFault};
+use tx_text::{Sink, Source, WriteFault};
 
 /// Reads a plan, and writes the report on it: YES where some certificate certifies it for at most `limit` transits (0 to 62) and `spare` groups to spare (0
 /// to 15), or what is wrong with it, with walks that show it.
@@ -73,7 +73,7 @@ fn rank_and_report<A: Allocator + Copy, W: Sink>(
             Ok(()) => Ok(ranking),
             Err(WriteFault) => Err(AuditFault::Write),
         },
-        Err(NoMemory) => Err(AuditFault::NoMemory),
+        Err(_) => Err(AuditFault::NoMemory),
     }
 }
 

@@ -8,7 +8,7 @@ use std::alloc::Allocator;
 use tx_engine::Engine;
 use tx_plan::Plan;
 use tx_script::{RunCause, RunFault, Summary, run};
-use tx_text::{NoMemory, Sink, Source};
+use tx_text::{Sink, Source};
 
 /// Runs a script over the engine of the plan, from the opening state: the replies and the tickets that are written are those of the run of its events.
 /// Without memory for the network the fault names the first event, and nothing was read or written.
@@ -24,7 +24,7 @@ pub fn simulate<A: Allocator + Copy, R: Source, W: Sink>(
     ensures calls { CallsAtMost R.called source_calls script.old script.new }
 {
     match Engine::new(alloc, plan) {
-        Err(NoMemory) => Err(RunFault {
+        Err(_) => Err(RunFault {
             event: 1,
             cause: RunCause::NoMemory,
         }),

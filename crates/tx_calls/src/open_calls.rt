@@ -12,7 +12,7 @@ ghost use Rattle.tx_state.specs.Seen.{call_seen};
 
 use indexmap::IndexMap;
 use slab::Slab;
-use std::alloc::{Allocator, Global};
+use std::alloc::{AllocError, Allocator, Global};
 use std::marker::Model;
 use tx_entries::ByWord;
 use tx_state::{Hop, OpenCall, Phase};
@@ -74,7 +74,7 @@ impl<A: Allocator> OpenCalls<A> {
         ensures unasked { HasRoom self.old → IsOk result × (self.new ≡ self.old) }
     {
         if self.calls.vacant_key() > u32::MAX as usize {
-            return Err(NoMemory);
+            return Err(AllocError.into());
         }
         self.calls.reserve(1)?;
         if self.by_number.len() == self.by_number.capacity() {

@@ -41,24 +41,10 @@ impl<'p, A: Allocator + Copy> Parts<'p, A> {
         ensures state { IfOk result (λ n. state_of n ≡ opening numbers events) }
     {
         plan.rules();
-        let Ok(codes) = CodeTrie::build(alloc, plan) else {
-            return Err(NoMemory);
-        };
-        let Ok(keys) = CircuitKeys::build(alloc, plan) else {
-            drop(codes);
-            return Err(NoMemory);
-        };
-        let Ok(lines) = LineBook::build(alloc, plan) else {
-            drop(codes);
-            drop(keys);
-            return Err(NoMemory);
-        };
-        let Ok(circuits) = CircuitTable::build(alloc, plan) else {
-            drop(codes);
-            drop(keys);
-            drop(lines);
-            return Err(NoMemory);
-        };
+        let codes = CodeTrie::build(alloc, plan)?;
+        let keys = CircuitKeys::build(alloc, plan)?;
+        let lines = LineBook::build(alloc, plan)?;
+        let circuits = CircuitTable::build(alloc, plan)?;
         Ok(Parts {
             plan,
             alloc,

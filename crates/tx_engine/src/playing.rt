@@ -36,7 +36,7 @@ pub fn play<'p, A: Allocator + Copy>(
 {
     match Engine::starting_at(alloc, plan, numbers, accepted) {
         Ok(network) => play_on(alloc, network, events),
-        Err(NoMemory) => Err(NoMemory),
+        Err(error) => Err(error),
     }
 }
 
@@ -57,10 +57,10 @@ fn play_on<'p, A: Allocator + Copy>(
             tickets: taken,
             network,
         }),
-        Err(NoMemory) => {
+        Err(error) => {
             drop(replies);
             drop(network);
-            Err(NoMemory)
+            Err(error)
         }
     }
 }

@@ -71,9 +71,7 @@ impl<A: Allocator> Exchanges<A> {
         ensures ok { OnOk result (self.new ≡ self.old ++ name ∷ []) }
         ensures err { OnErr result (self.new ≡ self.old) }
     {
-        match self.names.insert(name) {
-            Ok(_) => Ok(()),
-            Err(_) => Err(NoMemory),
-        }
+        self.names.insert(name)?;
+        Ok(())
     }
 }

@@ -80,9 +80,7 @@ impl<V: Drop, A: Allocator> Rows<V, A> {
         ensures ok { OnOk result (self.new ≡ self.old ++ (name, value) ∷ []) }
         ensures err { OnErr result (self.new ≡ self.old) }
     {
-        match self.rows.insert(name, value) {
-            Ok(_) => Ok(()),
-            Err(_) => Err(NoMemory),
-        }
+        self.rows.insert(name, value)?;
+        Ok(())
     }
 }

@@ -15,7 +15,7 @@ use std::alloc::Allocator;
 use tx_audit::{Audited, first_counter};
 use tx_plan::Plan;
 use tx_rank::Finding;
-use tx_text::{NoMemory, Sink, Source};
+use tx_text::{Sink, Source};
 
 /// Reads a plan, and writes the report of its audit for at most `limit` transits (0 to 62) and `spare` groups to spare (0 to 15). Answers what shows the
 /// verdict: after a Yes the certificate, and after a No, if it is asked for, the script of the first finding that has one. `Err` is the fault of the first
@@ -84,7 +84,7 @@ fn script_of<A: Allocator + Copy>(
             drop(plan);
             Ok(Evidence::Unsound(None))
         }
-        Err(NoMemory) => {
+        Err(_) => {
             drop(plan);
             Err(JobFault::NoMemory)
         }

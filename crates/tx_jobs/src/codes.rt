@@ -9,7 +9,7 @@ use crate::job_fault::JobFault;
 use std::alloc::Allocator;
 use tx_plan::{CodeId, Plan};
 use tx_plantext::read_plan_from;
-use tx_text::{NoMemory, Sink, Source, WriteFault};
+use tx_text::{Sink, Source, WriteFault};
 use tx_trie::{CodeTrie, write_codes};
 
 /// Reads a plan, and writes its codes and then the least pair of a code and a longer one that begins with it, or `DISTINCT`. Answers that pair, if there is
@@ -60,7 +60,7 @@ fn tell_codes<A: Allocator + Copy, W: Sink>(
     ensures mark { W.failed out.new ≡ mark_after (W.failed out.old) result }
 {
     match CodeTrie::build(alloc, plan) {
-        Err(NoMemory) => Err(JobFault::NoMemory),
+        Err(_) => Err(JobFault::NoMemory),
         Ok(trie) => match write_codes(plan, &trie, out) {
             Ok(()) => Ok(trie.ambiguous()),
             Err(WriteFault) => Err(JobFault::Write),

@@ -89,7 +89,7 @@ fn draw_code<A: Allocator + Copy, W: Sink>(
 {
     match findings_to_show(alloc, plan, bounds) {
         Ok(findings) => draw_finding(alloc, plan, code, bounds, &findings, out),
-        Err(NoMemory) => Err(JobFault::NoMemory),
+        Err(_) => Err(JobFault::NoMemory),
     }
 }
 
@@ -108,7 +108,7 @@ fn findings_to_show<A: Allocator + Copy>(
         Some((limit, spare)) => match rank(alloc, plan, limit, spare) {
             Ok(Ranking::Found(_)) => Ok(Vec::new(alloc)),
             Ok(Ranking::Fails(findings)) => Ok(findings),
-            Err(NoMemory) => Err(NoMemory),
+            Err(error) => Err(error),
         },
     }
 }
@@ -132,6 +132,6 @@ fn draw_finding<A: Allocator + Copy, W: Sink>(
             Ok(()) => Ok(()),
             Err(WriteFault) => Err(JobFault::Write),
         },
-        Err(NoMemory) => Err(JobFault::NoMemory),
+        Err(_) => Err(JobFault::NoMemory),
     }
 }

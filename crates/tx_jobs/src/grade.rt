@@ -11,7 +11,7 @@ use tx_audit::write_grade;
 use tx_plan::Plan;
 use tx_plantext::read_plan_from;
 use tx_rank::{Grade, grade};
-use tx_text::{NoMemory, Sink, Source, WriteFault};
+use tx_text::{Sink, Source, WriteFault};
 
 /// Reads a plan, and writes with which limits and spare numbers it is safe, and each of its codes, or what is wrong with it whatever they are. Answers the grade.
 ///
@@ -71,7 +71,7 @@ fn tell_grade<A: Allocator + Copy, W: Sink>(
 {
     plan.rules();
     match grade(alloc, plan) {
-        Err(NoMemory) => Err(JobFault::NoMemory),
+        Err(_) => Err(JobFault::NoMemory),
         Ok(grade) => match write_grade(plan, &grade, out) {
             Ok(()) => Ok(grade),
             Err(WriteFault) => Err(JobFault::Write),

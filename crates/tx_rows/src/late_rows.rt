@@ -5,7 +5,7 @@ ghost use Rattle.tx_rows.specs.Rows.{Row, change_at, item_at};
 ghost use Rattle.tx_rows.specs.inner.Kept.{AreKept, IsAt, items_at, AreRowsKept, rows_in};
 
 use crate::row_at::RowAt;
-use std::alloc::{Allocator, Global};
+use std::alloc::{AllocError, Allocator, Global};
 use tx_text::NoMemory;
 
 /// Rows of equal items, with room for all of them in one vector. The items of a row are written there when one of them is first changed, behind those of
@@ -63,7 +63,7 @@ impl<H: Copy, T: Copy, A: Allocator> LateRows<H, T, A> {
     {
         let used = self.items.len() + self.late;
         if count > u32::MAX as usize - used {
-            return Err(NoMemory);
+            return Err(AllocError.into());
         }
         self.items.reserve(self.late + count)?;
         self.rows.push(RowAt {

@@ -1,24 +1,18 @@
 // The want of memory.
-ghost use Rattle.std.specs.Prelude.{◌≡◌};
-
 use std::alloc::{AllocError, AllocFailed};
 
-/// No memory was left.
+/// No memory was left. Its field is private: other crates make it of what an allocator refused, and in no other way.
 #[derive(Clone, Copy)]
-pub struct NoMemory;
+pub struct NoMemory(());
 
 impl From<AllocError> for NoMemory {
-    ghost from_gives = { λ _ e. e ≡ record {} };
-
     fn from(_error: AllocError) -> NoMemory {
-        NoMemory
+        NoMemory(())
     }
 }
 
 impl<T: Drop> From<AllocFailed<T>> for NoMemory {
-    ghost from_gives = { λ _ e. e ≡ record {} };
-
     fn from(_error: AllocFailed<T>) -> NoMemory {
-        NoMemory
+        NoMemory(())
     }
 }

@@ -13,7 +13,6 @@ use tx_plan::Plan;
 use tx_plantext::read_plan;
 use tx_script::read_event;
 use tx_state::{Event, Network, Reply, Ticket, drive};
-use tx_text::NoMemory;
 use tx_tickets::{write_reply, write_ticket};
 
 /// Adds the event that a line of a script says, if it says one.
@@ -97,7 +96,7 @@ fn drive_and_tell<A: Allocator, N: Network>(
 ) {
     match drive(net, events, replies) {
         Ok(()) => tell_driven(plan, net, replies.as_slice(), out),
-        Err(NoMemory) => tell_broken(b"no memory", 0, out),
+        Err(_) => tell_broken(b"no memory", 0, out),
     }
 }
 
@@ -114,7 +113,7 @@ fn drive_plain<A: Allocator + Copy>(
             drive_and_tell(plan, &mut net, events, replies, out);
             drop(net);
         }
-        Err(NoMemory) => tell_broken(b"no memory", 0, out),
+        Err(_) => tell_broken(b"no memory", 0, out),
     }
 }
 
@@ -204,7 +203,7 @@ fn play_on_engine<A: Allocator + Copy>(
 ) {
     match play(memory, plan, 0, 0, events) {
         Ok(played) => tell_played(alloc, plan, text, events, played, out),
-        Err(NoMemory) => tell_broken(b"no memory", 0, out),
+        Err(_) => tell_broken(b"no memory", 0, out),
     }
 }
 

@@ -87,14 +87,14 @@ fn drives_on_engine<A: Allocator + Copy>(
     }
 }
 
-/// The same over a plan that is read with the allocator.
+/// The same over a plan that is read with the allocator. `None` is want of memory.
 fn reads_and_drives_on<A: Allocator + Copy>(
     alloc: A,
     over: Over,
     plan: &[u8],
     events: &[Event],
     whole: &[Reply],
-) -> Result<bool, NoMemory> {
+) -> Option<bool> {
     match read_plan(alloc, plan) {
         Ok(plan) => {
             let keeps = match over {
@@ -102,9 +102,9 @@ fn reads_and_drives_on<A: Allocator + Copy>(
                 Over::Engine => drives_on_engine(alloc, &plan, events, whole),
             };
             drop(plan);
-            keeps
+            keeps.ok()
         }
-        Err(_) => Err(NoMemory),
+        Err(_) => None,
     }
 }
 
@@ -123,8 +123,8 @@ pub(crate) fn try_drives(
         let did = reads_and_drives_on(&refusing, over, plan, events, whole);
         let came = refusing.has_refused();
         let keeps = match did {
-            Ok(keeps) => keeps,
-            Err(NoMemory) => came,
+            Some(keeps) => keeps,
+            None => came,
         };
         if !keeps {
             tell_broken(b"driven, refused request", request, out);

@@ -11,7 +11,7 @@ use tx_jobs::{
     grade_status, pipe_job, run_checked_status, run_job,
 };
 use tx_plan::Plan;
-use tx_text::{MemorySink, MemorySource, NoMemory, WriteFault};
+use tx_text::{MemorySink, MemorySource, WriteFault};
 
 /// What a whole job does, beside which others are judged: its exit status or its fault, and what it writes.
 #[derive(Clone, Copy)]
@@ -211,7 +211,7 @@ pub(crate) fn done(alloc: Global, task: Task<'_>, ends: Ends, whole: &[u8]) -> D
             drop(room);
             did
         }
-        Err(NoMemory) => Did {
+        Err(_) => Did {
             answer: Err(JobFault::NoMemory),
             written: 0,
             is_front: false,
@@ -228,6 +228,6 @@ pub(crate) fn tell_task(alloc: Global, task: Task<'_>, piece: usize, out: &mut T
             tell(room.taken(), out);
             drop(room);
         }
-        Err(NoMemory) => tell_broken(b"no memory", 0, out),
+        Err(_) => tell_broken(b"no memory", 0, out),
     }
 }

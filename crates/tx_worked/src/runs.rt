@@ -7,7 +7,7 @@ use tx_machine::Plain;
 use tx_plan::Plan;
 use tx_plantext::read_plan;
 use tx_script::{RunCause, RunFault, Summary, run};
-use tx_text::{FaultKind, FrameFault, LineFault, MemorySink, MemorySource, NoMemory, TextFault};
+use tx_text::{FaultKind, FrameFault, LineFault, MemorySink, MemorySource, TextFault};
 
 /// The network that runs a script.
 #[derive(Clone, Copy)]
@@ -83,7 +83,7 @@ fn run_plain<A: Allocator + Copy>(
             drop(net);
             end
         }
-        Err(NoMemory) => Err(NOT_BEGUN),
+        Err(_) => Err(NOT_BEGUN),
     }
 }
 
@@ -101,7 +101,7 @@ fn run_engine<A: Allocator + Copy>(
             net.close();
             end
         }
-        Err(NoMemory) => Err(NOT_BEGUN),
+        Err(_) => Err(NOT_BEGUN),
     }
 }
 
@@ -163,7 +163,7 @@ pub(crate) fn run_beside(alloc: Global, text: Script<'_>, ends: Ends, whole: &[u
             drop(room);
             ran
         }
-        Err(NoMemory) => Ran {
+        Err(_) => Ran {
             end: Err(NOT_BEGUN),
             written: 0,
             is_front: false,

@@ -8,7 +8,6 @@ use tx_engine::Engine;
 use tx_machine::Plain;
 use tx_plan::Plan;
 use tx_plantext::read_plan;
-use tx_text::NoMemory;
 
 /// Plays a script through a plain network and a new engine, whose plan says the same and whose memory is another's.
 fn play_engine<'m>(
@@ -26,7 +25,7 @@ fn play_engine<'m>(
             engine.close();
             played
         }
-        Err(NoMemory) => Err(Stop::NoMemory),
+        Err(_) => Err(Stop::NoMemory),
     }
 }
 
@@ -45,7 +44,7 @@ fn play_both<'m>(
             drop(plain);
             played
         }
-        Err(NoMemory) => Err(Stop::NoMemory),
+        Err(_) => Err(Stop::NoMemory),
     }
 }
 

@@ -14,7 +14,8 @@ pub struct KnownCall {
 
 /// Adds an item to a list.
 fn put_in<T: Copy>(list: &mut Vec<T>, item: &T) -> Result<(), NoMemory> {
-    list.push(*item).or(Err(NoMemory))
+    list.push(*item)?;
+    Ok(())
 }
 
 /// Takes an item out of a list.

@@ -2,7 +2,6 @@
 use crate::cases::Refusing;
 use std::alloc::{Allocator, Global};
 use tx_state::{Event, Network, Reply, Ticket};
-use tx_text::NoMemory;
 
 /// In what two networks differ after an event.
 #[derive(Clone, Copy)]
@@ -56,7 +55,7 @@ fn apply<E: Network>(engine: &mut E, event: &Event) -> Result<Answer, Difference
             let was_refused = true;
             Ok(Answer { reply, was_refused })
         }
-        Err(NoMemory) => Err(Difference::NoMemory),
+        Err(_) => Err(Difference::NoMemory),
     }
 }
 
