@@ -1,4 +1,3 @@
 pub mod Distinct
 pub mod Hashing
-pub mod Places
 pub mod Tables

@@ -1,28 +1,27 @@
 // The bars of a plan.
-ghost use Rattle.std.specs.Prelude.{◌≡◌, ◌<◌, ◌++◌, ◌∷◌, ◌&&◌, ◌==◌, [], false, OnOk, OnErr, length, slice_get};
+ghost use Rattle.std.specs.Prelude.{◌≡◌, ◌++◌, ◌∷◌, ◌&&◌, ◌==◌, [], false, OnOk, OnErr, length, slice_get};
 ghost use Rattle.std.specs.List.{list_any};
 
-use crate::group_list::GroupList;
 use crate::pair::Pair;
-use crate::routes::Routes;
+use crate::word_hasher::ByWord;
+use indexmap::IndexSet;
 use std::alloc::{Allocator, Global};
 use std::marker::Model;
 use tx_text::NoMemory;
 
-/// Pairs of an exchange and a code: calls that start there for that code are not admitted. They stand in a table as that of the routes, each with no groups.
+/// Pairs of an exchange and a code: calls that start there for that code are not admitted.
 #[derive(Drop)]
 pub struct Bars<A: Allocator = Global> {
-    pairs: Routes<A>,
+    pairs: IndexSet<Pair, ByWord, A>,
 }
 
 impl<A: Allocator> Model for Bars<A> {
-    ghost use Rattle.std.specs.Prelude.{List, map};
+    ghost use Rattle.std.specs.Prelude.{List};
     ghost use Rattle.tx_entries.specs.declared.pair.Pair.{Pair};
-    ghost use Rattle.tx_entries.specs.inner.Places.{pair_of};
 
     ghost Value = { List Pair };
 
-    ghost view = { λ t. map pair_of t.pairs };
+    ghost view = { λ t. t.pairs.keys };
 }
 
 impl<A: Allocator + Copy> Bars<A> {
@@ -31,7 +30,7 @@ impl<A: Allocator + Copy> Bars<A> {
         ensures { result ≡ [] }
     {
         Bars {
-            pairs: Routes::new(alloc),
+            pairs: IndexSet::with_hasher(alloc, ByWord),
         }
     }
 }
@@ -50,7 +49,7 @@ impl<A: Allocator> Bars<A> {
     pub fn has(&self, pair: &Pair) -> bool
         ensures { result ≡ list_any (λ b. (b.exchange == pair.now.exchange) && (b.code == pair.now.code)) self.now }
     {
-        self.pairs.has(pair)
+        self.pairs.contains(pair)
     }
 
     /// The pair at a place.
@@ -58,17 +57,17 @@ impl<A: Allocator> Bars<A> {
     pub fn at(&self, place: usize) -> Option<Pair>
         ensures { result ≡ slice_get self.now place }
     {
-        self.pairs.pair_at(place)
+        self.pairs.get_index(place).copied()
     }
 
     /// Appends a bar.
     #[inline(always)]
     pub fn add(&mut self, pair: Pair) -> Result<(), NoMemory>
-        requires new { list_any (λ b. (b.exchange == pair.exchange) && (b.code == pair.code)) self.old ≡ false }
-        requires few { pair.exchange < 256 }
+        requires { list_any (λ b. (b.exchange == pair.exchange) && (b.code == pair.code)) self.old ≡ false }
         ensures ok { OnOk result (self.new ≡ self.old ++ pair ∷ []) }
         ensures err { OnErr result (self.new ≡ self.old) }
     {
-        self.pairs.add(pair, GroupList::new())
+        self.pairs.insert(pair)?;
+        Ok(())
     }
 }

@@ -16,8 +16,6 @@ mod line;
 mod name_key;
 mod national;
 mod pair;
-mod pair_bytes;
-mod places;
 mod range;
 mod ranges;
 mod routes;

@@ -1,6 +1,7 @@
 -- A plan's entries as keys and values.
 use Rattle.std.specs.Prelude.{ℕ, List, map}
-use Rattle.tx_entries.specs.Entries.{Code, Group}
+use Rattle.tx_entries.specs.Entries.{Code, Group, Route}
+use Rattle.tx_entries.specs.declared.pair.Pair.{Pair}
 use Rattle.tx_entries.specs.declared.range.LineRange.{LineRange}
 use Rattle.tx_entries.specs.declared.group_row.GroupRow.{GroupRow}
 
@@ -15,6 +16,10 @@ group_of_row e = record { name = e.0; a = e.1.a; b = e.1.b; direction = e.1.dire
 -- the rest of a group beside its name
 abbrev pub row_of : Group → GroupRow
 row_of g = record { a = g.a; b = g.b; direction = g.direction; count = g.count }
+
+-- a pair, and the groups of its route
+abbrev pub route_of_row : Pair × List ℕ → Route
+route_of_row e = record { exchange = e.0.exchange; code = e.0.code; groups = e.1 }
 
 -- the code of each range
 abbrev pub codes_of_ranges : List LineRange → List ℕ

@@ -1,11 +1,12 @@
-use Rattle.std.proofs.Common.{◌∙◌, ap, sym, ◌==◌, ◌&&◌, Bool}
+use Rattle.std.proofs.Common.{◌≡◌, ◌∙◌, ap, ◌++◌, ◌∷◌, [], if◌then◌else◌, false}
 use Rattle.std.specs.List.{list_any}
 use Rattle.tx_entries.specs.declared.pair.Pair.{Pair}
-use Rattle.tx_entries.specs.inner.Places.{pair_of}
-use Rattle.tx_entries.proofs.Tables.{list_any-map}
+use Rattle.tx_entries.proofs.PairRows.{same_pair, turned}
 use Rattle.tx_entries.proofs.bars.Bars.add.Goals as goal
 
-pub add-requires-clause-new : goal.add-requires-clause-new
-add-requires-clause-new g c =
-    let test : Pair → Bool = λ b. (b.exchange == c.args.pair.exchange) && (b.code == c.args.pair.code) in
-    sym (list_any-map test pair_of c.self.inside.pairs) ∙ ap (list_any test) c.self.view_is ∙ c.requires.new
+pub returns-clause-ok : goal.returns-clause-ok
+returns-clause-ok g c =
+    let p : Pair = c.args.pair in
+    let keys = c.self.inside.pairs.keys in
+    let absent : list_any (same_pair p) keys ≡ false = (λ i. list_any (λ q. turned p q i) (c.self.view_is i)) ∙ c.requires in
+    c.in_ok-insert.ensures.keys ∙ ap (λ b. if b then keys else keys ++ p ∷ []) absent ∙ ap (λ l. l ++ p ∷ []) c.self.view_is
