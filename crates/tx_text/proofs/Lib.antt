@@ -1,6 +1,5 @@
 pub mod WordLists
 pub mod WordEnds
-pub mod PrintedLines
 pub mod Writing
 pub mod Wrote
 pub mod Places

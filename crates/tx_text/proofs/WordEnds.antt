@@ -1,7 +1,6 @@
--- The end of a word or a line, found in a block of bytes at once.
-use Rattle.std.proofs.Common.{◌≡◌, ℕ, zero, suc, ◌⊎◌, ◌+◌, ◌*◌, ◌%◌, ◌^◌, ◌<◌, ◌≤◌, Bool, true, false, not, cond, eqb, leb, ltb, ◌&&◌, ◌||◌, ◌-◌, List, [], ◌∷◌, ◌++◌, map, length, drop, inl, inr, refl, sym, ap, ap₂, ◌∙◌, arith}
-use Rattle.std.proofs.lemmas.Bool.{eq-eqb, ne_eqb, lt-ltb, lt-leb}
-use Rattle.std.proofs.lemmas.Bool.Decides.{leb_tells}
+-- The end of a word, found in a block of bytes at once.
+use Rattle.std.proofs.Common.{◌≡◌, ℕ, zero, suc, ◌+◌, ◌*◌, ◌%◌, ◌^◌, ◌<◌, ◌≤◌, Bool, true, false, not, cond, eqb, ◌||◌, ◌-◌, List, [], ◌∷◌, ◌++◌, map, length, drop, refl, sym, ap, ap₂, ◌∙◌, arith}
+use Rattle.std.proofs.lemmas.Bool.{eq-eqb, ne_eqb}
 use Rattle.std.proofs.lemmas.List.{length-map, length-drop}
 use Rattle.std.proofs.lemmas.List.Folds.{prefix_len-append}
 use Rattle.std.proofs.lemmas.List.Sums.{prefix_len-le-length}
@@ -43,44 +42,6 @@ mask_of v z long e =
 pub three_lanes : (v : List ℕ) (a b c : List ℕ) → a ≡ map (λ x. hit x 32) v → b ≡ map (λ x. hit x 9) v → c ≡ map (λ x. hit x 35) v → zip2 bit_or (zip2 bit_or a b) c ≡ map lane v
 three_lanes v a b c p q r = zip2_of_maps bit_or (λ x. bit_or (hit x 32) (hit x 9)) (λ x. hit x 35) v (zip2_of_maps bit_or (λ x. hit x 32) (λ x. hit x 9) v p q) r
 
--- TWO COMPARISONS
-
-abbrev pub below : ℕ → ℕ → ℕ
-below a b = cond (ltb a b) 255 0
-
--- what the comparisons of a byte with the first and the last that is printed come to
-abbrev outside : ℕ → ℕ
-outside b = bit_or (below b 32) (below 126 b)
-
-abbrev pub is_printed : ℕ → Bool
-is_printed b = leb 32 b && leb b 126
-
-less : (a b : ℕ) → ltb a b ≡ not (leb b a)
-less a b = by (leb_tells b a)
-  where
-    by : ((leb b a ≡ true) × (b ≤ a)) ⊎ ((leb b a ≡ false) × (a < b)) → ltb a b ≡ not (leb b a)
-    by (inl h) = lt-leb (suc a) b (omega (arith, h.1)) ∙ sym (ap not h.0)
-    by (inr h) = lt-ltb a b h.1 ∙ sym (ap not h.0)
-
-one_of_two : (x y : Bool) → top 7 (bit_or (cond (not x) 255 0) (cond (not y) 255 0)) ≡ not (x && y)
-one_of_two true true = refl
-one_of_two true false = refl
-one_of_two false true = refl
-one_of_two false false = refl
-
-outside_marked : (v : List ℕ) → map (top 7) (map outside v) ≡ map (λ b. not (is_printed b)) v
-outside_marked [] = refl
-outside_marked (b ∷ bs) =
-    ap₂ (λ x xs. x ∷ xs) (ap₂ (λ p q. top 7 (bit_or (cond p 255 0) (cond q 255 0))) (less b 32) (less 126 b) ∙ one_of_two (leb 32 b) (leb b 126)) (outside_marked bs)
-
-pub outside_mask : (v z : List ℕ) → length v ≤ 32 → z ≡ map outside v → mask_l (map (top 7) z) % 2 ^ 64 ≡ mask_l (map (λ b. not (is_printed b)) v)
-outside_mask v z long e =
-    ap (λ l. mask_l l % 2 ^ 64) (ap (map (top 7)) e ∙ outside_marked v)
-    ∙ mask_l-mod (map (λ b. not (is_printed b)) v) 64 (omega (arith, length-map v (λ b. not (is_printed b)), long))
-
-pub two_lanes : (v a b : List ℕ) → a ≡ map (λ x. below x 32) v → b ≡ map (λ x. below 126 x) v → zip2 bit_or a b ≡ map outside v
-two_lanes v a b p q = zip2_of_maps bit_or (λ x. below x 32) (λ x. below 126 x) v p q
-
 -- THE RUN AT THE FRONT
 
 twice : (b : Bool) → b ≡ not (not b)
@@ -116,14 +77,6 @@ module _ (p : ℕ → Bool) where
       ap (prefix_len p) (chunk-drop i n text) ∙ prefix_len-append p c (drop (i + n) text)
       ∙ ap (λ b. cond b (length c + prefix_len p (drop (i + n) text)) (prefix_len p c)) (ne_eqb _ _ (λ (e : prefix_len p c ≡ length c). omega (arith, none_ends c e)))
       ∙ same_run c ∙ sym (trailing_mask_l (λ b. not (p b)) 64 c (omega (arith, most, length-chunk i n text room)) some)
-
-  -- that first one stands in them
-  pub ends_within : (i n : ℕ) (text : List ℕ) → i + n ≤ length text → 0 < mask_l (map (λ b. not (p b)) (chunk i n text)) → prefix_len p (drop i text) < n
-  ends_within i n text room some =
-      let c = chunk i n text in
-      let ends : prefix_len p c ≡ length c → ⊥ = λ e. omega (arith, some, none_ends c e) in
-      let same = ap (prefix_len p) (chunk-drop i n text) ∙ prefix_len-append p c (drop (i + n) text) ∙ ap (λ b. cond b (length c + prefix_len p (drop (i + n) text)) (prefix_len p c)) (ne_eqb _ _ ends) in
-      omega (arith, same, ends, prefix_len-le-length p c, length-chunk i n text room)
 
   all_run : (xs : List ℕ) → mask_l (map (λ b. not (p b)) xs) ≡ 0 → prefix_len p xs ≡ length xs
   all_run [] e = refl

@@ -9,7 +9,7 @@ ghost use Rattle.tx_text.specs.Told.{Advances, IsFeed, reading_place, reading_st
 
 use crate::feeder::LineFeeder;
 use crate::line::TextLine;
-use crate::line_bytes::{bytes_fault, lf_or_len, printed_line, without_cr};
+use crate::line_bytes::{bytes_fault, lf_or_len, without_cr};
 use crate::line_fault::LineFault;
 use crate::source::Source;
 use crate::text_fault::TextFault;
@@ -133,26 +133,7 @@ impl<A: Allocator> TextReader<A> {
 
     /// Goes on to the next line of the source's text, and tells whether there is one. `Err` is a line that is too long or has a bad byte, or that the source
     /// failed or was not at its end after so many calls.
-    #[inline(always)]
     pub fn advance<R: Source>(&mut self, source: &mut R) -> Result<bool, LineFault>
-        requires { self.old.feed.fault ≡ None }
-        ensures fault { IfOk result (λ _. self.new.feed.fault ≡ None) }
-        ensures gives { Advances (R.rest source.old) (R.rest source.new) (reading_place self.old) (reading_place self.new)
-            self.new.feed.line (Broken R.called (R.failed source.new) self.old.left source.old source.new) result }
-        ensures went { result ≡ Ok true → IfSome self.new.feed.line (λ l. l.finished ≡ true → Went R.called self.old.left self.new.left source.old source.new) }
-        ensures calls { CallsAtMost R.called self.old.left source.old source.new }
-        ensures unmarked { OnOk result (R.failed source.new ≡ R.failed source.old) }
-        ensures falls { IfOk result (λ b. b ≡ true → reading_size self.new < reading_size self.old) }
-    {
-        if self.lend() {
-            return Ok(true);
-        }
-        self.advance_in_pieces(source)
-    }
-
-    /// The same, whether the next line stands whole in the bytes that were read or not. It stands apart, so that what is done for most lines is inlined.
-    #[inline(never)]
-    fn advance_in_pieces<R: Source>(&mut self, source: &mut R) -> Result<bool, LineFault>
         requires { self.old.feed.fault ≡ None }
         ensures fault { IfOk result (λ _. self.new.feed.fault ≡ None) }
         ensures gives { Advances (R.rest source.old) (R.rest source.new) (reading_place self.old) (reading_place self.new)
@@ -252,7 +233,6 @@ fn part(piece: &[u8], from: usize, to: usize) -> &[u8]
 }
 
 /// How many bytes the first line of a piece has before its LF, and how many without the CR before it, where the line stands whole there and is right.
-#[inline(always)]
 fn whole_line(piece: &[u8]) -> Option<(usize, usize)>
     ensures lf { IfSome result (λ line. has_lf piece.now ≡ true) }
     ensures len { IfSome result (λ line. line.0 ≡ length (front_of piece.now)) }
@@ -261,9 +241,6 @@ fn whole_line(piece: &[u8]) -> Option<(usize, usize)>
     ensures short { IfSome result (λ line. line.1 ≤ line.0) }
     ensures right { IfSome result (λ line. bytes_fault (without_cr (front_of piece.now)) ≡ None) }
 {
-    if let Some(len) = printed_line(piece) {
-        return Some((len, len));
-    }
     let len = lf_or_len(piece);
     if len == piece.len() {
         return None;

@@ -10,8 +10,8 @@ returns-in-None-clause-short c =
     let front = take c.lf_or_len-len.result c.args.piece.now in
     omega (arith, ap length c.without_cr-line.ensures, length-without_cr-le front, length-take c.lf_or_len-len.result c.args.piece.now)
 
-pub returns-in-Some-clause-lf : goal.returns-in-Some-clause-lf
-returns-in-Some-clause-lf c = lt-ltb _ _ (omega (arith, c.in-Some.ensures.place, c.in-Some.ensures.within))
+pub returns-in-None-clause-lf : goal.returns-in-None-clause-lf
+returns-in-None-clause-lf c = lt-ltb _ _ (omega (arith, c.lf_or_len-len.ensures.place, c.lf_or_len-len.ensures.within))
 
 pub returns-in-None-clause-shown : goal.returns-in-None-clause-shown
 returns-in-None-clause-shown c =

@@ -1,7 +1,7 @@
 use Rattle.std.proofs.Common.{◌≡◌, ◌≤◌, None}
 use Rattle.tx_text.specs.Calls.{Went}
 use Rattle.tx_text.specs.Told.{Reads, told_at, reading_place, reading_size}
-use Rattle.tx_text.proofs.reader.TextReader.advance_in_pieces.Given as goal
+use Rattle.tx_text.proofs.reader.TextReader.advance.Given as goal
 
 abbrev pub invariant-pieces : goal.invariant-pieces
 invariant-pieces g l =
