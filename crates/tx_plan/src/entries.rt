@@ -232,7 +232,6 @@ pub(crate) fn group_entry<A: Allocator>(
 fn pair_of<A: Allocator>(plan: &Plan<A>, exchange: &[u8], code: &[u8]) -> Option<Pair>
     ensures pair { result ≡ pair_named plan.now exchange.now code.now }
     ensures named { IfSome result (λ x. x ≡ record { exchange = exchange_at plan.now exchange.now; code = code_at plan.now code.now }) }
-    ensures few { IfSome result (λ x. x.exchange < 256) }
     ensures name { is_some result ≡ true → is_name exchange.now ≡ true }
     ensures figures { is_some result ≡ true → is_code code.now ≡ true }
 {
@@ -258,7 +257,6 @@ pub(crate) fn bar_entry<A: Allocator>(
     ensures ok { OnOk result (first_true (bar_refusals plan.now exchange.now code.now) ≡ None) }
     ensures entry { IfOk result (λ e. e ≡ record { exchange = exchange_at plan.now exchange.now; code = code_at plan.now code.now }) }
     ensures fresh { IfOk result (λ e. is_barred plan.now e.exchange e.code ≡ false) }
-    ensures few { IfOk result (λ e. e.exchange < 256) }
 {
     if !is_name(exchange) {
         return Err(PlanRefusal::BadName);
@@ -376,7 +374,6 @@ pub(crate) fn route_entry<A: Allocator>(
     ensures ok { OnOk result (first_true (route_refusals plan.now exchange.now code.now groups.entry) ≡ None) }
     ensures entry { IfOk result (λ e. e ≡ (record { exchange = exchange_at plan.now exchange.now; code = code_at plan.now code.now }, map (group_at plan.now) groups.entry)) }
     ensures fresh { IfOk result (λ e. has_route plan.now e.0.exchange e.0.code ≡ false) }
-    ensures few { IfOk result (λ e. e.0.exchange < 256) }
 {
     let pair = pair_of(plan, exchange, code);
     let seen = see(plan, &pair, groups.again());

@@ -1,4 +1,4 @@
-use Rattle.std.proofs.Common.{◌≡◌, ◌∙◌, sym, ap, subst, ◌<◌, List, map, ℕ, Option, IfSome}
+use Rattle.std.proofs.Common.{◌≡◌, ◌∙◌, sym, ap, subst, List, map, ℕ, Option, IfSome}
 use Rattle.tx_entries.specs.declared.pair.Pair.{Pair}
 use Rattle.tx_plan.specs.Declaring.{first_true, route_word_refusals, route_plan_refusals, pair_named, exchange_at, code_at, group_at}
 use Rattle.tx_plan.specs.inner.Seen.{IsSeen}
@@ -55,6 +55,3 @@ returns-clause-entry g c =
 
 pub returns-clause-fresh : goal.returns-clause-fresh
 returns-clause-fresh g c = c.in-None-route_row.ensures.fresh
-
-pub returns-clause-few : goal.returns-clause-few
-returns-clause-few g c = subst (λ (o : Option Pair). IfSome o (λ x. x.exchange < 256)) c.in-Some-pair.is c.pair_of-pair.ensures.few
