@@ -11,7 +11,7 @@ const MULTIPLIER: u64 = 0x9E37_79B9_7F4A_7C15;
 #[derive(Clone, Copy)]
 pub struct ByWord;
 
-/// Joins the bytes of a name, of a line or of a number to one number, a word at a time: such a text has nine bytes at most.
+/// Joins the bytes of a name, of a pair, of a line or of a number to one number, a word at a time: such a text has nine bytes at most.
 #[derive(Clone, Copy)]
 pub struct WordHasher {
     word: u64,
