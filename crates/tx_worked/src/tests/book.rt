@@ -137,8 +137,9 @@ fn mark_away(book: &mut LineBook, number: u32) -> bool {
 }
 
 /// Marks the lines of the first code from one number to another away, and tells how many of them are found so then.
-pub(crate) fn mark_many(book: &mut LineBook, numbers: &[u8], out: &mut Told) {
-    let mut numbers = words(numbers);
+pub(crate) fn mark_many(book: &mut LineBook, text: &[u8], out: &mut Told) {
+    let (line, _) = next_line(text).unwrap_or((b"", b""));
+    let mut numbers = words(line);
     let first = next_number(&mut numbers, 999_999_999);
     let last = next_number(&mut numbers, 999_999_999);
     for number in first..=last {
