@@ -8,7 +8,7 @@ in use; how often the second program does the work of the first one; and `wc -l`
 A first round, which is not timed, sees that the exit status is the one that is wanted and that two programs print the same bytes. The status is 1 if they do not.
 
 --events is about how many events a script has (3,000,000). --folder keeps the inputs, 370 MB with all of them, for the next time. --only measures these inputs alone:
-local-pipe, local-run, mid, mid-1000, mid-100000, codes, check, audit, limits, limits-1000, limits-100000 and bad.
+local-pipe, local-run, away-6, away-9, mid, mid-1000, mid-100000, codes, check, audit, limits, limits-1000, limits-100000 and bad.
 
 Seconds of processor bear other work on the machine better than seconds on the clock, and they too are too high by up to a half beside busy neighbours. `taskset -c N`
 before the command keeps all of it to one processor."""
@@ -49,6 +49,8 @@ class Case:
 CASES = [
     Case("local-pipe", "calls at one exchange, from a pipe", pipe="local.plan local.script"),
     Case("local-run", "calls at one exchange, `run`", "run local.plan local.script"),
+    Case("away-6", "20,000 lines of six figures, away one after another", "run away-6.plan away-6.script"),
+    Case("away-9", "of nine figures", "run away-9.plan away-9.script"),
     Case("mid", f"{MID}: the plan, from a pipe", pipe="mid.plan none.script"),
     Case("mid-1000", "with 1,000 open calls", pipe="mid.plan mid-1000.script", behind="mid"),
     Case("mid-100000", "with 100,000 open calls", pipe="mid.plan mid-100000.script", behind="mid"),

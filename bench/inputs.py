@@ -14,6 +14,7 @@ LIST = 16
 CIRCUITS = 240
 FIRST_LINE = 100000
 LINES = 1000
+AWAY = 20000
 
 
 def name(letter, number, figures, step):
@@ -193,6 +194,16 @@ def local_events(seed, count):
         yield f"CLEAR {number} {'CALLED' if draw(2) else 'CALLER'}"
 
 
+def away_plan(low):
+    """A plan of lines whose numbers follow one another."""
+    return ["PLAN 1", "EXCHANGE ALFA", "CODE 41 ALFA", f"LINES 41 {low} {low + AWAY - 1}", "END"]
+
+
+def away_events(low):
+    """Subscribers who are away, one line after another."""
+    return (f"AWAY 41 {low + it}" for it in range(AWAY))
+
+
 def script(events):
     yield "SCRIPT 1"
     yield from events
@@ -226,6 +237,9 @@ class Inputs:
         """The lines of a file."""
         kind, _, end = file.rpartition(".")
         kind, _, open_ = kind.partition("-")
+        if kind == "away":
+            low = 10 ** (int(open_) - 1)
+            return away_plan(low) if end == "plan" else script(away_events(low))
         if end == "script":
             if kind == "none":
                 return script([])

@@ -14,21 +14,6 @@ use Rattle.tx_state.specs.Call.{Call, Phase, call_of, is_standing, is_calling, i
 use Rattle.tx_state.specs.State.{State}
 use Rattle.tx_state.specs.Lines.{is_engaged}
 
--- the number of a refusal: that of its code M1 to M12
-abbrev pub refusal_number : Refusal → ℕ
-refusal_number UnknownCall = 1
-refusal_number NotStanding = 2
-refusal_number NotCalling = 3
-refusal_number NotConnected = 4
-refusal_number UnknownLine = 5
-refusal_number LineEngaged = 6
-refusal_number LineOutOfOrder = 7
-refusal_number AlreadySo = 8
-refusal_number NotSo = 9
-refusal_number NotReleasing = 10
-refusal_number UnknownCircuit = 11
-refusal_number Exhausted = 12
-
 -- there is such a call, and it is in another phase
 abbrev pub is_other : (Phase → Bool) → Option Call → Bool
 is_other test None = false

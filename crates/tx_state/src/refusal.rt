@@ -1,6 +1,4 @@
 // Why events are refused.
-ghost use Rattle.std.specs.Prelude.{◌≡◌};
-ghost use Rattle.tx_state.specs.Refusals.{refusal_number};
 
 /// Why an event is refused. Of several that apply, the one of the least number is answered.
 #[derive(Clone, Copy, PartialEq, Eq)]
@@ -29,26 +27,4 @@ pub enum Refusal {
     UnknownCircuit,
     /// M12: all 4,294,967,295 call numbers were given (of `Key` alone), or 18,446,744,073,709,551,615 events were accepted.
     Exhausted,
-}
-
-impl Refusal {
-    /// Its number, from 1 to 12: that of its code M1 to M12.
-    pub fn number(self) -> u8
-        ensures { result ≡ refusal_number self }
-    {
-        match self {
-            Refusal::UnknownCall => 1,
-            Refusal::NotStanding => 2,
-            Refusal::NotCalling => 3,
-            Refusal::NotConnected => 4,
-            Refusal::UnknownLine => 5,
-            Refusal::LineEngaged => 6,
-            Refusal::LineOutOfOrder => 7,
-            Refusal::AlreadySo => 8,
-            Refusal::NotSo => 9,
-            Refusal::NotReleasing => 10,
-            Refusal::UnknownCircuit => 11,
-            Refusal::Exhausted => 12,
-        }
-    }
 }

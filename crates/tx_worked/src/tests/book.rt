@@ -1,5 +1,8 @@
 // What a line book answers.
-use crate::cases::{Told, named, next_line, next_number, next_word, tell, tell_broken, tell_parts};
+use crate::cases::{
+    Told, named, next_line, next_number, next_word, tell, tell_broken, tell_count, tell_parts,
+};
+use itoa::Buffer;
 use std::alloc::Global;
 use tx_lines::{LineAnswer, LineBook};
 use tx_plan::{CodeId, Line};
@@ -117,4 +120,38 @@ pub(crate) fn play_book(book: &mut LineBook, lines: &[u8], out: &mut Told) {
         play_line(book, line, out);
         rest = behind;
     }
+}
+
+/// The line of the first code that has a number.
+fn line_of(book: &LineBook, number: u32) -> Option<Line> {
+    let mut digits = Buffer::new();
+    book.find(CodeId::at(0), digits.format(number).as_bytes())
+}
+
+/// Marks the line of a number away. Tells whether there is such a line, and room for its mark.
+fn mark_away(book: &mut LineBook, number: u32) -> bool {
+    match line_of(book, number) {
+        Some(line) => set_mark(book, &line, Mark::Away, true),
+        None => false,
+    }
+}
+
+/// Marks the lines of the first code from one number to another away, and tells how many of them are found so then.
+pub(crate) fn mark_many(book: &mut LineBook, text: &[u8], out: &mut Told) {
+    let (line, _) = next_line(text).unwrap_or((b"", b""));
+    let mut numbers = words(line);
+    let first = next_number(&mut numbers, 999_999_999);
+    let last = next_number(&mut numbers, 999_999_999);
+    for number in first..=last {
+        if !mark_away(book, number) {
+            tell_broken(b"not marked", u64::from(number), out);
+        }
+    }
+    let mut away: u64 = 0;
+    for number in first..=last {
+        if let Some(line) = line_of(book, number) {
+            away = away.saturating_add(u64::from(book.is_away(&line)));
+        }
+    }
+    tell_count(b"away: ", away, b"\n", out);
 }

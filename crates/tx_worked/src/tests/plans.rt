@@ -1,6 +1,6 @@
 // Cases that have a plan, and what stands over it.
 use crate::cases::{Told, tell_broken};
-use crate::tests::book::play_book;
+use crate::tests::book::{mark_many, play_book};
 use crate::tests::circuits::{tell_circuits, try_sequences};
 use crate::tests::trie::tell_trie;
 use std::alloc::Global;
@@ -15,6 +15,8 @@ use tx_trie::CodeTrie;
 pub(crate) enum Over {
     Trie,
     Book,
+    /// A book of lines, of which many are marked.
+    ManyLines,
     Circuits,
     /// Circuits, beside a plain model of them.
     Sequences,
@@ -28,11 +30,15 @@ fn over_trie(alloc: Global, plan: &Plan, lines: &[u8], out: &mut Told) {
     }
 }
 
-/// Makes a line book, and tells what is found in it.
-fn over_book(alloc: Global, plan: &Plan, lines: &[u8], out: &mut Told) {
+/// Makes a line book, and tells what is found in it, or in many of its lines.
+fn over_book(alloc: Global, plan: &Plan, are_many: bool, lines: &[u8], out: &mut Told) {
     match LineBook::build(alloc, plan) {
         Ok(mut book) => {
-            play_book(&mut book, lines, out);
+            if are_many {
+                mark_many(&mut book, lines, out);
+            } else {
+                play_book(&mut book, lines, out);
+            }
             drop(book);
         }
         Err(_) => tell_broken(b"no memory", 0, out),
@@ -53,7 +59,8 @@ pub(crate) fn with_plan(alloc: Global, over: Over, plan: &[u8], calls: &[u8], ou
         Ok(plan) => {
             match over {
                 Over::Trie => over_trie(alloc, &plan, calls, out),
-                Over::Book => over_book(alloc, &plan, calls, out),
+                Over::Book => over_book(alloc, &plan, false, calls, out),
+                Over::ManyLines => over_book(alloc, &plan, true, calls, out),
                 Over::Circuits => over_table(alloc, &plan, calls, out),
                 Over::Sequences => try_sequences(alloc, &plan, out),
             }

@@ -30,7 +30,7 @@ enum Kind {
     Over(Over),
 }
 
-static KINDS: [(&str, Kind); 19] = [
+static KINDS: [(&str, Kind); 20] = [
     ("words", Kind::Spelled(Spelling::Words)),
     ("name", Kind::Spelled(Spelling::Name)),
     ("figures", Kind::Spelled(Spelling::Figures)),
@@ -48,6 +48,7 @@ static KINDS: [(&str, Kind); 19] = [
     ("growths", Kind::Growths),
     ("trie", Kind::Over(Over::Trie)),
     ("book", Kind::Over(Over::Book)),
+    ("many-lines", Kind::Over(Over::ManyLines)),
     ("circuits", Kind::Over(Over::Circuits)),
     ("sequences", Kind::Over(Over::Sequences)),
 ];
