@@ -1,6 +1,5 @@
 -- The ranks of a certificate, once one is set.
-use Rattle.std.proofs.Common.{◌≡◌, ℕ, Option, Some, None, cond, inl, inr, refl, ap, ◌∙◌}
-use Rattle.std.specs.Ordering.{eq_by_cmp}
+use Rattle.std.proofs.Common.{◌≡◌, ℕ, Some, None, cond, inl, inr, refl, ap, ◌∙◌}
 use Rattle.std.specs.FinMap.{get-empty, get-insert}
 use Rattle.tx_cert.specs.Certificate.{Certificate, Pair, pair_cmp, no_ranks, rank_at, with_rank}
 use Rattle.tx_cert.proofs.Pairs.{pairs_total, tells}

@@ -1,7 +1,7 @@
 -- The ranks of the first codes and exchanges of a certificate, in the order in which they are written.
 use Rattle.std.proofs.Common.{◌≡◌, ◌≢◌, ℕ, ◌+◌, ◌*◌, ◌<◌, Bool, true, false, nat_lt, Option, Some, None, cond, inl, inr, refl, sym, ap, ◌∙◌, arith}
 use Rattle.std.specs.Ordering.{eq_by_cmp}
-use Rattle.std.specs.FinMap.{FinMap, get, insert, retain_keys, get-empty, get-insert, get-retain_keys, same_map}
+use Rattle.std.specs.FinMap.{FinMap, get, retain_keys, get-empty, get-insert, get-retain_keys, same_map}
 use Rattle.std.proofs.lemmas.Bool.{lt-ltb, le-ltb}
 use Rattle.std.proofs.lemmas.Bool.Decides.{nat_tests}
 use Rattle.std.proofs.lemmas.Nat.{mul-add-lt, same_from_place}

@@ -2,8 +2,6 @@
 use Rattle.std.proofs.Common.{◌≡◌, ℕ, zero, suc, ◌+◌, ◌*◌, ◌<◌, ◌≤◌, List, [], ◌∷◌, ◌++◌, length, Option, Some, None, Result, Ok, codes, refl, sym, ap, ◌∙◌, subst, arith}
 use Rattle.std.specs.Fmt.{decimal}
 use Rattle.std.specs.List.{flat_map, range_with_len}
-use Rattle.std.specs.Option.{IfSome}
-use Rattle.std.proofs.Math.Nat.{mul-le-mul_right}
 use Rattle.tx_text.specs.Frame.{header_of}
 use Rattle.tx_text.specs.Written.{IsWrittenLine, LeadsTo}
 use Rattle.tx_text.proofs.ReadBack.{reads_back}
