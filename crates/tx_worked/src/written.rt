@@ -115,7 +115,7 @@ fn has_wanted<A: Allocator>(read: Result<Cert<A>, CertFault>) -> bool {
     }
 }
 
-/// Whether memory is wanting for a certificate: a new one, one in memory, or one that comes in pieces.
+/// Whether memory is wanting for a certificate: for a new one, or to read one, at once or in pieces.
 fn cert_wants<A: Allocator + Copy>(alloc: A, plan: &Plan<A>, cert: &[u8]) -> bool {
     let mut source = MemorySource::new(cert, 7, None);
     new_wants(alloc, plan)
@@ -149,7 +149,8 @@ fn try_refusals(alloc: Global, plan: &[u8], cert: &[u8], out: &mut Told) {
     }
 }
 
-/// Writes a new certificate of a plan, reads one and writes it, reads back what was written, and refuses each request for memory.
+/// Writes a new certificate of a plan, reads one and writes it, reads back what was written, and
+/// refuses each request for memory.
 pub(crate) fn play_cert(alloc: Global, plan: &[u8], cert: &[u8], out: &mut Told) {
     match read_plan(alloc, plan) {
         Ok(plan) => {
