@@ -1,6 +1,7 @@
+pub mod Pairs
+pub mod Tables
+pub mod Ranks
 pub mod RanksSoFar
 pub mod Written
-pub mod Whole
 pub mod Ranges
-pub mod Ranked
 pub mod Reading

@@ -1,91 +1,82 @@
--- The ranks of the first places of a certificate, and none behind them.
-use Rattle.std.proofs.Common.{◌≡◌, ℕ, zero, suc, ◌+◌, ◌-◌, ◌<◌, true, List, [], ◌∷◌, ◌++◌, length, take, get_or, replicate, Option, Some, None, refl, sym, ap, ◌∙◌, arith, append_assoc, append-nil}
-use Rattle.std.specs.List.{slice_set}
-use Rattle.std.proofs.lemmas.Bool.{lt-ltb, and_from}
-use Rattle.std.proofs.lemmas.List.{take_more, length-take-le}
-use Rattle.std.proofs.lemmas.Option.{unwrap_or-slice_get}
-use Rattle.std.proofs.Math.Seq.{set-append_seam, get_or-append_seam}
-use Rattle.tx_cert.specs.Certificate.{Certificate, rank_at, with_rank, has_pair, place_of}
+-- The ranks of the first codes and exchanges of a certificate, in the order in which they are written.
+use Rattle.std.proofs.Common.{◌≡◌, ◌≢◌, ℕ, ◌+◌, ◌*◌, ◌<◌, Bool, true, false, nat_lt, Option, Some, None, cond, inl, inr, refl, sym, ap, ◌∙◌, arith}
+use Rattle.std.specs.Ordering.{eq_by_cmp}
+use Rattle.std.specs.FinMap.{FinMap, get, retain_keys, get-empty, get-insert, get-retain_keys, same_map}
+use Rattle.std.proofs.lemmas.Bool.{lt-ltb, le-ltb}
+use Rattle.std.proofs.lemmas.Bool.Decides.{nat_tests}
+use Rattle.std.proofs.lemmas.Nat.{mul-add-lt, same_from_place}
+use Rattle.tx_cert.specs.Certificate.{Pair, pair_cmp, Certificate, no_ranks, rank_at, with_rank, IsCertificate}
+use Rattle.tx_cert.specs.inner.Table.{place_of}
+use Rattle.tx_cert.proofs.Pairs.{pairs_total, exact, tells}
 
--- the first places as they are, and the others without ranks
-abbrev pub first_ranks : List (Option ℕ) → ℕ → List (Option ℕ)
-first_ranks rs n = take n rs ++ replicate (length rs - n) None
+-- certificates with the same ranks
+same_ranks : (codes exchanges : ℕ) (m n : FinMap pair_cmp ℕ) → ((q : Pair) → get m q ≡ get n q)
+    → ◌≡◌ {A = Certificate} (record { codes = codes; exchanges = exchanges; ranks = m }) (record { codes = codes; exchanges = exchanges; ranks = n })
+same_ranks codes exchanges m n is = ap (λ ranks. record { codes = codes; exchanges = exchanges; ranks = ranks }) (same_map pairs_total exact m n is)
 
-abbrev pub so_far : Certificate → ℕ → Certificate
-so_far t n = record t { ranks = first_ranks t.ranks n }
+none_either : (a b : Bool) (o : Option ℕ) → o ≡ None → cond a o None ≡ cond b o None
+none_either true true o e = refl
+none_either true false o e = e
+none_either false true o e = sym e
+none_either false false o e = refl
 
--- a place behind the first ones has no rank
-pub open_place : (rs : List (Option ℕ)) (n : ℕ) → n < length rs → first_ranks rs n ≡ take n rs ++ None ∷ replicate (length rs - (n + 1)) None
-open_place rs n lt =
-    let e : length rs - n ≡ suc (length rs - (n + 1)) = omega (arith, lt) in
-    rw e refl
+one_more : (p n : ℕ) → p ≢ n → nat_lt p (n + 1) ≡ nat_lt p n
+one_more p n away = grind (arith, nat_tests)
 
-filled_place : (rs : List (Option ℕ)) (n : ℕ) → n < length rs → first_ranks rs (n + 1) ≡ take n rs ++ get_or rs n None ∷ replicate (length rs - (n + 1)) None
-filled_place rs n lt = ap (λ l. l ++ replicate (length rs - (n + 1)) None) (take_more rs n None lt) ∙ append_assoc (take n rs) (get_or rs n None ∷ []) (replicate (length rs - (n + 1)) None)
+module _ (t : Certificate) where
+  abbrev is_before : ℕ → Pair → Bool
+  is_before n q = nat_lt (place_of t.exchanges q) n
 
-at_seam : (rs : List (Option ℕ)) (n : ℕ) (o : Option ℕ) → n < length rs → slice_set (first_ranks rs n) n o ≡ take n rs ++ o ∷ replicate (length rs - (n + 1)) None
-at_seam rs n o lt =
-    let l = length-take-le n rs (omega (arith, lt)) in
-    ap (λ (xs : List (Option ℕ)). slice_set xs n o) (open_place rs n lt)
-    ∙ ap (λ i. slice_set (take n rs ++ None ∷ replicate (length rs - (n + 1)) None) i o) (sym l)
-    ∙ set-append_seam (take n rs) None (replicate (length rs - (n + 1)) None) o
+  -- those that have fewer than n before them are ranked as they are, and the others are not
+  abbrev pub so_far : ℕ → Certificate
+  so_far n = record t { ranks = retain_keys t.ranks (is_before n) }
 
-open_read : (rs : List (Option ℕ)) (n : ℕ) → n < length rs → get_or (first_ranks rs n) n None ≡ None
-open_read rs n lt =
-    let l = length-take-le n rs (omega (arith, lt)) in
-    ap (λ (xs : List (Option ℕ)). get_or xs n None) (open_place rs n lt)
-    ∙ ap (λ i. get_or (take n rs ++ None ∷ replicate (length rs - (n + 1)) None) i None) (sym l)
-    ∙ get_or-append_seam (take n rs) None (replicate (length rs - (n + 1)) None) None
+  kept : (n : ℕ) (q : Pair) → get (retain_keys t.ranks (is_before n)) q ≡ cond (is_before n q) (get t.ranks q) None
+  kept n q = get-retain_keys t.ranks (is_before n) q (λ y e. ap (is_before n) (sym (exact q y e)))
 
--- a code and an exchange of a certificate
-pub record IsPair (t : Certificate) (c x : ℕ) : Type 0 where
-  pub code : c < t.codes
-  pub exchange : x < t.exchanges
-  pub within : place_of t c x < length t.ranks
+  -- nothing yet
+  pub so_far_none : so_far 0 ≡ no_ranks t.codes t.exchanges
+  so_far_none = same_ranks t.codes t.exchanges _ _ (λ q. kept 0 q ∙ ap (λ b. cond b (get t.ranks q) None) (le-ltb (place_of t.exchanges q) 0 (omega arith)) ∙ sym (get-empty pair_cmp q))
 
-pair_known : (t : Certificate) (c x : ℕ) → c < t.codes → x < t.exchanges → has_pair t c x ≡ true
-pair_known t c x h k = and_from _ _ (lt-ltb c t.codes h) (lt-ltb x t.exchanges k)
+  module _ (rules : IsCertificate t) where
+    -- all of them
+    pub so_far_all : so_far (t.codes * t.exchanges) ≡ t
+    so_far_all = same_ranks t.codes t.exchanges _ _ (λ q. kept (t.codes * t.exchanges) q ∙ all q (get t.ranks q) refl)
+      where
+        all : (q : Pair) (o : Option ℕ) → get t.ranks q ≡ o → cond (is_before (t.codes * t.exchanges) q) (get t.ranks q) None ≡ get t.ranks q
+        all q None e = none_either (is_before (t.codes * t.exchanges) q) true (get t.ranks q) e
+        all q (Some r) e =
+            let is = rules q.0 q.1 r e in
+            let low = mul-add-lt q.0 t.exchanges q.1 t.codes is.code is.exchange in
+            ap (λ b. cond b (get t.ranks q) None) (lt-ltb (place_of t.exchanges q) (t.codes * t.exchanges) (omega arith))
 
-pub rank_is : (t : Certificate) (c x : ℕ) → IsPair t c x → rank_at t c x ≡ get_or t.ranks (place_of t c x) None
-rank_is t c x h =
-    let e = pair_known t c x h.code h.exchange in
-    rw e (unwrap_or-slice_get t.ranks (place_of t c x) None)
+    module _ (c x : ℕ) (exchange : x < t.exchanges) where
+      -- the next one has no rank yet
+      pub none_yet : rank_at (so_far (c * t.exchanges + x)) c x ≡ None
+      none_yet = kept (c * t.exchanges + x) (c, x) ∙ ap (λ b. cond b (rank_at t c x) None) (le-ltb (c * t.exchanges + x) (c * t.exchanges + x) (omega arith))
 
--- the pair of the next place has no rank yet
-pub none_yet : (t : Certificate) (c x : ℕ) → IsPair t c x → rank_at (so_far t (place_of t c x)) c x ≡ None
-none_yet t c x h =
-    let e = pair_known t c x h.code h.exchange in
-    rw e (unwrap_or-slice_get (first_ranks t.ranks (place_of t c x)) (place_of t c x) None ∙ open_read t.ranks (place_of t c x) h.within)
+      -- the others stay
+      others : (q : Pair) (o : Option ℕ) → get t.ranks q ≡ o → q ≢ (c, x)
+          → cond (is_before (c * t.exchanges + x) q) (get t.ranks q) None ≡ cond (is_before (c * t.exchanges + x + 1) q) (get t.ranks q) None
+      others q None e away = none_either (is_before (c * t.exchanges + x) q) (is_before (c * t.exchanges + x + 1) q) (get t.ranks q) e
+      others q (Some r) e away =
+          let apart : place_of t.exchanges q ≢ c * t.exchanges + x = λ p. let s = same_from_place q.0 q.1 c x t.exchanges (rules q.0 q.1 r e).exchange exchange p in away (λ i. (s.0 i, s.1 i)) in
+          ap (λ b. cond b (get t.ranks q) None) (sym (one_more (place_of t.exchanges q) (c * t.exchanges + x) apart))
 
--- one place on, where its pair has no rank
-pub next_none : (t : Certificate) (c x : ℕ) → IsPair t c x → rank_at t c x ≡ None → so_far t (place_of t c x) ≡ so_far t (place_of t c x + 1)
-next_none t c x h e =
-    let n = place_of t c x in
-    ap (λ (rs : List (Option ℕ)). record t { ranks = rs })
-    (open_place t.ranks n h.within ∙ ap (λ o. take n t.ranks ++ o ∷ replicate (length t.ranks - (n + 1)) None) (sym (sym (rank_is t c x h) ∙ e)) ∙ sym (filled_place t.ranks n h.within))
+      -- one on, where it has no rank
+      pub next_none : rank_at t c x ≡ None → so_far (c * t.exchanges + x) ≡ so_far (c * t.exchanges + x + 1)
+      next_none none = same_ranks t.codes t.exchanges _ _ (λ q. kept (c * t.exchanges + x) q ∙ elim (tells q (c, x)) [
+        | inl same ↦ none_either (is_before (c * t.exchanges + x) q) (is_before (c * t.exchanges + x + 1) q) (get t.ranks q) (ap (get t.ranks) same.1 ∙ none)
+        | inr away ↦ others q (get t.ranks q) refl away.1
+      ] ∙ sym (kept (c * t.exchanges + x + 1) q))
 
--- one place on, where its pair gets its rank
-pub next_some : (t : Certificate) (c x r : ℕ) → IsPair t c x → rank_at t c x ≡ Some r → with_rank (so_far t (place_of t c x)) c x r ≡ so_far t (place_of t c x + 1)
-next_some t c x r h e =
-    let n = place_of t c x in
-    ap (λ (rs : List (Option ℕ)). record t { ranks = rs })
-    (at_seam t.ranks n (Some r) h.within ∙ ap (λ o. take n t.ranks ++ o ∷ replicate (length t.ranks - (n + 1)) None) (sym (sym (rank_is t c x h) ∙ e)) ∙ sym (filled_place t.ranks n h.within))
-
--- nothing yet
-pub so_far_none : (t : Certificate) (n : ℕ) → n ≡ 0 → so_far t n ≡ record t { ranks = replicate (length t.ranks) None }
-so_far_none t n h =
-    let z : length t.ranks - 0 ≡ length t.ranks = omega arith in
-    rw (h, z) refl
-
-take_whole : {X : Type 0} (xs : List X) (n : ℕ) → n ≡ length xs → take n xs ≡ xs
-take_whole [] zero h = refl
-take_whole [] (suc n) h = refl
-take_whole (x ∷ xs) zero h = absurd (omega (arith, h))
-take_whole (x ∷ xs) (suc n) h = ap (λ l. x ∷ l) (take_whole xs n (omega (arith, h)))
-
--- all places
-pub so_far_all : (t : Certificate) (n : ℕ) → n ≡ length t.ranks → so_far t n ≡ t
-so_far_all t n h =
-    let z : length t.ranks - n ≡ 0 = omega (arith, h) in
-    let e = take_whole t.ranks n h in
-    ap (λ (rs : List (Option ℕ)). record t { ranks = rs }) (rw (z, e) (append-nil t.ranks))
+      -- one on, where it gets its rank
+      pub next_some : (r : ℕ) → rank_at t c x ≡ Some r → with_rank (so_far (c * t.exchanges + x)) c x r ≡ so_far (c * t.exchanges + x + 1)
+      next_some r ranked = same_ranks t.codes t.exchanges _ _ (λ q.
+        get-insert pairs_total (retain_keys t.ranks (is_before (c * t.exchanges + x))) (c, x) r q ∙ ap (cond (eq_by_cmp pair_cmp q (c, x)) (Some r)) (kept (c * t.exchanges + x) q) ∙ elim (tells q (c, x)) [
+          | inl same ↦
+              ap (λ b. cond b (Some r) (cond (is_before (c * t.exchanges + x) q) (get t.ranks q) None)) same.0
+              ∙ sym (ap (λ (y : Pair). cond (is_before (c * t.exchanges + x + 1) y) (get t.ranks y) None) same.1
+              ∙ ap (λ b. cond b (rank_at t c x) None) (lt-ltb (c * t.exchanges + x) (c * t.exchanges + x + 1) (omega arith)) ∙ ranked)
+          | inr away ↦ ap (λ b. cond b (Some r) (cond (is_before (c * t.exchanges + x) q) (get t.ranks q) None)) away.0 ∙ others q (get t.ranks q) refl away.1
+        ] ∙ sym (kept (c * t.exchanges + x + 1) q))

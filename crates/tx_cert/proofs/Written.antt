@@ -2,90 +2,79 @@
 use Rattle.std.proofs.Common.{◌≡◌, ℕ, zero, suc, ◌+◌, ◌*◌, ◌<◌, ◌≤◌, List, [], ◌∷◌, ◌++◌, length, Option, Some, None, Result, Ok, codes, refl, sym, ap, ◌∙◌, subst, arith}
 use Rattle.std.specs.Fmt.{decimal}
 use Rattle.std.specs.List.{flat_map, range_with_len}
-use Rattle.std.specs.Option.{IfSome}
-use Rattle.std.proofs.Math.Nat.{mul-le-mul_right}
 use Rattle.tx_text.specs.Frame.{header_of}
 use Rattle.tx_text.specs.Written.{IsWrittenLine, LeadsTo}
 use Rattle.tx_text.proofs.ReadBack.{reads_back}
 use Rattle.tx_text.proofs.WrittenWords.{name_word, figures_word, number_word, number_back, line_of_short, fixed_word}
 use Rattle.tx_plan.specs.Plan.{Plan, exchange_name, figures_of}
 use Rattle.tx_plan.specs.Rules.{IsPlan}
-use Rattle.tx_cert.specs.Certificate.{Certificate, no_ranks_for, rank_at, place_of, IsCertificateOf}
+use Rattle.tx_cert.specs.Certificate.{Certificate, no_ranks, no_ranks_for, rank_at, IsCertificateOf}
 use Rattle.tx_cert.specs.CertText.{declare, rank_lines, code_lines, cert_lines, ReadsBack}
 use Rattle.tx_plan.proofs.NamesBack.{exchange_back, exchange_is_name, code_back, figures_are_code}
-use Rattle.tx_cert.proofs.RanksSoFar.{so_far, IsPair, rank_is, none_yet, so_far_none, next_none, next_some, so_far_all}
+use Rattle.tx_cert.proofs.RanksSoFar.{so_far, none_yet, so_far_none, next_none, next_some, so_far_all}
 
 -- lines that lead on, one after another
 leads_on : {S W : Type 0} (f : ℕ → S → List (List ℕ) → Result S W) (v : ℕ) (a b c : S) (xs ys : List (List (List ℕ))) → LeadsTo f v a xs b → LeadsTo f v b ys c → LeadsTo f v a (xs ++ ys) c
 leads_on f v a b c [] ys h k = subst (λ s. LeadsTo f v s ys c) (sym h) k
 leads_on f v a b c (x ∷ xs) ys h k = (h.0, h.1, h.2, h.3, h.4, leads_on f v h.0 b c xs ys h.5 k)
 
--- the place of a pair is one of the certificate
-place_in : (rows width c x : ℕ) → c < rows → x < width → c * width + x < rows * width
-place_in rows width c x h k = let m = mul-le-mul_right {m = c + 1} {n = rows} width (omega (arith, h)) in omega (arith, m, k)
-
 module _ (p : Plan) (t : Certificate) (h : IsPlan p) (k : IsCertificateOf p t) where
-  pair_at : (c x : ℕ) → c < length p.codes → x < length p.exchanges → IsPair t c x
-  pair_at c x l m =
-      let a : c < t.codes = rw k.codes l in
-      let b : x < t.exchanges = rw k.exchanges m in
-      record { code = a; exchange = b; within = rw k.whole.places (place_in t.codes t.exchanges c x a b) }
+  -- how many pairs stand before this one
+  abbrev place : ℕ → ℕ → ℕ
+  place c x = c * t.exchanges + x
+
+  within : (x : ℕ) → x < length p.exchanges → x < t.exchanges
+  within x m = rw k.exchanges m
 
   -- the line of a rank
   declared_rank : (c x r : ℕ) → c < length p.codes → x < length p.exchanges → rank_at t c x ≡ Some r → r ≤ 65535
-      → declare p 1 (so_far t (place_of t c x)) (codes "RANK" ∷ figures_of p c ∷ exchange_name p x ∷ decimal r ∷ []) ≡ Ok (so_far t (place_of t c x + 1))
+      → declare p 1 (so_far t (place c x)) (codes "RANK" ∷ figures_of p c ∷ exchange_name p x ∷ decimal r ∷ []) ≡ Ok (so_far t (place c x + 1))
   unfolding declare
   declared_rank c x r l m e small =
       let code = (code_back p h c l).back in
       let exchange = (exchange_back p h x m).back in
       let number = number_back 65535 r small (omega arith) in
-      let none = none_yet t c x (pair_at c x l m) in
-      rw (code, exchange, number, none) (ap Ok (next_some t c x r (pair_at c x l m) e))
+      let none = none_yet t k.rules c x (within x m) in
+      rw (code, exchange, number, none) (ap Ok (next_some t k.rules c x (within x m) r e))
 
   rank_written : (c x r : ℕ) → c < length p.codes → x < length p.exchanges → r ≤ 65535 → IsWrittenLine (codes "RANK" ∷ figures_of p c ∷ exchange_name p x ∷ decimal r ∷ [])
   rank_written c x r l m small =
       line_of_short _ (fixed_word (codes "RANK") refl, (figures_word 2 3 (figures_of p c) (omega arith) (omega arith) (figures_are_code p h c l), (name_word (exchange_name p x) (exchange_is_name p h x m), (number_word r (omega (arith, small)), tt)))) (omega arith)
 
-  small_at : (c x r : ℕ) → c < length p.codes → x < length p.exchanges → rank_at t c x ≡ Some r → r ≤ 65535
-  small_at c x r l m e =
-      let q = pair_at c x l m in
-      let s = k.whole.small (place_of t c x) None q.within in
-      subst (λ o. IfSome o (λ n. n ≤ 65535)) (sym (rank_is t c x q) ∙ e) s
-
   -- at one pair
   pair_by : (c x : ℕ) (o : Option ℕ) → c < length p.codes → x < length p.exchanges → rank_at t c x ≡ o
-      → LeadsTo (declare p) 1 (so_far t (place_of t c x)) (rank_lines p c x o) (so_far t (place_of t c x + 1))
-  pair_by c x None l m e = next_none t c x (pair_at c x l m) e
+      → LeadsTo (declare p) 1 (so_far t (place c x)) (rank_lines p c x o) (so_far t (place c x + 1))
+  pair_by c x None l m e = next_none t k.rules c x (within x m) e
   pair_by c x (Some r) l m e =
-      let s = small_at c x r l m e in
-      (so_far t (place_of t c x + 1), declared_rank c x r l m e s, refl, omega arith, rank_written c x r l m s, refl)
+      let s = (k.rules c x r e).small in
+      (so_far t (place c x + 1), declared_rank c x r l m e s, refl, omega arith, rank_written c x r l m s, refl)
 
   -- at some exchanges, for one code
   code_leads : (c x n : ℕ) → c < length p.codes → x + n ≡ length p.exchanges
-      → LeadsTo (declare p) 1 (so_far t (place_of t c x)) (code_lines p t c (range_with_len x n)) (so_far t (place_of t (c + 1) 0))
+      → LeadsTo (declare p) 1 (so_far t (place c x)) (code_lines p t c (range_with_len x n)) (so_far t (place (c + 1) 0))
   code_leads c x zero l e =
-      let s : place_of t c x ≡ place_of t (c + 1) 0 = (let q = k.exchanges in omega (arith, q, e)) in
+      let s : place c x ≡ place (c + 1) 0 = (let q = k.exchanges in omega (arith, q, e)) in
       ap (so_far t) s
   code_leads c x (suc n) l e =
-      let s : place_of t c x + 1 ≡ place_of t c (x + 1) = omega arith in
-      leads_on (declare p) 1 (so_far t (place_of t c x)) (so_far t (place_of t c x + 1)) (so_far t (place_of t (c + 1) 0)) (rank_lines p c x (rank_at t c x)) (code_lines p t c (range_with_len (x + 1) n))
+      let s : place c x + 1 ≡ place c (x + 1) = omega arith in
+      leads_on (declare p) 1 (so_far t (place c x)) (so_far t (place c x + 1)) (so_far t (place (c + 1) 0)) (rank_lines p c x (rank_at t c x)) (code_lines p t c (range_with_len (x + 1) n))
       (pair_by c x (rank_at t c x) l (omega (arith, e)) refl)
-      (subst (λ i. LeadsTo (declare p) 1 (so_far t i) (code_lines p t c (range_with_len (x + 1) n)) (so_far t (place_of t (c + 1) 0))) (sym s) (code_leads c (x + 1) n l (omega (arith, e))))
+      (subst (λ i. LeadsTo (declare p) 1 (so_far t i) (code_lines p t c (range_with_len (x + 1) n)) (so_far t (place (c + 1) 0))) (sym s) (code_leads c (x + 1) n l (omega (arith, e))))
 
   -- for some codes
   codes_lead : (c n : ℕ) → c + n ≡ length p.codes
-      → LeadsTo (declare p) 1 (so_far t (place_of t c 0)) (flat_map (λ i. code_lines p t i (range_with_len 0 (length p.exchanges))) (range_with_len c n)) t
+      → LeadsTo (declare p) 1 (so_far t (place c 0)) (flat_map (λ i. code_lines p t i (range_with_len 0 (length p.exchanges))) (range_with_len c n)) t
   codes_lead c zero e =
-      so_far_all t (place_of t c 0) (let q = k.codes in let s : c ≡ t.codes = omega (arith, q, e) in rw (s, k.whole.places) (omega arith))
+      let q = k.codes in let s : c ≡ t.codes = omega (arith, q, e) in let n : place c 0 ≡ t.codes * t.exchanges = rw s (omega arith) in ap (so_far t) n ∙ so_far_all t k.rules
   codes_lead c (suc n) e =
-      leads_on (declare p) 1 (so_far t (place_of t c 0)) (so_far t (place_of t (c + 1) 0)) t (code_lines p t c (range_with_len 0 (length p.exchanges))) _
+      leads_on (declare p) 1 (so_far t (place c 0)) (so_far t (place (c + 1) 0)) t (code_lines p t c (range_with_len 0 (length p.exchanges))) _
       (code_leads c 0 (length p.exchanges) (omega (arith, e)) (omega arith))
       (codes_lead (c + 1) n (omega (arith, e)))
 
-  nothing_yet : no_ranks_for p ≡ so_far t (place_of t 0 0)
+  nothing_yet : no_ranks_for p ≡ so_far t (place 0 0)
   nothing_yet =
-      let a = k.codes in let b = k.exchanges in let d = k.whole.places in
-      rw (← a, ← b, ← d) (sym (so_far_none t (place_of t 0 0) (omega arith)))
+      let first : 0 ≡ place 0 0 = omega arith in
+      (λ i. no_ranks (sym k.codes i) (sym k.exchanges i)) ∙ sym (so_far_none t) ∙ ap (so_far t) first
 
   lines_lead : LeadsTo (declare p) 1 (no_ranks_for p) (cert_lines p t) t
   lines_lead = subst (λ s. LeadsTo (declare p) 1 s (cert_lines p t) t) (sym nothing_yet) (codes_lead 0 (length p.codes) (omega arith))

@@ -1,3 +1,4 @@
 pub mod Certificate
 pub mod CertText
 pub mod CertFaults
+pub mod inner

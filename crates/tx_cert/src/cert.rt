@@ -1,6 +1,6 @@
 // Certificates.
-ghost use Rattle.std.specs.Prelude.{◌≡◌, ◌<◌, ◌≤◌, IfOk};
-ghost use Rattle.tx_cert.specs.Certificate.{no_ranks, no_ranks_for, rank_at, with_rank, IsWhole};
+ghost use Rattle.std.specs.Prelude.{◌≡◌, ◌<◌, ◌≤◌, IfOk, IfSome};
+ghost use Rattle.tx_cert.specs.Certificate.{no_ranks, no_ranks_for, rank_at, with_rank, IsCertificate};
 
 use std::alloc::{Allocator, Global};
 use std::marker::Model;
@@ -16,13 +16,16 @@ pub struct Cert<A: Allocator = Global> {
 }
 
 impl<A: Allocator> Model for Cert<A> {
-    ghost use Rattle.tx_cert.specs.Certificate.{Certificate, IsWhole};
+    ghost use Rattle.tx_cert.specs.Certificate.{Certificate};
+    ghost use Rattle.tx_cert.specs.inner.Table.{certificate_of, certificate_code, IsTable};
 
     ghost Value = { Certificate };
 
-    ghost view = { λ t. record { codes = t.codes; exchanges = t.exchanges; ranks = t.ranks.items } };
+    ghost coded = { certificate_code };
 
-    ghost invariant = { λ t. IsWhole (record { codes = t.codes; exchanges = t.exchanges; ranks = t.ranks.items }) };
+    ghost view = { λ t. certificate_of (record { codes = t.codes; exchanges = t.exchanges; ranks = t.ranks.items }) };
+
+    ghost invariant = { λ t. IsTable (record { codes = t.codes; exchanges = t.exchanges; ranks = t.ranks.items }) };
 }
 
 impl<A: Allocator> Cert<A> {
@@ -48,9 +51,9 @@ impl<A: Allocator> Cert<A> {
         })
     }
 
-    /// It has a place for each pair, and no rank is above 65,535. Does nothing: its callers' proofs name it.
-    pub fn whole(&self)
-        ensures { IsWhole self.now }
+    /// Only its own codes and exchanges are ranked, and no rank is above 65,535. Does nothing: its callers' proofs name it.
+    pub fn rules(&self)
+        ensures { IsCertificate self.now }
     {
         let _ = &self.ranks;
     }
@@ -66,7 +69,9 @@ impl<A: Allocator> Cert<A> {
 
     /// The rank of the exchange for the code, if it has one; none for a foreign code or exchange.
     pub fn rank(&self, code: CodeId, exchange: ExchangeId) -> Option<u16>
-        ensures { result ≡ rank_at self.now code exchange }
+        ensures rank { result ≡ rank_at self.now code exchange }
+        ensures code { IfSome result (λ _. code < self.now.codes) }
+        ensures exchange { IfSome result (λ _. exchange < self.now.exchanges) }
     {
         if code.index() < self.codes && exchange.index() < self.exchanges {
             self.ranks[code.index() * self.exchanges + exchange.index()]

@@ -122,7 +122,7 @@ fn read_lines<A: Allocator, R: Source>(
             },
             Ok(FrameStep::End) => {
                 drop(frame);
-                cert.whole();
+                cert.rules();
                 return Ok(cert);
             }
             Err(stop) => {

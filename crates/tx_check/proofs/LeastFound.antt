@@ -17,7 +17,7 @@ use Rattle.tx_plan.proofs.Absent.{short_code}
 use Rattle.tx_plan.proofs.Ambiguity.{ambiguous-none, ambiguous-some}
 use Rattle.tx_plan.proofs.ByPlace.{entry_at}
 use Rattle.tx_plan.proofs.NamesBack.{code_back, figures_are_code}
-use Rattle.tx_check.specs.LeastPair.{begins, places_cmp, comes_first, lesser_of, with_pair, IsLeastOf, SeenBelow, IsLeastBelow}
+use Rattle.tx_check.specs.inner.LeastPair.{begins, places_cmp, comes_first, lesser_of, with_pair, IsLeastOf, SeenBelow, IsLeastBelow}
 
 module _ (p : Plan) where
   places_total : IsTotalOrder (places_cmp p)

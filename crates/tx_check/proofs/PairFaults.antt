@@ -8,7 +8,7 @@ use Rattle.tx_plan.specs.Routes.{route_list}
 use Rattle.tx_check.specs.declared.fault.CheckFault.{CheckFault}
 use Rattle.tx_check.specs.declared.fault.CheckFault.TheVariants.{Short, TargetUnranked, NotLower}
 use Rattle.tx_check.specs.Checks.{rank_away, rank_beyond, is_at_least, fault_if, foremost, too_short_at, target_unranked_at, not_lower_at}
-use Rattle.tx_check.specs.Firsts.{firsts_of}
+use Rattle.tx_check.specs.inner.Firsts.{firsts_of}
 use Rattle.tx_check.proofs.Finding.{first_member}
 
 pub pair_firsts : (p : Plan) (ranks : Ranks) (spare c x rank : ℕ) (gs : List ℕ) (u v : Option ℕ) (a b d : Option CheckFault) → rank_away p ranks c x ≡ Some rank → gs ≡ route_list p x c

@@ -1,4 +1,3 @@
 pub mod Checks
-pub mod Firsts
-pub mod LeastPair
 pub mod Verdicts
+pub mod inner

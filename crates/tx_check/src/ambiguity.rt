@@ -2,7 +2,7 @@
 ghost use Rattle.std.specs.Prelude.{◌≡◌, ◌+◌, ◌<◌, length};
 ghost use Rattle.tx_plan.specs.Ambiguous.{ambiguous_of};
 ghost use Rattle.tx_plan.specs.Codes.{is_prefix};
-ghost use Rattle.tx_check.specs.LeastPair.{begins, comes_first, with_pair, IsLeastBelow};
+ghost use Rattle.tx_check.specs.inner.LeastPair.{begins, comes_first, with_pair, IsLeastBelow};
 
 use std::alloc::Allocator;
 use std::cmp::{Ord, Ordering};

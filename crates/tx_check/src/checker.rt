@@ -12,7 +12,6 @@ use crate::verdict::Verdict;
 use std::alloc::Allocator;
 use tx_cert::Cert;
 use tx_plan::Plan;
-use tx_state::certified_is_sound;
 
 /// Whether the plan is certified by the ranks of the certificate, for at most `limit` transits (0 to 62, ITU-T F.68) and `spare` groups to spare (0 to 15).
 ///
@@ -29,7 +28,6 @@ pub fn check<A: Allocator>(plan: &Plan<A>, cert: &Cert<A>, limit: u8, spare: u8)
     ensures few_routes { result ≡ Verdict.Yes → HasFewRoutes plan.now limit }
 {
     plan.rules();
-    certified_is_sound();
     match first_fault(plan, cert, limit, spare) {
         None => Verdict::Yes,
         Some(fault) => Verdict::No(fault),

@@ -1,7 +1,7 @@
 // The faults of route lists.
 ghost use Rattle.std.specs.Prelude.{◌≡◌, ◌||◌, is_none, find, length, nat_le, option_map};
 ghost use Rattle.tx_check.specs.declared.fault.CheckFault.TheVariants.{Short, TargetUnranked, NotLower};
-ghost use Rattle.tx_check.specs.Firsts.{firsts_of, or_later};
+ghost use Rattle.tx_check.specs.inner.Firsts.{firsts_of, or_later};
 ghost use Rattle.tx_check.specs.Checks.{ranks_for, foremost, fault_if, at_pairs, at_exchanges, is_at_least, rank_beyond, too_short_at, target_unranked_at, not_lower_at, too_short_faults, target_unranked_faults, not_lower_faults};
 
 use crate::fault::CheckFault;
@@ -19,7 +19,7 @@ pub(crate) struct Firsts {
 }
 
 impl Firsts {
-    ghost use Rattle.tx_check.specs.Firsts.{firsts_or};
+    ghost use Rattle.tx_check.specs.inner.Firsts.{firsts_or};
     ghost use Rattle.std.specs.Prelude.{[]};
 
     /// Nothing was found.

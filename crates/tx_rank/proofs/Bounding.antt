@@ -1,10 +1,9 @@
 -- Bounds of what holds together, and those that ranks by height show.
-use Rattle.std.proofs.Common.{◌≡◌, ◌≢◌, ℕ, zero, suc, ◌+◌, ◌<◌, ◌≤◌, inl, inr, max, min, true, false, nat_lt, unwrap_or, eqb, eqb-true, List, [], ◌∷◌, ◌++◌, length, Option, Some, None, refl, sym, ap, subst, ◌∙◌, arith, length-append}
-use Rattle.std.specs.Prelude.{◌↔◌, slice_get, if◌then◌else◌}
-use Rattle.std.proofs.lemmas.Bool.{cases_lt, eqb-false, and_parts, ltb-true}
+use Rattle.std.proofs.Common.{◌≡◌, ◌≢◌, ℕ, zero, suc, ◌+◌, ◌<◌, ◌≤◌, inl, inr, max, min, true, false, eqb, eqb-true, List, [], ◌∷◌, ◌++◌, length, Option, Some, refl, sym, ap, subst, ◌∙◌, arith, length-append}
+use Rattle.std.specs.Prelude.{◌↔◌, slice_get}
+use Rattle.std.proofs.lemmas.Bool.{cases_lt, eqb-false}
 use Rattle.tx_plan.specs.Plan.{Plan}
 use Rattle.tx_plan.specs.Certified.{Ranks, IsCertified}
-use Rattle.tx_cert.specs.Certificate.{Certificate, rank_at, has_pair, place_of}
 use Rattle.tx_rank.specs.declared.bounds.Bounds.{Bounds}
 use Rattle.tx_rank.specs.declared.finding.Finding.TheVariants.{Short, Long}
 use Rattle.tx_rank.specs.Walks.{Net, net_of, Goes, end_of, IsShort, IsLong}
@@ -120,14 +119,6 @@ module _ (n : Net) (ranks : ℕ → Option ℕ) where
     code_bounds i b within p =
         bounds_same (SuitsBelow n ranks i) (λ l s. (other : ℕ → Option ℕ) × Certifies n other l s) b p
         (λ l s. (λ k. (ranks, suits_certified l s (λ x r ranked away. k x (within x r ranked) r ranked away)), λ k x _. certified_suits k.0 l s k.1 x))
-
--- only exchanges of the certificate are ranked in it
-pub rank_within : (t : Certificate) (c x r : ℕ) → rank_at t c x ≡ Some r → x < t.exchanges
-rank_within t c x r h =
-    elim (has_pair t c x) as (λ b. has_pair t c x ≡ b → (if b then unwrap_or (slice_get t.ranks (place_of t c x)) None else None) ≡ Some r → x < t.exchanges) [
-      | true ↦ λ e _. ltb-true x t.exchanges (and_parts (nat_lt c t.codes) (nat_lt x t.exchanges) e).1
-      | false ↦ λ e q. absurd (let bad : ⊥ = cc in bad)
-    ] refl h
 
 -- ALL CODES
 

@@ -1,13 +1,13 @@
 -- The findings of a plan, code after code.
-use Rattle.std.proofs.Common.{◌≡◌, ◌≢◌, ℕ, zero, suc, ◌+◌, ◌*◌, ◌<◌, ◌≤◌, true, false, eqb, eqb-true, List, [], ◌∷◌, ◌++◌, length, map, replicate, inl, inr, Option, Some, None, unwrap_or, refl, sym, ap, subst, ◌∙◌, arith, append_assoc, append-nil}
-use Rattle.std.specs.Prelude.{slice_get, if◌then◌else◌}
+use Rattle.std.proofs.Common.{◌≡◌, ◌≢◌, ℕ, zero, suc, ◌+◌, ◌<◌, ◌≤◌, true, false, eqb, eqb-true, List, [], ◌∷◌, ◌++◌, length, map, inl, inr, Option, Some, None, refl, sym, ap, subst, ◌∙◌, arith, append_assoc, append-nil}
 use Rattle.std.proofs.lemmas.Bool.{eqb-false}
 use Rattle.std.specs.List.{AllByRecursion}
 use Rattle.tx_plan.specs.Plan.{Plan}
 use Rattle.tx_plan.specs.Ambiguous.{ambiguous_of}
 use Rattle.tx_plan.specs.Certified.{IsCertified}
 use Rattle.tx_plan.specs.Among.{Among}
-use Rattle.tx_cert.specs.Certificate.{Certificate, rank_at, has_pair, no_ranks, no_ranks_for, ranks_of}
+use Rattle.tx_cert.specs.Certificate.{Certificate, rank_at, no_ranks_for, ranks_of}
+use Rattle.tx_cert.proofs.Ranks.{none_ranked}
 use Rattle.tx_rank.specs.declared.finding.Finding.{Finding}
 use Rattle.tx_rank.specs.declared.finding.Finding.TheVariants.{Short}
 use Rattle.tx_rank.specs.Walks.{Walk, net_of, IsShort}
@@ -71,18 +71,6 @@ module _ {A : Type 0} (p : Plan) (limit spare : ℕ) where
   some_true (f ∷ fs) all some none = none f all.0
 
 -- CODE AFTER CODE
-
-blank_ranks : (k i : ℕ) → unwrap_or (slice_get (replicate {A = Option ℕ} k None) i) None ≡ None
-blank_ranks zero i = refl
-blank_ranks (suc k) zero = refl
-blank_ranks (suc k) (suc i) = blank_ranks k i
-
-none_ranked : (codes exchanges d x : ℕ) → rank_at (no_ranks codes exchanges) d x ≡ None
-none_ranked codes exchanges d x =
-    elim (has_pair (no_ranks codes exchanges) d x) as (λ b. (if b then unwrap_or {T = Option ℕ} (slice_get (replicate (codes * exchanges) None) (d * exchanges + x)) None else None) ≡ None) [
-      | true ↦ blank_ranks (codes * exchanges) (d * exchanges + x)
-      | false ↦ refl
-    ]
 
 module _ {A : Type 0} (p : Plan) (limit spare : ℕ) where
   -- before the first code

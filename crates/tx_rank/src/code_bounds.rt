@@ -41,6 +41,7 @@ pub fn code_bounds<A: Allocator>(plan: &Plan<A>, cert: &Cert<A>, code: CodeId) -
     ensures { AreBounds (CanBeCertifiedFor plan.now code) result }
 {
     plan.rules();
+    cert.rules();
     let mut bounds = Bounds::widest();
     for place in 0..plan.exchanges() {
         let exchange = ExchangeId::at(place as u16);

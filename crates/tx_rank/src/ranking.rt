@@ -117,7 +117,7 @@ pub fn rank<A: Allocator + Copy>(
     let mut findings = pair_found(alloc, plan)?;
     let cert = rank_codes(alloc, plan, limit, spare, &mut findings)?;
     if findings.is_empty() {
-        cert.whole();
+        cert.rules();
         return Ok(Ranking::Found(cert));
     }
     Ok(Ranking::Fails(findings))

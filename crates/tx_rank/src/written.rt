@@ -28,7 +28,6 @@ fn put_rank<A: Allocator, N: Routes>(
     ensures codes { cert.new.codes ≡ cert.old.codes }
     ensures exchanges { cert.new.exchanges ≡ cert.old.exchanges }
 {
-    cert.whole();
     let exchange = net.exchange(place);
     match rank_at(marks, exchange) {
         Some(rank) => cert.set(code, exchange, rank),

@@ -16,7 +16,7 @@ use Rattle.tx_plan.specs.Ambiguous.{pair_at, pair_cmp, ambiguous_of, IsAmbiguous
 use Rattle.tx_plan.proofs.Ambiguity.{ambiguous-none, ambiguous-some}
 use Rattle.tx_trie.specs.declared.node.Node.{Node}
 use Rattle.tx_trie.specs.inner.Nodes.{IsTrie, look}
-use Rattle.tx_trie.specs.Least.{IsLeastPair, IsLeastBelow}
+use Rattle.tx_trie.specs.inner.Least.{IsLeastPair, IsLeastBelow}
 use Rattle.tx_trie.proofs.Prefixes.{prefix_is_take, take_is_prefix}
 use Rattle.tx_trie.proofs.Longest.{widths, found, one_code}
 

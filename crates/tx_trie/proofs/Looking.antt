@@ -10,7 +10,7 @@ use Rattle.tx_plan.specs.Plan.{Code}
 use Rattle.tx_trie.specs.declared.node.Node.{Node}
 use Rattle.tx_trie.specs.declared.row.Row.{Row}
 use Rattle.tx_trie.specs.inner.Nodes.{IsTrie, look, code_of_row}
-use Rattle.tx_trie.specs.Least.{IsLeastPair, IsLeastBelow}
+use Rattle.tx_trie.specs.inner.Least.{IsLeastPair, IsLeastBelow}
 use Rattle.tx_trie.proofs.LeastPair.{alone, first_pair, lesser_pair, greater_pair}
 
 pub row_at : (rows : List Row) (n : ℕ) (r : Row) → n < length rows → r ≡ get_or rows n r → slice_get (map code_of_row rows) n ≡ Some (code_of_row r)

@@ -1,4 +1,3 @@
 pub mod Trie
-pub mod Least
 pub mod CodesText
 pub mod inner

@@ -5,7 +5,7 @@ ghost use Rattle.tx_plan.specs.Codes.{code_of};
 ghost use Rattle.tx_plan.specs.Rules.{is_code};
 ghost use Rattle.tx_plan.specs.Ambiguous.{ambiguous_of};
 ghost use Rattle.tx_trie.specs.Trie.{plan_of};
-ghost use Rattle.tx_trie.specs.Least.{IsLeastBelow};
+ghost use Rattle.tx_trie.specs.inner.Least.{IsLeastBelow};
 
 use crate::node::Node;
 use crate::nodes::{empty_node, last_code, look, reach};

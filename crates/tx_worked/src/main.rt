@@ -18,7 +18,7 @@
 //!   `stopped-writer ROOM` counts the calls that are made before the writer fails. `starting NUMBERS EVENTS` runs from another opening state.
 //! - `certified L K` has a plan, a certificate and a script, whose events are driven after a Yes of the checker, and again with memory refused in between.
 //! - The kinds of these two points, and the laws of a run of `both`, are played over the plain network and over the engine, which has to tell the same.
-//! - `cert` has a plan and a certificate, and `plan` a plan, which are written and read back.
+//! - `cert` has a plan and a certificate, and `plan` a plan, which are written and read back. A new certificate of the plan is written before.
 #![tactic(auto)]
 
 mod cases;

@@ -1,10 +1,10 @@
 // Certificates and plans that are written and read back.
 use crate::cases::{Refusing, Told, tell, tell_broken};
 use std::alloc::{Allocator, Global};
-use tx_cert::{Cert, CertFault, CertWord, read_cert, write_cert};
+use tx_cert::{Cert, CertFault, CertWord, read_cert, read_cert_from, write_cert};
 use tx_plan::{CodeId, ExchangeId, Plan};
 use tx_plantext::{read_plan, write_plan};
-use tx_text::{FaultKind, FrameFault, LineFault, TextFault};
+use tx_text::{FaultKind, FrameFault, LineFault, MemorySource, TextFault};
 
 /// Whether two certificates of the plan give the same ranks.
 fn same_ranks(plan: &Plan, one: &Cert, other: &Cert) -> bool {
@@ -21,15 +21,41 @@ fn same_ranks(plan: &Plan, one: &Cert, other: &Cert) -> bool {
     true
 }
 
-/// Whether a text reads as a certificate.
-fn reads_as(alloc: Global, plan: &Plan, cert: &Cert, text: &[u8]) -> bool {
-    match read_cert(alloc, text, plan) {
+/// Whether what was read is a certificate with the same ranks.
+fn is_same(plan: &Plan, cert: &Cert, read: Result<Cert, CertFault>) -> bool {
+    match read {
         Ok(back) => {
             let is_same = same_ranks(plan, cert, &back);
             drop(back);
             is_same
         }
         Err(_) => false,
+    }
+}
+
+/// Whether a text reads as a certificate, from a source that gives so many bytes a call.
+fn comes_as(alloc: Global, plan: &Plan, cert: &Cert, text: &[u8], piece: usize) -> bool {
+    let mut source = MemorySource::new(text, piece.max(1), None);
+    is_same(plan, cert, read_cert_from(alloc, &mut source, plan))
+}
+
+/// Whether a text reads as a certificate, at once and in pieces.
+fn reads_as(alloc: Global, plan: &Plan, cert: &Cert, text: &[u8]) -> bool {
+    is_same(plan, cert, read_cert(alloc, text, plan))
+        && comes_as(alloc, plan, cert, text, 1)
+        && comes_as(alloc, plan, cert, text, 2)
+        && comes_as(alloc, plan, cert, text, 7)
+        && comes_as(alloc, plan, cert, text, 4096)
+}
+
+/// Writes a new certificate of the plan.
+fn write_new(alloc: Global, plan: &Plan, out: &mut Told) {
+    match Cert::new(alloc, plan) {
+        Ok(cert) => {
+            let _ = write_cert(&cert, plan, out);
+            drop(cert);
+        }
+        Err(_) => tell_broken(b"no memory", 0, out),
     }
 }
 
@@ -43,9 +69,13 @@ fn write_and_read(alloc: Global, plan: &Plan, cert: &Cert, out: &mut Told) {
     }
 }
 
-fn write_back_cert(alloc: Global, plan: &Plan, cert: &[u8], out: &mut Told) {
-    match read_cert(alloc, cert, plan) {
+/// Reads a certificate, which reads the same in pieces, and writes it.
+fn write_back_cert(alloc: Global, plan: &Plan, text: &[u8], out: &mut Told) {
+    match read_cert(alloc, text, plan) {
         Ok(cert) => {
+            if !reads_as(alloc, plan, &cert, text) {
+                tell_broken(b"not the same in pieces", 0, out);
+            }
             write_and_read(alloc, plan, &cert, out);
             drop(cert);
         }
@@ -63,15 +93,34 @@ const NO_BUFFER: CertFault = CertFault {
     kind: FaultKind::Frame(FrameFault::Line(LineFault::Text(TextFault::NoMemory))),
 };
 
-/// Whether memory is wanting for a certificate.
-fn cert_wants<A: Allocator + Copy>(alloc: A, plan: &Plan<A>, cert: &[u8]) -> bool {
-    match read_cert(alloc, cert, plan) {
+/// Whether memory is wanting for a new certificate.
+fn new_wants<A: Allocator>(alloc: A, plan: &Plan<A>) -> bool {
+    match Cert::new(alloc, plan) {
+        Ok(cert) => {
+            drop(cert);
+            false
+        }
+        Err(_) => true,
+    }
+}
+
+/// Whether memory was wanting for a certificate that was read.
+fn has_wanted<A: Allocator>(read: Result<Cert<A>, CertFault>) -> bool {
+    match read {
         Ok(cert) => {
             drop(cert);
             false
         }
         Err(fault) => fault == NO_MEMORY || fault == NO_BUFFER,
     }
+}
+
+/// Whether memory is wanting for a certificate: for a new one, or to read one, at once or in pieces.
+fn cert_wants<A: Allocator + Copy>(alloc: A, plan: &Plan<A>, cert: &[u8]) -> bool {
+    let mut source = MemorySource::new(cert, 7, None);
+    new_wants(alloc, plan)
+        || has_wanted(read_cert(alloc, cert, plan))
+        || has_wanted(read_cert_from(alloc, &mut source, plan))
 }
 
 /// Whether memory is wanting for a plan, which is a good one, or for its certificate.
@@ -100,10 +149,12 @@ fn try_refusals(alloc: Global, plan: &[u8], cert: &[u8], out: &mut Told) {
     }
 }
 
-/// Reads a certificate of a plan and writes it, reads back what was written, and refuses each request for memory.
+/// Writes a new certificate of a plan, reads one and writes it, reads back what was written, and
+/// refuses each request for memory.
 pub(crate) fn play_cert(alloc: Global, plan: &[u8], cert: &[u8], out: &mut Told) {
     match read_plan(alloc, plan) {
         Ok(plan) => {
+            write_new(alloc, &plan, out);
             write_back_cert(alloc, &plan, cert, out);
             drop(plan);
         }

@@ -68,7 +68,7 @@ returns-in-Ok-End-clause-gives g c =
 pub returns-in-Ok-End-clause-fits : goal.returns-in-Ok-End-clause-fits
 returns-in-Ok-End-clause-fits g c =
     let i = c.lines.invariant in
-    record { codes = i.codes; exchanges = i.exchanges; whole = c.whole.ensures }
+    record { codes = i.codes; exchanges = i.exchanges; rules = c.rules.ensures }
 
 pub returns-in-Err-clause-gives : goal.returns-in-Err-clause-gives
 returns-in-Err-clause-gives g c =

@@ -1,4 +1,4 @@
-use Rattle.tx_check.specs.LeastPair.{IsLeastBelow}
+use Rattle.tx_check.specs.inner.LeastPair.{IsLeastBelow}
 use Rattle.tx_check.proofs.ambiguity.ambiguous.Given as goal
 
 abbrev pub invariant-loop-place : goal.invariant-loop-place

@@ -1,4 +1,4 @@
-use Rattle.tx_check.specs.LeastPair.{IsLeastOf}
+use Rattle.tx_check.specs.inner.LeastPair.{IsLeastOf}
 use Rattle.tx_check.proofs.LeastFound.{SeenUpTo}
 use Rattle.tx_check.proofs.ambiguity.least_with.Given as goal
 

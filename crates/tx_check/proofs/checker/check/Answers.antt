@@ -1,4 +1,6 @@
 use Rattle.std.proofs.Common.{refl}
+use Rattle.tx_state.proofs.Sound.{sound}
+use Rattle.tx_state.proofs.Counts.{few_routes}
 use Rattle.tx_check.specs.Checks.{check_faults, ranks_for}
 use Rattle.tx_check.proofs.Judging.{yes_of, no_of, certified_from, not_certified}
 use Rattle.tx_check.proofs.checker.check.Goals as goal
@@ -12,8 +14,8 @@ returns-in-None g c =
       verdict = yes_of (check_faults p (ranks_for p t) c.args.limit c.args.spare) c.in-None.ensures;
       certified = λ _. is;
       yes = λ _. refl;
-      sound = λ _. c.certified_is_sound.ensures.sound p (ranks_for p t) c.args.limit c.args.spare c.rules.ensures is;
-      few_routes = λ _. c.certified_is_sound.ensures.few_routes p (ranks_for p t) c.args.limit c.args.spare c.rules.ensures is;
+      sound = λ _. sound p c.rules.ensures (ranks_for p t) c.args.limit c.args.spare is;
+      few_routes = λ _. few_routes p c.rules.ensures (ranks_for p t) c.args.limit c.args.spare is;
     }
 
 pub returns-in-Some : goal.returns-in-Some

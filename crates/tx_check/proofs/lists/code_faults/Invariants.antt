@@ -1,7 +1,7 @@
 use Rattle.std.proofs.Common.{◌≡◌}
 use Rattle.std.specs.List.{flat_map, range_with_len}
 use Rattle.tx_check.specs.Checks.{ranks_for, too_short_at, target_unranked_at, not_lower_at}
-use Rattle.tx_check.specs.Firsts.{firsts_of}
+use Rattle.tx_check.specs.inner.Firsts.{firsts_of}
 use Rattle.tx_check.proofs.lists.code_faults.Given as goal
 
 abbrev pub invariant-loop-place : goal.invariant-loop-place

@@ -46,7 +46,7 @@ returns-clause-wherever g c = λ ranks cert.
     some_true c.args.plan.now c.args.limit c.args.spare findings.items each some (none_true c.args.plan.now ranks c.args.limit c.args.spare cert)
 
 pub returns-then-is_empty-clause-fits : goal.returns-then-is_empty-clause-fits
-returns-then-is_empty-clause-fits g c = record { codes = c.in_ok-cert.ensures.codes; exchanges = c.in_ok-cert.ensures.exchanges; whole = c.whole.ensures }
+returns-then-is_empty-clause-fits g c = record { codes = c.in_ok-cert.ensures.codes; exchanges = c.in_ok-cert.ensures.exchanges; rules = c.rules.ensures }
 
 pub returns-then-is_empty-clause-wherever : goal.returns-then-is_empty-clause-wherever
 returns-then-is_empty-clause-wherever g c = λ ranks cert. tt

@@ -3,7 +3,7 @@ use Rattle.std.proofs.lemmas.List.{length-map}
 use Rattle.tx_plan.specs.Plan.{Code}
 use Rattle.tx_plan.specs.Ambiguous.{ambiguous_of}
 use Rattle.tx_trie.specs.inner.Nodes.{code_of_row}
-use Rattle.tx_trie.specs.Least.{IsLeastBelow}
+use Rattle.tx_trie.specs.inner.Least.{IsLeastBelow}
 use Rattle.tx_trie.proofs.LeastPair.{least_of_all}
 use Rattle.tx_trie.proofs.trie.CodeTrie.ambiguous.Goals as goal
 

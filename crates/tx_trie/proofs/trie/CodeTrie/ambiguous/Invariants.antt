@@ -1,4 +1,4 @@
-use Rattle.tx_trie.specs.Least.{IsLeastBelow}
+use Rattle.tx_trie.specs.inner.Least.{IsLeastBelow}
 use Rattle.tx_trie.proofs.trie.CodeTrie.ambiguous.Given as goal
 
 abbrev pub invariant-loop-place : goal.invariant-loop-place
