@@ -70,13 +70,6 @@ answers_none false true e h = absurd (let bad : ⊥ = cc in bad)
 answers_none false false true h = absurd (let bad : ⊥ = cc in bad)
 answers_none false false false h = (refl, refl, refl)
 
--- one that answers is out of order, away or engaged
-pub answers_some : (f a e : Bool) (s : Service) → service_of f a e ≡ Some s → (f || (a || e)) ≡ true
-answers_some true a e s h = refl
-answers_some false true e s h = refl
-answers_some false false true s h = refl
-answers_some false false false s h = absurd (let bad : ⊥ = cc in bad)
-
 -- WHAT A DECISION TO SEIZE TELLS
 by_line-seize : (b : Bool) (l : Line) (x : Circuit) (pl : ℕ) → by_line b l ≡ Seize x pl → ⊥
 by_line-seize false l x pl e = cc

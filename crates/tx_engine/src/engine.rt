@@ -68,7 +68,7 @@ impl<'p, A: Allocator + Copy> Engine<'p, A> {
         Ok(Engine { parts })
     }
 
-    /// A line calls. Where there is room for its call, it is looked up once.
+    /// A line calls. Where there is room for its call, its refusals are told on the way.
     #[inline(always)]
     fn key(&mut self, line: Line, keyed: Figures) -> Result<Reply, NoMemory>
         ensures plan { self.new.plan ≡ self.old.plan }

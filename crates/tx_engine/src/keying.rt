@@ -9,7 +9,6 @@ ghost use Rattle.tx_engine.specs.inner.Sound.{IsSound, IsReady, HasTicketRoom, s
 use crate::parts::Parts;
 use crate::tickets::{has_ticket_room, reserve_tickets};
 use std::alloc::Allocator;
-use tx_lines::Side;
 use tx_plan::Line;
 use tx_state::{OpenCall, Phase, Refusal, Reply};
 use tx_text::{Figures, NoMemory};
@@ -29,7 +28,7 @@ impl<'p, A: Allocator + Copy> Parts<'p, A> {
         self.key_in_room(line, keyed)
     }
 
-    /// A line calls, unless that is refused, where there is room for its call. It is looked up once.
+    /// A line calls, unless that is refused, where there is room for its call.
     #[inline(always)]
     pub(crate) fn key_in_room(&mut self, line: Line, keyed: Figures) -> Result<Reply, NoMemory>
         requires sound { IsSound self.old }
@@ -46,13 +45,15 @@ impl<'p, A: Allocator + Copy> Parts<'p, A> {
         if !self.lines.has(&line) {
             return Ok(Reply::Refused(Refusal::UnknownLine));
         }
-        let status = self.lines.join(&line, Side::Caller)?;
+        let status = self.lines.status(&line);
         if status.engaged {
             return Ok(Reply::Refused(Refusal::LineEngaged));
         }
         if status.faulty {
             return Ok(Reply::Refused(Refusal::LineOutOfOrder));
         }
+        self.lines.reserve_one()?;
+        self.lines.engage(&line);
         let number = self.numbers + 1;
         let call = OpenCall {
             number,

@@ -13,7 +13,7 @@ ghost use Rattle.tx_engine.specs.inner.Sound.{IsSound, state_of};
 use crate::decision::{Decision, decide};
 use crate::parts::Parts;
 use std::alloc::Allocator;
-use tx_lines::{Side, Status};
+use tx_lines::Status;
 use tx_plan::{Circuit, ExchangeId, Line};
 use tx_state::{Cause, Phase, Reply, Service};
 use tx_text::NoMemory;
@@ -82,10 +82,11 @@ impl<'p, A: Allocator + Copy> Parts<'p, A> {
         ensures ok { IfOk result (λ reply. (k : Kept) → kept_at self.old.calls key ≡ Some k → counted (carry_out self.old.plan.now (state_of self.old) k.call (Reach line.now)) ≡ (reply, state_of self.new)) }
         ensures err { OnErr result (state_of self.new ≡ state_of self.old) }
     {
-        let status = self.lines.join(line, Side::Called)?;
-        match service_of(status) {
+        match service_of(self.lines.status(line)) {
             Some(service) => Ok(self.answer(key, service)),
             None => {
+                self.lines.reserve_one()?;
+                self.lines.engage(line);
                 self.calls.set_phase(key, Phase::Connected(*line));
                 self.events += 1;
                 Ok(Reply::Connected(*line))

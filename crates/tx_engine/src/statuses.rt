@@ -64,7 +64,7 @@ impl<'p, A: Allocator + Copy> Engine<'p, A> {
 /// The mark of a line that an event sets or takes away.
 fn mark_line<A: Allocator + Copy>(lines: &mut LineBook<A>, event: &Event) -> Result<(), NoMemory>
     ensures ok { OnOk result (lines.new ≡ record (marked_book event.now lines.old) { room = lines.new.room }) }
-    ensures err { OnErr result (lines.new ≡ lines.old) }
+    ensures err { OnErr result (lines.new ≡ record lines.old { room = lines.new.room }) }
     ensures memory { OnErr result (takes_memory event.now ≡ true) }
 {
     match event {
@@ -110,7 +110,6 @@ fn make_room<A: Allocator + Copy>(lines: &mut LineBook<A>, line: &Line) -> Resul
     ensures ok { OnOk result (has_status lines.old line.now ≡ false → 0 < lines.new.room) }
     ensures rest { lines.new ≡ record lines.old { room = lines.new.room } }
     ensures unasked { place_taken lines.old line.now ≤ lines.old.room → IsOk result × (lines.new ≡ lines.old) }
-    ensures err { OnErr result (lines.new ≡ lines.old) }
 {
     let status = lines.status(line);
     if status.faulty || status.away || status.engaged {

@@ -1,4 +1,2 @@
 pub mod Ordered
-pub mod Table
-pub mod Statuses
-pub mod Marks
+pub mod Kept

@@ -3,12 +3,9 @@
 
 mod answer;
 mod book;
-mod line_table;
-mod marks;
 mod ranges;
 mod status;
-mod statuses;
 
 pub use answer::LineAnswer;
 pub use book::LineBook;
-pub use status::{Side, Status};
+pub use status::Status;

@@ -1,4 +1,7 @@
 // What is known of a line.
+ghost use Rattle.std.specs.Prelude.{◌≡◌};
+ghost use Rattle.tx_lines.specs.Status.{with_mark, is_unmarked};
+
 /// A mark that a line may have.
 #[derive(Clone, Copy)]
 pub enum Mark {
@@ -15,9 +18,32 @@ pub struct Status {
     pub engaged: bool,
 }
 
-/// The side on which a line joins a call.
-#[derive(Clone, Copy)]
-pub enum Side {
-    Caller,
-    Called,
+/// No mark.
+pub const UNMARKED: Status = Status {
+    faulty: false,
+    away: false,
+    engaged: false,
+};
+
+impl Status {
+    /// Whether there is no mark.
+    pub(crate) fn is_unmarked(self) -> bool
+        ensures { result ≡ is_unmarked self }
+    {
+        !self.faulty && !self.away && !self.engaged
+    }
+
+    /// The status with the mark set or taken away.
+    pub(crate) fn with_mark(self, mark: Mark, on: bool) -> Status
+        ensures { result ≡ with_mark mark on self }
+    {
+        match mark {
+            Mark::Faulty => Status { faulty: on, ..self },
+            Mark::Away => Status { away: on, ..self },
+            Mark::Engaged => Status {
+                engaged: on,
+                ..self
+            },
+        }
+    }
 }

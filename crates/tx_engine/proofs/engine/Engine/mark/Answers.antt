@@ -1,7 +1,7 @@
 use Rattle.std.proofs.Common.{ap, ◌∙◌}
 use Rattle.tx_state.specs.State.{Net}
 use Rattle.tx_lines.specs.Book.{Book}
-use Rattle.tx_lines.proofs.Sets.{on_err}
+use Rattle.tx_text.proofs.Writing.{on_err}
 use Rattle.tx_calls.specs.Calls.{calls_in}
 use Rattle.tx_endings.specs.inner.Seen.{state_seen}
 use Rattle.tx_engine.proofs.engine.Engine.mark.Goals as goal

@@ -1,0 +1,42 @@
+-- What the kept statuses of lines mean as sets.
+use Rattle.std.specs.Prelude.{◌≡◌, ℕ, Bool, false, Some, List, filter}
+use Rattle.std.specs.Option.{option_map_or}
+use Rattle.std.specs.FinSet as set
+use Rattle.indexmap.specs.IndexMap as index
+use Rattle.indexmap.specs.IndexMap.{IndexMap}
+use Rattle.tx_plan.specs.Orders.{same_line, line_cmp}
+use Rattle.tx_entries.specs.declared.line.Line.{Line}
+use Rattle.tx_entries.specs.declared.range.LineRange.{LineRange}
+use Rattle.tx_lines.specs.Book.{Book, switched}
+use Rattle.tx_lines.specs.Status.{has, is_unmarked}
+use Rattle.tx_lines.specs.declared.status.Status.{Status}
+use Rattle.tx_lines.specs.declared.status.Mark.{Mark}
+use Rattle.tx_lines.specs.declared.status.Mark.TheVariants.{Faulty, Away, Engaged}
+
+-- the book with a mark of the line set or taken away
+abbrev pub with_mark_of : Line → Mark → Bool → Book → Book
+with_mark_of l Faulty on b = record b { faulty = switched on b.faulty l }
+with_mark_of l Away on b = record b { away = switched on b.away l }
+with_mark_of l Engaged on b = record b { engaged = switched on b.engaged l }
+
+module _ {S : Type 0} where
+  -- each line that is kept has a mark
+  abbrev pub AllMarked : IndexMap Line Status S → Type 0
+  AllMarked m = (l : Line) (s : Status) → index.get same_line m l ≡ Some s → is_unmarked s ≡ false
+
+  -- the line has a status that passes the test
+  abbrev pub passes : (Status → Bool) → IndexMap Line Status S → Line → Bool
+  passes test m l = option_map_or test (index.get same_line m l) false
+
+  -- the lines whose status passes the test
+  abbrev pub with_status : (Status → Bool) → IndexMap Line Status S → set.FinSet line_cmp
+  with_status test m = set.from_list (filter (passes test m) (index.keys m))
+
+  abbrev pub book_of : List LineRange → IndexMap Line Status S → Book
+  book_of ranges m = record {
+    ranges = ranges;
+    faulty = with_status (has Faulty) m;
+    away = with_status (has Away) m;
+    engaged = with_status (has Engaged) m;
+    room = index.spare m;
+  }
