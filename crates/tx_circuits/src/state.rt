@@ -51,11 +51,8 @@ impl State {
         ensures { result ≡ cleared self }
     {
         State {
-            seized_first: false,
-            seized_other: false,
-            carried: false,
-            releasing: false,
             out: self.out,
+            ..State::idle()
         }
     }
 

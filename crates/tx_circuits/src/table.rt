@@ -12,11 +12,13 @@ use std::marker::Model;
 use tx_plan::{Circuit, ExchangeId, GroupId, Plan};
 use tx_text::NoMemory;
 
-/// The states of all circuits of a plan. `build` alone takes memory.
+/// The states of all circuits of a plan, in one vector. `build` alone takes memory.
 ///
-/// A group keeps a list of its free circuits for each end, linked by index: rising from the least number, which the first end takes, and falling from
-/// the greatest, which the other end takes. `first_free` reads the head alone, a call that makes a circuit free at an end walks that list, and `fail` passes
-/// once over the group's circuits. No clause counts these steps.
+/// From `build` on, each group has for each of its ends a list of the circuits that are free there,
+/// linked by index: rising from the least number, which the first end takes, and falling from the
+/// greatest, which the other end takes. `first_free` reads the group's marks and the head of one list.
+/// A call that makes a circuit free at an end may walk the list of that end, and `fail` passes over
+/// the group's circuits twice. No clause counts these steps.
 #[derive(Drop)]
 pub struct CircuitTable<A: Allocator = Global> {
     groups: Groups<A>,
