@@ -1,5 +1,5 @@
 -- What contracts see of the open calls: what is kept under each key, and the calls in order of their numbers.
-use Rattle.std.specs.Prelude.{◌≡◌, ◌≢◌, ℕ, ◌-◌, ◌^◌, ◌<◌, List, [], ◌∷◌, map, nat_lt, if◌then◌else◌, Option, Some, None, slice_index_or, vec_len, vec_capacity}
+use Rattle.std.specs.Prelude.{◌≡◌, ◌≢◌, ℕ, ◌-◌, ◌<◌, List, [], ◌∷◌, map, nat_lt, if◌then◌else◌, Option, Some, None, slice_index_or, vec_len, vec_capacity}
 use Rattle.std.specs.Option.{option_map}
 use Rattle.slab.specs.Slab.{Slab, slab_len}
 use Rattle.indexmap.specs.IndexMap as index
@@ -13,18 +13,16 @@ pub record Kept : Type 0 where
   pub call : Call
   pub room : ℕ
 
--- what is kept under each key from 0 on, how many more calls and numbers there is room for, and the key of the next call
+-- what is kept under each key from 0 on, and how many more calls and numbers there is room for
 pub record Calls : Type 0 where
   pub slots : List (Option Kept)
   pub call_room : ℕ
   pub number_room : ℕ
-  pub next_key : ℕ
 
--- there is room for one more call, and a key of 32 bits for it
+-- there is room for one more call
 pub record HasRoom (v : Calls) : Type 0 where
   pub calls : 0 < v.call_room
   pub numbers : 0 < v.number_room
-  pub keys : v.next_key < 2 ^ 32
 
 -- what is kept under a key
 abbrev pub kept_at : Calls → ℕ → Option Kept
@@ -58,4 +56,4 @@ module _ {A : Type 0} where
   slots_of s = map (option_map kept_of) s.slots
 
   abbrev pub calls_of : {S : Type 0} → Slab (OpenCall A) → IndexMap ℕ ℕ S → Calls
-  calls_of s m = record { slots = slots_of s; call_room = s.capacity - slab_len s; number_room = index.spare m; next_key = s.vacant_key }
+  calls_of s m = record { slots = slots_of s; call_room = s.capacity - slab_len s; number_room = index.spare m }

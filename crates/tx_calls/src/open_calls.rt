@@ -1,5 +1,5 @@
 // The open calls, under keys and by number.
-ghost use Rattle.std.specs.Prelude.{◌≡◌, ◌<◌, ◌≤◌, ◌↔◌, ◌+◌, ◌^◌, ◌++◌, ◌∷◌, [], ℕ, not, filter, length, IsTrue, IsOk, OnOk, IfSome, IfNone, Some, None, is_some, true, vec_len, vec_capacity};
+ghost use Rattle.std.specs.Prelude.{◌≡◌, ◌<◌, ◌≤◌, ◌↔◌, ◌+◌, ◌++◌, ◌∷◌, [], ℕ, not, filter, length, IsTrue, IsOk, OnOk, IfSome, IfNone, Some, None, is_some, true, vec_len, vec_capacity};
 ghost use Rattle.tx_state.specs.Call.{Call, call_of, is_numbered};
 ghost use Rattle.tx_plan.specs.Among.{Among};
 ghost use Rattle.tx_state.specs.Routing.{in_phase, set_call};
@@ -18,11 +18,11 @@ use tx_entries::ByWord;
 use tx_state::{Hop, OpenCall, Phase};
 use tx_text::NoMemory;
 
-/// The open calls. Each has a key of 32 bits from its opening to its end, and is found by its number.
+/// The open calls. Each has a key from its opening to its end, and is found by its number.
 #[derive(Drop)]
 pub struct OpenCalls<A: Allocator = Global> {
     calls: Slab<OpenCall<A>, A>,
-    by_number: IndexMap<u32, u32, ByWord, A>,
+    by_number: IndexMap<u32, usize, ByWord, A>,
 }
 
 impl<A: Allocator> Model for OpenCalls<A> {
@@ -56,26 +56,20 @@ impl<A: Allocator> OpenCalls<A> {
         self.calls.len()
     }
 
-    /// Whether there is room for one more call, and a key of 32 bits for it.
-    #[inline(always)]
+    /// Whether there is room for one more call.
     pub fn has_room(&self) -> bool
         ensures { IsTrue result ↔ HasRoom self.now }
     {
-        self.calls.vacant_key() <= u32::MAX as usize
-            && self.calls.len() < self.calls.capacity()
-            && self.by_number.len() < self.by_number.capacity()
+        self.calls.len() < self.calls.capacity() && self.by_number.len() < self.by_number.capacity()
     }
 
-    /// Makes room for one more call. Where there is some, no memory is asked for. Where no key of 32 bits is left for it, memory is wanting. Want of memory
+    /// Makes room for one more call. Where there is some, no memory is asked for. Want of memory
     /// changes no call.
     pub fn reserve_one(&mut self) -> Result<(), NoMemory>
         ensures ok { OnOk result (HasRoom self.new) }
         ensures rest { self.new ≡ record self.old { call_room = self.new.call_room; number_room = self.new.number_room } }
         ensures unasked { HasRoom self.old → IsOk result × (self.new ≡ self.old) }
     {
-        if self.calls.vacant_key() > u32::MAX as usize {
-            return Err(AllocError.into());
-        }
         self.calls.reserve(1)?;
         if self.by_number.len() == self.by_number.capacity() {
             self.by_number.reserve(1)?;
@@ -84,7 +78,7 @@ impl<A: Allocator> OpenCalls<A> {
     }
 
     /// The key of the call of a number.
-    pub fn find(&self, number: u32) -> Option<u32>
+    pub fn find(&self, number: u32) -> Option<usize>
         ensures found { IfSome result (λ key. (k : Kept) × (kept_at self.now key ≡ Some k) × (call_of number (calls_in self.now) ≡ Some k.call) × (k.call.number ≡ number)) }
         ensures none { IfNone result (call_of number (calls_in self.now) ≡ None) }
     {
@@ -95,11 +89,11 @@ impl<A: Allocator> OpenCalls<A> {
     }
 
     /// The call under a key.
-    pub fn at(&self, key: u32) -> &OpenCall<A>
+    pub fn at(&self, key: usize) -> &OpenCall<A>
         requires { is_some (kept_at self.now key) ≡ true }
         ensures { kept_at self.now key ≡ Some (kept_of result.now) }
     {
-        match self.calls.get(key as usize) {
+        match self.calls.get(key) {
             Some(call) => call,
             None => unreachable!(),
         }
@@ -118,7 +112,7 @@ impl<A: Allocator> OpenCalls<A> {
     }
 
     /// The call under a key goes to another phase.
-    pub fn set_phase(&mut self, key: u32, phase: Phase)
+    pub fn set_phase(&mut self, key: usize, phase: Phase)
         requires { is_some (kept_at self.old key) ≡ true }
         ensures changes { (k : Kept) → kept_at self.old key ≡ Some k → Changes self.old self.new key (Some (record k { call = in_phase phase k.call })) }
         ensures calls { (k : Kept) → kept_at self.old key ≡ Some k → calls_in self.new ≡ set_call k.call.number (in_phase phase) (calls_in self.old) }
@@ -127,7 +121,7 @@ impl<A: Allocator> OpenCalls<A> {
     }
 
     /// Makes room for one more hop of the call under a key. Where there is some, no memory is asked for.
-    pub fn reserve_hop(&mut self, key: u32) -> Result<(), NoMemory>
+    pub fn reserve_hop(&mut self, key: usize) -> Result<(), NoMemory>
         requires { is_some (kept_at self.old key) ≡ true }
         ensures changes { (k : Kept) → kept_at self.old key ≡ Some k → (r : ℕ) × Changes self.old self.new key (Some (record k { room = r })) × (k.room ≤ r) × OnOk result (0 < r) × (0 < k.room → IsOk result × (r ≡ k.room)) }
         ensures calls { calls_in self.new ≡ calls_in self.old }
@@ -136,7 +130,7 @@ impl<A: Allocator> OpenCalls<A> {
     }
 
     /// The call under a key goes on over a hop.
-    pub fn go_on(&mut self, key: u32, hop: Hop)
+    pub fn go_on(&mut self, key: usize, hop: Hop)
         requires there { is_some (kept_at self.old key) ≡ true }
         requires room { (k : Kept) → kept_at self.old key ≡ Some k → 0 < k.room }
         ensures changes { (k : Kept) → kept_at self.old key ≡ Some k → (r : ℕ) × Changes self.old self.new key (Some (record { call = carried_on hop.circuit hop.far k.call; room = r })) }
@@ -146,7 +140,7 @@ impl<A: Allocator> OpenCalls<A> {
     }
 
     /// The call under a key is thrown back to where it stands.
-    pub fn throw_back(&mut self, key: u32)
+    pub fn throw_back(&mut self, key: usize)
         requires { is_some (kept_at self.old key) ≡ true }
         ensures changes { (k : Kept) → kept_at self.old key ≡ Some k → Changes self.old self.new key (Some (record k { call = thrown_back k.call })) }
         ensures calls { (k : Kept) → kept_at self.old key ≡ Some k → calls_in self.new ≡ set_call k.call.number thrown_back (calls_in self.old) }
@@ -155,42 +149,41 @@ impl<A: Allocator> OpenCalls<A> {
     }
 
     /// Takes out the call under a key.
-    pub fn take_out(&mut self, key: u32) -> OpenCall<A>
+    pub fn take_out(&mut self, key: usize) -> OpenCall<A>
         requires { is_some (kept_at self.old key) ≡ true }
         ensures value { kept_at self.old key ≡ Some (kept_of result) }
         ensures changes { Changes self.old self.new key None }
         ensures calls { calls_in self.new ≡ filter (λ c. not (is_numbered result.number c)) (calls_in self.old) }
     {
-        let call = self.calls.try_remove(key as usize).unwrap();
+        let call = self.calls.try_remove(key).unwrap();
         let _key = self.by_number.swap_remove(&call.number);
         call
     }
 }
 
 /// Puts a call in, under the next key.
-fn put_in<A: Allocator>(calls: &mut Slab<OpenCall<A>, A>, call: OpenCall<A>) -> u32
-    requires room { HasRoomFor calls.old 1 }
-    requires key { calls.old.vacant_key < 2 ^ 32 }
+fn put_in<A: Allocator>(calls: &mut Slab<OpenCall<A>, A>, call: OpenCall<A>) -> usize
+    requires { HasRoomFor calls.old 1 }
     ensures was_vacant { get calls.old result ≡ None }
     ensures updates { Updates calls.old calls.new result (Some call) }
 {
-    calls.insert_reserved(call) as u32
+    calls.insert_reserved(call)
 }
 
 /// The call is in another phase.
-fn write_phase<A: Allocator>(calls: &mut Slab<OpenCall<A>, A>, key: u32, phase: Phase)
+fn write_phase<A: Allocator>(calls: &mut Slab<OpenCall<A>, A>, key: usize, phase: Phase)
     ensures { (c : OpenCall A) → get calls.old key ≡ Some c → Updates calls.old calls.new key (Some (record c { phase = phase })) }
 {
-    if let Some(call) = calls.get_mut(key as usize) {
+    if let Some(call) = calls.get_mut(key) {
         call.phase = phase;
     }
 }
 
 /// The call stands, and has collided.
-fn write_collision<A: Allocator>(calls: &mut Slab<OpenCall<A>, A>, key: u32)
+fn write_collision<A: Allocator>(calls: &mut Slab<OpenCall<A>, A>, key: usize)
     ensures { (c : OpenCall A) → get calls.old key ≡ Some c → Updates calls.old calls.new key (Some (record c { phase = Standing; collided = true })) }
 {
-    if let Some(call) = calls.get_mut(key as usize) {
+    if let Some(call) = calls.get_mut(key) {
         call.phase = Phase::Standing;
         call.collided = true;
     }
@@ -214,21 +207,21 @@ fn more_room<A: Allocator>(hops: &mut Vec<Hop, A>) -> Result<(), NoMemory>
 }
 
 /// There is room for one more hop of the call.
-fn more_hops<A: Allocator>(calls: &mut Slab<OpenCall<A>, A>, key: u32) -> Result<(), NoMemory>
+fn more_hops<A: Allocator>(calls: &mut Slab<OpenCall<A>, A>, key: usize) -> Result<(), NoMemory>
     ensures { (c : OpenCall A) → get calls.old key ≡ Some c → (d : OpenCall A) × Updates calls.old calls.new key (Some d) × (call_seen d ≡ call_seen c) × ((kept_of c).room ≤ (kept_of d).room) × OnOk result (0 < (kept_of d).room) × (0 < (kept_of c).room → IsOk result × ((kept_of d).room ≡ (kept_of c).room)) }
 {
-    if let Some(call) = calls.get_mut(key as usize) {
+    if let Some(call) = calls.get_mut(key) {
         more_room(&mut call.hops)?;
     }
     Ok(())
 }
 
 /// The call has one hop more, and stands.
-fn add_hop<A: Allocator>(calls: &mut Slab<OpenCall<A>, A>, key: u32, hop: Hop)
+fn add_hop<A: Allocator>(calls: &mut Slab<OpenCall<A>, A>, key: usize, hop: Hop)
     requires { (c : OpenCall A) → get calls.old key ≡ Some c → 0 < (kept_of c).room }
     ensures { (c : OpenCall A) → get calls.old key ≡ Some c → (d : OpenCall A) × Updates calls.old calls.new key (Some d) × (call_seen d ≡ carried_on hop.circuit hop.far (call_seen c)) }
 {
-    if let Some(call) = calls.get_mut(key as usize) {
+    if let Some(call) = calls.get_mut(key) {
         call.hops.push_reserved(hop);
         call.phase = Phase::Standing;
         call.collided = false;

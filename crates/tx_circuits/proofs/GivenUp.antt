@@ -7,8 +7,7 @@ use Rattle.tx_entries.specs.declared.circuit.Circuit.{Circuit}
 use Rattle.tx_circuits.specs.declared.free_lists.End.{End}
 use Rattle.tx_circuits.specs.declared.state.State.{State}
 use Rattle.tx_circuits.specs.inner.Slots.{has_seized, with_seized}
-use Rattle.tx_rows.specs.Rows.{change_at}
-use Rattle.tx_circuits.specs.inner.Groups.{GroupState, state_at, end_at, set_numbered, with_state}
+use Rattle.tx_circuits.specs.inner.Groups.{GroupState, state_at, end_at, set_numbered, with_state, change_at}
 use Rattle.tx_circuits.specs.Table.{Table, withdrawn, with_released, released_unless}
 use Rattle.tx_circuits.specs.inner.Seen.{table_of}
 use Rattle.tx_circuits.proofs.Members.{Known, known}

@@ -1,13 +1,13 @@
 pub mod Appending
 pub mod Before
 pub mod Built
-pub mod Bytes
 pub mod Changes
 pub mod Columns
 pub mod GivenUp
 pub mod Heads
 pub mod Kept
 pub mod Linked
+pub mod Lists
 pub mod Members
 pub mod Ordered
 pub mod Places
@@ -18,4 +18,3 @@ pub mod Steps
 pub mod Those
 pub mod Unnamed
 pub mod Updates
-mod Idle

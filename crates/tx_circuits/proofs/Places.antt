@@ -30,9 +30,6 @@ free_here end slots i blank h =
     let a : i < length (map state_of slots) = rw length-map h in
     column_at (is_free end) (map state_of slots) i blank.state false a ∙ ap (is_free end) (column_at state_of slots i blank blank.state h)
 
-pub free_read : (end : End) (slots : List Slot) (i : ℕ) (s : Slot) → s ≡ slice_index_or slots i s → i < length slots → free_at end slots i ≡ is_free end s.state
-free_read end slots i s e h = free_here end slots i s h ∙ sym (ap (λ (t : Slot). is_free end t.state) e)
-
 -- what comes first lies in the group too
 pub first_within : (free : ℕ → Bool) (rank : ℕ → ℕ) (low n : ℕ) → ((k : ℕ) → free k ≡ true → k < n) → (r : Option ℕ) → IsFirst free rank low r → IfSome r (λ k. k < n)
 first_within free rank low n inside None l = tt

@@ -1,5 +1,5 @@
 -- The lists of a group: as they are said, and as they are linked.
-use Rattle.std.proofs.Common.{◌≡◌, ◌∙◌, ℕ, ◌<◌, ◌≤◌, ◌==◌, cond, Bool, true, false, List, [], ◌∷◌, length, map, Option, Some, None, slice_index_or, slice_set, refl, sym, ap, subst}
+use Rattle.std.proofs.Common.{◌≡◌, ◌∙◌, ℕ, ◌+◌, ◌<◌, ◌≤◌, Bool, true, false, List, [], ◌∷◌, ◌++◌, length, map, take, drop, Option, Some, None, slice_index_or, slice_set, refl, sym, ap, subst, arith}
 use Rattle.std.specs.Prelude.{filter, nat_lt, ◌&&◌}
 use Rattle.tx_circuits.specs.declared.free_lists.End.{End}
 use Rattle.tx_circuits.specs.declared.free_lists.End.TheVariants.{First, Other}
@@ -8,7 +8,8 @@ use Rattle.tx_circuits.specs.declared.slot.Slot.{Slot}
 use Rattle.tx_circuits.specs.declared.state.State.{State}
 use Rattle.tx_circuits.specs.declared.free_lists.FreeList.{FreeList}
 use Rattle.tx_circuits.specs.declared.free_lists.FreeLists.{FreeLists}
-use Rattle.std.proofs.lemmas.List.{length-map, map-set}
+use Rattle.std.proofs.lemmas.List.{length-map, map-set, get_or_default}
+use Rattle.std.proofs.lemmas.List.Edits.{map_over_more}
 use Rattle.tx_circuits.specs.inner.Linked.{IsFirst, with}
 use Rattle.tx_circuits.specs.inner.Slots.{free_at, free_in, is_free, links_of, ahead, link_at, chain, rank_of, list_of, begins, until, in_order, state_of, cleared, IsListed, AreLinked, IsSound}
 use Rattle.tx_circuits.proofs.Columns.{column-set, column_same}
@@ -41,22 +42,23 @@ listed_along free free' end old new list ef el h = λ way. linked_along free fre
 pub free_alike : (end : End) (old new : List Slot) → map state_of new ≡ map state_of old → (k : ℕ) → free_at end new k ≡ free_at end old k
 free_alike end old new e k = ap (λ (l : List State). free_in end l k) e
 
--- a slot gets a state, and keeps its links
-module _ (two : List Slot) (i : ℕ) (y z : Slot) (to : State) (state : y.state ≡ to) (links : (end : End) → links_of end y ≡ links_of end (slice_index_or two i z)) (i_in : i < length two) where
-  written : (end : End) (k : ℕ) → free_at end (slice_set two i y) k ≡ with (free_at end two) i (is_free end to) k
-  written end k =
-      ap (λ (l : List State). free_in end l k) (map-set state_of two i y)
-      ∙ column-set (is_free end) (map state_of two) i k y.state false (rw length-map i_in) ∙ ap (λ s. cond (k == i) (is_free end s) (free_at end two k)) state
+-- the slot at a place, with another state
+abbrev pub given : List Slot → ℕ → Slot → State → Slot
+given slots i z to = record (slice_index_or slots i z) { state = to }
 
-  pub after_write : (end : End) (list : FreeList) → IsListed (with (free_at end two) i (is_free end to)) end two list → IsListed (free_at end (slice_set two i y)) end (slice_set two i y) list
+-- it keeps its links
+module _ (two : List Slot) (i : ℕ) (z : Slot) (to : State) (i_in : i < length two) where
+  links : (end : End) → links_of end (given two i z to) ≡ links_of end (slice_index_or two i z)
+  links First = refl
+  links Other = refl
+
+  written : (end : End) (k : ℕ) → free_at end (slice_set two i (given two i z to)) k ≡ with (free_at end two) i (is_free end to) k
+  written end k = ap (λ (l : List State). free_in end l k) (map-set state_of two i (given two i z to)) ∙ column-set (is_free end) (map state_of two) i k to false (rw length-map i_in)
+
+  pub after_write : (end : End) (list : FreeList) → IsListed (with (free_at end two) i (is_free end to)) end two list → IsListed (free_at end (slice_set two i (given two i z to))) end (slice_set two i (given two i z to)) list
   after_write end list h =
-      listed_along (with (free_at end two) i (is_free end to)) (free_at end (slice_set two i y)) end two (slice_set two i y) list (λ k. sym (written end k))
-      (λ way k. column_same (λ (s : Slot). ahead way (links_of end s)) two i k y z None (ap (ahead way) (links end)) i_in) h
-
--- a slot with another state has the links of the one that was read
-pub links_kept : (y s : Slot) (to : State) (x : Slot) → y ≡ record s { state = to } → s ≡ x → (end : End) → links_of end y ≡ links_of end x
-links_kept y s to x e f First = ap (λ (t : Slot). t.first) e ∙ ap (λ (t : Slot). t.first) f
-links_kept y s to x e f Other = ap (λ (t : Slot). t.other) e ∙ ap (λ (t : Slot). t.other) f
+      listed_along (with (free_at end two) i (is_free end to)) (free_at end (slice_set two i (given two i z to))) end two (slice_set two i (given two i z to)) list (λ k. sym (written end k))
+      (λ way k. column_same (λ (s : Slot). ahead way (links_of end s)) two i k (given two i z to) z None (ap (ahead way) (links end)) i_in) h
 
 -- a slot with its state cleared
 abbrev pub with_cleared : Slot → Slot
@@ -65,6 +67,13 @@ with_cleared s = record s { state = cleared s.state }
 pub states_cleared : (slots : List Slot) → map state_of (map with_cleared slots) ≡ map cleared (map state_of slots)
 states_cleared [] = refl
 states_cleared (s ∷ slots) = ap (λ (l : List State). cleared s.state ∷ l) (states_cleared slots)
+
+-- one slot more is cleared
+pub cleared_more : (old slots : List Slot) (i : ℕ) (z : Slot) (to : State) → i < length old → length slots ≡ length old → slots ≡ map with_cleared (take i old) ++ drop i old → to ≡ cleared (slice_index_or slots i z).state
+    → slice_set slots i (given slots i z to) ≡ map with_cleared (take (i + 1) old) ++ drop (i + 1) old
+cleared_more old slots i z to lt long h e =
+    let x = slice_index_or slots i z in
+    ap (λ s. slice_set slots i (given slots i z s)) e ∙ map_over_more with_cleared old slots i x lt h (get_or_default slots i z x (omega arith))
 
 pub until_alike : (n : ℕ) (end : End) (old new : List Slot) → map state_of new ≡ map state_of old → (k : ℕ) → until n (free_at end old) k ≡ until n (free_at end new) k
 until_alike n end old new e k = ap (λ b. nat_lt k n && b) (sym (free_alike end old new e k))

@@ -15,14 +15,13 @@ use Rattle.tx_circuits.specs.declared.free_lists.End.TheVariants.{First, Other}
 use Rattle.tx_circuits.specs.declared.state.State.{State}
 use Rattle.tx_circuits.specs.declared.group_head.GroupHead.{GroupHead}
 use Rattle.tx_circuits.specs.inner.Slots.{has_seized, with_seized, opposite, cleared, rising}
-use Rattle.tx_rows.specs.Rows.{change_at}
-use Rattle.tx_circuits.specs.inner.Groups.{GroupState, state_at, numbered, seizing_end, end_at, with_state, with_failed, with_blocked}
+use Rattle.tx_circuits.specs.inner.Groups.{GroupState, state_at, numbered, seizing_end, end_at, with_state, with_failed, with_blocked, change_at}
 use Rattle.tx_circuits.specs.Table.{Seat, seat_cmp, Table, with_held, with_released, with_failure}
 use Rattle.tx_circuits.specs.inner.Seen.{those, group_of, circuits_of, seats_of, gathered, is_marked, holds, sits, table_of}
 use Rattle.std.proofs.lemmas.Option.{slice_get-map}
 use Rattle.std.proofs.lemmas.List.{length-map}
 use Rattle.std.proofs.Math.Bool.{and-true, and-false}
-use Rattle.tx_rows.proofs.Lists.{get-change_here, get-change_there, length-change}
+use Rattle.tx_circuits.proofs.Lists.{get-change_here, get-change_there, length-change}
 use Rattle.tx_circuits.proofs.Members.{Known, known, holds_in, sits_in, marked_in}
 use Rattle.tx_circuits.proofs.Those.{those_stay, those_inserted, those_removed, those_retained}
 use Rattle.tx_circuits.proofs.Seats.{seats_total, exact_seats}

@@ -5,12 +5,10 @@ ghost use Rattle.tx_circuits.specs.inner.Linked.{IsLinked, IsLast, with};
 ghost use Rattle.tx_circuits.specs.inner.Slots.{free_at, link_at, chain, is_free, rank_of, state_of, back, opposite, ahead, IsListed, AreNeighbours};
 
 use crate::free_lists::{End, FreeList, Links, Way};
-use crate::link::Link;
 use crate::slot::Slot;
 use crate::state::State;
 
 // The links of a circuit in the list of an end.
-#[inline(always)]
 fn links(slots: &[Slot], end: End, place: usize) -> Links
     requires { place < length slots.now }
     ensures { (way : WayValue) → ahead way result ≡ link_at end way slots.now place }
@@ -19,12 +17,11 @@ fn links(slots: &[Slot], end: End, place: usize) -> Links
 }
 
 // What follows a place in the list of an end, or begins the list.
-#[inline(always)]
-fn follow(slots: &[Slot], list: &FreeList, end: End, way: Way, from: Link) -> Link
+fn follow(slots: &[Slot], list: &FreeList, end: End, way: Way, from: Option<u8>) -> Option<u8>
     requires { IfSome from (λ k. k < length slots.now) }
     ensures { result ≡ chain end way slots.now list.now from }
 {
-    match from.place() {
+    match from {
         None => list.begins(way),
         Some(place) => {
             let links = links(slots, end, place as usize);
@@ -33,8 +30,7 @@ fn follow(slots: &[Slot], list: &FreeList, end: End, way: Way, from: Link) -> Li
     }
 }
 
-#[inline(always)]
-fn set_link(slots: &mut [Slot], end: End, way: Way, place: usize, to: Link)
+fn set_link(slots: &mut [Slot], end: End, way: Way, place: usize, to: Option<u8>)
     requires { place < length slots.old }
     ensures here { link_at end way slots.new place ≡ to }
     ensures apart { (k : ℕ) → k ≢ place → link_at end way slots.new k ≡ link_at end way slots.old k }
@@ -46,8 +42,14 @@ fn set_link(slots: &mut [Slot], end: End, way: Way, place: usize, to: Link)
 }
 
 // After `from`, or at the list's begin, now comes `to`.
-#[inline(always)]
-fn lead(slots: &mut [Slot], list: &mut FreeList, end: End, way: Way, from: Link, to: Link)
+fn lead(
+    slots: &mut [Slot],
+    list: &mut FreeList,
+    end: End,
+    way: Way,
+    from: Option<u8>,
+    to: Option<u8>,
+)
     requires { IfSome from (λ k. k < length slots.old) }
     ensures here { chain end way slots.new list.new from ≡ to }
     ensures apart { (q : Option ℕ) → q ≢ from → chain end way slots.new list.new q ≡ chain end way slots.old list.old q }
@@ -55,7 +57,7 @@ fn lead(slots: &mut [Slot], list: &mut FreeList, end: End, way: Way, from: Link,
     ensures other { (w : WayValue) (k : ℕ) → link_at (opposite end) w slots.new k ≡ link_at (opposite end) w slots.old k }
     ensures states { map state_of slots.new ≡ map state_of slots.old }
 {
-    match (from.place(), way) {
+    match (from, way) {
         (Some(place), _) => set_link(slots, end, way, place as usize, to),
         (None, Way::Up) => list.least = to,
         (None, Way::Down) => list.greatest = to,
@@ -63,27 +65,26 @@ fn lead(slots: &mut [Slot], list: &mut FreeList, end: End, way: Way, from: Link,
 }
 
 // The last free circuit that comes before the place in a way.
-fn last_before(slots: &[Slot], list: &FreeList, end: End, way: Way, place: usize) -> Link
+fn last_before(slots: &[Slot], list: &FreeList, end: End, way: Way, place: usize) -> Option<u8>
     requires short { length slots.now ≤ 240 }
     requires listed { IsListed (free_at end slots.now) end slots.now list.now }
     requires place { place < length slots.now }
     ensures { IsLast (free_at end slots.now) (rank_of way) (rank_of way place) result }
 {
     let limit = way.rank(place);
-    let mut last = Link::none();
+    let mut last = None;
     let mut rest = list.begins(way);
-    while let Some(p) = rest.place() {
+    while let Some(p) = rest {
         if way.rank(p as usize) >= limit {
             break;
         }
-        last = rest;
+        last = Some(p);
         rest = links(slots, end, p as usize).ahead(way);
     }
     last
 }
 
 // The neighbours that a circuit would have in the list of an end: looked for from the end of the list that is nearer.
-#[inline(always)]
 fn neighbours(slots: &[Slot], list: &FreeList, end: End, place: usize) -> Links
     requires short { length slots.now ≤ 240 }
     requires listed { IsListed (free_at end slots.now) end slots.now list.now }
@@ -106,9 +107,8 @@ fn neighbours(slots: &[Slot], list: &FreeList, end: End, place: usize) -> Links
     }
 }
 
-/// The circuit has other links in the list of an end.
-#[inline(always)]
-pub fn set_links(slots: &mut [Slot], end: End, place: usize, links: Links)
+// The circuit has other links in the list of an end.
+fn set_links(slots: &mut [Slot], end: End, place: usize, links: Links)
     requires { place < length slots.old }
     ensures here { (way : WayValue) → link_at end way slots.new place ≡ ahead way links }
     ensures apart { (way : WayValue) (k : ℕ) → k ≢ place → link_at end way slots.new k ≡ link_at end way slots.old k }
@@ -119,7 +119,6 @@ pub fn set_links(slots: &mut [Slot], end: End, place: usize, links: Links)
 }
 
 /// The circuit now stands between two neighbours; all other links are as before.
-#[inline(always)]
 pub fn insert(slots: &mut [Slot], list: &mut FreeList, end: End, place: usize, links: Links)
     requires short { length slots.old ≤ 240 }
     requires place { place < length slots.old }
@@ -133,14 +132,13 @@ pub fn insert(slots: &mut [Slot], list: &mut FreeList, end: End, place: usize, l
     ensures states { map state_of slots.new ≡ map state_of slots.old }
 {
     let Links { above, below } = links;
-    let here = Link::to(place);
+    let here = Some(place as u8);
     set_links(slots, end, place, links);
     lead(slots, list, end, Way::Up, below, here);
     lead(slots, list, end, Way::Down, above, here);
 }
 
 // Puts a circuit on the list of an end. Walks the list.
-#[inline(always)]
 fn put(slots: &mut [Slot], list: &mut FreeList, end: End, place: usize)
     requires short { length slots.old ≤ 240 }
     requires listed { IsListed (free_at end slots.old) end slots.old list.old }
@@ -155,7 +153,6 @@ fn put(slots: &mut [Slot], list: &mut FreeList, end: End, place: usize)
 }
 
 // Takes a circuit off the list of an end.
-#[inline(always)]
 fn take(slots: &mut [Slot], list: &mut FreeList, end: End, place: usize)
     requires short { length slots.old ≤ 240 }
     requires listed { IsListed (free_at end slots.old) end slots.old list.old }
@@ -171,7 +168,6 @@ fn take(slots: &mut [Slot], list: &mut FreeList, end: End, place: usize)
 }
 
 /// Puts a circuit on the list of an end, takes it off, or leaves the list, as its new state asks.
-#[inline(always)]
 pub fn relink(slots: &mut [Slot], list: &mut FreeList, end: End, place: usize, to: State)
     requires short { length slots.old ≤ 240 }
     requires listed { IsListed (free_at end slots.old) end slots.old list.old }
@@ -180,7 +176,7 @@ pub fn relink(slots: &mut [Slot], list: &mut FreeList, end: End, place: usize, t
     ensures other { (way : WayValue) (k : ℕ) → link_at (opposite end) way slots.new k ≡ link_at (opposite end) way slots.old k }
     ensures states { map state_of slots.new ≡ map state_of slots.old }
 {
-    let was = slots[place].is_free(end);
+    let was = slots[place].state.is_free(end);
     let will = to.is_free(end);
     if was == will {
         return;

@@ -1,11 +1,8 @@
 // The free lists of a group: its ends, the ways through a list, the links of a circuit, and the heads.
-ghost use Rattle.std.specs.Prelude.{◌≡◌, ◌<◌, ◌≤◌, None};
-ghost use Rattle.tx_circuits.specs.inner.Groups.{whole_list, whole_lists};
+ghost use Rattle.std.specs.Prelude.{◌≡◌, ◌<◌, None};
 ghost use Rattle.tx_circuits.specs.declared.free_lists.End.{End as EndValue};
 ghost use Rattle.tx_circuits.specs.declared.free_lists.Way.{Way as WayValue};
 ghost use Rattle.tx_circuits.specs.inner.Slots.{ahead, back, begins, list_of, rank_of};
-
-use crate::link::Link;
 
 /// An end of a group.
 #[derive(Clone, Copy)]
@@ -25,7 +22,6 @@ pub enum Way {
 
 impl Way {
     /// Where a place comes in this way.
-    #[inline(always)]
     pub fn rank(self, place: usize) -> usize
         requires { place < 256 }
         ensures { result ≡ rank_of self place }
@@ -40,24 +36,13 @@ impl Way {
 /// The circuits beside one in a free list, by their places in the group.
 #[derive(Clone, Copy)]
 pub struct Links {
-    pub above: Link,
-    pub below: Link,
+    pub above: Option<u8>,
+    pub below: Option<u8>,
 }
 
 impl Links {
-    /// Those of a circuit that has no neighbour.
-    pub fn none() -> Links
-        ensures { (way : WayValue) → ahead way result ≡ None }
-    {
-        Links {
-            above: Link::none(),
-            below: Link::none(),
-        }
-    }
-
     /// The neighbour in a way.
-    #[inline(always)]
-    pub fn ahead(self, way: Way) -> Link
+    pub fn ahead(self, way: Way) -> Option<u8>
         ensures { result ≡ ahead way self }
     {
         match way {
@@ -67,8 +52,7 @@ impl Links {
     }
 
     /// The links with another neighbour in a way.
-    #[inline(always)]
-    pub fn with(self, way: Way, to: Link) -> Links
+    pub fn with(self, way: Way, to: Option<u8>) -> Links
         ensures here { ahead way result ≡ to }
         ensures turned { ahead (back way) result ≡ ahead (back way) self }
     {
@@ -82,38 +66,13 @@ impl Links {
 /// The first and the last place of the circuits that are free at an end.
 #[derive(Clone, Copy)]
 pub struct FreeList {
-    pub least: Link,
-    pub greatest: Link,
+    pub least: Option<u8>,
+    pub greatest: Option<u8>,
 }
 
 impl FreeList {
-    /// The empty list.
-    fn empty() -> FreeList
-        ensures { result ≡ whole_list 0 }
-    {
-        FreeList {
-            least: Link::none(),
-            greatest: Link::none(),
-        }
-    }
-
-    /// The list of so many circuits, all of them free.
-    fn whole(count: usize) -> FreeList
-        requires { count ≤ 240 }
-        ensures { result ≡ whole_list count }
-    {
-        if count == 0 {
-            return FreeList::empty();
-        }
-        FreeList {
-            least: Link::to(0),
-            greatest: Link::to(count - 1),
-        }
-    }
-
     /// Where the list begins in a way.
-    #[inline(always)]
-    pub fn begins(&self, way: Way) -> Link
+    pub fn begins(&self, way: Way) -> Option<u8>
         ensures { result ≡ begins way self.now }
     {
         match way {
@@ -135,20 +94,13 @@ impl FreeLists {
     pub fn new() -> FreeLists
         ensures { (end : EndValue) (way : WayValue) → begins way (list_of end result) ≡ None }
     {
+        let empty = FreeList {
+            least: None,
+            greatest: None,
+        };
         FreeLists {
-            first: FreeList::empty(),
-            other: FreeList::empty(),
-        }
-    }
-
-    /// Those of so many circuits, all of them free at both ends.
-    pub fn whole(count: usize) -> FreeLists
-        requires { count ≤ 240 }
-        ensures { result ≡ whole_lists count }
-    {
-        FreeLists {
-            first: FreeList::whole(count),
-            other: FreeList::whole(count),
+            first: empty,
+            other: empty,
         }
     }
 }

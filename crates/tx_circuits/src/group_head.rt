@@ -17,7 +17,6 @@ pub struct GroupHead {
 
 impl GroupHead {
     /// The end at which an exchange seizes, if it may.
-    #[inline(always)]
     pub fn seizing_end(self, exchange: ExchangeId) -> Option<End>
         ensures { result ≡ seizing_end self exchange }
     {

@@ -1,9 +1,8 @@
-// All circuits of a plan, in rows.
+// All circuits of a plan in one vector.
 ghost use Rattle.std.specs.Prelude.{◌≡◌, ◌≤◌, ◌<◌, ◌++◌, ◌∷◌, [], ℕ, true, false, is_some, map, length, replicate, Some, None, slice_get, OnOk, OnErr, IfOk, IfSome};
 ghost use Rattle.std.specs.Option.{option_map, option_map_or};
-ghost use Rattle.tx_rows.specs.Rows.{change_at};
 ghost use Rattle.tx_circuits.specs.inner.Slots.{cleared, has_seized};
-ghost use Rattle.tx_circuits.specs.inner.Groups.{state_at, end_at, with_state, with_failed, with_blocked, first_place, idle};
+ghost use Rattle.tx_circuits.specs.inner.Groups.{state_at, end_at, change_at, with_state, with_failed, with_blocked, first_place, idle, IsAppended};
 ghost use Rattle.tx_circuits.specs.inner.Seen.{holds};
 
 use crate::free_lists::{End, FreeLists};
@@ -14,25 +13,24 @@ use crate::state::State;
 use std::alloc::{Allocator, Global};
 use std::marker::Model;
 use tx_plan::{Circuit, ExchangeId, GroupId};
-use tx_rows::LateRows;
 use tx_text::NoMemory;
 
-/// The groups of a plan with the states of their circuits, linked in free lists. The slots of a group are written when one of its circuits first changes.
+/// The groups of a plan with the states of their circuits: all circuits in one vector, group by group, linked in free lists.
 #[derive(Drop)]
 pub struct Groups<A: Allocator = Global> {
-    rows: LateRows<Row, Slot, A>,
+    slots: Vec<Slot, A>,
+    rows: Vec<Row, A>,
 }
 
 impl<A: Allocator> Model for Groups<A> {
     ghost use Rattle.std.specs.Prelude.{List, map};
-    ghost use Rattle.tx_rows.specs.inner.Kept.{rows_in};
-    ghost use Rattle.tx_circuits.specs.inner.Groups.{GroupState, group_state, AreGroupsKept};
+    ghost use Rattle.tx_circuits.specs.inner.Groups.{GroupState, group_state, AreKept};
 
     ghost Value = { List GroupState };
 
-    ghost view = { λ g. map group_state (rows_in g.rows) };
+    ghost view = { λ g. map (group_state g.slots.items) g.rows.items };
 
-    ghost invariant = { λ g. AreGroupsKept g.rows };
+    ghost invariant = { λ g. AreKept g.slots.items g.rows.items };
 }
 
 impl<A: Allocator + Copy> Groups<A> {
@@ -40,9 +38,31 @@ impl<A: Allocator + Copy> Groups<A> {
     pub fn with_room(alloc: A, groups: usize, circuits: usize) -> Result<Self, NoMemory>
         ensures { IfOk result (λ g. g ≡ []) }
     {
-        let rows = LateRows::with_room(alloc, groups, circuits, Slot::idle())?;
-        Ok(Groups { rows })
+        let rows = Vec::with_capacity(alloc, groups)?;
+        let slots = Vec::with_capacity(alloc, circuits)?;
+        Ok(Groups { slots, rows })
     }
+}
+
+// Appends the slots of a group, all idle, and gives its row.
+fn append<A: Allocator>(
+    slots: &mut Vec<Slot, A>,
+    head: GroupHead,
+    count: usize,
+) -> Result<Row, NoMemory>
+    requires { count ≤ 240 }
+    ensures ok { IfOk result (IsAppended slots.old.items slots.new.items head count) }
+    ensures err { OnErr result (slots.new.items ≡ slots.old.items) }
+{
+    let mut row = Row {
+        head,
+        start: slots.len(),
+        count,
+        lists: FreeLists::new(),
+    };
+    slots.resize(row.start + count, Slot::idle())?;
+    row.relist(slots.as_mut_slice());
+    Ok(row)
 }
 
 impl<A: Allocator> Groups<A> {
@@ -52,12 +72,9 @@ impl<A: Allocator> Groups<A> {
         ensures ok { OnOk result (self.new ≡ self.old ++ record { head = head; states = replicate count idle } ∷ []) }
         ensures err { OnErr result (self.new ≡ self.old) }
     {
-        let row = Row {
-            head,
-            lists: FreeLists::whole(count),
-            linked: false,
-        };
-        self.rows.add(row, count)
+        let row = append(&mut self.slots, head, count)?;
+        self.rows.push(row)?;
+        Ok(())
     }
 
     /// How many groups.
@@ -68,44 +85,36 @@ impl<A: Allocator> Groups<A> {
     }
 
     /// A group beside its circuits, if there is such a one.
-    #[inline(always)]
     pub fn head(&self, group: GroupId) -> Option<GroupHead>
         ensures { result ≡ option_map (λ t. t.head) (slice_get self.now group) }
     {
-        match self.rows.head(group.index()) {
+        match self.rows.get(group.index()) {
             Some(row) => Some(row.head),
             None => None,
         }
     }
 
     /// The state of a circuit, if there is such a one.
-    #[inline(always)]
     pub fn state(&self, circuit: &Circuit) -> Option<State>
         ensures { result ≡ state_at self.now circuit.now }
     {
-        let number = circuit.number as usize;
-        if number == 0 {
-            return None;
-        }
-        match self.rows.get(circuit.group.index(), number - 1) {
-            Some(slot) => Some(slot.state()),
+        match self.rows.get(circuit.group.index()) {
+            Some(row) => row.state(self.slots.as_slice(), circuit.number),
             None => None,
         }
     }
 
     /// The end at which an exchange seizes circuits of a group, if it may.
-    #[inline(always)]
     pub fn end(&self, group: GroupId, exchange: ExchangeId) -> Option<End>
         ensures { result ≡ end_at self.now group exchange }
     {
-        match self.rows.head(group.index()) {
+        match self.rows.get(group.index()) {
             Some(row) => row.head.seizing_end(exchange),
             None => None,
         }
     }
 
     /// The state of a circuit that there is.
-    #[inline(always)]
     pub fn known_state(&self, circuit: &Circuit) -> State
         requires { is_some (state_at self.now circuit.now) ≡ true }
         ensures { state_at self.now circuit.now ≡ Some result }
@@ -113,22 +122,15 @@ impl<A: Allocator> Groups<A> {
         self.state(circuit).unwrap()
     }
 
-    /// The end at which an exchange seizes, where it may: one comparison tells it.
-    #[inline(always)]
+    /// The end at which an exchange seizes, where it may.
     pub fn known_end(&self, group: GroupId, exchange: ExchangeId) -> End
         requires { is_some (end_at self.now group exchange) ≡ true }
         ensures { end_at self.now group exchange ≡ Some result }
     {
-        let row = self.rows.head(group.index()).unwrap();
-        if row.head.a == exchange {
-            End::First
-        } else {
-            End::Other
-        }
+        self.end(group, exchange).unwrap()
     }
 
     /// Whether an end has seized a circuit.
-    #[inline(always)]
     pub fn has_seized(&self, circuit: &Circuit, end: End) -> bool
         ensures { result ≡ holds (has_seized end) self.now circuit.now }
     {
@@ -139,7 +141,6 @@ impl<A: Allocator> Groups<A> {
     }
 
     /// Whether an exchange has seized a circuit of a group that is in this state.
-    #[inline(always)]
     pub fn seizes_in(&self, state: State, group: GroupId, exchange: ExchangeId) -> bool
         ensures { result ≡ option_map_or (λ end. has_seized end state) (end_at self.now group exchange) false }
     {
@@ -150,29 +151,25 @@ impl<A: Allocator> Groups<A> {
     }
 
     /// The place of the circuit that an end takes next, read from the head of its list.
-    #[inline(always)]
     pub fn first_place(&self, group: GroupId, end: End) -> Option<u8>
         requires { group < length self.now }
         ensures { IfSome (slice_get self.now group) (λ t. result ≡ first_place t end) }
     {
-        let lists = self.rows.head(group.index()).unwrap().lists;
+        let lists = &self.rows[group.index()].lists;
         match end {
-            End::First => lists.first.least.place(),
-            End::Other => lists.other.greatest.place(),
+            End::First => lists.first.least,
+            End::Other => lists.other.greatest,
         }
     }
 
     /// Gives a circuit another state.
-    #[inline(always)]
     pub fn set_state(&mut self, circuit: &Circuit, to: State)
         requires { is_some (state_at self.old circuit.now) ≡ true }
         ensures { self.new ≡ change_at (with_state circuit.now to) circuit.now.group self.old }
     {
-        let group = circuit.group.index();
         let place = circuit.number as usize - 1;
-        let (start, end) = self.rows.written(group);
-        let row = &mut self.rows.rows[group].head;
-        row.set_state(&mut self.rows.items[start..end], place, to);
+        let row = &mut self.rows[circuit.group.index()];
+        row.set_state(self.slots.as_mut_slice(), place, to);
     }
 
     /// Takes all calls off the circuits of a group.
@@ -180,29 +177,21 @@ impl<A: Allocator> Groups<A> {
         requires { group < length self.old }
         ensures { self.new ≡ change_at (λ t. record t { states = map cleared t.states }) group self.old }
     {
-        let place = group.index();
-        let (start, end) = self.rows.written(place);
-        let row = &mut self.rows.rows[place].head;
-        row.clear(&mut self.rows.items[start..end]);
+        let row = &mut self.rows[group.index()];
+        row.clear(self.slots.as_mut_slice());
     }
 
     pub fn set_failed(&mut self, group: GroupId, to: bool)
         requires { group < length self.old }
         ensures { self.new ≡ change_at (with_failed to) group self.old }
     {
-        let place = group.index();
-        let mut row = self.rows.head(place).unwrap();
-        row.head.failed = to;
-        self.rows.set_head(place, row);
+        self.rows[group.index()].head.failed = to;
     }
 
     pub fn set_blocked(&mut self, group: GroupId, to: bool)
         requires { group < length self.old }
         ensures { self.new ≡ change_at (with_blocked to) group self.old }
     {
-        let place = group.index();
-        let mut row = self.rows.head(place).unwrap();
-        row.head.blocked = to;
-        self.rows.set_head(place, row);
+        self.rows[group.index()].head.blocked = to;
     }
 }

@@ -6,7 +6,6 @@ mod free_lists;
 mod group;
 mod group_head;
 mod groups;
-mod link;
 mod row;
 mod slot;
 mod state;

@@ -1,47 +1,74 @@
-// What stands beside the circuits of a group.
-ghost use Rattle.std.specs.Prelude.{◌≡◌, ◌<◌, map, length, slice_set};
-ghost use Rattle.tx_circuits.specs.inner.Slots.{state_of, cleared};
-ghost use Rattle.tx_circuits.specs.inner.Groups.{AreListed};
+// Where the circuits of a group are.
+ghost use Rattle.std.specs.Prelude.{◌≡◌, ◌<◌, ◌≤◌, ◌+◌, map, length, slice_set};
+ghost use Rattle.tx_circuits.specs.declared.row.Row.{Row as RowValue};
+ghost use Rattle.tx_circuits.specs.inner.Slots.{IsSound, state_of, cleared};
+ghost use Rattle.tx_circuits.specs.inner.Groups.{group_slots, numbered, AreApart};
 
 use crate::free_lists::FreeLists;
-use crate::group::{clear, link_idle, set_state};
+use crate::group::{clear, relist, set_state};
 use crate::group_head::GroupHead;
 use crate::slot::Slot;
 use crate::state::State;
 
-/// A group, its free lists, and whether its slots are linked in them. They are not while all circuits are idle and no slot was written.
+/// A group, where its slots begin in the vector of all, how many they are, and its free lists.
 #[derive(Clone, Copy)]
 pub struct Row {
     pub head: GroupHead,
+    pub start: usize,
+    pub count: usize,
     pub lists: FreeLists,
-    pub linked: bool,
 }
 
 impl Row {
-    /// Gives a circuit another state.
-    #[inline(always)]
-    pub fn set_state(&mut self, slots: &mut [Slot], place: usize, to: State)
-        requires listed { AreListed slots.old self.old }
-        requires place { place < length slots.old }
-        ensures head { self.new.head ≡ self.old.head }
-        ensures listed { AreListed slots.new self.new }
-        ensures states { map state_of slots.new ≡ slice_set (map state_of slots.old) place to }
+    /// The state of the circuit of a number, if there is such a one.
+    pub fn state(&self, slots: &[Slot], number: u32) -> Option<State>
+        requires { self.now.start + self.now.count ≤ length slots.now }
+        ensures { result ≡ numbered (map state_of (group_slots slots.now self.now)) number }
     {
-        if !self.linked {
-            link_idle(slots);
-            self.linked = true;
+        let number = number as usize;
+        if number == 0 || number > self.count {
+            return None;
         }
-        set_state(slots, &mut self.lists, place, to);
+        Some(slots[self.start + (number - 1)].state)
+    }
+
+    /// Gives a circuit another state.
+    pub fn set_state(&mut self, slots: &mut [Slot], place: usize, to: State)
+        requires within { self.old.start + self.old.count ≤ length slots.old }
+        requires place { place < self.old.count }
+        requires sound { IsSound (group_slots slots.old self.old) self.old.lists }
+        ensures row { self.new ≡ record self.old { lists = self.new.lists } }
+        ensures sound { IsSound (group_slots slots.new self.old) self.new.lists }
+        ensures states { map state_of (group_slots slots.new self.old) ≡ slice_set (map state_of (group_slots slots.old self.old)) place to }
+        ensures rest { (s : RowValue) → AreApart self.old s → group_slots slots.new s ≡ group_slots slots.old s }
+    {
+        let part = &mut slots[self.start..self.start + self.count];
+        set_state(part, &mut self.lists, place, to);
     }
 
     /// Takes all calls off the circuits.
     pub fn clear(&mut self, slots: &mut [Slot])
-        requires { AreListed slots.old self.old }
-        ensures head { self.new.head ≡ self.old.head }
-        ensures listed { AreListed slots.new self.new }
-        ensures states { map state_of slots.new ≡ map cleared (map state_of slots.old) }
+        requires within { self.old.start + self.old.count ≤ length slots.old }
+        requires short { self.old.count ≤ 240 }
+        ensures row { self.new ≡ record self.old { lists = self.new.lists } }
+        ensures sound { IsSound (group_slots slots.new self.old) self.new.lists }
+        ensures states { map state_of (group_slots slots.new self.old) ≡ map cleared (map state_of (group_slots slots.old self.old)) }
+        ensures rest { (s : RowValue) → AreApart self.old s → group_slots slots.new s ≡ group_slots slots.old s }
     {
-        self.lists = clear(slots);
-        self.linked = true;
+        let part = &mut slots[self.start..self.start + self.count];
+        self.lists = clear(part);
+    }
+
+    /// Makes the lists anew.
+    pub fn relist(&mut self, slots: &mut [Slot])
+        requires within { self.old.start + self.old.count ≤ length slots.old }
+        requires short { self.old.count ≤ 240 }
+        ensures row { self.new ≡ record self.old { lists = self.new.lists } }
+        ensures sound { IsSound (group_slots slots.new self.old) self.new.lists }
+        ensures states { map state_of (group_slots slots.new self.old) ≡ map state_of (group_slots slots.old self.old) }
+        ensures rest { (s : RowValue) → AreApart self.old s → group_slots slots.new s ≡ group_slots slots.old s }
+    {
+        let part = &mut slots[self.start..self.start + self.count];
+        self.lists = relist(part);
     }
 }

@@ -1,5 +1,6 @@
 // What holds a circuit.
 ghost use Rattle.std.specs.Prelude.{◌≡◌, true, false};
+ghost use Rattle.tx_circuits.specs.inner.Groups.{idle};
 ghost use Rattle.tx_circuits.specs.inner.Slots.{is_free, has_seized, with_seized, cleared};
 
 use crate::free_lists::End;
@@ -15,8 +16,20 @@ pub struct State {
 }
 
 impl State {
+    /// The state of a circuit in service that no call holds.
+    pub fn idle() -> State
+        ensures { result ≡ idle }
+    {
+        State {
+            seized_first: false,
+            seized_other: false,
+            carried: false,
+            releasing: false,
+            out: false,
+        }
+    }
+
     /// Whether the end has seized the circuit.
-    #[inline(always)]
     pub fn has_seized(self, end: End) -> bool
         ensures { result ≡ has_seized end self }
     {
@@ -27,7 +40,6 @@ impl State {
     }
 
     /// Whether the circuit is free at the end.
-    #[inline(always)]
     pub fn is_free(self, end: End) -> bool
         ensures { result ≡ is_free end self }
     {
@@ -35,21 +47,16 @@ impl State {
     }
 
     /// The state where no call holds the circuit.
-    #[inline(always)]
     pub fn cleared(self) -> State
         ensures { result ≡ cleared self }
     {
         State {
-            seized_first: false,
-            seized_other: false,
-            carried: false,
-            releasing: false,
             out: self.out,
+            ..State::idle()
         }
     }
 
     /// The state where the circuit is releasing, and no call carries it.
-    #[inline(always)]
     pub fn in_release(mut self) -> State
         ensures { result ≡ record self { carried = false; releasing = true } }
     {
@@ -59,7 +66,6 @@ impl State {
     }
 
     /// The state where the end has, or has not, seized the circuit.
-    #[inline(always)]
     pub fn with_seized(self, end: End, to: bool) -> State
         ensures { result ≡ with_seized end to self }
     {

@@ -12,11 +12,13 @@ use std::marker::Model;
 use tx_plan::{Circuit, ExchangeId, GroupId, Plan};
 use tx_text::NoMemory;
 
-/// The states of all circuits of a plan. `build` alone takes memory.
+/// The states of all circuits of a plan, in one vector. `build` alone takes memory.
 ///
-/// A group keeps a list of its free circuits for each end, linked by index: rising from the least number, which the first end takes, and falling from
-/// the greatest, which the other end takes. `first_free` reads the head alone, a call that makes a circuit free at an end walks that list, and `fail` passes
-/// once over the group's circuits. No clause counts these steps.
+/// From `build` on, each group has for each of its ends a list of the circuits that are free there,
+/// linked by index: rising from the least number, which the first end takes, and falling from the
+/// greatest, which the other end takes. `first_free` reads the group's marks and the head of one list.
+/// A call that makes a circuit free at an end may walk the list of that end, and `fail` passes over
+/// the group's circuits twice. No clause counts these steps.
 #[derive(Drop)]
 pub struct CircuitTable<A: Allocator = Global> {
     groups: Groups<A>,
@@ -76,7 +78,6 @@ impl<A: Allocator> CircuitTable<A> {
     }
 
     /// Whether the plan has the circuit.
-    #[inline(always)]
     pub fn has_circuit(&self, circuit: &Circuit) -> bool
         ensures { result ≡ is_circuit (plan_of self.now) circuit.now }
     {
@@ -91,7 +92,6 @@ impl<A: Allocator> CircuitTable<A> {
     }
 
     /// Whether the group has failed; a foreign one has not.
-    #[inline(always)]
     pub fn is_failed(&self, group: GroupId) -> bool
         ensures { result ≡ set.contains self.now.failed group }
     {
@@ -102,7 +102,6 @@ impl<A: Allocator> CircuitTable<A> {
     }
 
     /// Whether the group is blocked; a foreign one is not.
-    #[inline(always)]
     pub fn is_blocked(&self, group: GroupId) -> bool
         ensures { result ≡ set.contains self.now.blocked group }
     {
@@ -113,7 +112,6 @@ impl<A: Allocator> CircuitTable<A> {
     }
 
     /// Whether the circuit is releasing; a foreign one is not.
-    #[inline(always)]
     pub fn is_releasing(&self, circuit: &Circuit) -> bool
         ensures { result ≡ set.contains self.now.releasing circuit.now }
     {
@@ -124,7 +122,6 @@ impl<A: Allocator> CircuitTable<A> {
     }
 
     /// Whether the circuit is out of service; a foreign one is not.
-    #[inline(always)]
     pub fn is_out(&self, circuit: &Circuit) -> bool
         ensures { result ≡ set.contains self.now.out circuit.now }
     {
@@ -135,7 +132,6 @@ impl<A: Allocator> CircuitTable<A> {
     }
 
     /// Whether a call carries the circuit; a foreign one is not carried.
-    #[inline(always)]
     pub fn is_carried(&self, circuit: &Circuit) -> bool
         ensures { result ≡ set.contains self.now.carried circuit.now }
     {
@@ -199,7 +195,6 @@ impl<A: Allocator> CircuitTable<A> {
     }
 
     /// Whether the exchange has seized the circuit; an exchange that may not seize it has not.
-    #[inline(always)]
     pub fn is_seized(&self, circuit: &Circuit, exchange: ExchangeId) -> bool
         ensures { result ≡ set.contains self.now.seized (circuit.now, exchange) }
     {
@@ -211,7 +206,6 @@ impl<A: Allocator> CircuitTable<A> {
 
     /// The circuit that the exchange takes next in a group: the least free number at the first end, the greatest at the other. None where the group is
     /// down or no circuit is free there.
-    #[inline(always)]
     pub fn first_free(&self, group: GroupId, exchange: ExchangeId) -> Option<Circuit>
         requires { may_seize (plan_of self.now) group exchange ≡ true }
         ensures value { result ≡ first_free self.now exchange group }
@@ -233,7 +227,6 @@ impl<A: Allocator> CircuitTable<A> {
     }
 
     // Whether the group has failed or is blocked.
-    #[inline(always)]
     fn is_down(&self, group: GroupId) -> bool
         ensures { result ≡ is_down self.now group }
     {
@@ -244,7 +237,6 @@ impl<A: Allocator> CircuitTable<A> {
 /// What is changed.
 impl<A: Allocator> CircuitTable<A> {
     /// The exchange seizes a circuit that is free there.
-    #[inline(always)]
     pub fn seize(&mut self, circuit: &Circuit, exchange: ExchangeId)
         requires known { is_circuit (plan_of self.old) circuit.now ≡ true }
         requires may { may_seize (plan_of self.old) circuit.now.group exchange ≡ true }
@@ -284,7 +276,6 @@ impl<A: Allocator> CircuitTable<A> {
     }
 
     /// A circuit that one end alone has seized is carried from now on.
-    #[inline(always)]
     pub fn hold(&mut self, circuit: &Circuit)
         requires { (exchange : ℕ) × IsSeizedBy self.old circuit.now exchange }
         ensures { self.new ≡ with_held self.old circuit.now }
@@ -300,7 +291,6 @@ impl<A: Allocator> CircuitTable<A> {
     }
 
     /// A circuit that nobody has seized is releasing from now on, and carried no longer.
-    #[inline(always)]
     pub fn release(&mut self, circuit: &Circuit)
         requires known { is_circuit (plan_of self.old) circuit.now ≡ true }
         requires unseized { (exchange : ℕ) → set.contains self.old.seized (circuit.now, exchange) ≡ false }
@@ -312,7 +302,6 @@ impl<A: Allocator> CircuitTable<A> {
     }
 
     /// The release of a circuit is confirmed.
-    #[inline(always)]
     pub fn released(&mut self, circuit: &Circuit)
         requires { set.contains self.old.releasing circuit.now ≡ true }
         ensures { self.new ≡ record self.old { releasing = set.remove self.old.releasing circuit.now } }

@@ -36,7 +36,7 @@ impl<'p, A: Allocator + Copy> Parts<'p, A> {
     }
 
     /// The call under the key goes on over its circuit, which no other call has seized.
-    fn go_on(&mut self, number: u32, key: u32, circuit: &Circuit, far: ExchangeId)
+    fn go_on(&mut self, number: u32, key: usize, circuit: &Circuit, far: ExchangeId)
         requires sound { IsSound self.old }
         requires events { self.old.events < 2 ^ 64 - 1 }
         requires calls { (k : Kept) × IsUnder self.old.calls number key k × (k.call.phase ≡ Calling circuit.now) × (far ≡ far_of self.old.plan.now k.call circuit.now) }

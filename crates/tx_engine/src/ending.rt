@@ -38,7 +38,7 @@ impl<'p, A: Allocator + Copy> Parts<'p, A> {
     }
 
     /// The call under the key ends: its lines are free, its circuits are given back, and its ticket is written.
-    pub(crate) fn end_call(&mut self, key: u32, cause: Cause)
+    pub(crate) fn end_call(&mut self, key: usize, cause: Cause)
         requires sound { IsSound self.old }
         requires there { is_some (kept_at self.old.calls key) ≡ true }
         requires events { self.old.events < 2 ^ 64 - 1 }

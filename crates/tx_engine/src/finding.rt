@@ -13,7 +13,7 @@ use tx_state::{Party, Phase, Refusal};
 
 impl<'p, A: Allocator + Copy> Parts<'p, A> {
     /// The key of the call that is routed.
-    pub(crate) fn standing(&self, number: u32) -> Result<u32, Refusal>
+    pub(crate) fn standing(&self, number: u32) -> Result<usize, Refusal>
         ensures found { IfOk result (λ key. (k : Kept) × IsUnder self.now.calls number key k × (k.call.phase ≡ Standing)) }
         ensures open { OnOk result (refusal self.now.plan.now (state_of self.now) (Route number) ≡ None) }
         ensures events { OnOk result (self.now.events < 2 ^ 64 - 1) }
@@ -34,7 +34,7 @@ impl<'p, A: Allocator + Copy> Parts<'p, A> {
     }
 
     /// The key of the call that is confirmed, and the circuit that it has seized.
-    pub(crate) fn calling(&self, number: u32) -> Result<(u32, Circuit), Refusal>
+    pub(crate) fn calling(&self, number: u32) -> Result<(usize, Circuit), Refusal>
         ensures found { IfOk result (λ r. (k : Kept) × IsUnder self.now.calls number r.0 k × (k.call.phase ≡ Calling r.1)) }
         ensures open { OnOk result (refusal self.now.plan.now (state_of self.now) (Confirm number) ≡ None) }
         ensures events { OnOk result (self.now.events < 2 ^ 64 - 1) }
@@ -53,7 +53,7 @@ impl<'p, A: Allocator + Copy> Parts<'p, A> {
     }
 
     /// The key of the call that is cleared.
-    pub(crate) fn clearable(&self, number: u32, party: Party) -> Result<u32, Refusal>
+    pub(crate) fn clearable(&self, number: u32, party: Party) -> Result<usize, Refusal>
         ensures found { IfOk result (λ key. (k : Kept) × IsUnder self.now.calls number key k) }
         ensures open { OnOk result (refusal self.now.plan.now (state_of self.now) (Clear number party) ≡ None) }
         ensures events { OnOk result (self.now.events < 2 ^ 64 - 1) }

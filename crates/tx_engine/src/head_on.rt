@@ -21,7 +21,7 @@ use tx_state::{Cause, Reply, Service};
 /// One of two calls that meet, with whether it had collided before at the exchange where it stands.
 #[derive(Clone, Copy)]
 pub(crate) struct Met {
-    pub key: u32,
+    pub key: usize,
     pub number: u32,
     pub collided: bool,
 }
@@ -31,7 +31,7 @@ impl<'p, A: Allocator + Copy> Parts<'p, A> {
     pub(crate) fn meet(
         &mut self,
         number: u32,
-        key: u32,
+        key: usize,
         circuit: &Circuit,
         far: ExchangeId,
     ) -> Reply
@@ -59,7 +59,7 @@ impl<'p, A: Allocator + Copy> Parts<'p, A> {
     }
 
     /// The call under the key, as it meets another.
-    fn met(&self, key: u32) -> Met
+    fn met(&self, key: usize) -> Met
         requires { (k : Kept) × (kept_at self.now.calls key ≡ Some k) }
         ensures { (k : Kept) → kept_at self.now.calls key ≡ Some k → result ≡ record { key = key; number = k.call.number; collided = k.call.collided } }
     {
@@ -72,7 +72,7 @@ impl<'p, A: Allocator + Copy> Parts<'p, A> {
     }
 
     /// The calls under the two keys lose the circuit on which they met.
-    fn throw_back(&mut self, key: u32, other_key: u32, circuit: &Circuit)
+    fn throw_back(&mut self, key: usize, other_key: usize, circuit: &Circuit)
         requires sound { IsSound self.old }
         requires meeting { (k d : Kept) × AreMeeting self.old key other_key circuit.now k d }
         ensures sound { IsSound self.new }

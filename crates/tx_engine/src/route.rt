@@ -44,7 +44,7 @@ impl<'p, A: Allocator + Copy> Parts<'p, A> {
     }
 
     /// What becomes of the call under the key.
-    fn decision(&self, key: u32) -> Decision
+    fn decision(&self, key: usize) -> Decision
         requires sound { IsSound self.now }
         requires there { is_some (kept_at self.now.calls key) ≡ true }
         ensures { (k : Kept) → kept_at self.now.calls key ≡ Some k → result ≡ decided self.now.plan.now self.now.lines self.now.circuits k.call }
@@ -59,7 +59,7 @@ impl<'p, A: Allocator + Copy> Parts<'p, A> {
     }
 
     /// The call under the key is answered with a service code, and ends.
-    fn answer(&mut self, key: u32, service: Service) -> Reply
+    fn answer(&mut self, key: usize, service: Service) -> Reply
         requires sound { IsSound self.old }
         requires there { is_some (kept_at self.old.calls key) ≡ true }
         requires events { self.old.events < 2 ^ 64 - 1 }
@@ -73,7 +73,7 @@ impl<'p, A: Allocator + Copy> Parts<'p, A> {
     }
 
     /// The call under the key has come to the line. It is connected, if the line is free.
-    fn reach(&mut self, key: u32, line: &Line) -> Result<Reply, NoMemory>
+    fn reach(&mut self, key: usize, line: &Line) -> Result<Reply, NoMemory>
         requires sound { IsSound self.old }
         requires decided { (k : Kept) × IsDecided self.old key k (Reach line.now) }
         requires events { self.old.events < 2 ^ 64 - 1 }
@@ -95,7 +95,7 @@ impl<'p, A: Allocator + Copy> Parts<'p, A> {
     }
 
     /// The call under the key seizes the circuit from the exchange where it stands.
-    fn seize(&mut self, key: u32, circuit: &Circuit, here: ExchangeId) -> Result<(), NoMemory>
+    fn seize(&mut self, key: usize, circuit: &Circuit, here: ExchangeId) -> Result<(), NoMemory>
         requires sound { IsSound self.old }
         requires decided { (k : Kept) × IsDecided self.old key k (Seize circuit.now here) }
         requires events { self.old.events < 2 ^ 64 - 1 }

@@ -1,5 +1,6 @@
--- The groups of a plan with the states of their circuits, and how they are kept in rows.
-use Rattle.std.specs.Prelude.{◌≡◌, ℕ, zero, suc, ◌≤◌, Bool, true, false, ◌&&◌, ◌==◌, if◌then◌else◌, List, map, length, find, replicate, Option, Some, None, option_and_then, slice_get, slice_set}
+-- The groups of a plan with the states of their circuits, and how they are kept in one vector.
+use Rattle.std.specs.Prelude.{◌≡◌, ℕ, zero, suc, ◌+◌, ◌<◌, ◌≤◌, Bool, false, ◌&&◌, ◌==◌, if◌then◌else◌, List, [], ◌∷◌, map, length, find, replicate, Option, Some, None, option_and_then, slice_get, slice_set, ◌⊎◌}
+use Rattle.std.specs.List.{between}
 use Rattle.tx_entries.specs.declared.circuit.Circuit.{Circuit}
 use Rattle.tx_plan.specs.Circuits.{is_both}
 use Rattle.tx_circuits.specs.declared.free_lists.End.{End}
@@ -10,11 +11,6 @@ use Rattle.tx_circuits.specs.declared.state.State.{State}
 use Rattle.tx_circuits.specs.declared.slot.Slot.{Slot}
 use Rattle.tx_circuits.specs.declared.group_head.GroupHead.{GroupHead}
 use Rattle.tx_circuits.specs.declared.row.Row.{Row}
-use Rattle.tx_circuits.specs.declared.free_lists.FreeList.{FreeList}
-use Rattle.tx_circuits.specs.declared.free_lists.FreeLists.{FreeLists}
-use Rattle.tx_rows.specs.declared.late_rows.LateRows.{LateRows}
-use Rattle.tx_rows.specs.Rows.{Row as RowOf}
-use Rattle.tx_rows.specs.inner.Kept.{rows_in, AreRowsKept}
 use Rattle.tx_circuits.specs.inner.Slots.{state_of, free_in, in_order, IsSound}
 
 -- a group, with the states of its circuits in order of number
@@ -38,6 +34,12 @@ state_at ts x = option_and_then (λ t. numbered t.states x.number) (slice_get ts
 -- the end at which an exchange seizes circuits of a group, if it may
 abbrev pub end_at : List GroupState → ℕ → ℕ → Option End
 end_at ts g x = option_and_then (λ t. seizing_end t.head x) (slice_get ts g)
+
+-- the list with one entry changed
+abbrev pub change_at : {A : Type 0} → (A → A) → ℕ → List A → List A
+change_at f place [] = []
+change_at f zero (x ∷ xs) = f x ∷ xs
+change_at f (suc place) (x ∷ xs) = x ∷ change_at f place xs
 
 -- the list with another entry of a number, counted from 1
 abbrev pub set_numbered : {A : Type 0} → List A → ℕ → A → List A
@@ -66,28 +68,30 @@ first_place t end = find (free_in end t.states) (in_order (way_of end) (length t
 abbrev pub idle : State
 idle = record { seized_first = false; seized_other = false; carried = false; releasing = false; out = false }
 
--- HOW THEY ARE KEPT
+-- ALL CIRCUITS IN ONE VECTOR, GROUP BY GROUP
 
-abbrev pub group_state : RowOf Row Slot → GroupState
-group_state r = record { head = r.head.head; states = map state_of r.items }
+abbrev pub group_slots : List Slot → Row → List Slot
+group_slots slots r = between r.start (r.start + r.count) slots
 
--- the list of so many circuits, all of them free
-abbrev pub whole_list : ℕ → FreeList
-whole_list zero = record { least = None; greatest = None }
-whole_list (suc n) = record { least = Some 0; greatest = Some n }
+-- two groups have no slot in common
+abbrev pub AreApart : Row → Row → Type 0
+AreApart r s = (r.start + r.count ≤ s.start) ⊎ (s.start + s.count ≤ r.start)
 
-abbrev pub whole_lists : ℕ → FreeLists
-whole_lists n = record { first = whole_list n; other = whole_list n }
+abbrev pub group_state : List Slot → Row → GroupState
+group_state slots r = record { head = r.head; states = map state_of (group_slots slots r) }
 
--- The free lists of a group are sound where its slots are linked. Until then all its circuits are idle.
-pub record AreListed (slots : List Slot) (row : Row) : Type 0 where
-  pub short : length slots ≤ 240
-  pub linked : row.linked ≡ true → IsSound slots row.lists
-  pub idle : row.linked ≡ false → map state_of slots ≡ replicate (length slots) idle
-  pub whole : row.linked ≡ false → row.lists ≡ whole_lists (length slots)
+-- The groups lie in the vector one after another, and the free lists of each are sound.
+pub record AreKept (slots : List Slot) (rows : List Row) : Type 0 where
+  pub within : (g : ℕ) (r : Row) → slice_get rows g ≡ Some r → r.start + r.count ≤ length slots
+  pub apart : (g h : ℕ) (r s : Row) → slice_get rows g ≡ Some r → slice_get rows h ≡ Some s → g < h → r.start + r.count ≤ s.start
+  pub sound : (g : ℕ) (r : Row) → slice_get rows g ≡ Some r → IsSound (group_slots slots r) r.lists
 
--- The rows are kept, a slot that is not yet written is idle, and each group has its lists.
-pub record AreGroupsKept {A : Type 0} (l : LateRows Row Slot A) : Type 0 where
-  pub rows : AreRowsKept l
-  pub idle : l.idle.state ≡ idle
-  pub listed : (g : ℕ) (r : RowOf Row Slot) → slice_get (rows_in l) g ≡ Some r → AreListed r.items r.head
+-- The slots of one group more, all idle, stand behind those of the others.
+pub record IsAppended (old new : List Slot) (head : GroupHead) (count : ℕ) (row : Row) : Type 0 where
+  pub head_is : row.head ≡ head
+  pub start_is : row.start ≡ length old
+  pub count_is : row.count ≡ count
+  pub grown : length new ≡ length old + count
+  pub sound : IsSound (group_slots new row) row.lists
+  pub states : map state_of (group_slots new row) ≡ replicate count idle
+  pub others : (s : Row) → s.start + s.count ≤ length old → group_slots new s ≡ group_slots old s

@@ -1,5 +1,5 @@
 -- What the slots of a group say of its circuits. Circuit number n is at place n - 1.
-use Rattle.std.specs.Prelude.{ℕ, zero, suc, ◌+◌, ◌-◌, ◌≤◌, Bool, false, not, ◌&&◌, List, [], ◌∷◌, ◌++◌, map, filter, length, nat_lt, if◌then◌else◌, Option, Some, None, slice_index_or}
+use Rattle.std.specs.Prelude.{ℕ, zero, suc, ◌-◌, ◌≤◌, Bool, false, not, ◌&&◌, List, [], ◌∷◌, ◌++◌, map, filter, length, nat_lt, Option, Some, None, slice_index_or}
 use Rattle.tx_circuits.specs.declared.free_lists.End.{End}
 use Rattle.tx_circuits.specs.declared.free_lists.End.TheVariants.{First, Other}
 use Rattle.tx_circuits.specs.declared.free_lists.Way.{Way}
@@ -94,12 +94,6 @@ falling (suc n) = n ∷ falling n
 abbrev pub in_order : Way → ℕ → List ℕ
 in_order Up n = rising n
 in_order Down n = falling n
-
--- what comes after a place of n circuits that are all free
-abbrev pub next_of : Way → ℕ → ℕ → Option ℕ
-next_of Up n place = if nat_lt (place + 1) n then Some (place + 1) else None
-next_of Down n zero = None
-next_of Down n (suc k) = Some k
 
 -- THE FREE LISTS OF A GROUP
 -- For each end, the links followed from the list's head give exactly the circuits that are free at that end: upward from the least in rising order,

@@ -12,11 +12,11 @@ returns-clause-apart c = λ k ne. column_there (λ (s : Slot). ahead c.args.way 
 
 pub returns-clause-turned : goal.returns-clause-turned
 returns-clause-turned c = λ k. column_same (λ (s : Slot). ahead (back c.args.way) (links_of c.args.end s)) c.args.slots.now c.args.place k c.with_link.result _ None
-    (c.with_link.ensures.turned ∙ ap (λ (s : Slot). ahead (back c.args.way) (links_of c.args.end s)) c.index-slots-place.is) c.requires
+    c.with_link.ensures.turned c.requires
 
 pub returns-clause-other : goal.returns-clause-other
 returns-clause-other c = λ w k. column_same (λ (s : Slot). ahead w (links_of (opposite c.args.end) s)) c.args.slots.now c.args.place k c.with_link.result _ None
-    (ap (ahead w) (c.with_link.ensures.other ∙ ap (links_of (opposite c.args.end)) c.index-slots-place.is)) c.requires
+    (ap (ahead w) c.with_link.ensures.other) c.requires
 
 pub returns-clause-states : goal.returns-clause-states
-returns-clause-states c = column-set_same state_of c.args.slots.now c.args.place c.with_link.result _ (c.with_link.ensures.state ∙ ap state_of c.index-slots-place.is) c.requires
+returns-clause-states c = column-set_same state_of c.args.slots.now c.args.place c.with_link.result _ c.with_link.ensures.state c.requires

@@ -12,7 +12,7 @@ returns-clause-apart c = λ way k ne. column_there (λ (s : Slot). ahead way (li
 
 pub returns-clause-other : goal.returns-clause-other
 returns-clause-other c = λ way k. column_same (λ (s : Slot). ahead way (links_of (opposite c.args.end) s)) c.args.slots.now c.args.place k c.with_links.result _ None
-    (ap (ahead way) (c.with_links.ensures.other ∙ ap (links_of (opposite c.args.end)) c.index-slots-place.is)) c.requires
+    (ap (ahead way) c.with_links.ensures.other) c.requires
 
 pub returns-clause-states : goal.returns-clause-states
-returns-clause-states c = column-set_same state_of c.args.slots.now c.args.place c.with_links.result _ (c.with_links.ensures.state ∙ ap state_of c.index-slots-place.is) c.requires
+returns-clause-states c = column-set_same state_of c.args.slots.now c.args.place c.with_links.result _ c.with_links.ensures.state c.requires

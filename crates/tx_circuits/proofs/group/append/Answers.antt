@@ -4,7 +4,7 @@ use Rattle.tx_circuits.specs.declared.free_lists.Way.TheVariants.{Up, Down}
 use Rattle.tx_circuits.specs.inner.Linked.{IsFirst, IsLast}
 use Rattle.tx_circuits.specs.inner.Slots.{free_at, chain, rank_of, until}
 use Rattle.tx_circuits.proofs.Linked.{put, are_ranked}
-use Rattle.tx_circuits.proofs.Places.{free_read, free_within, first_within, each_way}
+use Rattle.tx_circuits.proofs.Places.{free_here, free_within, first_within, each_way}
 use Rattle.tx_circuits.proofs.Sound.{listed_along}
 use Rattle.tx_circuits.proofs.Appending.{until_is, until_other, until_now, until_before, until_skips, greatest_last, none_above, none_after, greatest_next, not_greatest}
 use Rattle.tx_circuits.proofs.group.append.Goals as goal
@@ -14,7 +14,7 @@ returns-then-not-is_free-clause-listed c =
     let end = c.args.end in
     let slots = c.args.slots.now in
     let i = c.args.place in
-    let taken = free_read end slots i _ c.index-slots-place.is c.requires.place ∙ sym c.is_free.ensures ∙ c.if-not-is_free.true in
+    let taken = free_here end slots i _ c.requires.place ∙ sym c.is_free.ensures ∙ c.if-not-is_free.true in
     listed_along (until i (free_at end slots)) (until (i + 1) (free_at end slots)) end slots slots c.args.list.now (until_skips (free_at end slots) i taken) (λ way k. refl) c.requires.listed
 
 pub insert-requires-clause-below : goal.insert-requires-clause-below
@@ -29,7 +29,7 @@ insert-requires-clause-apart c =
     let slots = c.args.slots.now in
     let short = c.requires.short in
     let i_in : c.args.place < 240 = (let a : c.args.place < length slots = c.requires.place in omega arith) in
-    each_way _ (λ e. let bad : Some c.args.place ≡ None = e ∙ c.none.ensures in absurd cc) (not_greatest (free_at c.args.end slots) c.args.place i_in c.args.list.now.greatest (c.requires.listed Down).begins)
+    each_way _ (λ e. absurd cc) (not_greatest (free_at c.args.end slots) c.args.place i_in c.args.list.now.greatest (c.requires.listed Down).begins)
 
 pub returns-clause-listed : goal.returns-clause-listed
 returns-clause-listed c =
@@ -40,7 +40,7 @@ returns-clause-listed c =
     let i_in : i < 240 = (let a : i < length slots = c.requires.place in omega arith) in
     let free = free_at end slots in
     let inside = λ (k : ℕ) (f : until i free k ≡ true). let a : k < i = (until_is free i k f).0 in let b : k < 240 = omega arith in b in
-    let now = free_read end slots i _ c.index-slots-place.is c.requires.place ∙ sym c.is_free.ensures ∙ c.if-not-is_free.false in
+    let now = free_here end slots i _ c.requires.place ∙ sym c.is_free.ensures ∙ c.if-not-is_free.false in
     let greatest = c.args.list.now.greatest in
     let one = λ (w : Way) (q r : Option ℕ) (placed : chain end w c.insert.new.slots c.insert.new.list (Some i) ≡ r) (last : IsLast (until i free) (rank_of w) (rank_of w i) q)
     (found : IsFirst (until i free) (rank_of w) (rank_of w i + 1) r) (joined : chain end w c.insert.new.slots c.insert.new.list q ≡ Some i).
@@ -48,5 +48,5 @@ returns-clause-listed c =
     (chain end w slots c.args.list.now) (chain end w c.insert.new.slots c.insert.new.list) (c.requires.listed w)
     (subst (IsFirst (until i free) (rank_of w) (rank_of w i + 1)) (sym placed) found) q last joined in
     each_way _
-    (one Up greatest None (c.insert.ensures.placed Up ∙ c.none.ensures) (greatest_last free i i_in greatest (c.requires.listed Down).begins) (none_after free i i_in) (c.insert.ensures.joined Up) (c.insert.ensures.rest Up))
-    (one Down c.none.result greatest (c.insert.ensures.placed Down) (subst (IsLast (until i free) (rank_of Down) (rank_of Down i)) (sym c.none.ensures) (none_above free i i_in)) (greatest_next free i i_in greatest (c.requires.listed Down).begins) (c.insert.ensures.joined Down) (c.insert.ensures.rest Down))
+    (one Up greatest None (c.insert.ensures.placed Up) (greatest_last free i i_in greatest (c.requires.listed Down).begins) (none_after free i i_in) (c.insert.ensures.joined Up) (c.insert.ensures.rest Up))
+    (one Down None greatest (c.insert.ensures.placed Down) (none_above free i i_in) (greatest_next free i i_in greatest (c.requires.listed Down).begins) (c.insert.ensures.joined Down) (c.insert.ensures.rest Down))

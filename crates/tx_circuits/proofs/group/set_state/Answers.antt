@@ -2,12 +2,11 @@ use Rattle.std.proofs.Common.{◌≡◌, ◌∙◌, ◌<◌, ◌≤◌, ℕ, Boo
 use Rattle.std.proofs.lemmas.List.{length-map, map-set}
 use Rattle.tx_circuits.specs.declared.free_lists.End.{End}
 use Rattle.tx_circuits.specs.declared.free_lists.End.TheVariants.{First, Other}
-use Rattle.tx_circuits.specs.declared.slot.Slot.{Slot}
 use Rattle.tx_circuits.specs.declared.state.State.{State}
 use Rattle.tx_circuits.specs.inner.Linked.{with}
 use Rattle.tx_circuits.specs.inner.Slots.{free_at, is_free, state_of, IsListed}
 use Rattle.tx_circuits.proofs.Places.{each_end}
-use Rattle.tx_circuits.proofs.Sound.{are_linked, are_sound, listed_along, free_alike, after_write, links_kept}
+use Rattle.tx_circuits.proofs.Sound.{are_linked, are_sound, listed_along, free_alike, after_write}
 use Rattle.tx_circuits.proofs.group.set_state.Goals as goal
 
 pub relink-requires-clause-listed : goal.relink-requires-clause-listed
@@ -22,8 +21,7 @@ relink-requires-2-clause-listed c =
 
 pub returns-clause-states : goal.returns-clause-states
 returns-clause-states c =
-    map-set state_of c.relink-2.new.slots c.args.place _ ∙ ap (λ (s : Slot). slice_set (map state_of c.relink-2.new.slots) c.args.place s.state) c.with_state.ensures
-    ∙ ap (λ (l : List State). slice_set l c.args.place c.args.to) (c.relink-2.ensures.states ∙ c.relink.ensures.states)
+    map-set state_of c.relink-2.new.slots c.args.place _ ∙ ap (λ (l : List State). slice_set l c.args.place c.args.to) (c.relink-2.ensures.states ∙ c.relink.ensures.states)
 
 pub returns-clause-sound : goal.returns-clause-sound
 returns-clause-sound c =
@@ -35,15 +33,13 @@ returns-clause-sound c =
     let states : map state_of two ≡ map state_of old = c.relink-2.ensures.states ∙ c.relink.ensures.states in
     let len : length two ≡ length old = sym (length-map two state_of) ∙ ap length states ∙ length-map old state_of in
     let inside : i < length two = (let a : i < length old = c.requires.place in omega arith) in
-    let state = ap (λ (s : Slot). s.state) c.with_state.ensures in
-    let links = links_kept _ _ to _ c.with_state.ensures c.index-slots-place.is in
     let still = λ (end : End) (f g : ℕ → Bool) (e : (k : ℕ) → f k ≡ g k). let same : f ≡ g = (λ j k. e k j) in
     ap (λ (h : ℕ → Bool). with h i (is_free end to)) same in
     are_sound _ _ (let a : length old ≤ 240 = c.requires.sound.short in simp length-set (omega arith))
     (each_end _
-    (after_write two i _ _ to state links inside First c.relink.new.list
+    (after_write two i _ to inside First c.relink.new.list
     (listed_along (with (free_at First old) i (is_free First to)) (with (free_at First two) i (is_free First to)) First one two c.relink.new.list
     (λ k. ap (λ (h : ℕ → Bool). h k) (still First (free_at First old) (free_at First two) (λ k. sym (free_alike First old two states k)))) c.relink-2.ensures.other c.relink.ensures.listed))
-    (after_write two i _ _ to state links inside Other c.relink-2.new.list
+    (after_write two i _ to inside Other c.relink-2.new.list
     (subst (λ (h : ℕ → Bool). IsListed h Other two c.relink-2.new.list)
     (still Other (free_at Other one) (free_at Other two) (λ k. sym (free_alike Other one two c.relink-2.ensures.states k))) c.relink-2.ensures.listed)))

@@ -1,24 +1,33 @@
-use Rattle.std.specs.Prelude.{Result, Ok, Err, OnOk, OnErr}
-use Rattle.tx_circuits.proofs.Kept.{kept_added, view_added, kept_same}
+use Rattle.std.proofs.Common.{◌∙◌, List, ◌∷◌, [], ◌++◌, map, sym, ap, subst}
+use Rattle.std.specs.Prelude.{replicate}
+use Rattle.tx_text.proofs.Writing.{on_err}
+use Rattle.tx_circuits.specs.declared.row.Row.{Row}
+use Rattle.tx_circuits.specs.inner.Groups.{GroupState, group_state, idle, AreKept}
+use Rattle.tx_circuits.proofs.Kept.{kept_without, view_without, kept_with, view_with}
 use Rattle.tx_circuits.proofs.groups.Groups.add.Goals as goal
 
-either : {U E A B C : Type 0} (r : Result U E) → OnOk r A → OnErr r B → (A → C) → (B → C) → C
-either (Ok u) a b f h = f a
-either (Err e) a b f h = h b
+pub invariant_of-self-in_err-push : goal.invariant_of-self-in_err-push
+invariant_of-self-in_err-push g c =
+    let new = c.append.new.slots.items in
+    subst (λ (r : List Row). AreKept new r) (sym c.in_err-push.ensures.items)
+    (kept_without c.self.inside.slots.items new c.self.inside.rows.items c.self.invariant c.args.head c.args.count c.in_ok-row.row c.in_ok-row.ensures.ok)
 
-on_ok : {U E A B : Type 0} (r : Result U E) → OnOk r A → (A → B) → OnOk r B
-on_ok (Ok u) a f = f a
-on_ok (Err e) a f = tt
+pub returns-in_err-push-clause-err : goal.returns-in_err-push-clause-err
+returns-in_err-push-clause-err g c =
+    let new = c.append.new.slots.items in
+    on_err c.from_residual-in_err-push.result
+    (ap (map (group_state new)) c.in_err-push.ensures.items
+    ∙ view_without c.self.inside.slots.items new c.self.inside.rows.items c.self.invariant c.args.head c.args.count c.in_ok-row.row c.in_ok-row.ensures.ok ∙ c.self.view_is)
 
-pub invariant_of-self : goal.invariant_of-self
-invariant_of-self g c =
-    let l = c.self.inside.rows in
-    either c.add.result c.add.ensures.ok c.add.ensures.err
-    (λ is. kept_added l c.add.new.self c.self.invariant c.add.ensures.kept c.add.ensures.idle c.args.head c.args.count c.whole.result c.requires c.whole.ensures is)
-    (λ is. kept_same l c.add.new.self c.self.invariant c.add.ensures.kept c.add.ensures.idle is)
+pub invariant_of-self-2 : goal.invariant_of-self-2
+invariant_of-self-2 g c =
+    let new = c.append.new.slots.items in
+    subst (λ (r : List Row). AreKept new r) (sym c.in_ok-push.ensures.items)
+    (kept_with c.self.inside.slots.items new c.self.inside.rows.items c.self.invariant c.args.head c.args.count c.in_ok-row.row c.in_ok-row.ensures.ok)
 
 pub returns-clause-ok : goal.returns-clause-ok
 returns-clause-ok g c =
-    let l = c.self.inside.rows in
-    on_ok c.add.result c.add.ensures.ok
-    (λ is. view_added l c.add.new.self c.self.invariant c.add.ensures.kept c.add.ensures.idle c.args.head c.args.count c.whole.result c.requires c.whole.ensures is c.args.self.now c.self.view_is)
+    let new = c.append.new.slots.items in
+    ap (map (group_state new)) c.in_ok-push.ensures.items
+    ∙ view_with c.self.inside.slots.items new c.self.inside.rows.items c.self.invariant c.args.head c.args.count c.in_ok-row.row c.in_ok-row.ensures.ok
+    ∙ ap (λ (l : List GroupState). l ++ record { head = c.args.head; states = replicate c.args.count idle } ∷ []) c.self.view_is

@@ -1,38 +1,46 @@
-use Rattle.std.proofs.Common.{◌∙◌, List, length, map, ap}
-use Rattle.std.specs.List.{between}
-use Rattle.std.proofs.lemmas.List.Edits.{length-between}
-use Rattle.tx_rows.specs.inner.Kept.{rows_in}
-use Rattle.tx_rows.proofs.Parts.{part_ends}
+use Rattle.std.proofs.Common.{◌≡◌, ◌∙◌, ◌≤◌, List, length, map, sym, ap, subst, slice_set, arith}
+use Rattle.std.proofs.lemmas.List.{take_at, with_items_is}
 use Rattle.tx_circuits.specs.declared.slot.Slot.{Slot}
+use Rattle.tx_circuits.specs.declared.row.Row.{Row}
 use Rattle.tx_circuits.specs.inner.Slots.{state_of, cleared}
-use Rattle.tx_circuits.proofs.Kept.{row_within, part_listed, part_kept_after, part_view_after}
+use Rattle.tx_circuits.specs.inner.Groups.{group_slots, group_state, AreApart, AreKept}
+use Rattle.tx_circuits.proofs.Kept.{entry_at, slots_length, kept_updated, view_updated}
 use Rattle.tx_circuits.proofs.groups.Groups.clear.Goals as goal
 
-pub written-start-requires-clause-kept : goal.written-start-requires-clause-kept
-written-start-requires-clause-kept g c = c.self.invariant.rows
-
-pub written-start-requires-clause-row : goal.written-start-requires-clause-row
-written-start-requires-clause-row g c = row_within (rows_in c.self.inside.rows) c.args.self.now c.args.group c.index-place.result c.self.view_is c.index-place.ensures c.requires
-
-pub clear-requires : goal.clear-requires
-clear-requires g c =
-    let w = c.written-start.ensures in
-    rw c.deref_mut.ensures.value
-    (part_listed c.self.inside.rows c.written-start.new.self c.self.invariant w.kept c.args.self.now c.self.view_is c.args.group c.index-place.result c.written-start.result.0 c.written-start.result.1 c.index-place.ensures
-    w.rows w.idle w.at c.index_mut.result.now c.index_mut.ensures.value)
+pub clear-requires-clause-short : goal.clear-requires-clause-short
+clear-requires-clause-short g c =
+    let slots = c.self.inside.slots.items in
+    let rows = c.self.inside.rows.items in
+    let row = c.index_mut-row.result.now in
+    let at = entry_at slots rows c.args.self.now c.args.group c.index.result row c.self.view_is c.index.ensures c.index_mut-row.ensures.value c.requires in
+    let short : length (group_slots slots row) ≤ 240 = (c.self.invariant.sound c.index.result row at).short in
+    let long : length (group_slots slots row) ≡ row.count = slots_length slots row (c.self.invariant.within c.index.result row at) in
+    omega arith
 
 pub invariant_of-self : goal.invariant_of-self
 invariant_of-self g c =
-    let l = c.written-start.new.self in let w = c.written-start.ensures in let a = c.written-start.result.0 in let b = c.written-start.result.1 in
-    let long = c.clear.auto.slots ∙ ap (λ (v : List Slot). length (between a b v)) c.deref_mut.ensures.value ∙ length-between l.items.items a b (part_ends l w.kept c.index-place.result a b w.at).1 in
-    part_kept_after c.self.inside.rows l c.self.invariant w.kept c.args.self.now c.self.view_is c.args.group c.index-place.result a b c.index-place.ensures w.rows w.idle w.at c.index_mut.result.now c.index_mut.ensures.value
-    c.deref_mut.result.now c.clear.new.slots c.deref_mut.ensures.value long c.clear.new.self c.clear.ensures.listed
+    let slots = c.self.inside.slots.items in
+    let rows = c.self.inside.rows.items in
+    let row = c.index_mut-row.result.now in
+    let at = entry_at slots rows c.args.self.now c.args.group c.index.result row c.self.view_is c.index.ensures c.index_mut-row.ensures.value c.requires in
+    let new = c.clear.new.slots in
+    let long : length new ≡ length slots = c.clear.auto.slots ∙ ap length c.as_mut_slice.ensures.value in
+    let len : length new ≡ c.self.inside.slots.len = c.clear.auto.slots ∙ c.as_mut_slice.ensures.len in
+    let rest = λ (s : Row) (a : AreApart row s). c.clear.ensures.rest s a ∙ ap (λ (l : List Slot). group_slots l s) c.as_mut_slice.ensures.value in
+    subst (λ (l : List Slot). AreKept l (slice_set rows c.index.result c.clear.new.self)) (sym (take_at new _ c.self.inside.slots.len len))
+    (kept_updated slots rows c.args.self.now c.self.invariant c.self.view_is c.args.group c.index.result c.index.ensures row at new long c.clear.new.self c.clear.ensures.row c.clear.ensures.sound rest)
 
 pub returns : goal.returns
 returns g c =
-    let l = c.written-start.new.self in let w = c.written-start.ensures in let a = c.written-start.result.0 in let b = c.written-start.result.1 in
-    let long = c.clear.auto.slots ∙ ap (λ (v : List Slot). length (between a b v)) c.deref_mut.ensures.value ∙ length-between l.items.items a b (part_ends l w.kept c.index-place.result a b w.at).1 in
-    part_view_after c.self.inside.rows l c.self.invariant w.kept c.args.self.now c.self.view_is c.args.group c.index-place.result a b c.index-place.ensures w.rows w.idle w.at c.index_mut.result.now c.index_mut.ensures.value
-    c.deref_mut.result.now c.clear.new.slots c.deref_mut.ensures.value long c.clear.new.self c.clear.ensures.listed
+    let slots = c.self.inside.slots.items in
+    let rows = c.self.inside.rows.items in
+    let row = c.index_mut-row.result.now in
+    let at = entry_at slots rows c.args.self.now c.args.group c.index.result row c.self.view_is c.index.ensures c.index_mut-row.ensures.value c.requires in
+    let new = c.clear.new.slots in
+    let long : length new ≡ length slots = c.clear.auto.slots ∙ ap length c.as_mut_slice.ensures.value in
+    let len : length new ≡ c.self.inside.slots.len = c.clear.auto.slots ∙ c.as_mut_slice.ensures.len in
+    let rest = λ (s : Row) (a : AreApart row s). c.clear.ensures.rest s a ∙ ap (λ (l : List Slot). group_slots l s) c.as_mut_slice.ensures.value in
+    ap (λ (l : List Slot). map (group_state l) (slice_set rows c.index.result c.clear.new.self)) (with_items_is c.self.inside.slots new len)
+    ∙ view_updated slots rows c.args.self.now c.self.invariant c.self.view_is c.args.group c.index.result c.index.ensures row at new long c.clear.new.self c.clear.ensures.row c.clear.ensures.sound rest
     (λ t. record t { states = map cleared t.states })
-    (λ i. record { head = c.clear.ensures.head i; states = (c.clear.ensures.states ∙ ap (λ (v : List Slot). map cleared (map state_of (between a b v))) c.deref_mut.ensures.value) i })
+    (λ j. record { head = row.head; states = (c.clear.ensures.states ∙ ap (λ (l : List Slot). map cleared (map state_of (group_slots l row))) c.as_mut_slice.ensures.value) j })

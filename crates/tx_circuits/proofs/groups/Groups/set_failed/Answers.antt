@@ -1,17 +1,22 @@
-use Rattle.std.proofs.Common.{◌∙◌, refl, sym, ap}
-use Rattle.tx_rows.specs.Rows.{change_at}
-use Rattle.tx_circuits.specs.inner.Groups.{with_failed}
-use Rattle.tx_circuits.proofs.Kept.{headed_kept, headed_view}
+use Rattle.std.proofs.Common.{◌∙◌, refl}
+use Rattle.tx_circuits.specs.inner.Groups.{group_state, change_at, with_failed}
+use Rattle.tx_circuits.proofs.Kept.{entry_at, kept_after}
+use Rattle.tx_circuits.proofs.Lists.{map-set_change}
 use Rattle.tx_circuits.proofs.groups.Groups.set_failed.Goals as goal
 
 pub invariant_of-self : goal.invariant_of-self
 invariant_of-self g c =
-    let row = c.unwrap-row.result in
-    headed_kept c.self.inside.rows c.set_head.new.self c.self.invariant c.set_head.ensures.kept c.set_head.ensures.idle c.index-place.result row _ (sym c.unwrap-row.ensures ∙ c.head.ensures) refl refl c.set_head.ensures.rows
+    let slots = c.self.inside.slots.items in
+    let rows = c.self.inside.rows.items in
+    let row = c.index_mut.result.now in
+    let at = entry_at slots rows c.args.self.now c.args.group c.index.result row c.self.view_is c.index.ensures c.index_mut.ensures.value c.requires in
+    kept_after slots rows c.self.invariant c.index.result row at slots _ refl refl refl (c.self.invariant.sound c.index.result row at) (λ h s ne e. refl)
 
 pub returns : goal.returns
 returns g c =
-    let row = c.unwrap-row.result in
-    headed_view c.self.inside.rows c.set_head.new.self c.self.invariant c.set_head.ensures.kept c.set_head.ensures.idle c.index-place.result row _ (sym c.unwrap-row.ensures ∙ c.head.ensures) refl refl c.set_head.ensures.rows
-    (with_failed c.args.to) c.args.self.now c.self.view_is (λ states. refl)
-    ∙ ap (λ i. change_at (with_failed c.args.to) i c.args.self.now) c.index-place.ensures
+    let slots = c.self.inside.slots.items in
+    let rows = c.self.inside.rows.items in
+    let row = c.index_mut.result.now in
+    let at = entry_at slots rows c.args.self.now c.args.group c.index.result row c.self.view_is c.index.ensures c.index_mut.ensures.value c.requires in
+    map-set_change (group_state slots) (group_state slots) (with_failed c.args.to) rows c.index.result row _ at refl (λ h s ne e. refl)
+    ∙ (λ i. change_at (with_failed c.args.to) (c.index.ensures i) (c.self.view_is i))

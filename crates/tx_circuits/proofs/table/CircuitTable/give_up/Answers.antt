@@ -2,8 +2,7 @@ use Rattle.std.proofs.Common.{◌∙◌, true, false, sym, ap}
 use Rattle.std.specs.Option.{option_map_or}
 use Rattle.tx_circuits.specs.declared.state.State.{State}
 use Rattle.tx_circuits.specs.inner.Slots.{has_seized}
-use Rattle.tx_rows.specs.Rows.{change_at}
-use Rattle.tx_circuits.specs.inner.Groups.{end_at, with_state}
+use Rattle.tx_circuits.specs.inner.Groups.{end_at, with_state, change_at}
 use Rattle.tx_circuits.specs.Table.{Table, withdrawn, released_unless}
 use Rattle.tx_circuits.specs.inner.Seen.{table_of}
 use Rattle.tx_circuits.proofs.GivenUp.{kept_is, given_up_is}

@@ -1,7 +1,6 @@
 use Rattle.std.proofs.Common.{◌∙◌, sym, ap}
 use Rattle.std.specs.FinSet.{insert}
-use Rattle.tx_rows.specs.Rows.{change_at}
-use Rattle.tx_circuits.specs.inner.Groups.{with_state}
+use Rattle.tx_circuits.specs.inner.Groups.{with_state, change_at}
 use Rattle.tx_circuits.specs.Table.{Table}
 use Rattle.tx_circuits.specs.inner.Seen.{table_of}
 use Rattle.tx_circuits.proofs.Updates.{seized_is}
