@@ -12,7 +12,7 @@ ghost use Rattle.tx_state.specs.Seen.{call_seen};
 
 use indexmap::IndexMap;
 use slab::Slab;
-use std::alloc::{AllocError, Allocator, Global};
+use std::alloc::{Allocator, Global};
 use std::marker::Model;
 use tx_entries::ByWord;
 use tx_state::{Hop, OpenCall, Phase};
