@@ -1,7 +1,7 @@
 // The want of memory.
 use std::alloc::{AllocError, AllocFailed};
 
-/// No memory was left. Its field is private: other crates make it of what an allocator refused, and in no other way.
+/// No memory was left. Its field is private, so other crates make it of what an allocator refused.
 #[derive(Clone, Copy)]
 pub struct NoMemory(());
 
