@@ -46,8 +46,7 @@ module _ (t : Certificate) where
         all : (q : Pair) (o : Option ℕ) → get t.ranks q ≡ o → cond (is_before (t.codes * t.exchanges) q) (get t.ranks q) None ≡ get t.ranks q
         all q None e = none_either (is_before (t.codes * t.exchanges) q) true (get t.ranks q) e
         all q (Some r) e =
-            let is = rules q.0 q.1 r e in
-            let low = mul-add-lt q.0 t.exchanges q.1 t.codes is.code is.exchange in
+            let low = mul-add-lt q.0 t.exchanges q.1 t.codes (rules.own_codes q.0 q.1 r e) (rules.own_exchanges q.0 q.1 r e) in
             ap (λ b. cond b (get t.ranks q) None) (lt-ltb (place_of t.exchanges q) (t.codes * t.exchanges) (omega arith))
 
     module _ (c x : ℕ) (exchange : x < t.exchanges) where
@@ -60,7 +59,7 @@ module _ (t : Certificate) where
           → cond (is_before (c * t.exchanges + x) q) (get t.ranks q) None ≡ cond (is_before (c * t.exchanges + x + 1) q) (get t.ranks q) None
       others q None e away = none_either (is_before (c * t.exchanges + x) q) (is_before (c * t.exchanges + x + 1) q) (get t.ranks q) e
       others q (Some r) e away =
-          let apart : place_of t.exchanges q ≢ c * t.exchanges + x = λ p. let s = same_from_place q.0 q.1 c x t.exchanges (rules q.0 q.1 r e).exchange exchange p in away (λ i. (s.0 i, s.1 i)) in
+          let apart : place_of t.exchanges q ≢ c * t.exchanges + x = λ p. let s = same_from_place q.0 q.1 c x t.exchanges (rules.own_exchanges q.0 q.1 r e) exchange p in away (λ i. (s.0 i, s.1 i)) in
           ap (λ b. cond b (get t.ranks q) None) (sym (one_more (place_of t.exchanges q) (c * t.exchanges + x) apart))
 
       -- one on, where it has no rank

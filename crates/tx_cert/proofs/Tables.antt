@@ -77,12 +77,20 @@ module _ (t : Table) where
   unfolding ranks_in
   get-ranks_in q = get-from_entries pairs_total (entries_of (rank_in t) (pairs t.codes t.exchanges)) q ∙ found (rank_in t) q (pairs t.codes t.exchanges) (listed q (rank_in t q) refl)
 
+  -- what is ranked in the map is so in the table
+  ranked_at : (c x r : ℕ) → rank_at (certificate_of t) c x ≡ Some r → IsKnown (c, x) × (get_or t.ranks (place_of t.exchanges (c, x)) None ≡ Some r)
+  ranked_at c x r h = ranked_in (c, x) r (sym (get-ranks_in (c, x)) ∙ h)
+
   pub is_certificate : IsTable t → IsCertificate (certificate_of t)
-  is_certificate w code exchange rank h =
-      let b = ranked_in (code, exchange) rank (sym (get-ranks_in (code, exchange)) ∙ h) in
-      let places = w.places in
-      let low = mul-add-lt code t.exchanges exchange t.codes b.0.0 b.0.1 in
-      record { code = b.0.0; exchange = b.0.1; small = subst (λ o. IfSome o (λ n. n ≤ 65535)) b.1 (w.small (place_of t.exchanges (code, exchange)) None (omega arith)) }
+  is_certificate w = record {
+    own_codes = λ c x r h. (ranked_at c x r h).0.0;
+    own_exchanges = λ c x r h. (ranked_at c x r h).0.1;
+    small = λ c x r h.
+        let b = ranked_at c x r h in
+        let places = w.places in
+        let low = mul-add-lt c t.exchanges x t.codes b.0.0 b.0.1 in
+        subst (λ o. IfSome o (λ n. n ≤ 65535)) b.1 (w.small (place_of t.exchanges (c, x)) None (omega arith));
+  }
 
   module _ (w : IsTable t) (c x i : ℕ) (code : c < t.codes) (exchange : x < t.exchanges) (at : i ≡ c * t.exchanges + x) where
     -- the place of a code and an exchange is in the table

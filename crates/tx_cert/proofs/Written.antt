@@ -46,7 +46,7 @@ module _ (p : Plan) (t : Certificate) (h : IsPlan p) (k : IsCertificateOf p t) w
       → LeadsTo (declare p) 1 (so_far t (place c x)) (rank_lines p c x o) (so_far t (place c x + 1))
   pair_by c x None l m e = next_none t k.rules c x (within x m) e
   pair_by c x (Some r) l m e =
-      let s = (k.rules c x r e).small in
+      let s = k.rules.small c x r e in
       (so_far t (place c x + 1), declared_rank c x r l m e s, refl, omega arith, rank_written c x r l m s, refl)
 
   -- at some exchanges, for one code

@@ -41,16 +41,11 @@ ranks_of t = rank_at t
 abbrev pub with_rank : Certificate → ℕ → ℕ → ℕ → Certificate
 with_rank t code exchange rank = record t { ranks = map.insert t.ranks (code, exchange) rank }
 
--- a rank is of one of the certificate's exchanges, for one of its codes, and at most 65,535
-pub record IsRankIn (t : Certificate) (c x r : ℕ) : Type 0 where
-  pub code : c < t.codes
-  pub exchange : x < t.exchanges
-  pub small : r ≤ 65535
-
--- all its ranks are so
-abbrev pub IsCertificate : Certificate → Type 0
-IsCertificate t = (code exchange rank : ℕ) → rank_at t code exchange ≡ Some rank
-    → IsRankIn t code exchange rank
+-- only its own codes and exchanges are ranked, and no rank is above 65,535
+pub record IsCertificate (t : Certificate) : Type 0 where
+  pub own_codes : (c x r : ℕ) → rank_at t c x ≡ Some r → c < t.codes
+  pub own_exchanges : (c x r : ℕ) → rank_at t c x ≡ Some r → x < t.exchanges
+  pub small : (c x r : ℕ) → rank_at t c x ≡ Some r → r ≤ 65535
 
 -- it is made for the codes and the exchanges of the plan
 pub record IsCertificateOf (p : Plan) (t : Certificate) : Type 0 where

@@ -18,7 +18,7 @@ own_ranks p t h = λ i c x. own c x (rank_at t c x) refl i
     own : (c x : ℕ) (o : Option ℕ) → rank_at t c x ≡ o → rank_at t c x ≡ ranks_for p t c x
     own c x None e = subst (λ (o : Option ℕ). o ≡ (if nat_lt x (length p.exchanges) then o else None)) (sym e) (bare (nat_lt x (length p.exchanges)))
     own c x (Some r) e =
-        let among : x < length p.exchanges = let k = (h.rules c x r e).exchange in let s = h.exchanges in omega arith in
+        let among : x < length p.exchanges = let k = h.rules.own_exchanges c x r e in let s = h.exchanges in omega arith in
         sym (ap (λ b. if b then rank_at t c x else None) (lt-ltb x (length p.exchanges) among))
 
 pub unreachable-requires : goal.unreachable-requires
