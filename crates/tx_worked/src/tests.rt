@@ -12,7 +12,8 @@
 // - `plan` has no text: it declares a small plan, and tells what its readers answer, how much a plan holds, and which declarations take memory.
 // - `trie` has a plan, and figures of which the code is read. `book` has a plan, and lines with a code's place, a number and what happens to the line, and
 //   tells what is found there. `many-lines` has a plan and two numbers, marks the lines of the first code between them, and tells how many are found marked.
-//   `circuits` has a plan of one group, and calls on its circuits, and tells what each end would take next.
+// - `circuits` has a plan of one group, and calls on its circuits, and tells which number each end would take next, before the first call and behind each;
+//   and before the first, that nothing is marked.
 // - `sequences` has a plan of one group of three circuits, and compares all sequences of three calls with a plain model.
 // - `growths TYPE` has a plan, and makes a feeder, a sink, or a trie, a book or a table over the plan, with each request for memory refused in turn. It tells
 //   how many requests are not the plan's.

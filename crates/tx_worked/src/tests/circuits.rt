@@ -7,7 +7,7 @@ use calls::{ALFA, BETA, Call, ENDS, WHATS, apply, call_of, next};
 use model::Model;
 use std::alloc::Global;
 use tx_circuits::CircuitTable;
-use tx_plan::Plan;
+use tx_plan::{Circuit, GroupId, Plan};
 use tx_text::words;
 
 /// Makes the call that a line says, where it may be made, and tells whether.
@@ -25,8 +25,35 @@ fn apply_line(table: &mut CircuitTable, line: &[u8]) -> bool {
     apply(table, call)
 }
 
-/// Makes the call of each line, and tells which number ALFA and BETA take next then, or 0 for none.
+/// Whether the group is failed or blocked, or one of its circuits seized, carried, releasing or out.
+fn has_marks(table: &CircuitTable) -> bool {
+    let group = GroupId::at(0);
+    for number in 1..241u32 {
+        let x = Circuit { group, number };
+        if !table.is_unseized(&x)
+            || table.is_carried(&x)
+            || table.is_releasing(&x)
+            || table.is_out(&x)
+        {
+            return true;
+        }
+    }
+    table.is_failed(group) || table.is_blocked(group)
+}
+
+/// Tells which number ALFA and BETA take next, or 0 for none.
+fn tell_next(table: &CircuitTable, out: &mut Told) {
+    tell_count(b": ", u64::from(next(table, ALFA)), b"", out);
+    tell_count(b" ", u64::from(next(table, BETA)), b"\n", out);
+}
+
+/// Tells the new table, and then makes the call of each line and tells what is next behind it.
 pub(crate) fn tell_circuits(table: &mut CircuitTable, lines: &[u8], out: &mut Told) {
+    tell(b"built", out);
+    if !has_marks(table) {
+        tell(b", no marks", out);
+    }
+    tell_next(table, out);
     let mut rest = lines;
     for _ in 0..lines.len() {
         let Some((line, behind)) = next_line(rest) else {
@@ -36,8 +63,7 @@ pub(crate) fn tell_circuits(table: &mut CircuitTable, lines: &[u8], out: &mut To
         if !apply_line(table, line) {
             tell(b", not made", out);
         }
-        tell_count(b": ", u64::from(next(table, ALFA)), b"", out);
-        tell_count(b" ", u64::from(next(table, BETA)), b"\n", out);
+        tell_next(table, out);
         rest = behind;
     }
 }
