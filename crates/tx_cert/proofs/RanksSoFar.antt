@@ -72,10 +72,10 @@ module _ (t : Certificate) where
       -- one on, where it gets its rank
       pub next_some : (r : ℕ) → rank_at t c x ≡ Some r → with_rank (so_far (c * t.exchanges + x)) c x r ≡ so_far (c * t.exchanges + x + 1)
       next_some r ranked = same_ranks t.codes t.exchanges _ _ (λ q.
-        get-insert pairs_total (retain_keys t.ranks (is_before (c * t.exchanges + x))) (c, x) r q ∙ ap (cond (eq_by_cmp pair_cmp q (c, x)) (Some r)) (kept (c * t.exchanges + x) q) ∙ elim (tells q (c, x)) [
-          | inl same ↦
-              ap (λ b. cond b (Some r) (cond (is_before (c * t.exchanges + x) q) (get t.ranks q) None)) same.0
-              ∙ sym (ap (λ (y : Pair). cond (is_before (c * t.exchanges + x + 1) y) (get t.ranks y) None) same.1
-              ∙ ap (λ b. cond b (rank_at t c x) None) (lt-ltb (c * t.exchanges + x) (c * t.exchanges + x + 1) (omega arith)) ∙ ranked)
-          | inr away ↦ ap (λ b. cond b (Some r) (cond (is_before (c * t.exchanges + x) q) (get t.ranks q) None)) away.0 ∙ others q (get t.ranks q) refl away.1
-        ] ∙ sym (kept (c * t.exchanges + x + 1) q))
+          get-insert pairs_total (retain_keys t.ranks (is_before (c * t.exchanges + x))) (c, x) r q ∙ ap (cond (eq_by_cmp pair_cmp q (c, x)) (Some r)) (kept (c * t.exchanges + x) q) ∙ elim (tells q (c, x)) [
+            | inl same ↦
+                ap (λ b. cond b (Some r) (cond (is_before (c * t.exchanges + x) q) (get t.ranks q) None)) same.0
+                ∙ sym (ap (λ (y : Pair). cond (is_before (c * t.exchanges + x + 1) y) (get t.ranks y) None) same.1
+                ∙ ap (λ b. cond b (rank_at t c x) None) (lt-ltb (c * t.exchanges + x) (c * t.exchanges + x + 1) (omega arith)) ∙ ranked)
+            | inr away ↦ ap (λ b. cond b (Some r) (cond (is_before (c * t.exchanges + x) q) (get t.ranks q) None)) away.0 ∙ others q (get t.ranks q) refl away.1
+          ] ∙ sym (kept (c * t.exchanges + x + 1) q))

@@ -128,7 +128,7 @@ module _ (t : Table) (w : IsTable t) (c x i r : ℕ) (code : c < t.codes) (excha
   there : (q : Pair) → q ≢ (c, x) → rank_in table_with q ≡ rank_in t q
   there q away =
       elim (nat_lt q.0 t.codes && nat_lt q.1 t.exchanges) as (λ b. (nat_lt q.0 t.codes && nat_lt q.1 t.exchanges) ≡ b
-          → (if b then get_or (slice_set t.ranks i (Some r)) (place_of t.exchanges q) None else None) ≡ (if b then get_or t.ranks (place_of t.exchanges q) None else None)) [
+      → (if b then get_or (slice_set t.ranks i (Some r)) (place_of t.exchanges q) None else None) ≡ (if b then get_or t.ranks (place_of t.exchanges q) None else None)) [
         | true ↦ λ e.
             let low = ltb-true q.1 t.exchanges (and_parts (nat_lt q.0 t.codes) (nat_lt q.1 t.exchanges) e).1 in
             let other : place_of t.exchanges q ≢ i = λ p. let s = same_from_place q.0 q.1 c x t.exchanges low exchange (p ∙ at) in away (λ k. (s.0 k, s.1 k)) in

@@ -14,8 +14,8 @@ Pair = ℕ × ℕ
 abbrev pub pair_cmp : Pair → Pair → Ordering
 pair_cmp a b = ordering_then (nat_cmp a.0 b.0) (nat_cmp a.1 b.1)
 
--- A certificate for so many codes and exchanges: for a code and an exchange, the rank of that
--- exchange for that code.
+-- A certificate for so many codes and exchanges: a map from a code and an exchange to the rank of
+-- that exchange for that code.
 pub record Certificate : Type 0 where
   pub codes : ℕ
   pub exchanges : ℕ

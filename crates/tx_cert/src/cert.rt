@@ -23,9 +23,11 @@ impl<A: Allocator> Model for Cert<A> {
 
     ghost coded = { certificate_code };
 
-    ghost view = { λ t. certificate_of (record { codes = t.codes; exchanges = t.exchanges; ranks = t.ranks.items }) };
+    ghost view = { λ t. certificate_of
+        (record { codes = t.codes; exchanges = t.exchanges; ranks = t.ranks.items }) };
 
-    ghost invariant = { λ t. IsTable (record { codes = t.codes; exchanges = t.exchanges; ranks = t.ranks.items }) };
+    ghost invariant = { λ t. IsTable
+        (record { codes = t.codes; exchanges = t.exchanges; ranks = t.ranks.items }) };
 }
 
 impl<A: Allocator> Cert<A> {
@@ -51,7 +53,8 @@ impl<A: Allocator> Cert<A> {
         })
     }
 
-    /// Only its own codes and exchanges are ranked, and no rank is above 65,535. Does nothing: its callers' proofs name it.
+    /// Only its own codes and exchanges are ranked, and no rank is above 65,535. Does nothing: its
+    /// callers' proofs name it.
     pub fn rules(&self)
         ensures { IsCertificate self.now }
     {

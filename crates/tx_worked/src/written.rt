@@ -115,7 +115,7 @@ fn has_wanted<A: Allocator>(read: Result<Cert<A>, CertFault>) -> bool {
     }
 }
 
-/// Whether memory is wanting for a certificate: for a new one, or to read one, at once or in pieces.
+/// Whether memory is wanting for a new certificate, or for one that is read, at once or in pieces.
 fn cert_wants<A: Allocator + Copy>(alloc: A, plan: &Plan<A>, cert: &[u8]) -> bool {
     let mut source = MemorySource::new(cert, 7, None);
     new_wants(alloc, plan)

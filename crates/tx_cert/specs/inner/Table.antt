@@ -24,11 +24,15 @@ place_of exchanges pair = pair.0 * exchanges + pair.1
 -- the rank that stands there, and none for a foreign code or exchange
 abbrev pub rank_in : Table → Pair → Option ℕ
 rank_in t pair =
-    if nat_lt pair.0 t.codes && nat_lt pair.1 t.exchanges then slice_index_or t.ranks (place_of t.exchanges pair) None else None
+    if nat_lt pair.0 t.codes && nat_lt pair.1 t.exchanges
+    then slice_index_or t.ranks (place_of t.exchanges pair) None
+    else None
 
 -- the codes with the exchanges, in the order of their places
 abbrev pub pairs : ℕ → ℕ → List Pair
-pairs codes exchanges = flat_map (λ code. map (λ exchange. (code, exchange)) (range_with_len 0 exchanges)) (range_with_len 0 codes)
+pairs codes exchanges =
+    flat_map (λ code. map (λ exchange. (code, exchange)) (range_with_len 0 exchanges))
+    (range_with_len 0 codes)
 
 -- an entry of the map, where there is a rank
 abbrev pub entry_of : Pair → Option ℕ → List (Pair × ℕ)
@@ -37,7 +41,8 @@ entry_of pair (Some rank) = (pair, rank) ∷ []
 
 -- the map that a table stands for
 unfoldable pub ranks_in : Table → FinMap pair_cmp ℕ
-ranks_in t = from_entries (flat_map (λ pair. entry_of pair (rank_in t pair)) (pairs t.codes t.exchanges))
+ranks_in t =
+    from_entries (flat_map (λ pair. entry_of pair (rank_in t pair)) (pairs t.codes t.exchanges))
 
 abbrev pub certificate_of : Table → Certificate
 certificate_of t = record { codes = t.codes; exchanges = t.exchanges; ranks = ranks_in t }
