@@ -1,5 +1,5 @@
 -- A Route that connects a call, and one that seizes a circuit.
-use Rattle.std.proofs.Common.{◌≡◌, ℕ, ◌<◌, ◌==◌, Bool, true, false, ◌&&◌, ◌||◌, List, Option, Some, None, refl, sym, ap, subst, ◌∙◌, eqb-true, deque_len, deque_capacity}
+use Rattle.std.proofs.Common.{◌≡◌, ℕ, ◌<◌, ◌==◌, Bool, true, false, ◌&&◌, List, Option, Some, None, refl, sym, ap, subst, ◌∙◌, eqb-true, deque_len, deque_capacity}
 use Rattle.std.specs.Prelude.{if◌then◌else◌, find}
 use Rattle.std.specs.Option.{option_map}
 use Rattle.std.specs.FinSet as set
@@ -15,7 +15,6 @@ use Rattle.tx_plan.specs.Among.{Among}
 use Rattle.tx_entries.specs.declared.circuit.Circuit.{Circuit}
 use Rattle.tx_entries.specs.declared.line.Line.{Line}
 use Rattle.tx_state.specs.declared.phase.Phase.TheVariants.{Calling, Connected}
-use Rattle.tx_state.specs.declared.service.Service.{Service}
 use Rattle.tx_state.specs.declared.service.Service.TheVariants.{Na}
 use Rattle.tx_state.specs.Call.{Call, place_of, is_first}
 use Rattle.tx_state.specs.InUse.{circuits_carried, first_in}

@@ -1,9 +1,9 @@
 // The book of subscribers' lines.
 ghost use Rattle.std.specs.Prelude.{◌≡◌, ℕ, ◌+◌, ◌<◌, ◌≤◌, true, false, if◌then◌else◌, List, Some, None, is_some, OnOk, IfOk, IsOk};
 ghost use Rattle.std.specs.FinSet as set;
-ghost use Rattle.tx_plan.specs.Lines.{is_line_at};
 ghost use Rattle.indexmap.specs.IndexMap.{Updates, get, spare};
-ghost use Rattle.tx_plan.specs.Orders.{line_cmp, same_line};
+ghost use Rattle.tx_plan.specs.Lines.{is_line_at};
+ghost use Rattle.tx_plan.specs.Orders.{same_line};
 ghost use Rattle.tx_entries.specs.declared.line.Line.{Line};
 ghost use Rattle.tx_lines.specs.declared.status.Status.{Status};
 ghost use Rattle.tx_lines.specs.Book.{is_line_of, has_status, place_taken, switched, answer_of};
@@ -19,9 +19,11 @@ use tx_entries::ByWord;
 use tx_plan::{CodeId, Line, National, Plan};
 use tx_text::NoMemory;
 
-/// The lines of a plan, and which of them are faulty (out of order), away (their subscriber is absent) or engaged.
+/// The lines of a plan, and which of them are faulty (out of order), away (their subscriber is
+/// absent) or engaged.
 ///
-/// A line's first status takes a place of the book's room, which `reserve_one` makes; a further one takes none. `build` and `reserve_one` alone take memory.
+/// A line's first status takes a place of the book's room, which `reserve_one` makes; a further
+/// one takes none. `build` and `reserve_one` alone take memory.
 #[derive(Drop)]
 pub struct LineBook<A: Allocator = Global> {
     ranges: Ranges<A>,
@@ -38,7 +40,7 @@ impl<A: Allocator> Model for LineBook<A> {
 
     ghost view = { λ b. book_of b.ranges b.statuses };
 
-    // A line stands in the map while it has a status.
+    // A line stands in the map exactly while it has a status.
     ghost invariant = { λ b. AllMarked b.statuses };
 }
 
@@ -59,7 +61,8 @@ impl<A: Allocator + Copy> LineBook<A> {
 }
 
 impl<A: Allocator> LineBook<A> {
-    /// Makes room for one more line with a status. Where there is some, no memory is asked for. Want of memory changes no status.
+    /// Makes room for one more line with a status. Where there is some, no memory is asked for.
+    /// Want of memory changes no status.
     pub fn reserve_one(&mut self) -> Result<(), NoMemory>
         ensures ok { OnOk result (0 < self.new.room) }
         ensures rest { self.new ≡ record self.old { room = self.new.room } }
@@ -101,7 +104,7 @@ impl<A: Allocator> LineBook<A> {
     }
 
     /// Sets a mark of the line, or takes it away.
-    fn set(&mut self, line: &Line, mark: Mark, on: bool)
+    fn set_mark(&mut self, line: &Line, mark: Mark, on: bool)
         requires { on ≡ true → has_status self.old line.now ≡ false → 0 < self.old.room }
         ensures lines { self.new
             ≡ record (with_mark_of line.now mark on self.old) { room = self.new.room } }
@@ -119,38 +122,50 @@ impl<A: Allocator> LineBook<A> {
     /// The line becomes faulty, or is no longer so.
     pub fn set_fault(&mut self, line: &Line, faulty: bool)
         requires { faulty ≡ true → has_status self.old line.now ≡ false → 0 < self.old.room }
-        ensures lines { self.new ≡ record self.old { faulty = switched faulty self.old.faulty line.now; room = self.new.room } }
+        ensures lines { self.new ≡ record self.old {
+          faulty = switched faulty self.old.faulty line.now;
+          room = self.new.room;
+        } }
         ensures room { self.old.room
             ≤ self.new.room + (if faulty then place_taken self.old line.now else 0) }
     {
-        self.set(line, Mark::Faulty, faulty);
+        self.set_mark(line, Mark::Faulty, faulty);
     }
 
     /// The line's subscriber is away, or is back.
     pub fn set_away(&mut self, line: &Line, away: bool)
         requires { away ≡ true → has_status self.old line.now ≡ false → 0 < self.old.room }
-        ensures lines { self.new ≡ record self.old { away = switched away self.old.away line.now; room = self.new.room } }
+        ensures lines { self.new ≡ record self.old {
+          away = switched away self.old.away line.now;
+          room = self.new.room;
+        } }
         ensures room { self.old.room
             ≤ self.new.room + (if away then place_taken self.old line.now else 0) }
     {
-        self.set(line, Mark::Away, away);
+        self.set_mark(line, Mark::Away, away);
     }
 
     /// The line takes part in a call.
     pub fn engage(&mut self, line: &Line)
         requires { has_status self.old line.now ≡ false → 0 < self.old.room }
-        ensures lines { self.new ≡ record self.old { engaged = set.insert self.old.engaged line.now; room = self.new.room } }
+        ensures lines { self.new ≡ record self.old {
+          engaged = set.insert self.old.engaged line.now;
+          room = self.new.room;
+        } }
         ensures room { self.old.room ≤ self.new.room + place_taken self.old line.now }
     {
-        self.set(line, Mark::Engaged, true);
+        self.set_mark(line, Mark::Engaged, true);
     }
 
     /// The line takes part in no call.
     pub fn free(&mut self, line: &Line)
-        ensures lines { self.new ≡ record self.old { engaged = set.remove self.old.engaged line.now; room = self.new.room } }
+        ensures lines { self.new ≡ record self.old {
+          engaged = set.remove self.old.engaged line.now;
+          room = self.new.room;
+        } }
         ensures room { self.old.room ≤ self.new.room }
     {
-        self.set(line, Mark::Engaged, false);
+        self.set_mark(line, Mark::Engaged, false);
     }
 
     /// Whether the line is faulty.

@@ -1,5 +1,5 @@
 -- What the kept statuses of lines mean as sets.
-use Rattle.std.specs.Prelude.{◌≡◌, ℕ, Bool, false, Some, List, filter}
+use Rattle.std.specs.Prelude.{◌≡◌, Bool, false, Some, List, filter}
 use Rattle.std.specs.Option.{option_map_or}
 use Rattle.std.specs.FinSet as set
 use Rattle.indexmap.specs.IndexMap as index

@@ -3,7 +3,7 @@ use crate::cases::{Refusing, Told, tell_broken, tell_count};
 use crate::tests::circuits::calls::{ALFA, BETA, next};
 use std::alloc::{Allocator, Global};
 use tx_circuits::CircuitTable;
-use tx_lines::{LineAnswer, LineBook, Side};
+use tx_lines::{LineAnswer, LineBook};
 use tx_plan::{CodeId, Line, Plan, PlanRefusal};
 use tx_plantext::{PlanFault, PlanWord, read_plan};
 use tx_text::{
@@ -80,18 +80,12 @@ fn make_table<A: Allocator + Copy>(alloc: A, plan: &Plan<A>) -> Came {
     }
 }
 
-/// Engages a free line: it joins a call, or room is made for it first. Where memory is wanting it has to stay free.
-fn engage<A: Allocator + Copy>(book: &mut LineBook<A>, line: &Line, joins: bool) -> Came {
-    let mut came = Came::Right;
-    if joins {
-        came = match book.join(line, Side::Caller) {
-            Ok(status) => judged(!status.faulty && !status.away && !status.engaged),
-            Err(_) => Came::Wanting,
-        };
-    } else if book.reserve_one().is_ok() {
+/// Engages a free line, for which room is made first. Where memory is wanting it has to stay free.
+fn engage<A: Allocator + Copy>(book: &mut LineBook<A>, line: &Line) -> Came {
+    let mut came = Came::Wanting;
+    if book.reserve_one().is_ok() {
         book.engage(line);
-    } else {
-        came = Came::Wanting;
+        came = Came::Right;
     }
     let answer = book.answer(line.code, line.national.bytes());
     match (came, answer) {
@@ -101,8 +95,7 @@ fn engage<A: Allocator + Copy>(book: &mut LineBook<A>, line: &Line, joins: bool)
     }
 }
 
-/// Engages lines until their table has grown twice: at the seventh line, for which room is made, and at the thirteenth, which joins a call. Where memory is
-/// wanting, a line is engaged at the second try.
+/// Engages so many lines that their room is made more than once. Where memory is wanting, a line is engaged at the second try.
 fn engage_lines<A: Allocator + Copy>(book: &mut LineBook<A>) -> Came {
     let mut all = Came::Right;
     for count in 1..14u8 {
@@ -110,10 +103,10 @@ fn engage_lines<A: Allocator + Copy>(book: &mut LineBook<A>) -> Came {
         let Some(line) = book.find(CodeId::at(0), &number) else {
             return Came::Wrong;
         };
-        let mut came = engage(book, &line, count > 7);
+        let mut came = engage(book, &line);
         if came == Came::Wanting {
             all = Came::Wanting;
-            came = engage(book, &line, count > 7);
+            came = engage(book, &line);
         }
         if came != Came::Right {
             return Came::Wrong;

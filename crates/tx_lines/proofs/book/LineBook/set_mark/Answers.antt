@@ -1,6 +1,6 @@
 use Rattle.std.proofs.Common.{sym, ◌∙◌}
 use Rattle.tx_lines.proofs.Sets.{book_without, book_with, room_there, room_after}
-use Rattle.tx_lines.proofs.book.LineBook.set.Goals as goal
+use Rattle.tx_lines.proofs.book.LineBook.set_mark.Goals as goal
 
 pub put-requires : goal.put-requires
 put-requires g c =
