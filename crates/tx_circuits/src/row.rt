@@ -1,8 +1,7 @@
 // Where the circuits of a group are.
 ghost use Rattle.std.specs.Prelude.{◌≡◌, ◌<◌, ◌≤◌, ◌+◌, map, length, slice_set};
-ghost use Rattle.tx_circuits.specs.declared.row.Row.{Row as RowValue};
-ghost use Rattle.tx_circuits.specs.inner.Slots.{IsSound, state_of, cleared};
-ghost use Rattle.tx_circuits.specs.inner.Groups.{group_slots, numbered, AreApart};
+ghost use Rattle.tx_circuits.specs.inner.Slots.{IsSound, cleared};
+ghost use Rattle.tx_circuits.specs.inner.Groups.{group_slots, states_in, numbered, OthersStay};
 
 use crate::free_lists::FreeLists;
 use crate::group::{clear, relist, set_state};
@@ -23,7 +22,7 @@ impl Row {
     /// The state of the circuit of a number, if there is such a one.
     pub fn state(&self, slots: &[Slot], number: u32) -> Option<State>
         requires { self.now.start + self.now.count ≤ length slots.now }
-        ensures { result ≡ numbered (map state_of (group_slots slots.now self.now)) number }
+        ensures { result ≡ numbered (states_in slots.now self.now) number }
     {
         let number = number as usize;
         if number == 0 || number > self.count {
@@ -39,8 +38,8 @@ impl Row {
         requires sound { IsSound (group_slots slots.old self.old) self.old.lists }
         ensures row { self.new ≡ record self.old { lists = self.new.lists } }
         ensures sound { IsSound (group_slots slots.new self.old) self.new.lists }
-        ensures states { map state_of (group_slots slots.new self.old) ≡ slice_set (map state_of (group_slots slots.old self.old)) place to }
-        ensures rest { (s : RowValue) → AreApart self.old s → group_slots slots.new s ≡ group_slots slots.old s }
+        ensures states { states_in slots.new self.old ≡ slice_set (states_in slots.old self.old) place to }
+        ensures rest { OthersStay slots.old slots.new self.old }
     {
         let part = &mut slots[self.start..self.start + self.count];
         set_state(part, &mut self.lists, place, to);
@@ -52,8 +51,8 @@ impl Row {
         requires short { self.old.count ≤ 240 }
         ensures row { self.new ≡ record self.old { lists = self.new.lists } }
         ensures sound { IsSound (group_slots slots.new self.old) self.new.lists }
-        ensures states { map state_of (group_slots slots.new self.old) ≡ map cleared (map state_of (group_slots slots.old self.old)) }
-        ensures rest { (s : RowValue) → AreApart self.old s → group_slots slots.new s ≡ group_slots slots.old s }
+        ensures states { states_in slots.new self.old ≡ map cleared (states_in slots.old self.old) }
+        ensures rest { OthersStay slots.old slots.new self.old }
     {
         let part = &mut slots[self.start..self.start + self.count];
         self.lists = clear(part);
@@ -65,8 +64,8 @@ impl Row {
         requires short { self.old.count ≤ 240 }
         ensures row { self.new ≡ record self.old { lists = self.new.lists } }
         ensures sound { IsSound (group_slots slots.new self.old) self.new.lists }
-        ensures states { map state_of (group_slots slots.new self.old) ≡ map state_of (group_slots slots.old self.old) }
-        ensures rest { (s : RowValue) → AreApart self.old s → group_slots slots.new s ≡ group_slots slots.old s }
+        ensures states { states_in slots.new self.old ≡ states_in slots.old self.old }
+        ensures rest { OthersStay slots.old slots.new self.old }
     {
         let part = &mut slots[self.start..self.start + self.count];
         self.lists = relist(part);

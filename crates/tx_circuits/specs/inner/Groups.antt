@@ -73,14 +73,23 @@ idle = record { seized_first = false; seized_other = false; carried = false; rel
 abbrev pub group_slots : List Slot → Row → List Slot
 group_slots slots r = between r.start (r.start + r.count) slots
 
+-- the states of its circuits
+abbrev pub states_in : List Slot → Row → List State
+states_in slots r = map state_of (group_slots slots r)
+
+abbrev pub group_state : List Slot → Row → GroupState
+group_state slots r = record { head = r.head; states = states_in slots r }
+
 -- two groups have no slot in common
 abbrev pub AreApart : Row → Row → Type 0
 AreApart r s = (r.start + r.count ≤ s.start) ⊎ (s.start + s.count ≤ r.start)
 
-abbrev pub group_state : List Slot → Row → GroupState
-group_state slots r = record { head = r.head; states = map state_of (group_slots slots r) }
+-- all groups apart from this one have the slots that they had
+abbrev pub OthersStay : List Slot → List Slot → Row → Type 0
+OthersStay old new r = (s : Row) → AreApart r s → group_slots new s ≡ group_slots old s
 
--- The groups lie in the vector one after another, and the free lists of each are sound.
+-- The groups lie in the vector one after another, and the free lists of each are sound: for each
+-- end, the links followed from the head give the circuits that are free there, in that end's order.
 pub record AreKept (slots : List Slot) (rows : List Row) : Type 0 where
   pub within : (g : ℕ) (r : Row) → slice_get rows g ≡ Some r → r.start + r.count ≤ length slots
   pub apart : (g h : ℕ) (r s : Row) → slice_get rows g ≡ Some r → slice_get rows h ≡ Some s → g < h → r.start + r.count ≤ s.start
