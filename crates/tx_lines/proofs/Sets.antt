@@ -20,7 +20,7 @@ use Rattle.tx_lines.specs.declared.status.Mark.{Mark}
 use Rattle.tx_lines.specs.declared.status.Mark.TheVariants.{Faulty, Away, Engaged}
 use Rattle.tx_lines.specs.Status.{has, with_mark, is_unmarked, unmarked}
 use Rattle.tx_lines.specs.Book.{Book, has_status, place_taken, switched}
-use Rattle.tx_lines.specs.inner.Kept.{passes, with_status, book_of, with_mark_of}
+use Rattle.tx_lines.specs.inner.Kept.{passes, with_status, book_of, with_mark_of, status_of, kept}
 
 contains-switched : (on : Bool) (s : set.FinSet line_cmp) (line l : Line) → set.contains (switched on s line) l ≡ cond (same_line line l) on (set.contains s l)
 contains-switched true s line l = set.contains-insert lines_total s line l ∙ ap (λ b. b || set.contains s l) (line_tie l line) ∙ by (same_line line l)
@@ -49,12 +49,15 @@ unset : (b : Bool) → not b ≡ true → b ≡ false
 unset true h = absurd (false≢true h)
 unset false h = refl
 
--- a status without marks
-unmarked_is : (s : Status) → is_unmarked s ≡ true → s ≡ unmarked
-unmarked_is s e =
-    let p = and_parts (not s.faulty) (not s.away && not s.engaged) e in
-    let q = and_parts (not s.away) (not s.engaged) p.1 in
-    λ i. record { faulty = unset s.faulty p.0 i; away = unset s.away q.0 i; engaged = unset s.engaged q.1 i }
+-- what is kept of a status has its marks
+kept_has : (s : Status) (k : Mark) → option_map_or (has k) (kept s) false ≡ has k s
+kept_has s k = by (is_unmarked s) refl k
+  where
+    by : (b : Bool) → is_unmarked s ≡ b → (k : Mark) → option_map_or (has k) (if b then None else Some s) false ≡ has k s
+    by false e k = refl
+    by true e Faulty = let p = and_parts (not s.faulty) (not s.away && not s.engaged) e in sym (unset s.faulty p.0)
+    by true e Away = let p = and_parts (not s.faulty) (not s.away && not s.engaged) e in let q = and_parts (not s.away) (not s.engaged) p.1 in sym (unset s.away q.0)
+    by true e Engaged = let p = and_parts (not s.faulty) (not s.away && not s.engaged) e in let q = and_parts (not s.away) (not s.engaged) p.1 in sym (unset s.engaged q.1)
 
 module _ {S : Type 0} where
   contains_status : (test : Status → Bool) (m : IndexMap Line Status S) (l : Line) → set.contains (with_status test m) l ≡ passes test m l
@@ -115,55 +118,37 @@ module _ {S : Type 0} where
     book_marked ranges old was Engaged on now = λ i. record { ranges = ranges; faulty = set_stays (has Faulty) (now Faulty ∙ was Faulty) i; away = set_stays (has Away) (now Away ∙ was Away) i; engaged = set_switched (has Engaged) on (now Engaged) i; room = index.spare n }
 
   -- A MARK OF A LINE IS SET OR TAKEN AWAY
-  module _ (ranges : List LineRange) (m n : IndexMap Line Status S) (b : Book) (view : book_of ranges m ≡ b) (line : Line) (mark : Mark) (on : Bool)
-      (old left : Status) (faulty : old.faulty ≡ set.contains b.faulty line) (away : old.away ≡ set.contains b.away line) (engaged : old.engaged ≡ set.contains b.engaged line) (is : left ≡ with_mark mark on old) where
-    was : (k : Mark) → has k old ≡ set.contains (with_status (has k) m) line
-    was Faulty = faulty ∙ ap (λ (v : Book). set.contains v.faulty line) (sym view)
-    was Away = away ∙ ap (λ (v : Book). set.contains v.away line) (sym view)
-    was Engaged = engaged ∙ ap (λ (v : Book). set.contains v.engaged line) (sym view)
+  module _ (ranges : List LineRange) (m n : IndexMap Line Status S) (b : Book) (view : book_of ranges m ≡ b) (line : Line) (mark : Mark) where
+    was : (k : Mark) → has k (status_of m line) ≡ set.contains (with_status (has k) m) line
+    was k = by (index.get same_line m line) ∙ sym (contains_status (has k) m line)
+      where
+        by : (o : Option Status) → has k (unwrap_or o unmarked) ≡ option_map_or (has k) o false
+        by None = unmarked_none k
+        by (Some s) = refl
 
-    -- none is left, and the line is taken out
-    pub book_without : is_unmarked left ≡ true → ((q : Line) → index.get same_line n q ≡ cond (same_line line q) None (index.get same_line m q))
-        → book_of ranges n ≡ record (with_mark_of line mark on b) { room = index.spare n }
-    book_without none at =
-        book_marked m n line None at ranges old was mark on (λ k. sym (ap (has k) (sym is ∙ unmarked_is left none) ∙ unmarked_none k))
-        ∙ ap (λ (v : Book). record (with_mark_of line mark on v) { room = index.spare n }) view
+    module _ (at : (q : Line) → index.get same_line n q ≡ cond (same_line line q) (Some (with_mark mark true (status_of m line))) (index.get same_line m q)) where
+      pub book_added : book_of ranges n ≡ record (with_mark_of line mark true b) { room = index.spare n }
+      book_added =
+          book_marked m n line (Some (with_mark mark true (status_of m line))) at ranges (status_of m line) was mark true (λ k. refl)
+          ∙ ap (λ (v : Book). record (with_mark_of line mark true v) { room = index.spare n }) view
 
-    module _ (some : is_unmarked left ≡ false) where
-      pub book_with : ((q : Line) → index.get same_line n q ≡ cond (same_line line q) (Some left) (index.get same_line m q)) → book_of ranges n ≡ record (with_mark_of line mark on b) { room = index.spare n }
-      book_with at =
-          book_marked m n line (Some left) at ranges old was mark on (λ k. ap (has k) is)
-          ∙ ap (λ (v : Book). record (with_mark_of line mark on v) { room = index.spare n }) view
+    module _ (at : (q : Line) → index.get same_line n q ≡ cond (same_line line q) (kept (with_mark mark false (status_of m line))) (index.get same_line m q)) where
+      pub book_taken : book_of ranges n ≡ record (with_mark_of line mark false b) { room = index.spare n }
+      book_taken =
+          book_marked m n line (kept (with_mark mark false (status_of m line))) at ranges (status_of m line) was mark false (kept_has (with_mark mark false (status_of m line)))
+          ∙ ap (λ (v : Book). record (with_mark_of line mark false v) { room = index.spare n }) view
 
-      -- a line that is not kept had no status, and gets its first one
-      module _ (none : index.get same_line m line ≡ None) where
-        old_none : (k : Mark) → has k old ≡ false
-        old_none k = was k ∙ contains_status (has k) m line ∙ ap (λ o. option_map_or (has k) o false) none
+    -- a line that is not kept has no status
+    no_status : index.get same_line m line ≡ None → has_status b line ≡ false
+    no_status none = subst (λ (v : Book). has_status v line ≡ false) view (let f : (k : Mark) → set.contains (with_status (has k) m) line ≡ false = λ k. contains_status (has k) m line ∙ ap (λ o. option_map_or (has k) o false) none in
+        λ i. f Faulty i || (f Away i || f Engaged i))
 
-        no_status : has_status b line ≡ false
-        no_status = λ i. (sym faulty ∙ old_none Faulty) i || ((sym away ∙ old_none Away) i || (sym engaged ∙ old_none Engaged) i)
+    pub room_there : (has_status b line ≡ false → 0 < b.room) → index.get same_line m line ≡ None → 0 < index.spare m
+    room_there given none = subst (λ (v : Book). 0 < v.room) (sym view) (given (no_status none))
 
-        first : on ≡ true
-        first = by on refl
-          where
-            nothing : (k : Mark) → is_unmarked (with_mark k false unmarked) ≡ true
-            nothing Faulty = refl
-            nothing Away = refl
-            nothing Engaged = refl
-
-            old_is : old ≡ unmarked
-            old_is = λ i. record { faulty = old_none Faulty i; away = old_none Away i; engaged = old_none Engaged i }
-
-            by : (z : Bool) → on ≡ z → z ≡ true
-            by true e = refl
-            by false e = absurd (false≢true (sym some ∙ ap is_unmarked is ∙ (λ i. is_unmarked (with_mark mark (e i) (old_is i))) ∙ nothing mark))
-
-      pub room_there : (on ≡ true → has_status b line ≡ false → 0 < b.room) → index.get same_line m line ≡ None → 0 < index.spare m
-      room_there given none = subst (λ (v : Book). 0 < v.room) (sym view) (given (first none) (no_status none))
-
-      pub room_after : index.spare m ≤ index.spare n + (if is_some (index.get same_line m line) then 0 else 1) → b.room ≤ index.spare n + (if on then place_taken b line else 0)
-      room_after h = subst (λ (v : Book). v.room ≤ index.spare n + (if on then place_taken b line else 0)) view (by (index.get same_line m line) refl h)
-        where
-          by : (o : Option Status) → index.get same_line m line ≡ o → index.spare m ≤ index.spare n + (if is_some o then 0 else 1) → index.spare m ≤ index.spare n + (if on then place_taken b line else 0)
-          by (Some s) e h = omega (arith, h)
-          by None e h = subst (λ p. index.spare m ≤ index.spare n + p) (sym (λ i. if first e i then (if no_status e i then 0 else 1) else 0)) h
+    pub room_after : index.spare m ≤ index.spare n + (if is_some (index.get same_line m line) then 0 else 1) → b.room ≤ index.spare n + place_taken b line
+    room_after h = subst (λ (v : Book). v.room ≤ index.spare n + place_taken b line) view (by (index.get same_line m line) refl h)
+      where
+        by : (o : Option Status) → index.get same_line m line ≡ o → index.spare m ≤ index.spare n + (if is_some o then 0 else 1) → index.spare m ≤ index.spare n + place_taken b line
+        by (Some s) e h = omega (arith, h)
+        by None e h = subst (λ z. index.spare m ≤ index.spare n + z) (sym (ap (λ z. if z then 0 else 1) (no_status e))) h

@@ -6,8 +6,10 @@ ghost use Rattle.tx_plan.specs.Lines.{is_line_at};
 ghost use Rattle.tx_plan.specs.Orders.{same_line};
 ghost use Rattle.tx_entries.specs.declared.line.Line.{Line};
 ghost use Rattle.tx_lines.specs.declared.status.Status.{Status};
+ghost use Rattle.tx_lines.specs.declared.status.Mark.{Mark};
 ghost use Rattle.tx_lines.specs.Book.{is_line_of, has_status, place_taken, switched, answer_of};
-ghost use Rattle.tx_lines.specs.inner.Kept.{with_mark_of};
+ghost use Rattle.tx_lines.specs.Status.{with_mark};
+ghost use Rattle.tx_lines.specs.inner.Kept.{with_mark_of, status_of, kept};
 
 use crate::answer::LineAnswer;
 use crate::ranges::Ranges;
@@ -111,11 +113,10 @@ impl<A: Allocator> LineBook<A> {
         ensures room { self.old.room
             ≤ self.new.room + (if on then place_taken self.old line.now else 0) }
     {
-        let status = self.status(line).with_mark(mark, on);
-        if status.is_unmarked() {
-            let _status = self.statuses.swap_remove(line);
+        if on {
+            add_mark(&mut self.statuses, line, mark);
         } else {
-            put(&mut self.statuses, line, status);
+            take_mark(&mut self.statuses, line, mark);
         }
     }
 
@@ -209,13 +210,36 @@ impl<A: Allocator> LineBook<A> {
     }
 }
 
-/// Writes the status of a line, which takes room if the line has none.
+/// Sets a mark of a line, which takes room if the line has none.
 #[tactic(auto, using(crate::proofs::Entries::write_room))]
-fn put<A: Allocator>(statuses: &mut IndexMap<Line, Status, ByWord, A>, line: &Line, status: Status)
+fn add_mark<A: Allocator>(statuses: &mut IndexMap<Line, Status, ByWord, A>, line: &Line, mark: Mark)
     requires { get same_line statuses.old line.now ≡ None → 0 < spare statuses.old }
-    ensures updates { Updates same_line statuses.old statuses.new line.now (Some status) }
+    ensures updates { Updates same_line statuses.old statuses.new line.now
+        (Some (with_mark mark true (status_of statuses.old line.now))) }
     ensures room { spare statuses.old ≤ spare statuses.new
         + (if is_some (get same_line statuses.old line.now) then 0 else 1) }
 {
-    *statuses.entry(*line).unwrap().or_insert(status) = status;
+    let status = statuses.entry(*line).unwrap().or_insert(UNMARKED);
+    *status = status.with_mark(mark, true);
+}
+
+/// Takes a mark of a line away, and with its last mark the line.
+fn take_mark<A: Allocator>(
+    statuses: &mut IndexMap<Line, Status, ByWord, A>,
+    line: &Line,
+    mark: Mark,
+)
+    ensures kept { (q : Line) → get same_line statuses.new q ≡ (if same_line line.now q
+        then kept (with_mark mark false (status_of statuses.old line.now))
+        else get same_line statuses.old q) }
+    ensures room { spare statuses.old ≤ spare statuses.new }
+{
+    let Some(status) = statuses.get_mut(line) else {
+        return;
+    };
+    let left = status.with_mark(mark, false);
+    *status = left;
+    if left.is_unmarked() {
+        let _status = statuses.swap_remove(line);
+    }
 }

@@ -1,5 +1,5 @@
 -- What the kept statuses of lines mean as sets.
-use Rattle.std.specs.Prelude.{◌≡◌, Bool, false, Some, List, filter}
+use Rattle.std.specs.Prelude.{◌≡◌, Bool, false, Option, Some, None, List, filter, unwrap_or, if◌then◌else◌}
 use Rattle.std.specs.Option.{option_map_or}
 use Rattle.std.specs.FinSet as set
 use Rattle.indexmap.specs.IndexMap as index
@@ -8,7 +8,7 @@ use Rattle.tx_plan.specs.Orders.{same_line, line_cmp}
 use Rattle.tx_entries.specs.declared.line.Line.{Line}
 use Rattle.tx_entries.specs.declared.range.LineRange.{LineRange}
 use Rattle.tx_lines.specs.Book.{Book, switched}
-use Rattle.tx_lines.specs.Status.{has, is_unmarked}
+use Rattle.tx_lines.specs.Status.{has, is_unmarked, unmarked}
 use Rattle.tx_lines.specs.declared.status.Status.{Status}
 use Rattle.tx_lines.specs.declared.status.Mark.{Mark}
 use Rattle.tx_lines.specs.declared.status.Mark.TheVariants.{Faulty, Away, Engaged}
@@ -19,7 +19,15 @@ with_mark_of l Faulty on b = record b { faulty = switched on b.faulty l }
 with_mark_of l Away on b = record b { away = switched on b.away l }
 with_mark_of l Engaged on b = record b { engaged = switched on b.engaged l }
 
+-- what is kept of a line: its status, if it has a mark
+abbrev pub kept : Status → Option Status
+kept s = if is_unmarked s then None else Some s
+
 module _ {S : Type 0} where
+  -- what is known of a line
+  abbrev pub status_of : IndexMap Line Status S → Line → Status
+  status_of m l = unwrap_or (index.get same_line m l) unmarked
+
   -- each line that is kept has a mark
   abbrev pub AllMarked : IndexMap Line Status S → Type 0
   AllMarked m = (l : Line) (s : Status) → index.get same_line m l ≡ Some s → is_unmarked s ≡ false

@@ -1,28 +1,25 @@
-use Rattle.std.proofs.Common.{sym, ◌∙◌}
-use Rattle.tx_lines.proofs.Sets.{book_without, book_with, room_there, room_after}
+use Rattle.std.proofs.Common.{◌+◌, ◌≤◌, Bool, ap, sym, subst, ◌∙◌}
+use Rattle.std.specs.Prelude.{if◌then◌else◌}
+use Rattle.indexmap.specs.IndexMap.{spare}
+use Rattle.tx_lines.specs.Book.{place_taken}
+use Rattle.tx_lines.specs.inner.Kept.{with_mark_of}
+use Rattle.tx_lines.proofs.Sets.{book_added, book_taken, room_there, room_after}
 use Rattle.tx_lines.proofs.book.LineBook.set_mark.Goals as goal
 
-pub put-requires : goal.put-requires
-put-requires g c =
-    let m = c.self.inside.statuses in
-    let told = c.status.ensures in
-    room_there c.self.inside.ranges m m c.args.self.now c.self.view_is c.args.line.now c.args.mark c.args.on c.status.result c.with_mark-status.result told.faulty told.away told.engaged c.with_mark-status.ensures
-    (sym c.is_unmarked.ensures ∙ c.if-is_unmarked.false) c.requires
+pub add_mark-requires : goal.add_mark-requires
+add_mark-requires g c = let m = c.self.inside.statuses in room_there c.self.inside.ranges m m c.args.self.now c.self.view_is c.args.line.now c.args.mark (c.requires c.if-on.true)
 
-pub returns-then-is_unmarked-clause-lines : goal.returns-then-is_unmarked-clause-lines
-returns-then-is_unmarked-clause-lines g c =
-    let told = c.status.ensures in
-    book_without c.self.inside.ranges c.self.inside.statuses c.swap_remove-status.new.self c.args.self.now c.self.view_is c.args.line.now c.args.mark c.args.on c.status.result c.with_mark-status.result told.faulty told.away told.engaged c.with_mark-status.ensures
-    (sym c.is_unmarked.ensures ∙ c.if-is_unmarked.true) c.swap_remove-status.ensures.updates.0
+pub returns-then-on-clause-lines : goal.returns-then-on-clause-lines
+returns-then-on-clause-lines g c =
+    book_added c.self.inside.ranges c.self.inside.statuses c.add_mark.new.statuses c.args.self.now c.self.view_is c.args.line.now c.args.mark c.add_mark.ensures.updates.0
+    ∙ ap (λ (on : Bool). record (with_mark_of c.args.line.now c.args.mark on c.args.self.now) { room = spare c.add_mark.new.statuses }) (sym c.if-on.true)
 
-pub returns-else-is_unmarked-clause-lines : goal.returns-else-is_unmarked-clause-lines
-returns-else-is_unmarked-clause-lines g c =
-    let told = c.status.ensures in
-    book_with c.self.inside.ranges c.self.inside.statuses c.put.new.statuses c.args.self.now c.self.view_is c.args.line.now c.args.mark c.args.on c.status.result c.with_mark-status.result told.faulty told.away told.engaged c.with_mark-status.ensures
-    (sym c.is_unmarked.ensures ∙ c.if-is_unmarked.false) c.put.ensures.updates.0
+pub returns-then-on-clause-room : goal.returns-then-on-clause-room
+returns-then-on-clause-room g c =
+    subst (λ (on : Bool). c.args.self.now.room ≤ spare c.add_mark.new.statuses + (if on then place_taken c.args.self.now c.args.line.now else 0)) (sym c.if-on.true)
+    (room_after c.self.inside.ranges c.self.inside.statuses c.add_mark.new.statuses c.args.self.now c.self.view_is c.args.line.now c.args.mark c.add_mark.ensures.room)
 
-pub returns-else-is_unmarked-clause-room : goal.returns-else-is_unmarked-clause-room
-returns-else-is_unmarked-clause-room g c =
-    let told = c.status.ensures in
-    room_after c.self.inside.ranges c.self.inside.statuses c.put.new.statuses c.args.self.now c.self.view_is c.args.line.now c.args.mark c.args.on c.status.result c.with_mark-status.result told.faulty told.away told.engaged c.with_mark-status.ensures
-    (sym c.is_unmarked.ensures ∙ c.if-is_unmarked.false) c.put.ensures.room
+pub returns-else-on-clause-lines : goal.returns-else-on-clause-lines
+returns-else-on-clause-lines g c =
+    book_taken c.self.inside.ranges c.self.inside.statuses c.take_mark.new.statuses c.args.self.now c.self.view_is c.args.line.now c.args.mark c.take_mark.ensures.kept
+    ∙ ap (λ (on : Bool). record (with_mark_of c.args.line.now c.args.mark on c.args.self.now) { room = spare c.take_mark.new.statuses }) (sym c.if-on.false)
