@@ -1,5 +1,5 @@
 mod EndLines
-mod Cutting
+pub mod Cutting
 mod Taking
 pub mod PartCalls
 pub mod PlanCalls
