@@ -6,7 +6,6 @@ ghost use Rattle.tx_jobs.specs.JobFaults.{mark_after};
 ghost use Rattle.tx_jobs.specs.JobEnds.{input, output};
 ghost use Rattle.tx_jobs.specs.DrawJobs.{AreToShow, ToldText, DrewCode, Drew, DrawJobAnswers};
 
-use crate::drawn::Drawn;
 use crate::job_fault::JobFault;
 use crate::{reached, write_code_drawing, write_drawing};
 use std::alloc::Allocator;
@@ -25,7 +24,7 @@ pub fn draw_job<A: Allocator + Copy, P: Source, W: Sink>(
     code: Option<&[u8]>,
     bounds: Option<(u8, u8)>,
     out: &mut W,
-) -> Result<Drawn, JobFault>
+) -> Result<(), JobFault>
     requires limit { IfSome bounds (λ b. b.0 ≤ 62) }
     requires spare { IfSome bounds (λ b. b.1 ≤ 15) }
     ensures answers { DrawJobAnswers A (option_map (λ f. f.now) code.entry) bounds (input P.rest P.failed P.called plan.old plan.new) (output W.taken out.old out.new) result }
@@ -50,7 +49,7 @@ fn draw_plan<A: Allocator + Copy, W: Sink>(
     code: Option<&[u8]>,
     bounds: Option<(u8, u8)>,
     out: &mut W,
-) -> Result<Drawn, JobFault>
+) -> Result<(), JobFault>
     requires limit { IfSome bounds (λ b. b.0 ≤ 62) }
     requires spare { IfSome bounds (λ b. b.1 ≤ 15) }
     ensures drew { Drew A plan.now (option_map (λ f. f.now) code.entry) bounds (output W.taken out.old out.new) result }
@@ -60,17 +59,17 @@ fn draw_plan<A: Allocator + Copy, W: Sink>(
         None => draw_whole(plan, out),
         Some(figures) => match plan.code_named(figures) {
             Some(code) => draw_code(alloc, plan, code, bounds, out),
-            None => Ok(Drawn::NoSuchCode),
+            None => Err(JobFault::UnknownCode),
         },
     }
 }
 
-fn draw_whole<A: Allocator, W: Sink>(plan: &Plan<A>, out: &mut W) -> Result<Drawn, JobFault>
+fn draw_whole<A: Allocator, W: Sink>(plan: &Plan<A>, out: &mut W) -> Result<(), JobFault>
     ensures told { ToldText (drawing plan.now) (output W.taken out.old out.new) result }
     ensures mark { W.failed out.new ≡ mark_after (W.failed out.old) result }
 {
     match write_drawing(plan, out) {
-        Ok(()) => Ok(Drawn::Picture),
+        Ok(()) => Ok(()),
         Err(WriteFault) => Err(JobFault::Write),
     }
 }
@@ -81,7 +80,7 @@ fn draw_code<A: Allocator + Copy, W: Sink>(
     code: CodeId,
     bounds: Option<(u8, u8)>,
     out: &mut W,
-) -> Result<Drawn, JobFault>
+) -> Result<(), JobFault>
     requires code { code < length plan.now.codes }
     requires limit { IfSome bounds (λ b. b.0 ≤ 62) }
     requires spare { IfSome bounds (λ b. b.1 ≤ 15) }
@@ -122,7 +121,7 @@ fn draw_finding<A: Allocator + Copy, W: Sink>(
     bounds: Option<(u8, u8)>,
     findings: &[Finding<A>],
     out: &mut W,
-) -> Result<Drawn, JobFault>
+) -> Result<(), JobFault>
     requires code { code < length plan.now.codes }
     requires found { AreToShow plan.now bounds findings.now }
     ensures drew { DrewCode A plan.now code bounds (output W.taken out.old out.new) result }
@@ -130,7 +129,7 @@ fn draw_finding<A: Allocator + Copy, W: Sink>(
 {
     match reached(alloc, plan, code) {
         Ok(marks) => match write_code_drawing(plan, code, &marks, findings, out) {
-            Ok(()) => Ok(Drawn::Picture),
+            Ok(()) => Ok(()),
             Err(WriteFault) => Err(JobFault::Write),
         },
         Err(_) => Err(JobFault::NoMemory),

@@ -1,5 +1,5 @@
-mod EndLines
-pub mod Cutting
-mod Taking
-pub mod PartCalls
-pub mod PlanCalls
+mod Parting
+mod Passing
+mod Giving
+pub mod Kept
+pub mod InputCount

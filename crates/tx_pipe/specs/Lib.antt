@@ -1,2 +1,4 @@
 pub mod Parts
+pub mod InputCalls
+pub mod Telling
 pub mod inner

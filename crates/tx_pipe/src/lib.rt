@@ -1,10 +1,8 @@
-//! One input that holds two texts, a plan and then a script, as two sources, of which the second is made of the first.
+//! One input that holds two texts, a plan and then a script, as two sources one after the other.
 #![tactic(auto)]
 
 mod held;
-mod plan_part;
-mod script_part;
-mod seen;
+mod line_so_far;
+mod two_texts;
 
-pub use plan_part::PlanPart;
-pub use script_part::ScriptPart;
+pub use two_texts::TwoTexts;

@@ -5,4 +5,3 @@ pub mod Commands
 pub mod Faults
 pub mod Entries
 pub mod Written
-pub mod inner

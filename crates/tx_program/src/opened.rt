@@ -4,6 +4,7 @@ ghost use Rattle.tx_program.specs.declared.command.Command.TheVariants.{Run, Dra
 ghost use Rattle.tx_program.specs.Commands.{IsInRange};
 
 use crate::folder::Folder;
+use crate::input::Input;
 use crate::{Command, Entry};
 use std::io::Read;
 use tx_jobs::JobFault;
@@ -52,16 +53,16 @@ pub(crate) enum PlanJob<'a> {
 #[derive(Drop)]
 pub(crate) enum Opened<'a, I: Read + Drop, R: Read + Drop> {
     Pipe {
-        input: I,
+        input: Input<I, R>,
     },
     Run {
         plan: R,
-        script: R,
+        script: Input<I, R>,
     },
     Checked {
         plan: R,
         cert: R,
-        script: R,
+        script: Input<I, R>,
         bounds: Bounds,
     },
     Check {
@@ -121,7 +122,9 @@ impl<'a, I: Read + Drop, R: Read + Drop> Opened<'a, I, R> {
         requires { IsInRange command.now }
     {
         match command {
-            Command::Pipe => Ok(Opened::Pipe { input }),
+            Command::Pipe => Ok(Opened::Pipe {
+                input: Input::Standard(input),
+            }),
             Command::Run {
                 plan,
                 script,
@@ -158,7 +161,10 @@ impl<'a, I: Read + Drop, R: Read + Drop> Opened<'a, I, R> {
         match checked {
             None => {
                 let (plan, script) = open_both(folder, plan.as_str(), script.as_str())?;
-                Ok(Opened::Run { plan, script })
+                Ok(Opened::Run {
+                    plan,
+                    script: Input::File(script),
+                })
             }
             Some((cert, limit, spare)) => {
                 Opened::checked(folder, plan, cert, script, Bounds::of(*limit, *spare))
@@ -178,7 +184,7 @@ impl<'a, I: Read + Drop, R: Read + Drop> Opened<'a, I, R> {
             Ok(script) => Ok(Opened::Checked {
                 plan,
                 cert,
-                script,
+                script: Input::File(script),
                 bounds,
             }),
             Err(fault) => {
