@@ -68,7 +68,7 @@ fn play_all(rt: &HostRuntime) -> io::Result<bool> {
         player.play_file(name.as_str())?;
     }
     player.end()?;
-    Ok(player.is_content())
+    Ok(player.agrees())
 }
 
 fn main(rt: HostRuntime) -> io::Result<ExitCode> {

@@ -120,7 +120,7 @@ impl<'a> Player<'a> {
     }
 
     /// Whether there were cases, and none of them differs.
-    pub(crate) fn is_content(&self) -> bool {
+    pub(crate) fn agrees(&self) -> bool {
         self.counts.cases > 0 && self.counts.differ == 0
     }
 }
