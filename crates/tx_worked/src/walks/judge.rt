@@ -9,7 +9,7 @@ use crate::walks::families::{count_plans, put_plan};
 use crate::walks::grades::grade_agrees;
 use crate::walks::replay::Replay;
 use crate::walks::scripts::{Judged, ScriptTally, scripts_differ};
-use crate::walks::stop::{Differs, tell_stop};
+use crate::walks::stop::{WalksDiffer, tell_stop};
 use crate::walks::survey::Survey;
 use crate::walks::tally::{PlanTally, tell_tally};
 use crate::walks::walks::{Steps, note_all_walks};
@@ -32,7 +32,7 @@ struct Work {
     surveys: Vec<Survey>,
     wanted: Vec<Wanted>,
     told: Replay,
-    differs: Option<Differs>,
+    differs: Option<WalksDiffer>,
 }
 
 /// The text of the plan in hand, and the work on it.
@@ -57,7 +57,7 @@ impl Room {
     }
 
     /// For which numbers an answer differs from what the walks show, and how, where one does.
-    fn differs(&self) -> Option<Differs> {
+    fn differs(&self) -> Option<WalksDiffer> {
         self.work.differs
     }
 }
@@ -150,7 +150,7 @@ fn judge_numbers(
     if let Some(difference) = ranking_differs(
         alloc, plan, surveys, wanted, judged, told, scripts,
     )? {
-        work.differs = Some(Differs {
+        work.differs = Some(WalksDiffer {
             limit,
             spare,
             difference,
@@ -208,7 +208,7 @@ fn judge_plan(
 ) -> Result<(), Stop> {
     survey_codes(alloc, plan, &mut work.steps, &mut work.surveys)?;
     if !grade_agrees(alloc, plan, &work.surveys, &mut work.wanted)? {
-        work.differs = Some(Differs {
+        work.differs = Some(WalksDiffer {
             limit: 0,
             spare: 0,
             difference: Difference::Grade,

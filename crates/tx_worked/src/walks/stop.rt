@@ -4,7 +4,7 @@ use crate::walks::compare::Difference;
 
 /// For which limit and spare number an answer differs from what the walks show, and how.
 #[derive(Clone, Copy)]
-pub struct Differs {
+pub struct WalksDiffer {
     pub limit: u8,
     pub spare: u8,
     pub difference: Difference,
@@ -25,7 +25,7 @@ fn said(difference: Difference) -> (&'static [u8], u64) {
 }
 
 /// Tells for which numbers an answer differs, and how.
-fn tell_differs(differs: &Differs, out: &mut Told) {
+fn tell_differs(differs: &WalksDiffer, out: &mut Told) {
     tell_count(b"limit ", u64::from(differs.limit), b", ", out);
     tell_count(b"spare ", u64::from(differs.spare), b": ", out);
     let (word, place) = said(differs.difference);
@@ -33,7 +33,7 @@ fn tell_differs(differs: &Differs, out: &mut Told) {
 }
 
 /// Tells why the judging stopped, and the plan where it did.
-pub fn tell_stop(stop: Stop, differs: Option<Differs>, plan: &[u8], out: &mut Told) {
+pub fn tell_stop(stop: Stop, differs: Option<WalksDiffer>, plan: &[u8], out: &mut Told) {
     match (stop, differs) {
         (Stop::Refused(line), _) => tell_count(b"refused: line ", line, b"\n", out),
         (Stop::NoMemory, _) => tell(b"no memory\n", out),
