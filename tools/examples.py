@@ -2,7 +2,7 @@
 """usage: tools/examples.py [PROGRAM]
        tools/examples.py --pages
        tools/examples.py --write PROGRAM
-       tools/examples.py --cases FOLDER
+       tools/examples.py --cases
 
 Runs each example of examples/list with a built program (crates/telexplan/out/telexplan where none is named), in a folder of its own, and compares what it prints,
 its exit status and the files that it makes with what stands in examples/. A fault stands on standard error, and nothing else does. Then checks README.md and docs/FORMATS.md: each block there says, in a comment before
@@ -15,8 +15,7 @@ docs/telexplan.1 have to have the commands and options that the program's help t
 program prints.
 
 --write writes the outputs and the files that are made, for you to read through: they are right only once somebody has.
---cases writes the examples as cases for the player of worked examples, crates/tx_worked, into the files `cases` and `stdout` of a folder. They are appended by hand
-to its data/cases and stdout; from then on a run of this tool sees that they are the same.
+--cases writes the examples as cases for the player of the gate: the file crates/tx_worked/data/cases/examples. Other runs of this tool see that it is the same.
 
 The comments before a block:
   <!-- file: PATH -->     the whole file
@@ -38,6 +37,7 @@ TOP = os.path.dirname(os.path.dirname(os.path.abspath(__file__)))
 PAGES = ["README.md", "docs/FORMATS.md"]
 NAMING = ["CONTRIBUTING.md", "docs/ARCHITECTURE.md", "docs/DECISIONS.md", "docs/GLOSSARY.md", "docs/HEADLINE.md", "docs/MEASURED.md", "docs/PROOFS.md"]
 MADE = ["crates/telexplan/out/telexplan"]
+PLAYED = "crates/tx_worked/data/cases"
 
 
 class Example:
@@ -140,18 +140,22 @@ def images():
 
 
 def check_images(tell):
-    """Each picture is one that the player of worked examples prints, and has its image beside it."""
-    printed = read("crates/tx_worked/stdout")
+    """Each picture is one that the player of the gate has to print, and has its image beside it."""
+    printed = [prints for _, _, prints in played()]
     for it in sorted(in_examples(".dot")):
-        if b"\n" + read(it) not in printed:
-            tell(f"{it}: the player of worked examples does not print it")
+        if read(it).decode() not in printed:
+            tell(f"{it}: no case of crates/tx_worked prints it")
         if it.replace(".dot", ".svg") not in images():
             tell(f"{it}: it has no image")
 
 
-def texts_by_head(path):
-    """What stands behind each line `=== HEAD` of a file."""
-    return dict(it.split("\n", 1) for it in re.split(r"(?m)^=== ", read(path).decode("latin-1"))[1:])
+def played():
+    """Each case of the player of the gate: its head, its texts, and what has to be printed for it."""
+    for file in sorted(os.listdir(os.path.join(TOP, PLAYED))):
+        for case in re.split(r"(?m)^=== ", read(f"{PLAYED}/{file}").decode())[1:]:
+            head, _, rest = case.partition("\n")
+            texts, _, prints = rest.partition("--- prints\n")
+            yield head, texts, prints
 
 
 def lines_wanted(plan):
@@ -183,11 +187,10 @@ def faults_of_picture(picture, wanted):
 
 def check_pictures(tell):
     """For each case of all pictures of a plan, what must be printed is one picture of the plan and one of each code, and each can be read."""
-    printed = texts_by_head("crates/tx_worked/stdout")
-    for head, plan in texts_by_head("crates/tx_worked/data/cases").items():
+    for head, plan, prints in played():
         if head.split()[1] != "pictures":
             continue
-        wanted, pictures = list(lines_wanted(plan)), printed[head].split("digraph")[1:]
+        wanted, pictures = list(lines_wanted(plan)), prints.split("digraph")[1:]
         if len(pictures) != len(wanted):
             tell(f"crates/tx_worked: {head} has {len(pictures)} pictures and not {len(wanted)}")
         for n, (picture, lines) in enumerate(zip(pictures, wanted)):
@@ -403,7 +406,7 @@ def check_map(tell):
             tell(f"docs/ARCHITECTURE.md: {name} is missing")
 
 
-# CASES FOR THE PLAYER OF WORKED EXAMPLES
+# CASES FOR THE PLAYER OF THE GATE
 
 
 def case_of(example):
@@ -431,7 +434,7 @@ def evidence_of(example):
 
 
 def cases():
-    """Each example as a case, and what the player has to print for it. Two examples that come to the same case are one."""
+    """Each example as a case. Two examples that come to the same case are one."""
     seen = set()
     for example in examples():
         case = case_of(example)
@@ -439,35 +442,30 @@ def cases():
             seen.add(case)
             kind, text = case
             text += b"" if text.endswith(b"\n") else b"{}\n"
-            head = f"=== example-{example.name} {kind}\n".encode()
-            yield head + text, head + read(out_of(example)) + evidence_of(example)
+            yield f"=== example-{example.name} {kind}\n".encode() + text + b"--- prints\n" + read(out_of(example)) + evidence_of(example)
 
 
-def write_cases(folder):
-    os.makedirs(folder, exist_ok=True)
-    for name, place in [("cases", 0), ("stdout", 1)]:
-        with open(os.path.join(folder, name), "wb") as it:
-            it.write(b"".join(case[place] for case in cases()))
+def write_cases():
+    with open(os.path.join(TOP, PLAYED, "examples"), "wb") as it:
+        it.write(b"".join(cases()))
 
 
 def check_cases(tell):
-    """The player has the examples as they are, if it has them."""
-    played, printed = read("crates/tx_worked/data/cases"), read("crates/tx_worked/stdout")
-    if b"=== example-" in played:
-        for case, wanted in cases():
-            if case not in played or wanted not in printed:
-                tell(f"crates/tx_worked: the case {case.split()[1].decode()} is not as in examples/")
+    """The player has the examples as they are."""
+    if read(f"{PLAYED}/examples") != b"".join(cases()):
+        tell(f"{PLAYED}/examples: the cases are not as in examples/ (tools/examples.py --cases writes them)")
 
 
-def case_of_ends(block):
-    """What a case of the player of the program's ends prints: the words, the text on both ends, and the status."""
-    head, _, body = block.partition("\n")
-    return head.partition(" : ")[2], "".join(re.findall(r"(?m)^(?:out|errors)\| (.*\n)", body)), body.split()[-1:]
+def told_at_ends():
+    """What each case of the program at its ends prints: the words, the text on both ends, and the status."""
+    for head, _, prints in played():
+        if head.split()[1] == "program":
+            yield head.partition(" : ")[2], "".join(re.findall(r"(?m)^(?:out|errors)\| (.*\n)", prints)), prints.split()[-1:]
 
 
 def check_ends(tell):
-    """The player of the program's ends has the examples that are no worked cases: words that are refused, files that are missing, what is explained."""
-    told = [case_of_ends(it) for it in re.split(r"(?m)^=== ", read("crates/tx_worked/stdout").decode())]
+    """The cases of the program at its ends have the examples that no other case shows: words that are refused, files that are missing, what is explained."""
+    told = list(told_at_ends())
     for example in examples():
         wanted = " ".join(example.words), read(out_of(example)).decode(), [str(example.status)]
         if not case_of(example) and wanted not in told:
@@ -478,9 +476,8 @@ def check_ends(tell):
 
 
 def words_told():
-    """The options of each command, as its help tells them in the player of the program's ends; None where no case prints that help."""
-    cases = map(case_of_ends, re.split(r"(?m)^=== ", read("crates/tx_worked/stdout").decode()))
-    told = {words: text for words, text, _ in cases if "\nUsage: " in text}
+    """The options of each command, as its help tells them in the cases of the program at its ends; None where no case prints that help."""
+    told = {words: text for words, text, _ in told_at_ends() if "\nUsage: " in text}
     commands = re.findall(r"(?m)^  ([a-z]+) ", told["--help"].partition("Commands:")[2])
     helps = {it: told.get(f"{it} --help", told.get(f"help {it}")) for it in commands if it != "help"}
     return {it: text and set(re.findall(r"(?m)^ +(?:-\w, )?(--\w+)", text)) for it, text in helps.items()}
@@ -525,8 +522,8 @@ def check_words(tell):
 
 
 def main(words):
-    if words[:1] == ["--cases"] and len(words) == 2:
-        write_cases(words[1])
+    if words == ["--cases"]:
+        write_cases()
         return 0
     only_pages = words == ["--pages"]
     words = [] if only_pages else words

@@ -27,4 +27,4 @@ pub use explanation::write_explanation;
 pub use fault::WordsFault;
 pub use folder::Folder;
 pub use program::{Ends, run_command, run_words};
-pub use tell::refuse_arguments;
+pub use tell::{refuse_arguments, tell_words};

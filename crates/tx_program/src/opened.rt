@@ -1,5 +1,5 @@
 // Commands whose files are open.
-ghost use Rattle.std.specs.Prelude.{◌≤◌};
+ghost use Rattle.std.specs.Prelude.{◌≡◌, ◌≤◌};
 ghost use Rattle.tx_program.specs.declared.command.Command.TheVariants.{Run, Draw};
 ghost use Rattle.tx_program.specs.Commands.{IsInRange};
 
@@ -22,6 +22,8 @@ impl Bounds {
     fn of(limit: u8, spare: u8) -> Bounds
         requires limit { limit ≤ 62 }
         requires spare { spare ≤ 15 }
+        ensures has_limit { result.limit ≡ limit }
+        ensures has_spare { result.spare ≡ spare }
     {
         Bounds { limit, spare }
     }

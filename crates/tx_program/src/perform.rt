@@ -1,5 +1,5 @@
 // What is done for a command.
-ghost use Rattle.std.specs.Prelude.{◌≤◌, IfSome};
+ghost use Rattle.std.specs.Prelude.{◌≡◌, ◌≤◌, IfSome, option_map};
 ghost use Rattle.tx_program.specs.Commands.{IsInRange};
 
 use crate::audited::audit_file;
@@ -181,6 +181,7 @@ fn check_files<A: Allocator + Copy, R: Read + Drop, O: Write + Drop>(
 fn numbers(bounds: Option<Bounds>) -> Option<(u8, u8)>
     ensures limit { IfSome result (λ n. n.0 ≤ 62) }
     ensures spare { IfSome result (λ n. n.1 ≤ 15) }
+    ensures same { result ≡ option_map (λ b. (b.limit, b.spare)) bounds }
 {
     match bounds {
         Some(bounds) => Some((bounds.limit, bounds.spare)),

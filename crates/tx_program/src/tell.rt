@@ -8,7 +8,7 @@ use std::io;
 use std::io::Write;
 
 /// Prints a request's help to the output, and why words are refused to the errors.
-pub(crate) fn tell_words<O: Write, E: Write>(
+pub fn tell_words<O: Write, E: Write>(
     fault: &WordsFault,
     output: &mut O,
     errors: &mut E,

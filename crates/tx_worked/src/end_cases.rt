@@ -1,47 +1,75 @@
-// The program at its ends: plays each case of a text over the files of the folder, and tells all that happens at the ends in order: files opened and made, each
-// read and what it gave, what each write took, each flush, and then the exit status. A case is a line. The head of the file `ends` says how it is written.
-use crate::cases::{EndCase, Log, Told, tell, tell_broken, tell_count, tell_parts};
+// Cases of the program: at its ends, and where its words or arguments are refused for want of memory.
+use crate::cases::{EndCase, Log, Told, named, tell, tell_broken, tell_count};
 use crate::end_play::play;
 use std::alloc::Global;
 use std::io;
-use tx_program::refuse_arguments;
-/// What the program tells where its arguments are no words.
-fn tell_arguments(alloc: Global, kind: io::ErrorKind, out: &mut Told) {
-    let mut told = Vec::new(alloc);
+use tx_program::{WordsFault, refuse_arguments, tell_words};
+
+/// What goes wrong before there are words.
+#[derive(Clone, Copy)]
+enum Wrong {
+    Arguments(io::ErrorKind),
+    /// Memory was wanting when the words were read.
+    Words,
+}
+
+static WRONGS: [(&str, Wrong); 3] = [
+    ("no-text", Wrong::Arguments(io::ErrorKind::InvalidData)),
+    ("no-memory", Wrong::Arguments(io::ErrorKind::OutOfMemory)),
+    ("no-memory-for-words", Wrong::Words),
+];
+
+/// What the program tells where its arguments are no words, and its exit status.
+fn refuse(kind: io::ErrorKind, errors: &mut Vec<u8>) -> u8 {
     let why = io::Error::from(kind);
-    let status = refuse_arguments(&why, &mut told);
+    let status = refuse_arguments(&why, errors);
     drop(why);
-    tell(told.as_slice(), out);
-    drop(told);
+    status
+}
+
+/// What the program tells where memory is wanting for its words, and its exit status.
+fn refuse_words(alloc: Global, errors: &mut Vec<u8>) -> u8 {
+    let fault = WordsFault::NoMemory;
+    let mut output = Vec::new(alloc);
+    let _ = tell_words(&fault, &mut output, errors);
+    drop(output);
+    let status = fault.status();
+    drop(fault);
+    status
+}
+
+/// Tells what the program tells on standard error where something is wrong before there are words, and its exit status.
+pub(crate) fn play_arguments(alloc: Global, wrong: &[u8], out: &mut Told) {
+    let mut errors = Vec::new(alloc);
+    match named(&WRONGS, wrong) {
+        Some(Wrong::Arguments(kind)) => {
+            let status = refuse(kind, &mut errors);
+            tell_refused(errors.as_slice(), status, out);
+        }
+        Some(Wrong::Words) => {
+            let status = refuse_words(alloc, &mut errors);
+            tell_refused(errors.as_slice(), status, out);
+        }
+        None => tell_broken(b"nothing is wrong with the arguments", 0, out),
+    }
+    drop(errors);
+}
+
+fn tell_refused(errors: &[u8], status: u8, out: &mut Told) {
+    tell(errors, out);
     tell_count(b"status ", u64::from(status), b"\n", out);
 }
 
-/// Plays the case of a line, and tells what happened.
-fn tell_line(rt: &HostRuntime, line: &str, out: &mut Told) {
-    tell_parts(&[b"=== ", line.as_bytes(), b"\n"], out);
+/// Plays the program at its ends over the files of the folder, and tells all that happens there in order: files opened and made, each read and what it gave,
+/// what each write took, each flush, and then the exit status.
+pub(crate) fn play_program(rt: &HostRuntime, head: &[u8], out: &mut Told) {
+    let Ok(head) = str::from_utf8(head) else {
+        return tell_broken(b"the head is no UTF-8 text", 0, out);
+    };
     let log = Log::new(rt.alloc());
-    let case = EndCase::read(rt.alloc(), line);
+    let case = EndCase::read(rt.alloc(), head);
     play(rt, &case, &log);
     drop(case);
     log.print(out);
     drop(log);
-}
-
-/// Plays the case of each line. Empty lines and lines with # at their head are passed over.
-fn play_lines(rt: &HostRuntime, text: &str, out: &mut Told) {
-    for line in text.lines() {
-        if !line.is_empty() && !line.starts_with('#') {
-            tell_line(rt, line, out);
-        }
-    }
-}
-
-/// Tells how the program refuses its arguments, and then plays each case of a text.
-pub(crate) fn play_ends(rt: &HostRuntime, text: &[u8], out: &mut Told) {
-    tell_arguments(rt.alloc(), io::ErrorKind::InvalidData, out);
-    tell_arguments(rt.alloc(), io::ErrorKind::OutOfMemory, out);
-    match str::from_utf8(text) {
-        Ok(text) => play_lines(rt, text, out),
-        Err(_) => tell_broken(b"the cases are no UTF-8 text", 0, out),
-    }
 }

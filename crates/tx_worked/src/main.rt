@@ -1,10 +1,10 @@
-//! The player of the gate. It judges the ranking over the plans of the file `families` (`walks`), plays the engine beside the plain network over the plans of
-//! the file `plans` (`twins`), and plays the cases of the files `calls` (`tests`), `cases`, and `ends`, and prints what each of them tells. One program plays
-//! them all, since the gate proves, builds and links each program anew. The cases of `ends` play the program at its ends, over the other files.
+//! The player of the gate. It plays the cases of each file of the folder `cases`, compares what each prints with what it has to print, and prints one line a file
+//! with the counts, and for each case that differs its name and the first lines that do. The exit status is then 1. One program plays them all, since the gate
+//! proves, builds and links each program anew.
 //!
-//! The file `cases` has worked examples, and what each writes and tells is printed. Where a law is broken, a line with `BROKEN` says so.
-//!
-//! A case begins with a line `=== NAME KIND` and has its texts behind it, with a line `---` between two. A text may have the marks of `spell`.
+//! A file has the cases of its topic, behind a comment or none. A case begins with a line `=== NAME KIND` and has its texts behind it, with a line `---` between
+//! two, then a line `--- prints`, and behind it what has to be printed. Texts and what is printed may have the marks of `spell`. Where a law is broken, a line
+//! with `BROKEN` is printed, so the case differs.
 //!
 //! - `pipe` has a plan and a script in one text, `run` in two; `both` has them in one, which is played in both ways. `codes`, `grade` and `audit L K` have a plan,
 //!   `check L K` a plan and a certificate, `checked L K` (a run after a Yes) these and a script. An audit writes behind its report the certificate that it
@@ -13,12 +13,17 @@
 //! - `pictures` and `pictures L K` have a plan, which is drawn, and each of its codes, with the walk of the code's first finding where there are numbers.
 //! - `each-end` before such a kind also refuses each request for memory, gives each smaller room, and makes each call of each source fail. The lines with
 //!   `--` tell the exit status, the calls of the sources at one byte a call, the bytes written, and what a run counted or the event where it stopped.
+//! - `once` before such a kind plays it by a source of 7 bytes a call, and tries nothing else: for what is large.
 //! - `prefixes` before such a kind plays each front of the last text, and tells the stretches of lengths at which the same happens.
 //! - `rooms` and `calls PIECE` have a plan and a script, and tell at which event the run stops in each room, and where each call of the source fails.
 //!   `stopped-writer ROOM` counts the calls that are made before the writer fails. `starting NUMBERS EVENTS` runs from another opening state.
 //! - `certified L K` has a plan, a certificate and a script, whose events are driven after a Yes of the checker, and again with memory refused in between.
 //! - The kinds of these two points, and the laws of a run of `both`, are played over the plain network and over the engine, which has to tell the same.
 //! - `cert` has a plan and a certificate, and `plan` a plan, which are written and read back. A new certificate of the plan is written before.
+//! - `program` plays the program at its ends, over the files beside the folder `cases`: `cases/end_case.rt` has what stands in its head. `arguments` tells how it
+//!   refuses its arguments.
+//! - `family` judges the ranking over a family of plans (`walks`), and `twins` plays the engine beside the plain network (`twins`). The calls of the crates below
+//!   have the kinds of `tests`.
 #![tactic(auto)]
 
 mod cases;
@@ -30,6 +35,7 @@ mod job;
 mod listings;
 mod pictures;
 mod play;
+mod player;
 mod run_laws;
 mod runs;
 mod stage;
@@ -41,50 +47,34 @@ mod walks;
 mod whole_runs;
 mod written;
 
-use crate::cases::Told;
-use crate::end_cases::play_ends;
-use crate::play::play_cases;
-use crate::tests::play_cases as play_calls;
-use crate::twins::play_all;
-use crate::walks::judge_all;
+use crate::player::Player;
+use std::process::ExitCode;
 use std::{fs, io};
 
-/// Who plays a file.
-#[derive(Clone, Copy)]
-enum Player {
-    Families,
-    Plans,
-    Calls,
-    Cases,
-    Ends,
+/// The names of the files of cases, in order.
+fn files(rt: &HostRuntime) -> io::Result<Vec<String>> {
+    let mut names = Vec::new(rt.alloc());
+    for entry in fs::read_dir(rt, "cases")? {
+        names.push(format!(in rt.alloc(); "cases/{}", entry?.file_name())?)?;
+    }
+    names.sort()?;
+    Ok(names)
 }
 
-static FILES: [(&str, Player); 5] = [
-    ("families", Player::Families),
-    ("plans", Player::Plans),
-    ("calls", Player::Calls),
-    ("cases", Player::Cases),
-    ("ends", Player::Ends),
-];
-
-/// Plays a file, and prints what was told.
-fn play_file(rt: &HostRuntime, name: &str, player: Player) -> io::Result<()> {
-    let text = fs::read(rt, name)?;
-    let mut told = Told::new(rt.alloc());
-    match player {
-        Player::Families => judge_all(rt.alloc(), text.as_slice(), &mut told),
-        Player::Plans => play_all(rt.alloc(), text.as_slice(), &mut told),
-        Player::Calls => play_calls(rt.alloc(), text.as_slice(), &mut told),
-        Player::Cases => play_cases(rt.alloc(), text.as_slice(), &mut told),
-        Player::Ends => play_ends(rt, text.as_slice(), &mut told),
+/// Plays all cases. Returns whether each prints what it has to print.
+fn play_all(rt: &HostRuntime) -> io::Result<bool> {
+    let mut player = Player::new(rt);
+    for name in &files(rt)? {
+        player.play_file(name.as_str())?;
     }
-    drop(text);
-    told.let_out(&mut rt.stdout())
+    player.end()?;
+    Ok(player.agrees())
 }
 
-fn main(rt: HostRuntime) -> io::Result<()> {
-    for (name, player) in &FILES {
-        play_file(&rt, name, *player)?;
+fn main(rt: HostRuntime) -> io::Result<ExitCode> {
+    if play_all(&rt)? {
+        Ok(ExitCode::SUCCESS)
+    } else {
+        Ok(ExitCode::FAILURE)
     }
-    Ok(())
 }

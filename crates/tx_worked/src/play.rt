@@ -1,7 +1,7 @@
-// Plays cases by their kinds.
+// Plays cases of texts by their kinds.
 use crate::cases::{
-    Case, Driven, Ends, Head, Job, Kind, Mode, ROOM, Task, Told, head_of, job_of, limit_and_spare,
-    long_number, next_case, number_of, spell, task_of, tell, tell_broken, tell_parts, two_texts,
+    Driven, Ends, Head, Job, Mode, ROOM, Task, TextKind, Told, job_of, limit_and_spare,
+    long_number, number_of, task_of, tell, tell_broken, two_texts,
 };
 use crate::checked::play_certified;
 use crate::job::{Whole, do_in_room};
@@ -16,42 +16,25 @@ use std::alloc::Global;
 use tx_jobs::write_fault;
 use tx_text::MemorySink;
 
-/// Plays each case of a text, and writes its line, and what its kind tells.
-pub(crate) fn play_cases(alloc: Global, cases: &[u8], out: &mut Told) {
-    let mut rest = cases;
-    for _ in 0..10_000u32 {
-        let Some((case, more)) = next_case(rest) else {
-            break;
-        };
-        play(alloc, case, out);
-        rest = more;
-    }
-}
-
-fn play(alloc: Global, case: Case<'_>, out: &mut Told) {
-    tell_parts(&[b"=== ", case.head, b"\n"], out);
-    let mut texts = Told::new(alloc);
-    spell(case.texts, &mut texts);
-    match texts.whole() {
-        Some(texts) => play_texts(alloc, head_of(case.head), texts, out),
-        None => tell_broken(b"no memory", 0, out),
-    }
-}
-
-/// Plays a case's texts by its kind: as a job, or by writing and reading back, or over both networks.
-fn play_texts(alloc: Global, head: Head<'_>, texts: &[u8], out: &mut Told) {
+/// Plays a case of texts by its kind: as a job, or by writing and reading back, or over both networks.
+pub(crate) fn play_texts(
+    alloc: Global,
+    kind: TextKind,
+    head: Head<'_>,
+    texts: &[u8],
+    out: &mut Told,
+) {
     let (first, second) = two_texts(texts);
-    match head.kind {
-        Some(Kind::Job(kind)) => {
+    match kind {
+        TextKind::Job(kind) => {
             let task = task_of(job_of(kind, head), first, second);
             play_task(alloc, task, head.mode, out)
         }
-        Some(Kind::Both) => play_both(alloc, head, texts, out),
-        Some(Kind::Pictures) => play_pictures(alloc, head, texts, out),
-        Some(Kind::Plan) => play_plan(alloc, texts, out),
-        Some(Kind::Cert) => play_cert(alloc, first, second, out),
-        Some(Kind::Driven(driven)) => play_over_both(alloc, driven, head, first, second, out),
-        None => tell_broken(b"no such kind of case", 0, out),
+        TextKind::Both => play_both(alloc, head, texts, out),
+        TextKind::Pictures => play_pictures(alloc, head, texts, out),
+        TextKind::Plan => play_plan(alloc, texts, out),
+        TextKind::Cert => play_cert(alloc, first, second, out),
+        TextKind::Driven(driven) => play_over_both(alloc, driven, head, first, second, out),
     }
 }
 
@@ -116,18 +99,26 @@ fn try_plain(alloc: Global, run: Task<'_>, job: &[u8], out: &mut Told) {
     }
 }
 
+/// Tells what a task wrote, and its fault.
+fn tell_whole(whole: Whole<'_>, out: &mut Told) {
+    tell(whole.text, out);
+    if let Err(fault) = whole.answer {
+        let _ = write_fault(&fault, out);
+    }
+}
+
 /// Tells a task that was done whole, and tries its laws, or plays each front of its last text.
 fn play_whole(alloc: Global, task: Task<'_>, whole: Whole<'_>, mode: Mode, out: &mut Told) {
+    if let Mode::Once = mode {
+        return tell_whole(whole, out);
+    }
     if matches!(task.job, Job::Run) {
         try_plain(alloc, task, whole.text, out);
     }
     if let Mode::Prefixes = mode {
         return list_prefixes(alloc, task, whole, out);
     }
-    tell(whole.text, out);
-    if let Err(fault) = whole.answer {
-        let _ = write_fault(&fault, out);
-    }
+    tell_whole(whole, out);
     try_pieces(alloc, task, whole, out);
     if let Mode::EachEnd = mode {
         try_refusals(alloc, task, whole, out);
@@ -167,7 +158,7 @@ fn try_both(
             try_ends(alloc, run, whole, out);
             play_over_both(alloc, Driven::Laws, head, run.first, run.second, out);
         }
-        Mode::Plain | Mode::Prefixes => {}
+        Mode::Plain | Mode::Once | Mode::Prefixes => {}
     }
 }
 

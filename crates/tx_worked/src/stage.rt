@@ -40,6 +40,7 @@ impl<'a> Stage<'a> {
             log: self.log,
             piece: self.case.piece,
             fails: self.case.failing_call(name),
+            interrupted: self.case.interrupted_call(name),
             reads: 0,
         }
     }
@@ -52,6 +53,8 @@ impl<'a> Stage<'a> {
             room: self.case.room(name),
             fails: self.case.failing_call(name),
             flushes: 0,
+            interrupted: self.case.interrupted_call(name),
+            calls: 0,
         }
     }
 }

@@ -1,7 +1,5 @@
-// Judges the ranking by brute force. It makes all plans of some families, goes every walk of each of their codes, and compares what these show with what
+// Judges the ranking by brute force. It makes all plans of a family, goes every walk of each of their codes, and compares what these show with what
 // the ranking and the grade answer. It runs the events of each finding over the plain network too, and judges by the replies whether they show it.
-//
-// A text of families says which plans there are.
 
 mod compare;
 mod families;
@@ -19,4 +17,4 @@ mod trail;
 mod walks;
 mod wanted;
 
-pub(crate) use judge::judge_all;
+pub(crate) use judge::play_family;

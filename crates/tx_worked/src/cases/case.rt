@@ -4,11 +4,12 @@ ghost use Rattle.std.specs.Prelude.{◌≤◌, length};
 use memchr::{memchr, memmem};
 use tx_text::{Words, number};
 
-/// A case: the line that names it, and its texts.
+/// A case: the line that names it, its texts, and what has to be printed for it.
 #[derive(Clone, Copy)]
 pub struct Case<'a> {
     pub head: &'a [u8],
     pub texts: &'a [u8],
+    pub prints: &'a [u8],
 }
 
 /// The first line of a text, without its LF, and what stands behind it.
@@ -22,6 +23,11 @@ pub fn next_line(text: &[u8]) -> Option<(&[u8], &[u8])> {
     }
 }
 
+/// The cases of a file, which may have a comment before the first of them.
+pub fn cases_of(file: &[u8]) -> &[u8] {
+    &file[texts_len(file)..]
+}
+
 /// The next case, which begins with a line `=== HEAD`, and what stands behind it.
 pub fn next_case(text: &[u8]) -> Option<(Case<'_>, &[u8])> {
     if !text.starts_with(b"=== ") {
@@ -30,17 +36,28 @@ pub fn next_case(text: &[u8]) -> Option<(Case<'_>, &[u8])> {
     let Some((head, rest)) = next_line(&text[4..]) else {
         return None;
     };
-    let end = texts_len(rest);
-    Some((
-        Case {
-            head,
-            texts: &rest[..end],
-        },
-        &rest[end..],
-    ))
+    let (block, more) = rest.split_at(texts_len(rest));
+    let (texts, prints) = texts_and_prints(block);
+    let case = Case {
+        head,
+        texts,
+        prints,
+    };
+    Some((case, more))
 }
 
-/// How long the texts of a case are.
+/// The texts of a case, and what has to be printed for it: what stands behind its line `--- prints`.
+fn texts_and_prints(block: &[u8]) -> (&[u8], &[u8]) {
+    if let Some(prints) = block.strip_prefix(b"--- prints\n".as_slice()) {
+        return (b"", prints);
+    }
+    match memmem::find(block, b"\n--- prints\n") {
+        Some(end) => (&block[..end + 1], &block[end + 12..]),
+        None => (block, b""),
+    }
+}
+
+/// How long a text is up to the next case.
 fn texts_len(texts: &[u8]) -> usize
     ensures { result ≤ length texts.now }
 {

@@ -1,4 +1,13 @@
-// The cases of the program at its ends.
+// The cases of the program at its ends. Their heads are `NAME program SETTINGS : WORDS`. The settings:
+//
+// - `input FILE`: standard input has the bytes of that file, else those of the file `empty`.
+// - `piece N`: a read gives at most N bytes.
+// - `fails NAME N`: read number N of that file fails, or flush number N where it is written. Standard input is `in`.
+// - `interrupts NAME N`: call number N of that file is interrupted: a read, or a write or flush. It goes on where it is called again.
+// - `room NAME N`: that file takes N bytes and then fails. Standard output and standard error are `out` and `errors`.
+// - `shows FILE`: what that file holds in the end is printed.
+// - `each-request`: each request of the command for memory is refused in turn.
+// - `words`: nothing is run: what the words ask for is printed.
 use crate::cases::case::named;
 use std::alloc::Global;
 
@@ -11,6 +20,8 @@ pub struct EndCase<'a> {
     pub piece: usize,
     /// The file of which a read fails, or a flush where it is written, and which of them.
     pub fails: Option<(&'a str, u64)>,
+    /// The file of which a call is interrupted, and which of its calls: reads, or writes and flushes.
+    pub interrupts: Option<(&'a str, u64)>,
     /// The file that fails when it has taken so many bytes.
     pub room: Option<(&'a str, usize)>,
     /// The file to be shown in the end.
@@ -37,6 +48,7 @@ enum Setting {
     Input,
     Piece,
     Fails,
+    Interrupts,
     Room,
     Shows,
     EachRequest,
@@ -44,10 +56,11 @@ enum Setting {
 }
 
 /// The settings, and whether the name of a file and a number stand behind each.
-static SETTINGS: [(&str, (Setting, bool, bool)); 7] = [
+static SETTINGS: [(&str, (Setting, bool, bool)); 8] = [
     ("input", (Setting::Input, true, false)),
     ("piece", (Setting::Piece, false, true)),
     ("fails", (Setting::Fails, true, true)),
+    ("interrupts", (Setting::Interrupts, true, true)),
     ("room", (Setting::Room, true, true)),
     ("shows", (Setting::Shows, true, false)),
     ("each-request", (Setting::EachRequest, false, false)),
@@ -61,6 +74,7 @@ impl<'a> EndCase<'a> {
             input: "empty",
             piece: 4096,
             fails: None,
+            interrupts: None,
             room: None,
             shows: None,
             what: What::Run,
@@ -69,9 +83,9 @@ impl<'a> EndCase<'a> {
         }
     }
 
-    /// The case of a line.
-    pub fn read(alloc: Global, line: &'a str) -> EndCase<'a> {
-        let (settings, words) = line.split_once(':').unwrap_or((line, ""));
+    /// The case of a head.
+    pub fn read(alloc: Global, head: &'a str) -> EndCase<'a> {
+        let (settings, words) = head.split_once(':').unwrap_or((head, ""));
         let mut case = EndCase::new(alloc);
         case.set_all(settings);
         for word in words.split_whitespace() {
@@ -82,10 +96,11 @@ impl<'a> EndCase<'a> {
         case
     }
 
-    /// Takes the settings, which stand behind the name of the case.
+    /// Takes the settings, which stand behind the name and the kind of the case.
     fn set_all(&mut self, settings: &'a str) {
         let mut rest = settings.split_whitespace();
         let _name = rest.next();
+        let _kind = rest.next();
         while let Some(word) = rest.next() {
             match named(&SETTINGS, word.as_bytes()) {
                 Some((setting, has_name, has_number)) => {
@@ -105,6 +120,7 @@ impl<'a> EndCase<'a> {
             Setting::Input => self.input = name,
             Setting::Piece => self.piece = number.max(1) as usize,
             Setting::Fails => self.fails = Some((name, u64::from(number))),
+            Setting::Interrupts => self.interrupts = Some((name, u64::from(number))),
             Setting::Room => self.room = Some((name, number as usize)),
             Setting::Shows => self.shows = Some(name),
             Setting::EachRequest => self.what = What::RunWithout,
@@ -125,6 +141,14 @@ impl<'a> EndCase<'a> {
     pub fn failing_call(&self, name: &str) -> u64 {
         match self.fails {
             Some((failing, call)) if failing == name => call,
+            _ => 0,
+        }
+    }
+
+    /// Which call of a file is interrupted, or 0.
+    pub fn interrupted_call(&self, name: &str) -> u64 {
+        match self.interrupts {
+            Some((interrupted, call)) if interrupted == name => call,
             _ => 0,
         }
     }

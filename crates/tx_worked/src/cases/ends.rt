@@ -2,7 +2,7 @@
 use tx_text::{MemorySource, Source};
 
 /// Room enough for what any job of the cases writes.
-pub const ROOM: usize = 20_000;
+pub const ROOM: usize = 4_000_000;
 
 /// One of the sources of a task.
 #[derive(Clone, Copy)]

@@ -1,21 +1,45 @@
 // What the head of a case says.
 use crate::cases::case::{named, next_word, number_of};
 use crate::cases::job::Job;
+use crate::tests::{CALLS, CallKind};
 use tx_text::words;
 
 /// What is done with a job.
 #[derive(Clone, Copy)]
 pub enum Mode {
     Plain,
+    /// Once, as it stands: nothing else is tried.
+    Once,
     EachEnd,
     Prefixes,
 }
 
-static MODES: [(&str, Mode); 2] = [("each-end", Mode::EachEnd), ("prefixes", Mode::Prefixes)];
+static MODES: [(&str, Mode); 3] = [
+    ("once", Mode::Once),
+    ("each-end", Mode::EachEnd),
+    ("prefixes", Mode::Prefixes),
+];
 
-/// What is done with the texts of a case.
+/// What a case plays.
 #[derive(Clone, Copy)]
 pub enum Kind {
+    /// Plans, certificates and scripts.
+    Texts(TextKind),
+    /// Calls of the crates below the jobs.
+    Calls(CallKind),
+    /// The program at its ends.
+    Program,
+    /// How the program refuses its arguments.
+    Arguments,
+    /// A family of plans, whose ranking is judged by brute force.
+    Family,
+    /// A plan, over which the engine is played beside the plain network.
+    Twins,
+}
+
+/// What is done with plans, certificates and scripts.
+#[derive(Clone, Copy)]
+pub enum TextKind {
     Job(JobKind),
     /// A plan and a script in one text, as a pipe and as a run.
     Both,
@@ -51,29 +75,46 @@ pub enum Driven {
     Starting,
 }
 
-static KINDS: [(&str, Kind); 17] = [
-    ("pipe", Kind::Job(JobKind::Pipe)),
-    ("run", Kind::Job(JobKind::Run)),
-    ("codes", Kind::Job(JobKind::Codes)),
-    ("grade", Kind::Job(JobKind::Grade)),
-    ("check", Kind::Job(JobKind::Check)),
-    ("audit", Kind::Job(JobKind::Audit)),
-    ("checked", Kind::Job(JobKind::Checked)),
-    ("draw", Kind::Job(JobKind::Draw)),
-    ("both", Kind::Both),
-    ("pictures", Kind::Pictures),
-    ("plan", Kind::Plan),
-    ("cert", Kind::Cert),
-    ("certified", Kind::Driven(Driven::Certified)),
-    ("rooms", Kind::Driven(Driven::Rooms)),
-    ("calls", Kind::Driven(Driven::Calls)),
-    ("stopped-writer", Kind::Driven(Driven::StoppedWriter)),
-    ("starting", Kind::Driven(Driven::Starting)),
+static TEXTS: [(&str, TextKind); 17] = [
+    ("pipe", TextKind::Job(JobKind::Pipe)),
+    ("run", TextKind::Job(JobKind::Run)),
+    ("codes", TextKind::Job(JobKind::Codes)),
+    ("grade", TextKind::Job(JobKind::Grade)),
+    ("check", TextKind::Job(JobKind::Check)),
+    ("audit", TextKind::Job(JobKind::Audit)),
+    ("checked", TextKind::Job(JobKind::Checked)),
+    ("draw", TextKind::Job(JobKind::Draw)),
+    ("both", TextKind::Both),
+    ("pictures", TextKind::Pictures),
+    ("plan", TextKind::Plan),
+    ("cert", TextKind::Cert),
+    ("certified", TextKind::Driven(Driven::Certified)),
+    ("rooms", TextKind::Driven(Driven::Rooms)),
+    ("calls", TextKind::Driven(Driven::Calls)),
+    ("stopped-writer", TextKind::Driven(Driven::StoppedWriter)),
+    ("starting", TextKind::Driven(Driven::Starting)),
 ];
 
-/// What the head of a case says behind its name. It has no kind where the word is none.
+static OTHERS: [(&str, Kind); 4] = [
+    ("program", Kind::Program),
+    ("arguments", Kind::Arguments),
+    ("family", Kind::Family),
+    ("twins", Kind::Twins),
+];
+
+/// The kind of a word, if it is one.
+fn kind_of(word: &[u8]) -> Option<Kind> {
+    match (named(&TEXTS, word), named(&CALLS, word)) {
+        (Some(texts), _) => Some(Kind::Texts(texts)),
+        (None, Some(calls)) => Some(Kind::Calls(calls)),
+        (None, None) => named(&OTHERS, word),
+    }
+}
+
+/// What the head of a case says. It has no kind where the word is none.
 #[derive(Clone, Copy)]
 pub struct Head<'a> {
+    pub name: &'a [u8],
     pub mode: Mode,
     pub kind: Option<Kind>,
     pub first: &'a [u8],
@@ -83,19 +124,31 @@ pub struct Head<'a> {
 
 pub fn head_of(head: &[u8]) -> Head<'_> {
     let mut rest = words(head);
-    let _name = rest.next();
+    let name = next_word(&mut rest);
     let word = next_word(&mut rest);
     let mode = named(&MODES, word).unwrap_or(Mode::Plain);
     let word = match mode {
         Mode::Plain => word,
-        Mode::EachEnd | Mode::Prefixes => next_word(&mut rest),
+        Mode::Once | Mode::EachEnd | Mode::Prefixes => next_word(&mut rest),
     };
     Head {
+        name,
         mode,
-        kind: named(&KINDS, word),
+        kind: kind_of(word),
         first: next_word(&mut rest),
         second: next_word(&mut rest),
         third: next_word(&mut rest),
+    }
+}
+
+impl<'a> Head<'a> {
+    /// The numbers of a case, each 0 where its word says none.
+    pub fn numbers(&self) -> (u32, u32, u32) {
+        (
+            number_of(self.first, u32::MAX),
+            number_of(self.second, u32::MAX),
+            number_of(self.third, u32::MAX),
+        )
     }
 }
 

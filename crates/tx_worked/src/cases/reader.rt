@@ -15,6 +15,8 @@ pub struct Reader<'a> {
     pub piece: usize,
     /// The read that fails, or 0.
     pub fails: u64,
+    /// The read that is interrupted, or 0.
+    pub interrupted: u64,
     pub reads: u64,
 }
 
@@ -26,8 +28,20 @@ impl<'a> Reader<'a> {
         if self.reads == self.fails {
             return Err(io::Error::from(io::ErrorKind::Other));
         }
+        if self.reads == self.interrupted {
+            return Err(io::Error::from(io::ErrorKind::Interrupted));
+        }
         let room = buf.len().min(self.piece);
         self.file.read(&mut buf[..room])
+    }
+}
+
+/// How a call ends that is not done.
+fn end_of(kind: io::ErrorKind) -> &'static str {
+    if kind == io::ErrorKind::Interrupted {
+        "interrupted"
+    } else {
+        "fails"
     }
 }
 
@@ -37,7 +51,7 @@ impl<'a> Read for Reader<'a> {
         let read = self.read_piece(buf);
         match &read {
             Ok(n) => self.log.tell_number("bytes", *n as u64),
-            Err(_) => self.log.tell("fails", self.name.as_str()),
+            Err(why) => self.log.tell(end_of(why.kind()), self.name.as_str()),
         }
         read
     }

@@ -1,9 +1,9 @@
 // Texts of a file with marks for what no line can show.
-use crate::cases::case::next_number;
+use crate::cases::case::{next_number, number_of};
 use crate::cases::told::{Told, tell};
 use itoa::Buffer;
 use memchr::memchr;
-use tx_text::{Words, words};
+use tx_text::words;
 
 /// What stands before a byte and behind it.
 fn cut(text: &[u8], byte: u8) -> Option<(&[u8], &[u8])> {
@@ -13,15 +13,14 @@ fn cut(text: &[u8], byte: u8) -> Option<(&[u8], &[u8])> {
     }
 }
 
-/// What stands before the next mark `{..}`, the mark, and what stands behind it.
-fn next_mark(text: &[u8]) -> Option<(&[u8], &[u8], &[u8])> {
-    match cut(text, b'{') {
-        Some((before, rest)) => match cut(rest, b'}') {
-            Some((mark, behind)) => Some((before, mark, behind)),
-            None => None,
-        },
-        None => None,
-    }
+/// The mark whose `{` stands before a text, and what stands behind it. A mark is empty, or begins with a figure or with `lines`: any other `{` is one.
+fn mark_in(text: &[u8]) -> Option<(&[u8], &[u8])> {
+    let (mark, behind) = cut(text, b'}')?;
+    let is_mark = match mark.first() {
+        Some(first) => first.is_ascii_digit() || mark.starts_with(b"lines "),
+        None => true,
+    };
+    if is_mark { Some((mark, behind)) } else { None }
 }
 
 /// Tells a text of the file, in which `{13}` stands for the byte of that number, `{35 512}` for 512 of them, `{}` for a line that goes on, and
@@ -29,12 +28,20 @@ fn next_mark(text: &[u8]) -> Option<(&[u8], &[u8], &[u8])> {
 pub fn spell(text: &[u8], out: &mut Told) {
     let mut rest = text;
     for _ in 0..=text.len() {
-        let Some((before, mark, behind)) = next_mark(rest) else {
+        let Some((before, behind)) = cut(rest, b'{') else {
             break;
         };
         tell(before, out);
-        tell_mark(mark, out);
-        rest = behind_mark(mark, behind);
+        rest = match mark_in(behind) {
+            Some((mark, behind)) => {
+                tell_mark(mark, out);
+                behind_mark(mark, behind)
+            }
+            None => {
+                tell(b"{", out);
+                behind
+            }
+        };
     }
     tell(rest, out);
 }
@@ -69,40 +76,23 @@ fn tell_bytes(mark: &[u8], out: &mut Told) {
 }
 
 fn tell_lines(mark: &[u8], out: &mut Told) {
-    let mut numbers = words(mark);
-    let from = next_number(&mut numbers, 100_000);
-    let to = next_number(&mut numbers, 100_000);
-    for number in from..=to {
-        tell_line(mark, number, out);
+    let (from, rest) = cut(mark, b' ').unwrap_or((b"", b""));
+    let (to, line) = cut(rest, b' ').unwrap_or((b"", b""));
+    for number in number_of(from, 100_000)..=number_of(to, 100_000) {
+        tell_line(line, number, out);
     }
 }
 
-/// Tells the line of a mark, its words from the third on, each with a blank behind it, and with a number in the place of each `@`.
-fn tell_line(mark: &[u8], number: u32, out: &mut Told) {
+/// Tells a line, with a number in the place of each `@`.
+fn tell_line(line: &[u8], number: u32, out: &mut Told) {
     let mut digits = Buffer::new();
     let number = digits.format(number).as_bytes();
-    for word in line_words(mark) {
-        tell_word(word, number, out);
-        tell(b" ", out);
-    }
-    tell(b"\n", out);
-}
-
-/// The words of a mark's line.
-fn line_words(mark: &[u8]) -> Words<'_> {
-    let mut line = words(mark);
-    let _from = line.next();
-    let _to = line.next();
-    line
-}
-
-/// Tells a word, with a number in the place of each `@`.
-fn tell_word(word: &[u8], number: &[u8], out: &mut Told) {
-    for byte in word {
+    for byte in line {
         if *byte == b'@' {
             tell(number, out);
         } else {
             tell(&[*byte], out);
         }
     }
+    tell(b"\n", out);
 }

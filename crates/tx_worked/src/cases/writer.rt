@@ -15,10 +15,27 @@ pub struct Writer<'a> {
     /// The flush that fails, or 0.
     pub fails: u64,
     pub flushes: u64,
+    /// The write or flush that is interrupted, or 0.
+    pub interrupted: u64,
+    pub calls: u64,
+}
+
+impl<'a> Writer<'a> {
+    /// Counts a call, and tells it where it is interrupted.
+    fn interrupts(&mut self, what: &str) -> io::Result<()> {
+        self.calls = self.calls.saturating_add(1);
+        if self.calls != self.interrupted {
+            return Ok(());
+        }
+        self.log.tell(what, self.name.as_str());
+        self.log.tell("interrupted", self.name.as_str());
+        Err(io::Error::from(io::ErrorKind::Interrupted))
+    }
 }
 
 impl<'a> Write for Writer<'a> {
     fn write(&mut self, bytes: &[u8]) -> io::Result<usize> {
+        self.interrupts("write")?;
         let name = self.name.as_str();
         let n = bytes.len().min(self.room);
         if n == 0 {
@@ -38,6 +55,7 @@ impl<'a> Write for Writer<'a> {
     }
 
     fn flush(&mut self) -> io::Result<()> {
+        self.interrupts("flush")?;
         let name = self.name.as_str();
         self.log.tell("flush", name);
         self.flushes = self.flushes.saturating_add(1);

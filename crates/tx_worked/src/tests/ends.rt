@@ -2,6 +2,7 @@
 use crate::cases::{Told, tell, tell_broken, tell_count, tell_parts};
 use crate::tests::flaky::Flaky;
 use std::alloc::Global;
+use std::io::ErrorKind;
 use tx_pipe::TwoTexts;
 use tx_text::{
     FromRead, MemorySink, MemorySource, Sink, Source, ToWrite, WriteFault, write_bytes, write_parts,
@@ -95,8 +96,8 @@ pub(crate) fn tell_rooms(alloc: Global, text: &[u8], out: &mut Told) {
 }
 
 /// Calls of a writer, each with two bytes, and how many it takes.
-fn tell_writes(takes: usize, out: &mut Told) {
-    let mut sink = ToWrite::new(Flaky { takes, calls: 0 });
+fn tell_writes(takes: usize, why: ErrorKind, out: &mut Told) {
+    let mut sink = ToWrite::new(Flaky::new(takes, why));
     for _ in 0..4u8 {
         match sink.write(b"AB") {
             Ok(n) => tell_count(b"", n as u64, b" ", out),
@@ -106,11 +107,21 @@ fn tell_writes(takes: usize, out: &mut Told) {
     tell(b"\n", out);
 }
 
-/// Calls of std's readers and writers that fail: how many of a reader were counted, and those of a writer of one byte a call, and of one that takes nothing.
-pub(crate) fn tell_ends(out: &mut Told) {
-    let mut source = FromRead::new(Flaky { takes: 1, calls: 0 });
+/// Calls of std's readers and writers that fail in one way: how many of a reader were counted, and those of a writer of one byte a call, and of one that takes
+/// nothing.
+fn tell_failing(why: ErrorKind, out: &mut Told) {
+    let mut source = FromRead::new(Flaky::new(1, why));
     tell_reads(&mut source, 4, 4, out);
     tell_count(b"", source.calls(), b" calls\n", out);
-    tell_writes(1, out);
-    tell_writes(0, out);
+    tell_writes(1, why, out);
+    tell_writes(0, why, out);
+}
+
+/// Calls of std's readers and writers that fail, or that are interrupted where the head of the case says so.
+pub(crate) fn tell_ends(how: &[u8], out: &mut Told) {
+    if how == b"interrupted".as_slice() {
+        tell_failing(ErrorKind::Interrupted, out);
+    } else {
+        tell_failing(ErrorKind::Other, out);
+    }
 }

@@ -12,7 +12,7 @@ use tx_trie::CodeTrie;
 
 /// What is made over a plan, and called.
 #[derive(Clone, Copy)]
-pub(crate) enum Over {
+pub(crate) enum PlanCall {
     Trie,
     Book,
     /// A book of lines, of which many are marked.
@@ -54,15 +54,15 @@ fn over_table(alloc: Global, plan: &Plan, calls: &[u8], out: &mut Told) {
 }
 
 /// Reads a plan, and plays a kind that has one.
-pub(crate) fn with_plan(alloc: Global, over: Over, plan: &[u8], calls: &[u8], out: &mut Told) {
+pub(crate) fn with_plan(alloc: Global, call: PlanCall, plan: &[u8], calls: &[u8], out: &mut Told) {
     match read_plan(alloc, plan) {
         Ok(plan) => {
-            match over {
-                Over::Trie => over_trie(alloc, &plan, calls, out),
-                Over::Book => over_book(alloc, &plan, false, calls, out),
-                Over::ManyLines => over_book(alloc, &plan, true, calls, out),
-                Over::Circuits => over_table(alloc, &plan, calls, out),
-                Over::Sequences => try_sequences(alloc, &plan, out),
+            match call {
+                PlanCall::Trie => over_trie(alloc, &plan, calls, out),
+                PlanCall::Book => over_book(alloc, &plan, false, calls, out),
+                PlanCall::ManyLines => over_book(alloc, &plan, true, calls, out),
+                PlanCall::Circuits => over_table(alloc, &plan, calls, out),
+                PlanCall::Sequences => try_sequences(alloc, &plan, out),
             }
             drop(plan);
         }

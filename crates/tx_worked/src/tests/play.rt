@@ -1,20 +1,18 @@
-// Plays cases by their kinds.
-use crate::cases::{
-    Case, Told, named, next_case, next_number, next_word, spell, tell_broken, tell_parts, two_texts,
-};
+// Plays cases of calls by their kinds.
+use crate::cases::{Head, Told, named, two_texts};
 use crate::tests::ends::{tell_ends, tell_reads, tell_rooms, tell_sources, tell_two_texts};
 use crate::tests::frames::{play_calls, play_frame};
 use crate::tests::growths::{MADE, play_growths};
 use crate::tests::lines::{Cuts, feed_anew, play_lines};
-use crate::tests::plans::{Over, with_plan};
+use crate::tests::plans::{PlanCall, with_plan};
 use crate::tests::readers::{tell_growths, tell_plan};
 use crate::tests::spelling::{Spelling, tell_spellings};
 use std::alloc::Global;
-use tx_text::{Sink, SliceSource, words};
+use tx_text::SliceSource;
 
-/// What a case plays.
+/// Which calls a case plays.
 #[derive(Clone, Copy)]
-enum Kind {
+pub(crate) enum CallKind {
     Spelled(Spelling),
     Lines,
     Feed,
@@ -25,88 +23,48 @@ enum Kind {
     TwoTexts,
     Sink,
     Ends,
-    Plan,
+    Declared,
     Growths,
-    Over(Over),
+    OverPlan(PlanCall),
 }
 
-static KINDS: [(&str, Kind); 20] = [
-    ("words", Kind::Spelled(Spelling::Words)),
-    ("name", Kind::Spelled(Spelling::Name)),
-    ("figures", Kind::Spelled(Spelling::Figures)),
-    ("number", Kind::Spelled(Spelling::Number)),
-    ("lines", Kind::Lines),
-    ("feed", Kind::Feed),
-    ("frame", Kind::Frame),
-    ("frame-calls", Kind::FrameCalls),
-    ("source", Kind::Source),
-    ("slice", Kind::Slice),
-    ("two-texts", Kind::TwoTexts),
-    ("sink", Kind::Sink),
-    ("ends", Kind::Ends),
-    ("plan", Kind::Plan),
-    ("growths", Kind::Growths),
-    ("trie", Kind::Over(Over::Trie)),
-    ("book", Kind::Over(Over::Book)),
-    ("many-lines", Kind::Over(Over::ManyLines)),
-    ("circuits", Kind::Over(Over::Circuits)),
-    ("sequences", Kind::Over(Over::Sequences)),
+pub(crate) static CALLS: [(&str, CallKind); 20] = [
+    ("words", CallKind::Spelled(Spelling::Words)),
+    ("name", CallKind::Spelled(Spelling::Name)),
+    ("figures", CallKind::Spelled(Spelling::Figures)),
+    ("number", CallKind::Spelled(Spelling::Number)),
+    ("lines", CallKind::Lines),
+    ("feed", CallKind::Feed),
+    ("frame", CallKind::Frame),
+    ("frame-calls", CallKind::FrameCalls),
+    ("source", CallKind::Source),
+    ("slice", CallKind::Slice),
+    ("two-texts", CallKind::TwoTexts),
+    ("sink", CallKind::Sink),
+    ("ends", CallKind::Ends),
+    ("declared", CallKind::Declared),
+    ("growths", CallKind::Growths),
+    ("trie", CallKind::OverPlan(PlanCall::Trie)),
+    ("book", CallKind::OverPlan(PlanCall::Book)),
+    ("many-lines", CallKind::OverPlan(PlanCall::ManyLines)),
+    ("circuits", CallKind::OverPlan(PlanCall::Circuits)),
+    ("sequences", CallKind::OverPlan(PlanCall::Sequences)),
 ];
 
-/// What the head of a case says behind its kind: a word, and three numbers.
-#[derive(Clone, Copy)]
-struct Head<'a> {
-    of: &'a [u8],
-    first: u32,
-    second: u32,
-    third: u32,
-}
-
-/// The kind that the head of a case says behind its name, and what stands behind it.
-fn head_of(head: &[u8]) -> (Option<Kind>, Head<'_>) {
-    let mut rest = words(head);
-    let _name = rest.next();
-    let kind = named(&KINDS, next_word(&mut rest));
-    let head = Head {
-        of: rest.again().next().unwrap_or(b"".as_slice()),
-        first: next_number(&mut rest, u32::MAX),
-        second: next_number(&mut rest, u32::MAX),
-        third: next_number(&mut rest, u32::MAX),
-    };
-    (kind, head)
-}
-
-/// Plays each case of a text, and tells its line, and what its kind tells.
-pub fn play_cases(alloc: Global, cases: &[u8], out: &mut Told) {
-    let mut rest = cases;
-    for _ in 0..1000u32 {
-        let Some((case, more)) = next_case(rest) else {
-            break;
-        };
-        play(alloc, case, out);
-        rest = more;
-    }
-}
-
-/// Plays a case, and tells its line, and what its kind tells.
-fn play(alloc: Global, case: Case<'_>, out: &mut Told) {
-    tell_parts(&[b"=== ", case.head, b"\n"], out);
-    let (kind, head) = head_of(case.head);
-    let mut text = Told::new(alloc);
-    spell(case.texts, &mut text);
-    match (kind, text.whole()) {
-        (Some(kind), Some(text)) => play_text(alloc, kind, head, text, out),
-        (None, _) => tell_broken(b"no such kind of case", 0, out),
-        (_, None) => tell_broken(b"no memory", 0, out),
-    }
-}
-
-fn play_text(alloc: Global, kind: Kind, head: Head<'_>, text: &[u8], out: &mut Told) {
-    let (first, second) = (head.first as usize, head.second as usize);
-    match kind {
-        Kind::Spelled(spelling) => tell_spellings(spelling, head.first, head.second, text, out),
-        Kind::Lines => play_lines(alloc, text, out),
-        Kind::Feed => {
+/// Plays a case of calls, and tells what they answer.
+pub(crate) fn play_call(
+    alloc: Global,
+    call: CallKind,
+    head: Head<'_>,
+    text: &[u8],
+    out: &mut Told,
+) {
+    let (least, most, third) = head.numbers();
+    let (first, second) = (least as usize, most as usize);
+    match call {
+        CallKind::Spelled(spelling) => tell_spellings(spelling, least, most, text, out),
+        CallKind::Lines => play_lines(alloc, text, out),
+        CallKind::Feed => {
             let told = true;
             let cuts = Cuts {
                 first,
@@ -115,25 +73,22 @@ fn play_text(alloc: Global, kind: Kind, head: Head<'_>, text: &[u8], out: &mut T
             };
             feed_anew(alloc, text, cuts, out)
         }
-        Kind::Frame => play_frame(alloc, text, out),
-        Kind::FrameCalls => play_calls(alloc, text, first, out),
-        Kind::Source => tell_sources(text, first, out),
-        Kind::Slice => tell_reads(&mut SliceSource::new(text), 3, 8, out),
-        Kind::TwoTexts => {
-            let fails = u64::from(head.second);
-            tell_two_texts(text, first, fails, head.third as usize, out)
-        }
-        Kind::Sink => tell_rooms(alloc, text, out),
-        Kind::Ends => tell_ends(out),
-        Kind::Plan => {
+        CallKind::Frame => play_frame(alloc, text, out),
+        CallKind::FrameCalls => play_calls(alloc, text, first, out),
+        CallKind::Source => tell_sources(text, first, out),
+        CallKind::Slice => tell_reads(&mut SliceSource::new(text), 3, 8, out),
+        CallKind::TwoTexts => tell_two_texts(text, first, u64::from(most), third as usize, out),
+        CallKind::Sink => tell_rooms(alloc, text, out),
+        CallKind::Ends => tell_ends(head.first, out),
+        CallKind::Declared => {
             tell_plan(alloc, false, out);
             tell_plan(alloc, true, out);
             tell_growths(alloc, out)
         }
-        Kind::Growths => play_growths(alloc, named(&MADE, head.of), text, out),
-        Kind::Over(over) => {
+        CallKind::Growths => play_growths(alloc, named(&MADE, head.first), text, out),
+        CallKind::OverPlan(call) => {
             let (plan, calls) = two_texts(text);
-            with_plan(alloc, over, plan, calls, out)
+            with_plan(alloc, call, plan, calls, out)
         }
     }
 }

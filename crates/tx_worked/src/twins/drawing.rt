@@ -1,6 +1,6 @@
 // Events that are drawn by chance, most of them such as the network accepts.
 use crate::twins::chance::Chance;
-use crate::twins::mood::{Kind, next_kind};
+use crate::twins::mood::{EventKind, next_kind};
 use crate::twins::picture::{KnownCall, Picture};
 use crate::twins::stray::stray;
 use arrayvec::ArrayVec;
@@ -108,16 +108,16 @@ fn key(plan: &Plan, picture: &Picture, chance: &mut Chance) -> Option<Event> {
 }
 
 /// Whether an event of this kind is for a call in this phase.
-fn is_for(kind: Kind, call: &KnownCall) -> bool {
+fn is_for(kind: EventKind, call: &KnownCall) -> bool {
     match kind {
-        Kind::Route => call.phase.is_standing(),
-        Kind::Confirm => call.phase.is_calling(),
+        EventKind::Route => call.phase.is_standing(),
+        EventKind::Confirm => call.phase.is_calling(),
         _ => true,
     }
 }
 
 /// The number of the first call for an event of this kind.
-fn first_for(kind: Kind, calls: &[KnownCall]) -> Option<u32> {
+fn first_for(kind: EventKind, calls: &[KnownCall]) -> Option<u32> {
     for call in calls {
         if is_for(kind, call) {
             return Some(call.number);
@@ -127,7 +127,7 @@ fn first_for(kind: Kind, calls: &[KnownCall]) -> Option<u32> {
 }
 
 /// The number of a call for an event of this kind: the first from any place on, or else the first.
-fn number_for(kind: Kind, picture: &Picture, chance: &mut Chance) -> Option<u32> {
+fn number_for(kind: EventKind, picture: &Picture, chance: &mut Chance) -> Option<u32> {
     let calls = picture.calls.as_slice();
     let start = chance.below(calls.len());
     match first_for(kind, calls.split_at(start.min(calls.len())).1) {
@@ -138,7 +138,7 @@ fn number_for(kind: Kind, picture: &Picture, chance: &mut Chance) -> Option<u32>
 
 /// Mostly the called party clears a connected call, and the caller any other.
 fn clear(picture: &Picture, chance: &mut Chance) -> Option<Event> {
-    let call = number_for(Kind::Clear, picture, chance)?;
+    let call = number_for(EventKind::Clear, picture, chance)?;
     let party = if picture.is_connected(call) != chance.one_in(4) {
         Party::Called
     } else {
@@ -161,57 +161,72 @@ fn circuit(plan: &Plan, chance: &mut Chance) -> Option<Circuit> {
 }
 
 /// An event of a kind for calls.
-fn call_event(kind: Kind, plan: &Plan, picture: &Picture, chance: &mut Chance) -> Option<Event> {
+fn call_event(
+    kind: EventKind,
+    plan: &Plan,
+    picture: &Picture,
+    chance: &mut Chance,
+) -> Option<Event> {
     match kind {
-        Kind::Route => Some(Event::Route(number_for(kind, picture, chance)?)),
-        Kind::Confirm => Some(Event::Confirm(number_for(kind, picture, chance)?)),
-        Kind::Clear => clear(picture, chance),
+        EventKind::Route => Some(Event::Route(number_for(kind, picture, chance)?)),
+        EventKind::Confirm => Some(Event::Confirm(number_for(kind, picture, chance)?)),
+        EventKind::Clear => clear(picture, chance),
         _ => key(plan, picture, chance),
     }
 }
 
 /// An event of a kind for groups and circuits.
-fn trunk_event(kind: Kind, plan: &Plan, picture: &Picture, chance: &mut Chance) -> Option<Event> {
+fn trunk_event(
+    kind: EventKind,
+    plan: &Plan,
+    picture: &Picture,
+    chance: &mut Chance,
+) -> Option<Event> {
     let event = match kind {
-        Kind::Released => Event::Released(chance.pick(picture.given_up.as_slice())?),
-        Kind::Fail => Event::Fail(group(plan, chance)?),
-        Kind::Restore => Event::Restore(chance.pick(picture.failed.as_slice())?),
-        Kind::Block => Event::Block(group(plan, chance)?),
-        Kind::Unblock => Event::Unblock(chance.pick(picture.blocked.as_slice())?),
-        Kind::CircuitOut => Event::CircuitOut(circuit(plan, chance)?),
+        EventKind::Released => Event::Released(chance.pick(picture.given_up.as_slice())?),
+        EventKind::Fail => Event::Fail(group(plan, chance)?),
+        EventKind::Restore => Event::Restore(chance.pick(picture.failed.as_slice())?),
+        EventKind::Block => Event::Block(group(plan, chance)?),
+        EventKind::Unblock => Event::Unblock(chance.pick(picture.blocked.as_slice())?),
+        EventKind::CircuitOut => Event::CircuitOut(circuit(plan, chance)?),
         _ => Event::CircuitIn(chance.pick(picture.out.as_slice())?),
     };
     Some(event)
 }
 
 /// An event of a kind for lines.
-fn line_event(kind: Kind, plan: &Plan, picture: &Picture, chance: &mut Chance) -> Option<Event> {
+fn line_event(
+    kind: EventKind,
+    plan: &Plan,
+    picture: &Picture,
+    chance: &mut Chance,
+) -> Option<Event> {
     let event = match kind {
-        Kind::LineFault => Event::LineFault(line(plan, chance)?),
-        Kind::LineMend => Event::LineMend(chance.pick(picture.faulty.as_slice())?),
-        Kind::LineAway => Event::LineAway(line(plan, chance)?),
+        EventKind::LineFault => Event::LineFault(line(plan, chance)?),
+        EventKind::LineMend => Event::LineMend(chance.pick(picture.faulty.as_slice())?),
+        EventKind::LineAway => Event::LineAway(line(plan, chance)?),
         _ => Event::LineBack(chance.pick(picture.away.as_slice())?),
     };
     Some(event)
 }
 
 /// An event of a kind, if there is a thing for it.
-fn event_of(kind: Kind, plan: &Plan, picture: &Picture, chance: &mut Chance) -> Option<Event> {
+fn event_of(kind: EventKind, plan: &Plan, picture: &Picture, chance: &mut Chance) -> Option<Event> {
     match kind {
-        Kind::Key | Kind::Route | Kind::Confirm | Kind::Clear => {
+        EventKind::Key | EventKind::Route | EventKind::Confirm | EventKind::Clear => {
             call_event(kind, plan, picture, chance)
         }
-        Kind::Released
-        | Kind::Fail
-        | Kind::Restore
-        | Kind::Block
-        | Kind::Unblock
-        | Kind::CircuitOut
-        | Kind::CircuitIn => trunk_event(kind, plan, picture, chance),
-        Kind::LineFault | Kind::LineMend | Kind::LineAway | Kind::LineBack => {
+        EventKind::Released
+        | EventKind::Fail
+        | EventKind::Restore
+        | EventKind::Block
+        | EventKind::Unblock
+        | EventKind::CircuitOut
+        | EventKind::CircuitIn => trunk_event(kind, plan, picture, chance),
+        EventKind::LineFault | EventKind::LineMend | EventKind::LineAway | EventKind::LineBack => {
             line_event(kind, plan, picture, chance)
         }
-        Kind::Stray => stray(plan, picture, chance),
+        EventKind::Stray => stray(plan, picture, chance),
     }
 }
 
@@ -224,7 +239,7 @@ pub fn next_event(
     most: usize,
 ) -> Event {
     let kind = match next_kind(chance, mood) {
-        Kind::Key if picture.calls.len() >= most => Kind::Clear,
+        EventKind::Key if picture.calls.len() >= most => EventKind::Clear,
         kind => kind,
     };
     match event_of(kind, plan, picture, chance) {

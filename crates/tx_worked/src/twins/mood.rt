@@ -3,7 +3,7 @@ use crate::twins::chance::Chance;
 
 /// A kind of event.
 #[derive(Clone, Copy)]
-pub enum Kind {
+pub enum EventKind {
     Key,
     Route,
     Confirm,
@@ -24,79 +24,79 @@ pub enum Kind {
 }
 
 /// Calls go on as they come.
-static CALM: [(usize, Kind); 13] = [
-    (20, Kind::Key),
-    (60, Kind::Route),
-    (85, Kind::Confirm),
-    (95, Kind::Clear),
-    (109, Kind::Released),
-    (111, Kind::Restore),
-    (113, Kind::Unblock),
-    (115, Kind::CircuitIn),
-    (116, Kind::LineFault),
-    (118, Kind::LineMend),
-    (119, Kind::LineAway),
-    (121, Kind::LineBack),
-    (124, Kind::Stray),
+static CALM: [(usize, EventKind); 13] = [
+    (20, EventKind::Key),
+    (60, EventKind::Route),
+    (85, EventKind::Confirm),
+    (95, EventKind::Clear),
+    (109, EventKind::Released),
+    (111, EventKind::Restore),
+    (113, EventKind::Unblock),
+    (115, EventKind::CircuitIn),
+    (116, EventKind::LineFault),
+    (118, EventKind::LineMend),
+    (119, EventKind::LineAway),
+    (121, EventKind::LineBack),
+    (124, EventKind::Stray),
 ];
 
 /// Confirmations are late, so that calls meet head on.
-static SLOW: [(usize, Kind); 14] = [
-    (24, Kind::Key),
-    (84, Kind::Route),
-    (93, Kind::Confirm),
-    (97, Kind::Clear),
-    (127, Kind::Released),
-    (131, Kind::Restore),
-    (135, Kind::Unblock),
-    (136, Kind::CircuitOut),
-    (140, Kind::CircuitIn),
-    (141, Kind::LineFault),
-    (143, Kind::LineMend),
-    (144, Kind::LineAway),
-    (146, Kind::LineBack),
-    (149, Kind::Stray),
+static SLOW: [(usize, EventKind); 14] = [
+    (24, EventKind::Key),
+    (84, EventKind::Route),
+    (93, EventKind::Confirm),
+    (97, EventKind::Clear),
+    (127, EventKind::Released),
+    (131, EventKind::Restore),
+    (135, EventKind::Unblock),
+    (136, EventKind::CircuitOut),
+    (140, EventKind::CircuitIn),
+    (141, EventKind::LineFault),
+    (143, EventKind::LineMend),
+    (144, EventKind::LineAway),
+    (146, EventKind::LineBack),
+    (149, EventKind::Stray),
 ];
 
 /// Groups and circuits go in and out of use.
-static ROUGH: [(usize, Kind); 16] = [
-    (20, Kind::Key),
-    (56, Kind::Route),
-    (72, Kind::Confirm),
-    (78, Kind::Clear),
-    (90, Kind::Released),
-    (94, Kind::Fail),
-    (99, Kind::Restore),
-    (103, Kind::Block),
-    (108, Kind::Unblock),
-    (114, Kind::CircuitOut),
-    (120, Kind::CircuitIn),
-    (122, Kind::LineFault),
-    (124, Kind::LineMend),
-    (126, Kind::LineAway),
-    (128, Kind::LineBack),
-    (132, Kind::Stray),
+static ROUGH: [(usize, EventKind); 16] = [
+    (20, EventKind::Key),
+    (56, EventKind::Route),
+    (72, EventKind::Confirm),
+    (78, EventKind::Clear),
+    (90, EventKind::Released),
+    (94, EventKind::Fail),
+    (99, EventKind::Restore),
+    (103, EventKind::Block),
+    (108, EventKind::Unblock),
+    (114, EventKind::CircuitOut),
+    (120, EventKind::CircuitIn),
+    (122, EventKind::LineFault),
+    (124, EventKind::LineMend),
+    (126, EventKind::LineAway),
+    (128, EventKind::LineBack),
+    (132, EventKind::Stray),
 ];
 
 /// Many lines are out of order or away.
-static EMPTY: [(usize, Kind); 13] = [
-    (16, Kind::Key),
-    (40, Kind::Route),
-    (48, Kind::Confirm),
-    (54, Kind::Clear),
-    (60, Kind::Released),
-    (62, Kind::Restore),
-    (64, Kind::Unblock),
-    (66, Kind::CircuitIn),
-    (78, Kind::LineFault),
-    (87, Kind::LineMend),
-    (99, Kind::LineAway),
-    (108, Kind::LineBack),
-    (111, Kind::Stray),
+static EMPTY: [(usize, EventKind); 13] = [
+    (16, EventKind::Key),
+    (40, EventKind::Route),
+    (48, EventKind::Confirm),
+    (54, EventKind::Clear),
+    (60, EventKind::Released),
+    (62, EventKind::Restore),
+    (64, EventKind::Unblock),
+    (66, EventKind::CircuitIn),
+    (78, EventKind::LineFault),
+    (87, EventKind::LineMend),
+    (99, EventKind::LineAway),
+    (108, EventKind::LineBack),
+    (111, EventKind::Stray),
 ];
 
 /// A kind of a mood, by a number below the last of its table: the first kind whose number is greater.
-fn drawn(mood: &[(usize, Kind)], chance: &mut Chance) -> Kind {
+fn drawn(mood: &[(usize, EventKind)], chance: &mut Chance) -> EventKind {
     let numbers = match mood.last() {
         Some((numbers, _)) => *numbers,
         None => 0,
@@ -107,11 +107,11 @@ fn drawn(mood: &[(usize, Kind)], chance: &mut Chance) -> Kind {
             return *kind;
         }
     }
-    Kind::Stray
+    EventKind::Stray
 }
 
 /// The kind of the next event in a mood. There are four moods, which come again and again.
-pub fn next_kind(chance: &mut Chance, mood: u64) -> Kind {
+pub fn next_kind(chance: &mut Chance, mood: u64) -> EventKind {
     match mood % 4 {
         0 => drawn(&CALM, chance),
         1 => drawn(&SLOW, chance),

@@ -1,8 +1,7 @@
 // The two networks: the plain one, and the engine.
-use crate::cases::Refusing;
-use crate::twins::script::{Script, play};
-use crate::twins::stop::Stop;
-use crate::twins::tally::Tally;
+use crate::cases::{Refusing, Stop};
+use crate::twins::script::{SeededScript, play};
+use crate::twins::tally::EventTally;
 use std::alloc::Global;
 use tx_engine::Engine;
 use tx_machine::Plain;
@@ -13,11 +12,11 @@ use tx_plantext::read_plan;
 fn play_engine<'m>(
     alloc: Global,
     plan: &Plan,
-    script: Script,
+    script: SeededScript,
     plain: &mut Plain<'_>,
     memory: &'m Refusing<Global>,
     engine_plan: &Plan<&'m Refusing<Global>>,
-    tally: &mut Tally,
+    tally: &mut EventTally,
 ) -> Result<(), Stop> {
     match Engine::starting_at(memory, engine_plan, script.numbers, script.events) {
         Ok(mut engine) => {
@@ -33,10 +32,10 @@ fn play_engine<'m>(
 fn play_both<'m>(
     alloc: Global,
     plan: &Plan,
-    script: Script,
+    script: SeededScript,
     memory: &'m Refusing<Global>,
     engine_plan: &Plan<&'m Refusing<Global>>,
-    tally: &mut Tally,
+    tally: &mut EventTally,
 ) -> Result<(), Stop> {
     match Plain::starting_at(alloc, plan, script.numbers, script.events) {
         Ok(mut plain) => {
@@ -52,10 +51,10 @@ fn play_both<'m>(
 fn play_reading(
     alloc: Global,
     plan: &Plan,
-    script: Script,
+    script: SeededScript,
     memory: &Refusing<Global>,
     text: &[u8],
-    tally: &mut Tally,
+    tally: &mut EventTally,
 ) -> Result<(), Stop> {
     match read_plan(memory, text) {
         Ok(engine_plan) => {
@@ -71,9 +70,9 @@ fn play_reading(
 pub fn play_script(
     alloc: Global,
     plan: &Plan,
-    script: Script,
+    script: SeededScript,
     text: &[u8],
-    tally: &mut Tally,
+    tally: &mut EventTally,
 ) -> Result<(), Stop> {
     let memory = Refusing::new(alloc, 0);
     let played = play_reading(alloc, plan, script, &memory, text, tally);
@@ -85,10 +84,10 @@ pub fn play_script(
 fn play_refusing(
     alloc: Global,
     plan: &Plan,
-    script: Script,
+    script: SeededScript,
     request: u64,
     text: &[u8],
-    tally: &mut Tally,
+    tally: &mut EventTally,
 ) -> Result<bool, Stop> {
     let refusing = Refusing::new(alloc, request);
     let played = play_reading(alloc, plan, script, &refusing, text, tally);
@@ -104,9 +103,9 @@ fn play_refusing(
 pub fn play_refusing_each(
     alloc: Global,
     plan: &Plan,
-    script: Script,
+    script: SeededScript,
     text: &[u8],
-    tally: &mut Tally,
+    tally: &mut EventTally,
 ) -> Result<(), Stop> {
     for request in 1..u64::MAX {
         if !play_refusing(alloc, plan, script, request, text, tally)? {

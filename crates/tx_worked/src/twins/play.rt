@@ -1,20 +1,19 @@
-// Plays the scripts of all plans.
-use crate::cases::{Case, Told, next_case, next_number, next_word};
+// Plays the scripts of a plan.
+use crate::cases::{Head, Stop, Told};
 use crate::twins::networks::{play_refusing_each, play_script};
-use crate::twins::script::Script;
-use crate::twins::stop::{Stop, tell_stop};
-use crate::twins::tally::{Tallies, Tally, tell_events, tell_tallies};
+use crate::twins::script::SeededScript;
+use crate::twins::stop::tell_stop;
+use crate::twins::tally::{EventTally, Tallies, tell_events};
 use std::alloc::Global;
 use tx_plan::Plan;
 use tx_plantext::read_plan;
-use tx_text::words;
 
 /// How many events a script has that begins in the opening state.
 const LENGTH: u32 = 6000;
 
 /// A script from the opening state.
-fn opening_script(seed: u64, length: u32, most: usize) -> Script {
-    Script {
+fn opening_script(seed: u64, length: u32, most: usize) -> SeededScript {
+    SeededScript {
         seed,
         numbers: 0,
         events: 0,
@@ -30,18 +29,18 @@ fn play_whole(
     text: &[u8],
     most: usize,
     seed: u64,
-    tally: &mut Tally,
+    tally: &mut EventTally,
 ) -> Result<(), Stop> {
     for more in 0..4u64 {
         let seed = seed.wrapping_add(more.wrapping_mul(1000));
         play_script(alloc, plan, opening_script(seed, LENGTH, most), text, tally)?;
     }
-    let last_number = Script {
+    let last_number = SeededScript {
         numbers: u32::MAX - 60,
         ..opening_script(seed, 400, most)
     };
     play_script(alloc, plan, last_number, text, tally)?;
-    let last_event = Script {
+    let last_event = SeededScript {
         events: u64::MAX - 200,
         ..opening_script(seed, 300, most)
     };
@@ -79,52 +78,25 @@ fn read_and_play(
             drop(plan);
             played
         }
-        Err(_) => Err(Stop::BadPlans),
+        Err(fault) => Err(Stop::Refused(fault.line)),
     }
 }
 
-/// Plays the scripts of a plan, whose line `=== NAME n` says that at most n calls are to be open, and tells how many events they have.
-fn play_case(
+/// Plays the scripts of a plan, whose head says how many calls are to be open at most, and the first seed. Tells how many events they have, and why they
+/// stopped where they did.
+pub fn play_twins(
     alloc: Global,
-    case: Case<'_>,
-    seed: u64,
-    tallies: &mut Tallies,
-    out: &mut Told,
-) -> Result<(), Stop> {
-    let mut head = words(case.head);
-    let name = next_word(&mut head);
-    let most = next_number(&mut head, 10_000) as usize;
-    let (events, accepted) = (tallies.whole.events, tallies.whole.accepted);
-    let played = read_and_play(alloc, case.texts, most, seed, tallies);
-    let events = tallies.whole.events.saturating_sub(events);
-    let accepted = tallies.whole.accepted.saturating_sub(accepted);
-    tell_events(name, events, accepted, out);
-    played
-}
-
-/// Plays the scripts of all plans.
-fn play_cases(
-    alloc: Global,
+    head: Head<'_>,
     text: &[u8],
     tallies: &mut Tallies,
     out: &mut Told,
-) -> Result<(), Stop> {
-    let mut rest = text;
-    for seed in 0..1000u64 {
-        let Some((case, more)) = next_case(rest) else {
-            break;
-        };
-        play_case(alloc, case, seed, tallies, out)?;
-        rest = more;
-    }
-    Ok(())
-}
-
-/// Plays the scripts of all plans, and tells what was counted, and why it stopped where it did.
-pub fn play_all(alloc: Global, text: &[u8], out: &mut Told) {
-    let mut tallies = Tallies::new();
-    let played = play_cases(alloc, text, &mut tallies, out);
-    tell_tallies(&tallies, out);
+) {
+    let (most, seed, _) = head.numbers();
+    let (events, accepted) = (tallies.whole.events, tallies.whole.accepted);
+    let played = read_and_play(alloc, text, most as usize, u64::from(seed), tallies);
+    let events = tallies.whole.events.saturating_sub(events);
+    let accepted = tallies.whole.accepted.saturating_sub(accepted);
+    tell_events(events, accepted, out);
     if let Err(stop) = played {
         tell_stop(stop, tallies.difference(), out);
     }

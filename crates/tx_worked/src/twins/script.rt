@@ -1,11 +1,11 @@
 // Scripts that are made from a seed, and played through two networks.
-use crate::cases::Refusing;
+use crate::cases::{Refusing, Stop};
 use crate::twins::chance::Chance;
 use crate::twins::drawing::next_event;
 use crate::twins::picture::Picture;
-use crate::twins::stop::{Differs, Stop};
-use crate::twins::tally::Tally;
-use crate::twins::twins::{Difference, apply_to_both, compare_tickets};
+use crate::twins::stop::Differs;
+use crate::twins::tally::EventTally;
+use crate::twins::twins::{Mismatch, apply_to_both, compare_tickets};
 use std::alloc::{Allocator, Global};
 use tx_plan::Plan;
 use tx_state::{Event, Network, Ticket};
@@ -16,7 +16,7 @@ const MOOD_EVENTS: u32 = 100;
 
 /// A script that is made from a seed.
 #[derive(Clone, Copy)]
-pub struct Script {
+pub struct SeededScript {
     pub seed: u64,
     /// How many call numbers were given before it.
     pub numbers: u32,
@@ -31,12 +31,12 @@ pub struct Script {
 /// Why an event is the last one.
 #[derive(Clone, Copy)]
 enum Halt {
-    Differs(Difference),
+    Differs(Mismatch),
     NoMemory,
 }
 
-impl From<Difference> for Halt {
-    fn from(difference: Difference) -> Halt {
+impl From<Mismatch> for Halt {
+    fn from(difference: Mismatch) -> Halt {
         Halt::Differs(difference)
     }
 }
@@ -54,7 +54,7 @@ fn play_event<P: Network, E: Network>(
     memory: &Refusing<Global>,
     event: &Event,
     picture: &mut Picture,
-    tally: &mut Tally,
+    tally: &mut EventTally,
 ) -> Result<(), Halt> {
     let answer = apply_to_both(plain, engine, memory, event)?;
     if answer.was_refused {
@@ -70,7 +70,7 @@ fn note_tickets<A: Allocator, B: Allocator>(
     wanted: Option<&Ticket<A>>,
     ticket: Option<&Ticket<B>>,
     picture: &mut Picture,
-    tally: &mut Tally,
+    tally: &mut EventTally,
 ) -> Result<bool, Halt> {
     compare_tickets(wanted, ticket)?;
     match wanted {
@@ -88,7 +88,7 @@ fn take_ticket<P: Network, E: Network>(
     plain: &mut P,
     engine: &mut E,
     picture: &mut Picture,
-    tally: &mut Tally,
+    tally: &mut EventTally,
 ) -> Result<bool, Halt> {
     let wanted = plain.next_ticket();
     let ticket = engine.next_ticket();
@@ -103,7 +103,7 @@ fn take_tickets<P: Network, E: Network>(
     plain: &mut P,
     engine: &mut E,
     picture: &mut Picture,
-    tally: &mut Tally,
+    tally: &mut EventTally,
 ) -> Result<(), Halt> {
     for _ in 0..u64::MAX {
         if !take_ticket(plain, engine, picture, tally)? {
@@ -121,7 +121,7 @@ fn go_on<P: Network, E: Network>(
     event: &Event,
     takes_tickets: bool,
     picture: &mut Picture,
-    tally: &mut Tally,
+    tally: &mut EventTally,
 ) -> Result<(), Halt> {
     play_event(plain, engine, memory, event, picture, tally)?;
     if takes_tickets {
@@ -132,7 +132,7 @@ fn go_on<P: Network, E: Network>(
 }
 
 /// Why a script stops at the event of this place. Where the networks differ there, the tally takes it in.
-fn stop_at(halt: Halt, seed: u64, place: u32, tally: &mut Tally) -> Stop {
+fn stop_at(halt: Halt, seed: u64, place: u32, tally: &mut EventTally) -> Stop {
     match halt {
         Halt::NoMemory => Stop::NoMemory,
         Halt::Differs(difference) => {
@@ -149,12 +149,12 @@ fn stop_at(halt: Halt, seed: u64, place: u32, tally: &mut Tally) -> Stop {
 /// Plays the events.
 fn play_events<P: Network, E: Network>(
     plan: &Plan,
-    script: Script,
+    script: SeededScript,
     plain: &mut P,
     engine: &mut E,
     memory: &Refusing<Global>,
     picture: &mut Picture,
-    tally: &mut Tally,
+    tally: &mut EventTally,
 ) -> Result<(), Stop> {
     let mut chance = Chance::new(script.seed);
     for place in 0..script.length {
@@ -173,11 +173,11 @@ fn play_events<P: Network, E: Network>(
 pub fn play<P: Network, E: Network>(
     alloc: Global,
     plan: &Plan,
-    script: Script,
+    script: SeededScript,
     plain: &mut P,
     engine: &mut E,
     memory: &Refusing<Global>,
-    tally: &mut Tally,
+    tally: &mut EventTally,
 ) -> Result<(), Stop> {
     let mut picture = Picture::new(alloc, script.numbers);
     let played = play_events(plan, script, plain, engine, memory, &mut picture, tally);

@@ -43,7 +43,7 @@ static WANTS: [&str; 5] = ["key", "route", "line_fault", "line_away", "other"];
 
 /// Counts of events and of tickets, each at the place of its name.
 #[derive(Clone, Copy)]
-pub struct Tally {
+pub struct EventTally {
     pub events: u64,
     pub accepted: u64,
     replies: [u64; 12],
@@ -58,8 +58,8 @@ pub struct Tally {
 /// Counts of the scripts that are played with all memory there, and of those that are played with memory refused.
 #[derive(Clone, Copy)]
 pub struct Tallies {
-    pub whole: Tally,
-    pub refusing: Tally,
+    pub whole: EventTally,
+    pub refusing: EventTally,
 }
 
 fn add_one(count: &mut u64) {
@@ -149,9 +149,9 @@ fn want_place(event: &Event) -> usize {
     }
 }
 
-impl Tally {
-    fn new() -> Tally {
-        Tally {
+impl EventTally {
+    fn new() -> EventTally {
+        EventTally {
             events: 0,
             accepted: 0,
             replies: [0; 12],
@@ -188,8 +188,8 @@ impl Tally {
 impl Tallies {
     pub fn new() -> Tallies {
         Tallies {
-            whole: Tally::new(),
-            refusing: Tally::new(),
+            whole: EventTally::new(),
+            refusing: EventTally::new(),
         }
     }
 
@@ -230,16 +230,16 @@ fn tell_counts(
 }
 
 /// Tells how many events there were, and how many of them were accepted.
-pub fn tell_events(name: &[u8], events: u64, accepted: u64, out: &mut Told) {
-    tell(name, out);
-    tell_count(b": ", events, b" events, ", out);
+pub fn tell_events(events: u64, accepted: u64, out: &mut Told) {
+    tell_count(b"", events, b" events, ", out);
     tell_count(b"", accepted, b" of them accepted\n", out);
 }
 
 /// Tells what was counted, and which events met a refused request.
 pub fn tell_tallies(tallies: &Tallies, out: &mut Told) {
     let tally = &tallies.whole;
-    tell_events(b"in all", tally.events, tally.accepted, out);
+    tell(b"in all: ", out);
+    tell_events(tally.events, tally.accepted, out);
     tell_counts(b"Replies", &REPLIES, &tally.replies, true, out);
     tell_counts(b"Services", &SERVICES, &tally.answers, true, out);
     tell_counts(b"Refusals", &REFUSALS, &tally.refusals, true, out);

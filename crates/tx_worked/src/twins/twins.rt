@@ -5,7 +5,7 @@ use tx_state::{Event, Network, Reply, Ticket};
 
 /// In what two networks differ after an event.
 #[derive(Clone, Copy)]
-pub enum Difference {
+pub enum Mismatch {
     Reply,
     /// How many calls are open, or how many events were accepted.
     Counts,
@@ -19,16 +19,16 @@ pub enum Difference {
     Wanting,
 }
 
-impl Difference {
+impl Mismatch {
     /// The law that is broken.
     pub fn law(self) -> &'static [u8] {
         match self {
-            Difference::Reply => b"the replies are the same, event",
-            Difference::Counts => b"the counts are the same, event",
-            Difference::Ticket => b"the tickets are the same, event",
-            Difference::ChangedByRefusal => b"refused memory changes nothing, event",
-            Difference::NoMemory => b"memory is refused once, event",
-            Difference::Wanting => b"memory is wanting where it is refused, event",
+            Mismatch::Reply => b"the replies are the same, event",
+            Mismatch::Counts => b"the counts are the same, event",
+            Mismatch::Ticket => b"the tickets are the same, event",
+            Mismatch::ChangedByRefusal => b"refused memory changes nothing, event",
+            Mismatch::NoMemory => b"memory is refused once, event",
+            Mismatch::Wanting => b"memory is wanting where it is refused, event",
         }
     }
 }
@@ -41,21 +41,21 @@ pub struct Answer {
 }
 
 /// Applies an event to the engine, and again where memory was refused, which must have changed nothing.
-fn apply<E: Network>(engine: &mut E, event: &Event) -> Result<Answer, Difference> {
+fn apply<E: Network>(engine: &mut E, event: &Event) -> Result<Answer, Mismatch> {
     let (open_calls, events) = (engine.open_calls(), engine.events());
     if let Ok(reply) = engine.apply(*event) {
         let was_refused = false;
         return Ok(Answer { reply, was_refused });
     }
     if engine.open_calls() != open_calls || engine.events() != events {
-        return Err(Difference::ChangedByRefusal);
+        return Err(Mismatch::ChangedByRefusal);
     }
     match engine.apply(*event) {
         Ok(reply) => {
             let was_refused = true;
             Ok(Answer { reply, was_refused })
         }
-        Err(_) => Err(Difference::NoMemory),
+        Err(_) => Err(Mismatch::NoMemory),
     }
 }
 
@@ -66,20 +66,20 @@ pub fn apply_to_both<P: Network, E: Network>(
     engine: &mut E,
     memory: &Refusing<Global>,
     event: &Event,
-) -> Result<Answer, Difference> {
+) -> Result<Answer, Mismatch> {
     let Ok(wanted) = plain.apply(*event) else {
-        return Err(Difference::Wanting);
+        return Err(Mismatch::Wanting);
     };
     let was_over = memory.has_refused();
     let answer = apply(engine, event)?;
     if answer.was_refused != (memory.has_refused() && !was_over) {
-        return Err(Difference::Wanting);
+        return Err(Mismatch::Wanting);
     }
     if answer.reply != wanted {
-        return Err(Difference::Reply);
+        return Err(Mismatch::Reply);
     }
     if engine.open_calls() != plain.open_calls() || engine.events() != plain.events() {
-        return Err(Difference::Counts);
+        return Err(Mismatch::Counts);
     }
     Ok(answer)
 }
@@ -100,7 +100,7 @@ fn is_same<A: Allocator, B: Allocator>(ticket: &Ticket<A>, other: &Ticket<B>) ->
 pub fn compare_tickets<A: Allocator, B: Allocator>(
     wanted: Option<&Ticket<A>>,
     ticket: Option<&Ticket<B>>,
-) -> Result<(), Difference> {
+) -> Result<(), Mismatch> {
     let is_right = match (wanted, ticket) {
         (Some(wanted), Some(ticket)) => is_same(wanted, ticket),
         (None, None) => true,
@@ -109,6 +109,6 @@ pub fn compare_tickets<A: Allocator, B: Allocator>(
     if is_right {
         Ok(())
     } else {
-        Err(Difference::Ticket)
+        Err(Mismatch::Ticket)
     }
 }

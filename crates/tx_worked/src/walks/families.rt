@@ -1,6 +1,6 @@
 // Families of plans, and the texts of their plans.
 //
-// A line `=== NAME` begins a family, and the lines behind it are those of its plans, save for these:
+// The lines of a family are those of its plans, save for these:
 // - between `EITHER` and `END`, with an `OR` between each two, stand passages of which a plan has one;
 // - `ROUTES n EXCHANGE CODE GROUP ..` stands for no line, or a route by any list of 1 to n of the groups, in any order and none of them twice;
 // - `CODES n HOME FIGURES ..` stands for any list of 0 to n of the codes, in any order and none of them twice.
@@ -12,7 +12,7 @@ use tx_text::{NoMemory, Words, words};
 
 /// What a line of a family is.
 #[derive(Clone, Copy)]
-enum Kind {
+enum LineKind {
     Either,
     Or,
     End,
@@ -46,16 +46,16 @@ fn choice_of<'a>(line: &mut Words<'a>, has_two: bool) -> Choice<'a> {
     }
 }
 
-static KINDS: [(&str, Kind); 5] = [
-    ("EITHER", Kind::Either),
-    ("OR", Kind::Or),
-    ("END", Kind::End),
-    ("ROUTES", Kind::Routes),
-    ("CODES", Kind::Codes),
+static KINDS: [(&str, LineKind); 5] = [
+    ("EITHER", LineKind::Either),
+    ("OR", LineKind::Or),
+    ("END", LineKind::End),
+    ("ROUTES", LineKind::Routes),
+    ("CODES", LineKind::Codes),
 ];
 
-fn kind_of(line: &[u8]) -> Kind {
-    named(&KINDS, next_word(&mut words(line))).unwrap_or(Kind::Plain)
+fn kind_of(line: &[u8]) -> LineKind {
+    named(&KINDS, next_word(&mut words(line))).unwrap_or(LineKind::Plain)
 }
 
 /// How many passages stand from here to `END`.
@@ -67,8 +67,8 @@ fn count_passages(text: &[u8]) -> u64 {
             break;
         };
         match kind_of(line) {
-            Kind::End => break,
-            Kind::Or => count = count.saturating_add(1),
+            LineKind::End => break,
+            LineKind::Or => count = count.saturating_add(1),
             _ => {}
         }
         rest = behind;
@@ -86,10 +86,10 @@ fn count_lists_of(line: &[u8], has_two: bool) -> u64 {
 /// How many ways a line gives, with the text behind it.
 fn count_ways(line: &[u8], behind: &[u8]) -> u64 {
     match kind_of(line) {
-        Kind::Either => count_passages(behind),
-        Kind::Routes => count_lists_of(line, true),
-        Kind::Codes => count_lists_of(line, false),
-        Kind::Or | Kind::End | Kind::Plain => 1,
+        LineKind::Either => count_passages(behind),
+        LineKind::Routes => count_lists_of(line, true),
+        LineKind::Codes => count_lists_of(line, false),
+        LineKind::Or | LineKind::End | LineKind::Plain => 1,
     }
 }
 
@@ -142,12 +142,12 @@ fn put_line(
     text: &mut Vec<u8>,
 ) -> Result<(), NoMemory> {
     match kind_of(line) {
-        Kind::Either => *passages = Passages { has: way, at: 0 },
-        Kind::Or => passages.at = passages.at.saturating_add(1),
-        Kind::End => *passages = NO_PASSAGES,
-        Kind::Routes => put_routes(line, way, text)?,
-        Kind::Codes => put_codes(line, way, text)?,
-        Kind::Plain => {
+        LineKind::Either => *passages = Passages { has: way, at: 0 },
+        LineKind::Or => passages.at = passages.at.saturating_add(1),
+        LineKind::End => *passages = NO_PASSAGES,
+        LineKind::Routes => put_routes(line, way, text)?,
+        LineKind::Codes => put_codes(line, way, text)?,
+        LineKind::Plain => {
             if passages.at == passages.has {
                 put_words(&[b"\n", line], text)?;
             }

@@ -3,15 +3,15 @@ ghost use Rattle.std.specs.Prelude.{◌≤◌};
 ghost use Rattle.std.specs.List.{AllByRecursion};
 ghost use Rattle.tx_rank.specs.Findings.{IsTrueOf};
 
-use crate::cases::{Told, next_case, tell};
+use crate::cases::{Stop, Told};
 use crate::walks::compare::{Difference, findings_differ, ranks_differ};
 use crate::walks::families::{count_plans, put_plan};
 use crate::walks::grades::grade_agrees;
 use crate::walks::replay::Replay;
 use crate::walks::scripts::{Judged, ScriptTally, scripts_differ};
-use crate::walks::stop::{Stop, tell_stop};
+use crate::walks::stop::{WalksDiffer, tell_stop};
 use crate::walks::survey::Survey;
-use crate::walks::tally::{Tally, tell_tally};
+use crate::walks::tally::{PlanTally, tell_tally};
 use crate::walks::walks::{Steps, note_all_walks};
 use crate::walks::wanted::{Wanted, put_wanted};
 use std::alloc::Global;
@@ -25,14 +25,14 @@ use tx_text::NoMemory;
 /// The limits 0 to 2 are tried, and the spare numbers 0 to 2.
 const NUMBERS: u8 = 3;
 
-/// What the walks of a plan show, and what a run of its events: one of each kind serves all plans.
+/// What the walks of a plan show, and what a run of its events: one of each kind serves all plans of a family.
 #[derive(Drop)]
 struct Work {
     steps: Steps,
     surveys: Vec<Survey>,
     wanted: Vec<Wanted>,
     told: Replay,
-    differs: Option<Difference>,
+    differs: Option<WalksDiffer>,
 }
 
 /// The text of the plan in hand, and the work on it.
@@ -56,8 +56,8 @@ impl Room {
         }
     }
 
-    /// How an answer differs from what the walks show, where one does.
-    fn difference(&self) -> Option<Difference> {
+    /// For which numbers an answer differs from what the walks show, and how, where one does.
+    fn differs(&self) -> Option<WalksDiffer> {
         self.work.differs
     }
 }
@@ -137,7 +137,7 @@ fn judge_numbers(
     plan: &Plan,
     judged: Judged<'_>,
     work: &mut Work,
-    tally: &mut Tally,
+    tally: &mut PlanTally,
 ) -> Result<(), Stop>
     requires limit { judged.limit ≤ 62 }
     requires spare { judged.spare ≤ 15 }
@@ -150,8 +150,12 @@ fn judge_numbers(
     if let Some(difference) = ranking_differs(
         alloc, plan, surveys, wanted, judged, told, scripts,
     )? {
-        work.differs = Some(difference);
-        return Err(Stop::Differs(limit, spare));
+        work.differs = Some(WalksDiffer {
+            limit,
+            spare,
+            difference,
+        });
+        return Err(Stop::Differs);
     }
     if wanted.is_empty() {
         tally.add_found(surveys);
@@ -200,12 +204,16 @@ fn judge_plan(
     plan: &Plan,
     text: &[u8],
     work: &mut Work,
-    tally: &mut Tally,
+    tally: &mut PlanTally,
 ) -> Result<(), Stop> {
     survey_codes(alloc, plan, &mut work.steps, &mut work.surveys)?;
     if !grade_agrees(alloc, plan, &work.surveys, &mut work.wanted)? {
-        work.differs = Some(Difference::Grade);
-        return Err(Stop::Differs(0, 0));
+        work.differs = Some(WalksDiffer {
+            limit: 0,
+            spare: 0,
+            difference: Difference::Grade,
+        });
+        return Err(Stop::Differs);
     }
     tally.plans = tally.plans.saturating_add(1);
     for limit in 0..NUMBERS {
@@ -223,7 +231,7 @@ fn judge_number(
     lines: &[u8],
     number: u64,
     room: &mut Room,
-    tally: &mut Tally,
+    tally: &mut PlanTally,
 ) -> Result<(), Stop> {
     put_plan(lines, number, &mut room.plan)?;
     let text = room.plan.as_slice();
@@ -238,33 +246,19 @@ fn judge_number(
 }
 
 /// Judges all plans that the lines of a family give.
-fn judge_family(alloc: Global, lines: &[u8], room: &mut Room) -> Result<Tally, Stop> {
-    let mut tally = Tally::default();
+fn judge_family(alloc: Global, lines: &[u8], room: &mut Room) -> Result<PlanTally, Stop> {
+    let mut tally = PlanTally::default();
     for number in 0..count_plans(lines) {
         judge_number(alloc, lines, number, room, &mut tally)?;
     }
     Ok(tally)
 }
 
-/// Judges all families of a text, and tells what there was.
-fn judge_families(alloc: Global, text: &[u8], room: &mut Room, out: &mut Told) -> Result<(), Stop> {
-    let mut rest = text;
-    for _ in 0..text.len() {
-        let Some((family, more)) = next_case(rest) else {
-            break;
-        };
-        let tally = judge_family(alloc, family.texts, room)?;
-        tell_tally(family.head, &tally, out);
-        rest = more;
-    }
-    Ok(())
-}
-
-/// Judges all families of a text, and tells what there was, or why it stopped and the plan where it did.
-pub fn judge_all(alloc: Global, text: &[u8], out: &mut Told) {
+/// Judges all plans of a family, and tells what there was, or why it stopped and the plan where it did.
+pub fn play_family(alloc: Global, lines: &[u8], out: &mut Told) {
     let mut room = Room::new(alloc);
-    match judge_families(alloc, text, &mut room, out) {
-        Ok(()) => tell(b"all agree\n", out),
-        Err(stop) => tell_stop(stop, room.difference(), room.plan.as_slice(), out),
+    match judge_family(alloc, lines, &mut room) {
+        Ok(tally) => tell_tally(&tally, out),
+        Err(stop) => tell_stop(stop, room.differs(), room.plan.as_slice(), out),
     }
 }

@@ -1,22 +1,13 @@
-// Why the program stops before its end.
-use crate::cases::{Told, tell, tell_count};
+// Why the plans of a family are judged no further.
+use crate::cases::{Stop, Told, tell, tell_count};
 use crate::walks::compare::Difference;
-use tx_text::NoMemory;
 
-/// Why the program stops before its end.
+/// For which limit and spare number an answer differs from what the walks show, and how.
 #[derive(Clone, Copy)]
-pub enum Stop {
-    /// The text of a plan is refused, at this line.
-    Refused(u64),
-    NoMemory,
-    /// The answer for this limit and spare number differs from what the walks show.
-    Differs(u8, u8),
-}
-
-impl From<NoMemory> for Stop {
-    fn from(_: NoMemory) -> Stop {
-        Stop::NoMemory
-    }
+pub struct WalksDiffer {
+    pub limit: u8,
+    pub spare: u8,
+    pub difference: Difference,
 }
 
 /// How an answer differs, in a word, and the place of the finding or of the exchange.
@@ -33,17 +24,21 @@ fn said(difference: Difference) -> (&'static [u8], u64) {
     }
 }
 
-/// Tells why the program stopped, and the plan where it did.
-pub fn tell_stop(stop: Stop, difference: Option<Difference>, plan: &[u8], out: &mut Told) {
-    match stop {
-        Stop::Refused(line) => tell_count(b"refused: line ", line, b"\n", out),
-        Stop::NoMemory => tell(b"no memory\n", out),
-        Stop::Differs(limit, spare) => {
-            tell_count(b"limit ", u64::from(limit), b", ", out);
-            tell_count(b"spare ", u64::from(spare), b": ", out);
-            let (word, place) = said(difference.unwrap_or(Difference::Count));
-            tell_count(word, place, b"\n", out);
-        }
+/// Tells for which numbers an answer differs, and how.
+fn tell_differs(differs: &WalksDiffer, out: &mut Told) {
+    tell_count(b"limit ", u64::from(differs.limit), b", ", out);
+    tell_count(b"spare ", u64::from(differs.spare), b": ", out);
+    let (word, place) = said(differs.difference);
+    tell_count(word, place, b"\n", out);
+}
+
+/// Tells why the judging stopped, and the plan where it did.
+pub fn tell_stop(stop: Stop, differs: Option<WalksDiffer>, plan: &[u8], out: &mut Told) {
+    match (stop, differs) {
+        (Stop::Refused(line), _) => tell_count(b"refused: line ", line, b"\n", out),
+        (Stop::NoMemory, _) => tell(b"no memory\n", out),
+        (Stop::Differs, Some(differs)) => tell_differs(&differs, out),
+        (Stop::Differs, None) => tell(b"an answer differs\n", out),
     }
     tell(plan, out);
 }

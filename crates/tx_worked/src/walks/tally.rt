@@ -6,7 +6,7 @@ use crate::walks::wanted::Wanted;
 
 /// Counts of plans and of answers.
 #[derive(Clone, Copy, Default)]
-pub struct Tally {
+pub struct PlanTally {
     pub plans: u64,
     rankings: u64,
     found: u64,
@@ -27,7 +27,7 @@ fn add(count: &mut u64, more: usize) {
     *count = count.saturating_add(more as u64);
 }
 
-impl Tally {
+impl PlanTally {
     /// A certificate with these heights.
     pub fn add_found(&mut self, surveys: &[Survey]) {
         add(&mut self.rankings, 1);
@@ -64,7 +64,7 @@ impl Tally {
 
 /// What stands before each count of a family.
 static BEFORE: [&str; 11] = [
-    ": ",
+    "",
     " plans, ",
     " rankings\n- ",
     " found, with ranks of ",
@@ -78,7 +78,7 @@ static BEFORE: [&str; 11] = [
 ];
 
 /// Tells what there was in a family.
-pub fn tell_tally(name: &[u8], tally: &Tally, out: &mut Told) {
+pub fn tell_tally(tally: &PlanTally, out: &mut Told) {
     let counts = [
         tally.plans,
         tally.rankings,
@@ -92,7 +92,6 @@ pub fn tell_tally(name: &[u8], tally: &Tally, out: &mut Told) {
         tally.longs,
         tally.scripts.findings,
     ];
-    tell(name, out);
     for (before, count) in BEFORE.iter().zip(&counts) {
         tell_count(before.as_bytes(), *count, b"", out);
     }

@@ -12,7 +12,7 @@ pub static ENDS: [(&str, u16); 2] = [("ALFA", ALFA), ("BETA", BETA)];
 
 /// What a call does: to a circuit, at an end where it asks for one and with a far end where it asks for that too, or to the group.
 #[derive(Clone, Copy)]
-pub enum What {
+pub enum Verb {
     Seize,
     Withdraw,
     GiveUp,
@@ -27,25 +27,25 @@ pub enum What {
     Unblock,
 }
 
-pub static WHATS: [(&str, What); 12] = [
-    ("seize", What::Seize),
-    ("withdraw", What::Withdraw),
-    ("give-up", What::GiveUp),
-    ("hold", What::Hold),
-    ("release", What::Release),
-    ("released", What::Released),
-    ("put-out", What::PutOut),
-    ("put-in", What::PutIn),
-    ("fail", What::Fail),
-    ("restore", What::Restore),
-    ("block", What::Block),
-    ("unblock", What::Unblock),
+pub static WHATS: [(&str, Verb); 12] = [
+    ("seize", Verb::Seize),
+    ("withdraw", Verb::Withdraw),
+    ("give-up", Verb::GiveUp),
+    ("hold", Verb::Hold),
+    ("release", Verb::Release),
+    ("released", Verb::Released),
+    ("put-out", Verb::PutOut),
+    ("put-in", Verb::PutIn),
+    ("fail", Verb::Fail),
+    ("restore", Verb::Restore),
+    ("block", Verb::Block),
+    ("unblock", Verb::Unblock),
 ];
 
 /// A call, with the number of its circuit, or 0 for a call of the group.
 #[derive(Clone, Copy)]
 pub struct Call {
-    pub what: What,
+    pub what: Verb,
     pub number: u32,
     pub end: u16,
     pub far: u16,
@@ -64,24 +64,24 @@ pub fn next<A: Allocator>(table: &CircuitTable<A>, exchange: u16) -> u32 {
 }
 
 /// The calls on a circuit, and then those of the group.
-static CALLS: [(What, u16, u16); 17] = [
-    (What::Seize, ALFA, ALFA),
-    (What::Seize, BETA, ALFA),
-    (What::Withdraw, ALFA, ALFA),
-    (What::Withdraw, BETA, ALFA),
-    (What::Hold, ALFA, ALFA),
-    (What::Release, ALFA, ALFA),
-    (What::Released, ALFA, ALFA),
-    (What::PutOut, ALFA, ALFA),
-    (What::PutIn, ALFA, ALFA),
-    (What::GiveUp, ALFA, ALFA),
-    (What::GiveUp, ALFA, BETA),
-    (What::GiveUp, BETA, ALFA),
-    (What::GiveUp, BETA, BETA),
-    (What::Fail, ALFA, ALFA),
-    (What::Restore, ALFA, ALFA),
-    (What::Block, ALFA, ALFA),
-    (What::Unblock, ALFA, ALFA),
+static CALLS: [(Verb, u16, u16); 17] = [
+    (Verb::Seize, ALFA, ALFA),
+    (Verb::Seize, BETA, ALFA),
+    (Verb::Withdraw, ALFA, ALFA),
+    (Verb::Withdraw, BETA, ALFA),
+    (Verb::Hold, ALFA, ALFA),
+    (Verb::Release, ALFA, ALFA),
+    (Verb::Released, ALFA, ALFA),
+    (Verb::PutOut, ALFA, ALFA),
+    (Verb::PutIn, ALFA, ALFA),
+    (Verb::GiveUp, ALFA, ALFA),
+    (Verb::GiveUp, ALFA, BETA),
+    (Verb::GiveUp, BETA, ALFA),
+    (Verb::GiveUp, BETA, BETA),
+    (Verb::Fail, ALFA, ALFA),
+    (Verb::Restore, ALFA, ALFA),
+    (Verb::Block, ALFA, ALFA),
+    (Verb::Unblock, ALFA, ALFA),
 ];
 
 /// One of the 43 calls on three circuits: 13 on each, and 4 of the group.
@@ -107,8 +107,8 @@ pub fn apply(table: &mut CircuitTable, call: Call) -> bool {
         number: call.number,
     };
     match call.what {
-        What::Seize | What::Withdraw | What::GiveUp => apply_at_end(table, &x, call),
-        What::Fail | What::Restore | What::Block | What::Unblock => {
+        Verb::Seize | Verb::Withdraw | Verb::GiveUp => apply_at_end(table, &x, call),
+        Verb::Fail | Verb::Restore | Verb::Block | Verb::Unblock => {
             apply_to_group(table, x.group, call.what)
         }
         _ => apply_to_circuit(table, &x, call.what),
@@ -118,37 +118,37 @@ pub fn apply(table: &mut CircuitTable, call: Call) -> bool {
 fn apply_at_end(table: &mut CircuitTable, x: &Circuit, call: Call) -> bool {
     let (at, far) = (ExchangeId::at(call.end), ExchangeId::at(call.far));
     match call.what {
-        What::Seize
+        Verb::Seize
             if table.has_circuit(x) && table.may_seize(x.group, at) && table.is_free(x, at) => {
             table.seize(x, at)
         }
-        What::Withdraw if table.is_seized(x, at) => table.withdraw(x, at),
-        What::GiveUp if table.is_seized(x, at) => table.give_up(x, at, far),
+        Verb::Withdraw if table.is_seized(x, at) => table.withdraw(x, at),
+        Verb::GiveUp if table.is_seized(x, at) => table.give_up(x, at, far),
         _ => return false,
     }
     true
 }
 
-fn apply_to_circuit(table: &mut CircuitTable, x: &Circuit, what: What) -> bool {
+fn apply_to_circuit(table: &mut CircuitTable, x: &Circuit, what: Verb) -> bool {
     match what {
-        What::Hold if table.seizer(x).is_some() => table.hold(x),
-        What::Release if table.has_circuit(x) && table.is_unseized(x) && !table.is_releasing(x) => {
+        Verb::Hold if table.seizer(x).is_some() => table.hold(x),
+        Verb::Release if table.has_circuit(x) && table.is_unseized(x) && !table.is_releasing(x) => {
             table.release(x)
         }
-        What::Released if table.is_releasing(x) => table.released(x),
-        What::PutOut if table.has_circuit(x) && !table.is_out(x) => table.put_out(x),
-        What::PutIn if table.is_out(x) => table.put_in(x),
+        Verb::Released if table.is_releasing(x) => table.released(x),
+        Verb::PutOut if table.has_circuit(x) && !table.is_out(x) => table.put_out(x),
+        Verb::PutIn if table.is_out(x) => table.put_in(x),
         _ => return false,
     }
     true
 }
 
-fn apply_to_group(table: &mut CircuitTable, group: GroupId, what: What) -> bool {
+fn apply_to_group(table: &mut CircuitTable, group: GroupId, what: Verb) -> bool {
     match what {
-        What::Fail if table.has_group(group) && !table.is_failed(group) => table.fail(group),
-        What::Restore if table.is_failed(group) => table.restore(group),
-        What::Block if table.has_group(group) && !table.is_blocked(group) => table.block(group),
-        What::Unblock if table.is_blocked(group) => table.unblock(group),
+        Verb::Fail if table.has_group(group) && !table.is_failed(group) => table.fail(group),
+        Verb::Restore if table.is_failed(group) => table.restore(group),
+        Verb::Block if table.has_group(group) && !table.is_blocked(group) => table.block(group),
+        Verb::Unblock if table.is_blocked(group) => table.unblock(group),
         _ => return false,
     }
     true

@@ -1,7 +1,7 @@
 // A group of three circuits that is scanned each time.
 ghost use Rattle.std.specs.Prelude.{◌<◌};
 
-use super::calls::{ALFA, BETA, Call, What, next};
+use super::calls::{ALFA, BETA, Call, Verb, next};
 use tx_circuits::CircuitTable;
 use tx_plan::{Circuit, ExchangeId, GroupId};
 
@@ -85,13 +85,13 @@ impl Held {
     // Whether a call may be made.
     fn allows(self, call: Call) -> bool {
         match call.what {
-            What::Seize => self.is_free(call.end),
-            What::Withdraw | What::GiveUp => self.by(call.end),
-            What::Hold => self.by_alfa != self.by_beta,
-            What::Release => !self.by_alfa && !self.by_beta && !self.releasing,
-            What::Released => self.releasing,
-            What::PutOut => !self.out,
-            What::PutIn => self.out,
+            Verb::Seize => self.is_free(call.end),
+            Verb::Withdraw | Verb::GiveUp => self.by(call.end),
+            Verb::Hold => self.by_alfa != self.by_beta,
+            Verb::Release => !self.by_alfa && !self.by_beta && !self.releasing,
+            Verb::Released => self.releasing,
+            Verb::PutOut => !self.out,
+            Verb::PutIn => self.out,
             _ => false,
         }
     }
@@ -99,25 +99,25 @@ impl Held {
     // What holds it after a call.
     fn after(self, call: Call) -> Held {
         match call.what {
-            What::Seize => self.with_seized(call.end, true),
-            What::Withdraw => self.with_seized(call.end, false),
-            What::GiveUp => self.with_seized(call.end, false).released_unless(call.far),
-            What::Hold => Held {
+            Verb::Seize => self.with_seized(call.end, true),
+            Verb::Withdraw => self.with_seized(call.end, false),
+            Verb::GiveUp => self.with_seized(call.end, false).released_unless(call.far),
+            Verb::Hold => Held {
                 carried: true,
                 out: self.out,
                 ..IDLE
             },
-            What::Release => Held {
+            Verb::Release => Held {
                 carried: false,
                 releasing: true,
                 ..self
             },
-            What::Released => Held {
+            Verb::Released => Held {
                 releasing: false,
                 ..self
             },
-            What::PutOut => Held { out: true, ..self },
-            What::PutIn => Held { out: false, ..self },
+            Verb::PutOut => Held { out: true, ..self },
+            Verb::PutIn => Held { out: false, ..self },
             _ => self,
         }
     }
@@ -143,7 +143,7 @@ impl Model {
         }
         let (failed, blocked) = (self.failed, self.blocked);
         match call.what {
-            What::Fail => {
+            Verb::Fail => {
                 for held in self.circuits.iter_mut() {
                     *held = Held {
                         out: held.out,
@@ -152,8 +152,8 @@ impl Model {
                 }
                 self.failed = true;
             }
-            What::Restore => self.failed = false,
-            What::Block => self.blocked = true,
+            Verb::Restore => self.failed = false,
+            Verb::Block => self.blocked = true,
             _ => self.blocked = false,
         }
         self.failed != failed || self.blocked != blocked

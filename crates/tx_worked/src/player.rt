@@ -1,0 +1,126 @@
+// Plays the cases of files, and compares what each prints with what it has to print.
+use crate::cases::{
+    Case, Head, Kind, Told, cases_of, head_of, next_case, spell, tell, tell_broken, tell_count,
+    tell_differing,
+};
+use crate::end_cases::{play_arguments, play_program};
+use crate::play::play_texts;
+use crate::tests::play_call;
+use crate::twins::{Tallies, play_twins, tell_tallies};
+use crate::walks::play_family;
+use std::{fs, io};
+
+/// How many cases were played, and how many of them differ from what they have to print.
+#[derive(Clone, Copy)]
+struct Counts {
+    cases: u64,
+    differ: u64,
+}
+
+impl Counts {
+    fn none() -> Counts {
+        Counts {
+            cases: 0,
+            differ: 0,
+        }
+    }
+
+    fn add(&mut self, more: Counts) {
+        self.cases = self.cases.saturating_add(more.cases);
+        self.differ = self.differ.saturating_add(more.differ);
+    }
+}
+
+/// What is played, and what came of it.
+#[derive(Drop)]
+pub(crate) struct Player<'a> {
+    rt: &'a HostRuntime,
+    counts: Counts,
+    tallies: Tallies,
+}
+
+impl<'a> Player<'a> {
+    pub(crate) fn new(rt: &'a HostRuntime) -> Player<'a> {
+        Player {
+            rt,
+            counts: Counts::none(),
+            tallies: Tallies::new(),
+        }
+    }
+
+    /// Plays a case by its kind.
+    fn play_kind(&mut self, case: Case<'_>, head: Head<'_>, texts: &[u8], out: &mut Told) {
+        let alloc = self.rt.alloc();
+        match head.kind {
+            Some(Kind::Texts(kind)) => play_texts(alloc, kind, head, texts, out),
+            Some(Kind::Calls(kind)) => play_call(alloc, kind, head, texts, out),
+            Some(Kind::Program) => play_program(self.rt, case.head, out),
+            Some(Kind::Arguments) => play_arguments(alloc, head.first, out),
+            Some(Kind::Family) => play_family(alloc, texts, out),
+            Some(Kind::Twins) => play_twins(alloc, head, texts, &mut self.tallies, out),
+            None => tell_broken(b"no such kind of case", 0, out),
+        }
+    }
+
+    /// Plays a case, and tells where it differs.
+    fn play(&mut self, case: Case<'_>, head: Head<'_>, counts: &mut Counts, out: &mut Told) {
+        let alloc = self.rt.alloc();
+        let mut texts = Told::new(alloc);
+        spell(case.texts, &mut texts);
+        let mut wanted = Told::new(alloc);
+        spell(case.prints, &mut wanted);
+        let mut got = Told::new(alloc);
+        match texts.whole() {
+            Some(texts) => self.play_kind(case, head, texts, &mut got),
+            None => tell_broken(b"no memory", 0, &mut got),
+        }
+        let differs = got.whole().is_none() || !wanted.is(got.text());
+        counts.add(Counts {
+            cases: 1,
+            differ: u64::from(differs),
+        });
+        if differs {
+            tell_differing(head.name, wanted.text(), got.text(), out);
+        }
+    }
+
+    /// Plays the cases of a file, and tells how many there are, and each that differs.
+    fn play_cases(&mut self, name: &str, file: &[u8], out: &mut Told) {
+        let mut counts = Counts::none();
+        let mut rest = cases_of(file);
+        for _ in 0..file.len() {
+            let Some((case, more)) = next_case(rest) else {
+                break;
+            };
+            self.play(case, head_of(case.head), &mut counts, out);
+            rest = more;
+        }
+        self.counts.add(counts);
+        tell(name.as_bytes(), out);
+        tell_count(b": ", counts.differ, b" of ", out);
+        tell_count(b"", counts.cases, b" differ\n", out);
+    }
+
+    /// Plays the cases of a file, and prints what came of them.
+    pub(crate) fn play_file(&mut self, name: &str) -> io::Result<()> {
+        let file = fs::read(self.rt, name)?;
+        let mut told = Told::new(self.rt.alloc());
+        self.play_cases(name, file.as_slice(), &mut told);
+        drop(file);
+        told.let_out(&mut self.rt.stdout())
+    }
+
+    /// Prints what the events of all plans came to, if there were any.
+    pub(crate) fn end(&self) -> io::Result<()> {
+        let mut told = Told::new(self.rt.alloc());
+        if self.tallies.whole.events > 0 {
+            tell_tallies(&self.tallies, &mut told);
+        }
+        told.let_out(&mut self.rt.stdout())
+    }
+
+    /// Whether there were cases, and none of them differs.
+    pub(crate) fn agrees(&self) -> bool {
+        self.counts.cases > 0 && self.counts.differ == 0
+    }
+}
