@@ -1,5 +1,5 @@
 -- What is seen of a line tells whether its one word is END.
-use Rattle.std.proofs.Common.{◌≡◌, ℕ, suc, ◌+◌, ◌-◌, ◌<◌, ◌==◌, ◌||◌, Bool, true, false, not, List, [], ◌∷◌, length, take, drop, refl, sym, ap, subst, ◌∙◌, arith, eqb-true}
+use Rattle.std.proofs.Common.{◌≡◌, ℕ, suc, ◌-◌, ◌==◌, ◌||◌, Bool, true, false, not, List, [], ◌∷◌, length, take, drop, refl, sym, ap, subst, ◌∙◌, arith, eqb-true}
 use Rattle.std.specs.Prelude.{if◌then◌else◌, slice_index}
 use Rattle.std.specs.List.{prefix_len}
 use Rattle.std.proofs.Math.Numerals.{one-add}
@@ -9,8 +9,7 @@ use Rattle.tx_text.specs.Text.{without_cr}
 use Rattle.tx_text.specs.Words.{words_of, is_blank, is_hash, is_word_byte}
 use Rattle.tx_text.specs.Frame.{is_end}
 use Rattle.tx_text.proofs.WordLists.{cuts_word, no_words, blank_before}
-use Rattle.tx_pipe.specs.declared.seen.Seen.{Seen}
-use Rattle.tx_pipe.specs.declared.seen.Seen.TheVariants.{Blanks, E, En, End, Comment, Cr, Other, Over}
+use Rattle.tx_pipe.specs.declared.seen.Seen.TheVariants.{Blanks, E, En, End, Comment, Cr, Other}
 use Rattle.tx_pipe.specs.inner.Seen.{line_seen, is_end_seen}
 
 -- THE WORDS OF A LINE, by its first bytes

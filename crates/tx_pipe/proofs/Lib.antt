@@ -1,5 +1,5 @@
 mod EndLines
-pub mod Cutting
+mod Cutting
 mod Taking
 pub mod PartCalls
 pub mod PlanCalls

@@ -1,5 +1,5 @@
 -- Taking the bytes of a plan, one by one.
-use Rattle.std.proofs.Common.{◌≡◌, ◌≢◌, ℕ, zero, suc, ◌+◌, ◌-◌, ◌<◌, ◌≤◌, min, Bool, true, false, List, [], ◌∷◌, ◌++◌, Option, Some, None, Result, Ok, inl, inr, ◌⊎◌, length, take, drop, refl, sym, ap, subst, ◌∙◌, arith, length-drop}
+use Rattle.std.proofs.Common.{◌≡◌, ◌≢◌, ℕ, zero, suc, ◌+◌, ◌-◌, ◌<◌, ◌≤◌, min, true, false, List, [], ◌∷◌, ◌++◌, Option, Some, None, Result, Ok, inl, inr, ◌⊎◌, length, take, drop, refl, sym, ap, subst, ◌∙◌, arith}
 use Rattle.std.specs.Prelude.{slice_index}
 use Rattle.std.specs.Io.KnownBytes.{IsAtEnd, prepend_known}
 use Rattle.std.proofs.lemmas.Bool.{false≢true}
@@ -37,9 +37,6 @@ taken_more old bytes now i h going t =
           t.end more ∙ ap (λ k. i + k) (ap (λ l. end_from now (l ++ more)) (from_at bytes i h) ∙ end_on now b rest going) ∙ omega arith;
       some = λ _ _. omega arith;
     }
-
-pub taken_all : (old : Seen) (bytes : List ℕ) (now : Seen) (i : ℕ) → i ≡ length bytes → Taken old bytes now i → (more : List ℕ) → end_from old (bytes ++ more) ≡ length bytes + end_from now (drop (length bytes) bytes ++ more)
-taken_all old bytes now i e t more = subst (λ k. end_from old (bytes ++ more) ≡ k + end_from now (drop k bytes ++ more)) e (t.end more)
 
 -- WHAT IS LEFT, once the first n bytes of a piece were given
 

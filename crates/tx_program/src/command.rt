@@ -1,5 +1,5 @@
 // Commands, and the words that ask for them.
-ghost use Rattle.std.specs.Prelude.{◌≡◌, ◌≢◌, ◌≤◌, ℕ, List, Option, [], Ok, Some, None, IfOk, IfErr, IfSome, ◌||◌, codes, option_map, string_bytes};
+ghost use Rattle.std.specs.Prelude.{◌≡◌, ◌≢◌, ◌≤◌, ℕ, List, Option, [], Ok, Some, IfOk, IfErr, IfSome, codes, option_map, string_bytes};
 ghost use Rattle.clap.specs.Words.{Row, app_of, first_of, found_of, rows_of, subcommand_rows_of};
 ghost use Rattle.tx_program.specs.Commands.{IsInRange, Names, Gives, Asks, AskFor, IsFoundIn};
 ghost use Rattle.tx_program.specs.Grammar.{program_words};
@@ -249,24 +249,41 @@ fn found_command(alloc: Global, matches: &ArgMatches<'_>) -> Result<Command, Ref
     }
 }
 
-/// Why the words are refused. What is no fault of its own is told through the library.
+/// A refusal in the words of the library of command lines.
+fn in_its_words(
+    grammar: &mut clap::Command<'_>,
+    kind: ErrorKind,
+    message: &str,
+) -> Result<WordsFault, AllocError>
+    ensures { IfOk result (λ fault. (command : Option (List ℕ × List Row)) → IsRefusalIn command fault) }
+{
+    let e = grammar.error(kind, message)?;
+    Ok(WordsFault::of_clap(e))
+}
+
+/// Why the words are refused. What has no fault of its own is told in the words of the library.
 fn words_fault(grammar: &mut clap::Command<'_>, refusal: Refusal) -> Result<WordsFault, AllocError>
     ensures { IfOk result (λ fault. (command : Option (List ℕ × List Row)) → IsRefused command refusal → IsRefusalIn command fault) }
 {
-    let (kind, message) = match refusal {
-        Refusal::Together => return Ok(WordsFault::Together),
-        Refusal::NoMemory => return Ok(WordsFault::NoMemory),
-        Refusal::Incomplete => (ErrorKind::MissingSubcommand, "a command is missing"),
-        Refusal::DrawTogether => (
+    match refusal {
+        Refusal::Together => Ok(WordsFault::Together),
+        Refusal::NoMemory => Ok(WordsFault::NoMemory),
+        Refusal::Incomplete => in_its_words(
+            grammar,
+            ErrorKind::MissingSubcommand,
+            "a command is missing",
+        ),
+        Refusal::DrawTogether => in_its_words(
+            grammar,
             ErrorKind::MissingRequiredArgument,
             "--limit and --spare go together, and with --code",
         ),
-        Refusal::NoSuchCode => (
+        Refusal::NoSuchCode => in_its_words(
+            grammar,
             ErrorKind::InvalidValue,
             "no such code; there are X1 to X3, P3 to P22, C1 to C10, S1 to S7, M1 to M12, K1 to K7 and F1 to F4",
         ),
-    };
-    Ok(WordsFault::of_clap(grammar.error(kind, message)?))
+    }
 }
 
 /// The command that stands in the words, which are not none, by the grammar of the program.

@@ -1,5 +1,5 @@
 -- Where a plan ends, byte by byte.
-use Rattle.std.specs.Prelude.{◌≡◌, ℕ, suc, ◌==◌, Bool, true, false, List, [], ◌∷◌, if◌then◌else◌}
+use Rattle.std.specs.Prelude.{ℕ, suc, ◌==◌, Bool, true, false, List, [], ◌∷◌, if◌then◌else◌}
 use Rattle.tx_text.specs.Text.{is_lf}
 use Rattle.tx_text.specs.Words.{is_blank, is_hash}
 use Rattle.tx_pipe.specs.declared.seen.Seen.{Seen}

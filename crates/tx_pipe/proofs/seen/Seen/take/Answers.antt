@@ -1,5 +1,5 @@
 use Rattle.std.proofs.Common.{sym, ◌∙◌, arith}
-use Rattle.tx_pipe.proofs.Taking.{taken_none, taken_more, taken_all}
+use Rattle.tx_pipe.proofs.Taking.{taken_none, taken_more}
 use Rattle.tx_pipe.proofs.seen.Seen.take.Goals as goal
 
 pub loop-i-init : goal.loop-i-init
