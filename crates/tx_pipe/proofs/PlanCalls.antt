@@ -28,10 +28,10 @@ module _ {R : Type 0} (rest : R → Option (List ℕ)) (failed : R → Bool) (ca
     pub script : script_rest rest c ≡ script_rest rest a
     pub given : List ℕ
     pub plan : plan_rest rest a ≡ prepend_known given (plan_rest rest c)
-    pub left : ahead rest a.left ≡ prepend_known given (ahead rest c.left)
+    pub left : ahead rest a.script ≡ prepend_known given (ahead rest c.script)
 
   took_none : (a c : PlanPart R) → a ≡ c → Took a c
-  took_none a c e = subst (Took a) e (record { script = refl; given = []; plan = prepend_none (plan_rest rest a); left = prepend_none (ahead rest a.left) })
+  took_none a c e = subst (Took a) e (record { script = refl; given = []; plan = prepend_none (plan_rest rest a); left = prepend_none (ahead rest a.script) })
 
   took_on : (a b c : PlanPart R) (n : ℕ) (r : Result ℕ ReadFault) → Took a b → PlanCall rest failed called n r b c → Took a c
   took_on a b c n r t k =
@@ -39,7 +39,7 @@ module _ {R : Type 0} (rest : R → Option (List ℕ)) (failed : R → Bool) (ca
         script = k.script ∙ t.script;
         given = t.given ++ k.given;
         plan = t.plan ∙ ap (prepend_known t.given) k.plan ∙ prepend_twice t.given k.given (plan_rest rest c);
-        left = t.left ∙ ap (prepend_known t.given) k.left ∙ prepend_twice t.given k.given (ahead rest c.left);
+        left = t.left ∙ ap (prepend_known t.given) k.left ∙ prepend_twice t.given k.given (ahead rest c.script);
       }
 
   gave_took : (n : ℕ) (a c : PlanPart R) → Gave (PlanCall rest failed called) n a c → Took a c

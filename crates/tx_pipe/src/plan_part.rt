@@ -9,29 +9,23 @@ use tx_text::{ReadFault, Source};
 /// The plan of an input, as a source that ends behind the first line whose one word is END.
 #[derive(Drop)]
 pub struct PlanPart<'a, R> {
-    left: ScriptPart<'a, R>,
+    /// What the input has left: once the plan was read to its end, the script.
+    pub script: ScriptPart<'a, R>,
     seen: Seen,
 }
 
 impl<'a, R: Source> PlanPart<'a, R> {
     /// The plan of an input of which nothing was read yet.
     pub fn new(input: &'a mut R) -> PlanPart<'a, R>
-        ensures input { result.left.input ≡ input.entry }
-        ensures held { result.left.held ≡ [] }
-        ensures failed { result.left.failed ≡ false }
+        ensures input { result.script.input ≡ input.entry }
+        ensures held { result.script.held ≡ [] }
+        ensures failed { result.script.failed ≡ false }
         ensures seen { result.seen ≡ Blanks }
     {
         PlanPart {
-            left: ScriptPart::whole(input),
+            script: ScriptPart::whole(input),
             seen: Seen::Blanks,
         }
-    }
-
-    /// The script that stands behind the plan, where that was read to its end.
-    pub fn into_script(self) -> ScriptPart<'a, R>
-        ensures { result ≡ self.entry.left }
-    {
-        self.left
     }
 }
 
@@ -40,21 +34,21 @@ impl<'a, R: Source> Source for PlanPart<'a, R> {
 
     ghost rest = { plan_rest R.rest };
 
-    ghost failed = { λ s. s.left.failed };
+    ghost failed = { λ s. s.script.failed };
 
     ghost called = { PlanCall R.rest R.failed R.called };
 
     fn read(&mut self, buf: &mut [u8]) -> Result<usize, ReadFault> {
-        if self.left.failed {
+        if self.script.failed {
             return Err(ReadFault);
         }
         if self.seen.is_over() {
             return Ok(0);
         }
-        self.left.refill()?;
-        let bytes = self.left.held.bytes();
+        self.script.refill()?;
+        let bytes = self.script.held.bytes();
         let n = self.seen.take(&bytes[..bytes.len().min(buf.len())]);
-        self.left.held.give(n, buf);
+        self.script.held.give(n, buf);
         Ok(n)
     }
 }

@@ -38,8 +38,7 @@ pub(crate) fn tell_two_texts(text: &[u8], piece: usize, fails: u64, room: usize,
     let mut source = MemorySource::new(text, piece.max(1), fails_at);
     let mut plan = PlanPart::new(&mut source);
     tell_reads(&mut plan, 5, room, out);
-    let mut script = plan.into_script();
-    tell_reads(&mut script, 3, room, out);
+    tell_reads(&mut plan.script, 3, room, out);
 }
 
 /// Tells what a sink took, and whether it took all that it was given.

@@ -57,7 +57,7 @@ returns-clause-call g c =
       part =
           record {
             same_input = c.in_ok-refill.ensures.same_input;
-            input = input_called g.R.Source.called c.args.self.now.left s _ n some refl c.in_ok-refill.ensures.call;
+            input = input_called g.R.Source.called c.args.self.now.script s _ n some refl c.in_ok-refill.ensures.call;
             stays = λ over. absurd (false≢true (sym going ∙ over));
             going = λ _. going;
             emptied = λ much on. none_left n m (length c.args.buf.now) s.held c.give.new.self (c.take-n.ensures.all on ∙ ap (λ h. length (take m h)) held) least much short c.give.ensures.left;
