@@ -1,40 +1,38 @@
 // The plan of an input of two texts.
-ghost use Rattle.std.specs.Prelude.{◌≡◌, [], false};
+ghost use Rattle.std.specs.Prelude.{◌≡◌};
 ghost use Rattle.tx_pipe.specs.declared.seen.Seen.TheVariants.{Blanks};
 
 use crate::script_part::ScriptPart;
 use crate::seen::Seen;
 use tx_text::{ReadFault, Source};
 
-/// The plan of an input, as a source that ends behind the first line whose one word is END.
+/// The plan of an input, as a source that ends behind the first line whose one word is END. It takes its bytes of what the input has left, which is the script
+/// once the plan was read.
 #[derive(Drop)]
-pub struct PlanPart<'a, R> {
-    /// What the input has left: once the plan was read to its end, the script.
-    pub script: ScriptPart<'a, R>,
+pub struct PlanPart<'p, 'a, R> {
+    script: &'p mut ScriptPart<'a, R>,
     seen: Seen,
 }
 
-impl<'a, R: Source> PlanPart<'a, R> {
-    /// The plan of an input of which nothing was read yet.
-    pub fn new(input: &'a mut R) -> PlanPart<'a, R>
-        ensures input { result.script.input ≡ input.entry }
-        ensures held { result.script.held ≡ [] }
-        ensures failed { result.script.failed ≡ false }
+impl<'p, 'a, R: Source> PlanPart<'p, 'a, R> {
+    /// The plan of an input of which nothing was taken yet.
+    pub fn new(script: &'p mut ScriptPart<'a, R>) -> PlanPart<'p, 'a, R>
+        ensures script { result.script ≡ script.entry }
         ensures seen { result.seen ≡ Blanks }
     {
         PlanPart {
-            script: ScriptPart::whole(input),
+            script,
             seen: Seen::Blanks,
         }
     }
 }
 
-impl<'a, R: Source> Source for PlanPart<'a, R> {
+impl<'p, 'a, R: Source> Source for PlanPart<'p, 'a, R> {
     ghost use Rattle.tx_pipe.specs.inner.Reading.{plan_rest, PlanCall};
 
     ghost rest = { plan_rest R.rest };
 
-    ghost failed = { λ s. s.script.failed };
+    ghost failed = { λ s. s.script.now.failed };
 
     ghost called = { PlanCall R.rest R.failed R.called };
 
