@@ -30,7 +30,7 @@ module _ (B D U V : Type 0) (f : B → D) (g : U → V) where
 
   module _ (p : Plan) where
     faulty_with : (x : Moved) (b : Bool) (event line : ℕ) (kind : FaultKind ScriptWord) → FaultyBy p x U b event line kind → FaultyBy p x V b event line kind
-    faulty_with x true event line kind h = (h.0, h.1.0, g h.1.1)
+    faulty_with x true event line kind h = (h.0, h.1, g h.2)
     faulty_with x false event line kind h = h
 
     stopped_with : (x : Moved) (event : ℕ) (cause : RunCause) → Stopped p x B U event cause → Stopped p x D V event cause
@@ -48,4 +48,4 @@ pub simulated_with : (B D U V : Type 0) → (B → D) → (U → V) → (p : Pla
     → ScriptRan p (record { old = old; new = new; broken = B; unread = U }) out result → ScriptRan p (record { old = old; new = new; broken = D; unread = V }) out result
 simulated_with B D U V f g p old new out result (inl h) =
     inl (record { answer = h.answer; ran = record { state = h.ran.state; ran = ran_with B D _ _ f (λ u. ((g u.0.0, u.0.1), u.1)) p _ h.answer h.ran.ran }; told = h.told })
-simulated_with B D U V f g p old new out result (inr h) = inr (h.0, g h.1.0, h.1.1)
+simulated_with B D U V f g p old new out result (inr h) = inr (h.0, g h.1, h.2)

@@ -32,8 +32,8 @@ pub record IsCodePicture (A : Type 0) (p : Plan) (c : ℕ) (bounds : Option (ℕ
 
 -- the text was written, or a front of it before the sink failed
 abbrev pub ToldText : List ℕ → Output → Result Drawn JobFault → Type 0
-ToldText text out (Ok NoSuchCode) = ⊥
 ToldText text out (Ok Picture) = out.new ≡ append_known out.old text
+ToldText text out (Ok NoSuchCode) = ⊥
 ToldText text out (Err Write) = StopsIn out.old out.new text
 ToldText text out (Err other) = ⊥
 

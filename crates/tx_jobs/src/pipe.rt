@@ -1,13 +1,10 @@
 // The job of the program without words.
-ghost use Rattle.std.specs.Prelude.{◌≡◌};
-ghost use Rattle.tx_text.specs.Calls.{Broken, CallsAtMost, source_calls};
+ghost use Rattle.std.specs.Prelude.{◌≡◌, [], false};
 ghost use Rattle.tx_text.specs.Said.{told_fault};
-ghost use Rattle.tx_plantext.specs.PlanText.{ReadsPlan};
-ghost use Rattle.tx_pipe.specs.inner.Reading.{ahead, plan_rest, PlanCall, ScriptCall};
 ghost use Rattle.tx_jobs.specs.JobFaults.{mark_after};
-ghost use Rattle.tx_jobs.specs.JobEnds.{input, output};
-ghost use Rattle.tx_jobs.specs.Jobs.{ScriptRan};
+ghost use Rattle.tx_jobs.specs.JobEnds.{output};
 ghost use Rattle.tx_jobs.specs.PipeJobs.{PipeJobAnswers};
+ghost use Rattle.tx_jobs.specs.inner.PlanTaken.{PlanWasRead, IsPlanTaken};
 
 use crate::job_fault::JobFault;
 use crate::simulate::simulate;
@@ -28,12 +25,26 @@ pub fn pipe_job<A: Allocator + Copy, R: Source, W: Sink>(
     ensures answers { PipeJobAnswers R.rest R.failed R.called input.old input.new (output W.taken out.old out.new) result }
     ensures mark { W.failed out.new ≡ mark_after (W.failed out.old) result }
 {
-    let mut part = PlanPart::new(input);
-    match read_plan_part(alloc, &mut part) {
+    let mut script = ScriptPart::new(input);
+    run_parts(alloc, &mut script, out)
+}
+
+/// Reads the plan of an input of which nothing was read yet, and runs the script that is left. The input stays the same one.
+fn run_parts<A: Allocator + Copy, R: Source, W: Sink>(
+    alloc: A,
+    script: &mut ScriptPart<'_, R>,
+    out: &mut W,
+) -> Result<Summary, JobFault>
+    requires held { script.old.held ≡ [] }
+    requires failed { script.old.failed ≡ false }
+    ensures same_input { script.new.input.ghost_name ≡ script.old.input.ghost_name }
+    ensures answers { PipeJobAnswers R.rest R.failed R.called script.old.input.now script.new.input.now (output W.taken out.old out.new) result }
+    ensures mark { W.failed out.new ≡ mark_after (W.failed out.old) result }
+{
+    match read_plan_part(alloc, script) {
         Ok(plan) => {
             plan.rules();
-            let mut script = part.into_script();
-            let ran = run_script_part(alloc, &plan, &mut script, out);
+            let ran = simulate(alloc, &plan, script, out);
             drop(plan);
             ran
         }
@@ -41,29 +52,24 @@ pub fn pipe_job<A: Allocator + Copy, R: Source, W: Sink>(
     }
 }
 
-/// Reads the plan. The input that the part stands over stays the same one.
+/// Reads the plan of what the input has left.
 fn read_plan_part<A: Allocator + Copy, R: Source>(
     alloc: A,
-    part: &mut PlanPart<'_, R>,
+    script: &mut ScriptPart<'_, R>,
 ) -> Result<Plan<A>, PlanFault>
-    ensures same_input { part.new.left.input.ghost_name ≡ part.old.left.input.ghost_name }
-    ensures answer { ReadsPlan (plan_rest R.rest part.old) (plan_rest R.rest part.new) (Broken (PlanCall R.rest R.failed R.called) part.new.left.failed source_calls part.old part.new) (part.new ≡ part.old) (told_fault result) }
-    ensures calls { CallsAtMost (PlanCall R.rest R.failed R.called) source_calls part.old part.new }
+    ensures { IsPlanTaken R.rest R.failed R.called script.old script.new (told_fault result) }
 {
-    read_plan_from(alloc, part)
+    let mut part = PlanPart::new(script);
+    read_part(alloc, &mut part)
 }
 
-/// Runs the script behind the plan. The input that the part stands over stays the same one.
-fn run_script_part<A: Allocator + Copy, R: Source, W: Sink>(
+/// Reads the plan. What the part is lent stays the same one.
+fn read_part<A: Allocator + Copy, R: Source>(
     alloc: A,
-    plan: &Plan<A>,
-    script: &mut ScriptPart<'_, R>,
-    out: &mut W,
-) -> Result<Summary, JobFault>
-    ensures same_input { script.new.input.ghost_name ≡ script.old.input.ghost_name }
-    ensures answers { ScriptRan plan.now (input (ahead R.rest) (λ s. s.failed) (ScriptCall R.rest R.failed R.called) script.old script.new) (output W.taken out.old out.new) result }
-    ensures mark { W.failed out.new ≡ mark_after (W.failed out.old) result }
-    ensures calls { CallsAtMost (ScriptCall R.rest R.failed R.called) source_calls script.old script.new }
+    part: &mut PlanPart<'_, '_, R>,
+) -> Result<Plan<A>, PlanFault>
+    ensures same_script { part.new.script.ghost_name ≡ part.old.script.ghost_name }
+    ensures read { PlanWasRead R.rest R.failed R.called part.old part.new (told_fault result) }
 {
-    simulate(alloc, plan, script, out)
+    read_plan_from(alloc, part)
 }

@@ -6,7 +6,7 @@ ghost use Rattle.tx_pipe.specs.inner.Reading.{ahead, Refilled};
 use crate::held::Held;
 use tx_text::{ReadFault, Source};
 
-/// What an input has left behind its plan, as a source: the rest of the piece that was read, and then the input.
+/// What an input has left, as a source: the rest of the piece that was read, and then the input. Once its plan was read, that is its script.
 #[derive(Drop)]
 pub struct ScriptPart<'a, R> {
     input: &'a mut R,
@@ -16,7 +16,7 @@ pub struct ScriptPart<'a, R> {
 
 impl<'a, R: Source> ScriptPart<'a, R> {
     /// The whole of an input, of which nothing was read yet.
-    pub(crate) fn whole(input: &'a mut R) -> ScriptPart<'a, R>
+    pub fn new(input: &'a mut R) -> ScriptPart<'a, R>
         ensures input { result.input ≡ input.entry }
         ensures held { result.held ≡ [] }
         ensures failed { result.failed ≡ false }

@@ -20,10 +20,10 @@ script_of seen left = option_map (λ t. drop (end_from seen t) t) left
 
 -- what is left of the plan, and what stands behind it
 abbrev pub plan_rest : {R : Type 0} → (R → Option (List ℕ)) → PlanPart R → Option (List ℕ)
-plan_rest rest p = plan_of p.seen (ahead rest p.left)
+plan_rest rest p = plan_of p.seen (ahead rest p.script.now)
 
 abbrev pub script_rest : {R : Type 0} → (R → Option (List ℕ)) → PlanPart R → Option (List ℕ)
-script_rest rest p = script_of p.seen (ahead rest p.left)
+script_rest rest p = script_of p.seen (ahead rest p.script.now)
 
 -- the answer of the call of the input that left these bytes held
 abbrev pub input_answer : Result (Unit {0}) ReadFault → List ℕ → Result ℕ ReadFault
@@ -63,10 +63,11 @@ pub record PartCall {R : Type 0} (rest : R → Option (List ℕ)) (failed : R �
 abbrev pub ScriptCall : {R : Type 0} → (R → Option (List ℕ)) → (R → Bool) → (ℕ → Result ℕ ReadFault → R → R → Type 0) → ℕ → Result ℕ ReadFault → ScriptPart R → ScriptPart R → Type 0
 ScriptCall rest failed called room answer old new = PartCall rest failed called false false room answer old new
 
--- A call of the plan takes bytes of the plan alone, and leaves the script as it is.
+-- A call of the plan takes bytes of the plan alone, and leaves the script as it is. It keeps what it is lent.
 pub record PlanCall {R : Type 0} (rest : R → Option (List ℕ)) (failed : R → Bool) (called : ℕ → Result ℕ ReadFault → R → R → Type 0) (room : ℕ) (answer : Result ℕ ReadFault) (old new : PlanPart R) : Type 0 where
-  pub part : PartCall rest failed called (is_over old.seen) (is_over new.seen) room answer old.left new.left
+  pub same_script : new.script.ghost_name ≡ old.script.ghost_name
+  pub part : PartCall rest failed called (is_over old.seen) (is_over new.seen) room answer old.script.now new.script.now
   pub script : script_rest rest new ≡ script_rest rest old
   pub given : List ℕ
   pub plan : plan_rest rest old ≡ prepend_known given (plan_rest rest new)
-  pub left : ahead rest old.left ≡ prepend_known given (ahead rest new.left)
+  pub left : ahead rest old.script.now ≡ prepend_known given (ahead rest new.script.now)

@@ -1,5 +1,5 @@
 -- Why the words of a command that was found are refused.
-use Rattle.std.specs.Prelude.{◌≡◌, ℕ, true, false, ◌&&◌, ◌||◌, List, Option, None, Some, codes, IsSomeAnd}
+use Rattle.std.specs.Prelude.{◌≡◌, ℕ, true, false, ◌&&◌, ◌||◌, List, Option, None, option_and_then, codes, IsSomeAnd}
 use Rattle.clap.specs.Words.{Row, first_of}
 use Rattle.tx_program.specs.Entries.{explanation}
 use Rattle.tx_program.specs.Faults.{has, IsRunInPart}
@@ -15,9 +15,8 @@ pub record IsDrawInPart (name : List ℕ) (found : List Row) : Type 0 where
 -- `explain` has a word that the table has not
 pub record IsNoCode (name : List ℕ) (found : List Row) : Type 0 where
   pub explain : name ≡ codes "explain"
-  pub word : List ℕ
-  pub given : first_of (codes "code") found ≡ Some word
-  pub unknown : explanation word ≡ None
+  pub given : has found (codes "code") ≡ true
+  pub unknown : option_and_then explanation (first_of (codes "code") found) ≡ None
 
 -- The words that were found are refused for this. That a word is missing, and want of memory, are left open.
 abbrev pub IsRefused : Option (List ℕ × List Row) → Refusal → Type 0

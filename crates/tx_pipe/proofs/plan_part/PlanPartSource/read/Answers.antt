@@ -54,10 +54,11 @@ returns-clause-call g c =
     let some : n ≤ length s.held = omega (arith, length-take-le m s.held m_within, within, m_within) in
     let short : length s.held ≤ 4096 = omega (arith, c.bytes-bytes.ensures.short, ap length held) in
     record {
+      same_script = refl;
       part =
           record {
             same_input = c.in_ok-refill.ensures.same_input;
-            input = input_called g.R.Source.called c.args.self.now.left s _ n some refl c.in_ok-refill.ensures.call;
+            input = input_called g.R.Source.called c.args.self.now.script.now s _ n some refl c.in_ok-refill.ensures.call;
             stays = λ over. absurd (false≢true (sym going ∙ over));
             going = λ _. going;
             emptied = λ much on. none_left n m (length c.args.buf.now) s.held c.give.new.self (c.take-n.ensures.all on ∙ ap (λ h. length (take m h)) held) least much short c.give.ensures.left;
