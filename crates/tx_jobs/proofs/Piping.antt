@@ -13,7 +13,7 @@ use Rattle.tx_plantext.specs.PlanText.{SaysPlan, ReadsPlan}
 use Rattle.tx_pipe.specs.declared.seen.Seen.TheVariants.{Blanks}
 use Rattle.tx_pipe.specs.declared.plan_part.PlanPart.{PlanPart}
 use Rattle.tx_pipe.specs.declared.script_part.ScriptPart.{ScriptPart}
-use Rattle.tx_pipe.specs.Parts.{plan_part, script_part, taken_from_plan}
+use Rattle.tx_pipe.specs.Parts.{plan_part, script_part, left_of_plan}
 use Rattle.tx_pipe.specs.inner.Seen.{is_over}
 use Rattle.tx_pipe.specs.inner.Reading.{left, as_script, plan_of, script_of, plan_rest, script_rest, PartCall, PlanCall, ScriptCall}
 use Rattle.tx_pipe.proofs.PartCalls as calls
@@ -26,7 +26,7 @@ use Rattle.tx_jobs.specs.Jobs.{ScriptRan}
 use Rattle.tx_jobs.specs.PipeJobs.{calls_behind, PipeRan, PipeRefused}
 use Rattle.tx_jobs.proofs.Breaking.{refused_with, simulated_with}
 
-subst2 : {X Y : Type 0} (P : X → Y → Type 0) {a b : X} {c d : Y} → a ≡ b → c ≡ d → P a c → P b d
+pub subst2 : {X Y : Type 0} (P : X → Y → Type 0) {a b : X} {c d : Y} → a ≡ b → c ≡ d → P a c → P b d
 subst2 P {a = a} {d = d} e f h = subst (λ x. P x d) e (subst (P a) f h)
 
 module _ {R : Type 0} (rest : R → Option (List ℕ)) (failed : R → Bool) (called : ℕ → Result ℕ ReadFault → R → R → Type 0) where
@@ -77,7 +77,7 @@ module _ {R : Type 0} (rest : R → Option (List ℕ)) (failed : R → Bool) (ca
     script_is : script_rest rest c ≡ option_map script_part (rest old)
     script_is = took.script ∙ (λ i. script_of (blank i) (prepend_known (none i) (rest old))) ∙ whole_script (rest old)
 
-    plan_new : plan_rest rest c ≡ taken_from_plan (rest old) (rest mid)
+    plan_new : plan_rest rest c ≡ left_of_plan (rest old) (rest mid)
     plan_new =
         plan_left c.seen c.ahead.now.held took.given (rest old) (rest mid) (sym plan_is ∙ took.plan) (sym whole ∙ took.gone)
         (calls.calls_emptied rest failed called taken_from over_of (PlanCall rest failed called) of_plan source_calls a c none k)
