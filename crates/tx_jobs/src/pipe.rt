@@ -1,15 +1,18 @@
 // The job of the program without words.
-ghost use Rattle.std.specs.Prelude.{◌≡◌, [], false};
+ghost use Rattle.std.specs.Prelude.{◌≡◌};
+ghost use Rattle.tx_text.specs.Calls.{Broken, CallsAtMost, source_calls};
 ghost use Rattle.tx_text.specs.Said.{told_fault};
+ghost use Rattle.tx_plantext.specs.PlanText.{ReadsPlan};
+ghost use Rattle.tx_pipe.specs.inner.Reading.{left, plan_rest, PlanCall, ScriptCall};
 ghost use Rattle.tx_jobs.specs.JobFaults.{mark_after};
-ghost use Rattle.tx_jobs.specs.JobEnds.{output};
+ghost use Rattle.tx_jobs.specs.JobEnds.{input, output};
+ghost use Rattle.tx_jobs.specs.Jobs.{ScriptRan};
 ghost use Rattle.tx_jobs.specs.PipeJobs.{PipeJobAnswers};
-ghost use Rattle.tx_jobs.specs.inner.PlanTaken.{PlanWasRead, IsPlanTaken};
 
 use crate::job_fault::JobFault;
 use crate::simulate::simulate;
 use std::alloc::Allocator;
-use tx_pipe::{PlanPart, ScriptPart};
+use tx_pipe::{Ahead, PlanPart, ScriptPart};
 use tx_plan::Plan;
 use tx_plantext::{PlanFault, read_plan_from};
 use tx_script::Summary;
@@ -25,26 +28,13 @@ pub fn pipe_job<A: Allocator + Copy, R: Source, W: Sink>(
     ensures answers { PipeJobAnswers R.rest R.failed R.called input.old input.new (output W.taken out.old out.new) result }
     ensures mark { W.failed out.new ≡ mark_after (W.failed out.old) result }
 {
-    let mut script = ScriptPart::new(input);
-    run_parts(alloc, &mut script, out)
-}
-
-/// Reads the plan of an input of which nothing was read yet, and runs the script that is left. The input stays the same one.
-fn run_parts<A: Allocator + Copy, R: Source, W: Sink>(
-    alloc: A,
-    script: &mut ScriptPart<'_, R>,
-    out: &mut W,
-) -> Result<Summary, JobFault>
-    requires held { script.old.held ≡ [] }
-    requires failed { script.old.failed ≡ false }
-    ensures same_input { script.new.input.ghost_name ≡ script.old.input.ghost_name }
-    ensures answers { PipeJobAnswers R.rest R.failed R.called script.old.input.now script.new.input.now (output W.taken out.old out.new) result }
-    ensures mark { W.failed out.new ≡ mark_after (W.failed out.old) result }
-{
-    match read_plan_part(alloc, script) {
+    let mut ahead = Ahead::new();
+    let mut part = PlanPart::new(input, &mut ahead);
+    match read_plan_part(alloc, &mut part) {
         Ok(plan) => {
             plan.rules();
-            let ran = simulate(alloc, &plan, script, out);
+            let mut script = ScriptPart::new(input, &mut ahead);
+            let ran = run_script_part(alloc, &plan, &mut script, out);
             drop(plan);
             ran
         }
@@ -52,24 +42,31 @@ fn run_parts<A: Allocator + Copy, R: Source, W: Sink>(
     }
 }
 
-/// Reads the plan of what the input has left.
+/// Reads the plan. The part keeps what it is lent.
 fn read_plan_part<A: Allocator + Copy, R: Source>(
     alloc: A,
-    script: &mut ScriptPart<'_, R>,
+    part: &mut PlanPart<'_, R>,
 ) -> Result<Plan<A>, PlanFault>
-    ensures { IsPlanTaken R.rest R.failed R.called script.old script.new (told_fault result) }
-{
-    let mut part = PlanPart::new(script);
-    read_part(alloc, &mut part)
-}
-
-/// Reads the plan. What the part is lent stays the same one.
-fn read_part<A: Allocator + Copy, R: Source>(
-    alloc: A,
-    part: &mut PlanPart<'_, '_, R>,
-) -> Result<Plan<A>, PlanFault>
-    ensures same_script { part.new.script.ghost_name ≡ part.old.script.ghost_name }
-    ensures read { PlanWasRead R.rest R.failed R.called part.old part.new (told_fault result) }
+    ensures same_input { part.new.input.ghost_name ≡ part.old.input.ghost_name }
+    ensures same_ahead { part.new.ahead.ghost_name ≡ part.old.ahead.ghost_name }
+    ensures answer { ReadsPlan (plan_rest R.rest part.old) (plan_rest R.rest part.new) (Broken (PlanCall R.rest R.failed R.called) part.new.ahead.now.failed source_calls part.old part.new) (part.new ≡ part.old) (told_fault result) }
+    ensures calls { CallsAtMost (PlanCall R.rest R.failed R.called) source_calls part.old part.new }
 {
     read_plan_from(alloc, part)
+}
+
+/// Runs the script behind the plan. The part keeps what it is lent.
+fn run_script_part<A: Allocator + Copy, R: Source, W: Sink>(
+    alloc: A,
+    plan: &Plan<A>,
+    script: &mut ScriptPart<'_, R>,
+    out: &mut W,
+) -> Result<Summary, JobFault>
+    ensures same_input { script.new.input.ghost_name ≡ script.old.input.ghost_name }
+    ensures same_ahead { script.new.ahead.ghost_name ≡ script.old.ahead.ghost_name }
+    ensures answers { ScriptRan plan.now (input (left R.rest) (λ s. s.ahead.now.failed) (ScriptCall R.rest R.failed R.called) script.old script.new) (output W.taken out.old out.new) result }
+    ensures mark { W.failed out.new ≡ mark_after (W.failed out.old) result }
+    ensures calls { CallsAtMost (ScriptCall R.rest R.failed R.called) source_calls script.old script.new }
+{
+    simulate(alloc, plan, script, out)
 }

@@ -14,16 +14,23 @@ module _ {R S : Type 0} (rest : R → Option (List ℕ)) (failed : R → Bool) (
   abbrev pub input : S → R
   input s = (part s).input.now
 
-  -- THE INPUT THAT IS LENT stays the same
+  -- WHAT IS LENT stays the same
 
-  gave_same : (n : ℕ) (a c : S) → Gave call n a c → (part c).input.ghost_name ≡ (part a).input.ghost_name
+  pub record Same (a c : S) : Type 0 where
+    pub input : (part c).input.ghost_name ≡ (part a).input.ghost_name
+    pub ahead : (part c).ahead.ghost_name ≡ (part a).ahead.ghost_name
+
+  same_on : (a b c : S) (n : ℕ) (r : Result ℕ ReadFault) → Same a b → call n r b c → Same a c
+  same_on a b c n r s k = let q = is n r b c k in record { input = q.same_input ∙ s.input; ahead = q.same_ahead ∙ s.ahead }
+
+  gave_same : (n : ℕ) (a c : S) → Gave call n a c → Same a c
   unfolding Gave
-  gave_same zero a c e = ap (λ s. (part s).input.ghost_name) (sym e)
-  gave_same (suc n) a c (b, g, (m, some, k)) = (is 4096 (Ok m) b c k).same_input ∙ gave_same n a b g
+  gave_same zero a c e = subst (Same a) e (record { input = refl; ahead = refl })
+  gave_same (suc n) a c (b, g, (m, some, k)) = same_on a b c 4096 (Ok m) (gave_same n a b g) k
 
-  pub calls_same : (most : ℕ) (a c : S) → CallsAtMost call most a c → (part c).input.ghost_name ≡ (part a).input.ghost_name
+  pub calls_same : (most : ℕ) (a c : S) → CallsAtMost call most a c → Same a c
   calls_same most a c (inl (left, (n, e, g))) = gave_same n a c g
-  calls_same most a c (inr (left, b, (n, e, g), (r, k))) = (is 4096 r b c k).same_input ∙ gave_same n a b g
+  calls_same most a c (inr (left, b, (n, e, g), (r, k))) = same_on a b c 4096 r (gave_same n a b g) k
 
   -- HOW OFTEN IT IS CALLED
 
@@ -71,7 +78,7 @@ module _ {R S : Type 0} (rest : R → Option (List ℕ)) (failed : R → Bool) (
 
   -- what a mark of the part means
   abbrev IsMarked : S → Type 0
-  IsMarked s = (part s).failed ≡ true → failed (input s) ≡ true
+  IsMarked s = (part s).ahead.now.failed ≡ true → failed (input s) ≡ true
 
   gave_marked : (n : ℕ) (a c : S) → Gave call n a c → IsMarked a → IsMarked c
   unfolding Gave
@@ -79,19 +86,19 @@ module _ {R S : Type 0} (rest : R → Option (List ℕ)) (failed : R → Bool) (
   gave_marked (suc n) a c (b, g, (m, some, k)) before = λ bad. absurd (unmarked _ bad (is 4096 (Ok m) b c k).mark)
 
   -- Where the part has failed, the input has, if it had before.
-  pub input_failed : (most : ℕ) (a c : S) → CallsAtMost call most a c → ((part a).failed ≡ true → failed (input a) ≡ true) → (part c).failed ≡ true → failed (input c) ≡ true
+  pub input_failed : (most : ℕ) (a c : S) → CallsAtMost call most a c → ((part a).ahead.now.failed ≡ true → failed (input a) ≡ true) → (part c).ahead.now.failed ≡ true → failed (input c) ≡ true
   input_failed most a c (inl (left, (n, e, g))) before = gave_marked n a c g before
   input_failed most a c (inr (left, b, w, (Ok k, p))) before = λ bad. absurd (unmarked _ bad (is 4096 (Ok k) b c p).mark)
   input_failed most a c (inr (left, b, (n, e, g), (Err x, p))) before = λ _. by (is 4096 (Err x) b c p).fails
     where
-      by : (((part b).failed ≡ true) × (input c ≡ input b)) ⊎ (failed (input c) ≡ true) → failed (input c) ≡ true
+      by : (((part b).ahead.now.failed ≡ true) × (input c ≡ input b)) ⊎ (failed (input c) ≡ true) → failed (input c) ≡ true
       by (inl h) = ap failed h.1 ∙ gave_marked n a b g before h.0
       by (inr h) = h
 
   -- WHAT IS HELD: nothing behind a call, unless the part is over
 
   abbrev IsEmptied : S → Type 0
-  IsEmptied c = over c ≡ false → (part c).held ≡ []
+  IsEmptied c = over c ≡ false → (part c).ahead.now.held ≡ []
 
   left_empty : (b c : S) → Gives call b c → IsEmptied c
   left_empty b c (k, some, p) = (is 4096 (Ok k) b c p).emptied (omega arith)
@@ -116,32 +123,32 @@ module _ {R S : Type 0} (rest : R → Option (List ℕ)) (failed : R → Bool) (
       by (inr h) = absurd (h.held some (empty (q.going some)))
 
   -- Where nothing was held at first, so many calls that gave bytes are as many of the input.
-  pub gave_empty : (n : ℕ) (a c : S) → (part a).held ≡ [] → Gave call n a c → Gave called n (input a) (input c) × IsEmptied c
+  pub gave_empty : (n : ℕ) (a c : S) → (part a).ahead.now.held ≡ [] → Gave call n a c → Gave called n (input a) (input c) × IsEmptied c
   unfolding Gave
-  gave_empty zero a c none e = (ap input e, λ _. subst (λ s. (part s).held ≡ []) e none)
+  gave_empty zero a c none e = (ap input e, λ _. subst (λ s. (part s).ahead.now.held ≡ []) e none)
   gave_empty (suc n) a c none (b, g, h) = let i = gave_empty n a b none g in ((input b, i.0, read_on b c i.1 h), left_empty b c h)
 
   -- Where bytes were held, the first call that gave bytes gave of those.
-  first_held : (x : ℕ) (held : List ℕ) (a c : S) → (part a).held ≡ x ∷ held → Gives call a c → input a ≡ input c
+  first_held : (x : ℕ) (held : List ℕ) (a c : S) → (part a).ahead.now.held ≡ x ∷ held → Gives call a c → input a ≡ input c
   first_held x held a c e (k, some, p) = by (is 4096 (Ok k) a c p).input
     where
       by : CalledInput called (Ok k) (part a) (part c) ⊎ LeftInput (Ok k) (part a) (part c) → input a ≡ input c
-      by (inl h) = let none : (part a).held ≡ [] = h.empty in let bad : ⊥ = cc in absurd bad
+      by (inl h) = let none : (part a).ahead.now.held ≡ [] = h.empty in let bad : ⊥ = cc in absurd bad
       by (inr h) = sym h.same
 
   -- And so many calls are one more than those of the input.
-  pub gave_held : (n : ℕ) (x : ℕ) (held : List ℕ) (a c : S) → (part a).held ≡ x ∷ held → Gave call (suc n) a c → Gave called n (input a) (input c) × IsEmptied c
+  pub gave_held : (n : ℕ) (x : ℕ) (held : List ℕ) (a c : S) → (part a).ahead.now.held ≡ x ∷ held → Gave call (suc n) a c → Gave called n (input a) (input c) × IsEmptied c
   unfolding Gave
   gave_held zero x held a c e (b, same, h) = (first_held x held a c e (subst (λ s. Gives call s c) (sym same) h), left_empty b c h)
   gave_held (suc n) x held a c e (b, g, h) = let i = gave_held n x held a b e g in ((input b, i.0, read_on b c i.1 h), left_empty b c h)
 
-  pub calls_emptied : (most : ℕ) (a c : S) → (part a).held ≡ [] → CallsAtMost call most a c → over c ≡ false → (part c).held ≡ []
+  pub calls_emptied : (most : ℕ) (a c : S) → (part a).ahead.now.held ≡ [] → CallsAtMost call most a c → over c ≡ false → (part c).ahead.now.held ≡ []
   calls_emptied most a c none (inl (left, (n, e, g))) = (gave_empty n a c none g).1
   calls_emptied most a c none (inr (left, b, (n, e, g), last)) = last_empty b c (gave_empty n a b none g).1 last
 
   -- Nothing is held, or the input was not called.
   abbrev Given : S → S → Type 0
-  Given a c = (over c ≡ false → (part c).held ≡ []) ⊎ (input c ≡ input a)
+  Given a c = (over c ≡ false → (part c).ahead.now.held ≡ []) ⊎ (input c ≡ input a)
 
   gave_given : (n : ℕ) (a c : S) → Gave call n a c → Given a c
   unfolding Gave

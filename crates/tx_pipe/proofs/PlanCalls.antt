@@ -11,7 +11,7 @@ use Rattle.tx_pipe.specs.declared.seen.Seen.TheVariants.{Blanks}
 use Rattle.tx_pipe.specs.declared.plan_part.PlanPart.{PlanPart}
 use Rattle.tx_pipe.specs.Parts.{plan_part, script_part, left_of_plan}
 use Rattle.tx_pipe.specs.inner.Seen.{is_over, end_from}
-use Rattle.tx_pipe.specs.inner.Reading.{ahead, plan_of, script_of, plan_rest, script_rest, PlanCall}
+use Rattle.tx_pipe.specs.inner.Reading.{left, as_script, plan_of, script_of, plan_rest, script_rest, PlanCall}
 use Rattle.tx_pipe.proofs.Cutting.{end_on, end_over, seen_cut}
 
 pub prepend_none : (o : Option (List ℕ)) → o ≡ prepend_known [] o
@@ -28,10 +28,10 @@ module _ {R : Type 0} (rest : R → Option (List ℕ)) (failed : R → Bool) (ca
     pub script : script_rest rest c ≡ script_rest rest a
     pub given : List ℕ
     pub plan : plan_rest rest a ≡ prepend_known given (plan_rest rest c)
-    pub left : ahead rest a.script.now ≡ prepend_known given (ahead rest c.script.now)
+    pub gone : left rest (as_script a) ≡ prepend_known given (left rest (as_script c))
 
   took_none : (a c : PlanPart R) → a ≡ c → Took a c
-  took_none a c e = subst (Took a) e (record { script = refl; given = []; plan = prepend_none (plan_rest rest a); left = prepend_none (ahead rest a.script.now) })
+  took_none a c e = subst (Took a) e (record { script = refl; given = []; plan = prepend_none (plan_rest rest a); gone = prepend_none (left rest (as_script a)) })
 
   took_on : (a b c : PlanPart R) (n : ℕ) (r : Result ℕ ReadFault) → Took a b → PlanCall rest failed called n r b c → Took a c
   took_on a b c n r t k =
@@ -39,7 +39,7 @@ module _ {R : Type 0} (rest : R → Option (List ℕ)) (failed : R → Bool) (ca
         script = k.script ∙ t.script;
         given = t.given ++ k.given;
         plan = t.plan ∙ ap (prepend_known t.given) k.plan ∙ prepend_twice t.given k.given (plan_rest rest c);
-        left = t.left ∙ ap (prepend_known t.given) k.left ∙ prepend_twice t.given k.given (ahead rest c.script.now);
+        gone = t.gone ∙ ap (prepend_known t.given) k.gone ∙ prepend_twice t.given k.given (left rest (as_script c));
       }
 
   gave_took : (n : ℕ) (a c : PlanPart R) → Gave (PlanCall rest failed called) n a c → Took a c
@@ -50,16 +50,6 @@ module _ {R : Type 0} (rest : R → Option (List ℕ)) (failed : R → Bool) (ca
   pub calls_took : (most : ℕ) (a c : PlanPart R) → CallsAtMost (PlanCall rest failed called) most a c → Took a c
   calls_took most a c (inl (left, (n, e, g))) = gave_took n a c g
   calls_took most a c (inr (left, b, (n, e, g), (r, k))) = took_on a b c 4096 r (gave_took n a b g) k
-
-  gave_lent : (n : ℕ) (a c : PlanPart R) → Gave (PlanCall rest failed called) n a c → c.script.ghost_name ≡ a.script.ghost_name
-  unfolding Gave
-  gave_lent zero a c e = ap (λ (p : PlanPart R). p.script.ghost_name) (sym e)
-  gave_lent (suc n) a c (b, g, (m, some, k)) = k.same_script ∙ gave_lent n a b g
-
-  -- What the plan is lent stays the same one.
-  pub calls_lent : (most : ℕ) (a c : PlanPart R) → CallsAtMost (PlanCall rest failed called) most a c → c.script.ghost_name ≡ a.script.ghost_name
-  calls_lent most a c (inl (left, (n, e, g))) = gave_lent n a c g
-  calls_lent most a c (inr (left, b, (n, e, g), (r, k))) = k.same_script ∙ gave_lent n a b g
 
 -- THE CUT, before anything was read
 

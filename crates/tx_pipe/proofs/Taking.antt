@@ -7,6 +7,7 @@ use Rattle.std.proofs.lemmas.List.{append_assoc, take-append-drop, length-take-l
 use Rattle.tx_pipe.specs.declared.seen.Seen.{Seen}
 use Rattle.tx_pipe.specs.inner.Seen.{after, is_over, end_from}
 use Rattle.tx_text.specs.declared.source.ReadFault.{ReadFault}
+use Rattle.tx_pipe.specs.declared.ahead.Ahead.{Ahead}
 use Rattle.tx_pipe.specs.declared.script_part.ScriptPart.{ScriptPart}
 use Rattle.tx_pipe.specs.inner.Reading.{plan_of, script_of, Refilled, CalledInput, LeftInput}
 use Rattle.tx_pipe.proofs.Cutting.{end_on}
@@ -105,14 +106,8 @@ none_left n m room held left all least much short is =
     let whole : m ≡ length held = omega (arith, least, much, short) in is ∙ drop_all n held (omega (arith, all, ap length (take_all m held (omega (arith, whole)))))
 
 -- It gave bytes that were held, or called the input.
-pub input_called : {R : Type 0} (called : ℕ → Result ℕ ReadFault → R → R → Type 0) (old filled new : ScriptPart R) (n : ℕ) → n ≤ length filled.held → new.input.now ≡ filled.input.now → Refilled called (Ok tt) old filled
-    → CalledInput called (Ok n) old new ⊎ LeftInput (Ok n) old new
-input_called called old filled new n within same (inl (full, ok, held, kept)) = inr (record { same = same ∙ kept; held = λ _. full })
-input_called called old filled new n within same (inr (empty, call)) =
-    inl
-    (record {
-      empty = empty;
-      reply = Ok (length filled.held);
-      call = subst (called 4096 (Ok (length filled.held)) old.input.now) (sym same) call;
-      gave = λ some. (length filled.held, omega (arith, some, within), refl);
-    })
+pub input_called : {R : Type 0} (called : ℕ → Result ℕ ReadFault → R → R → Type 0) (old new : ScriptPart R) (filled : Ahead) (n : ℕ) → n ≤ length filled.held
+    → Refilled called (Ok tt) old.ahead.now filled old.input.now new.input.now → CalledInput called (Ok n) old new ⊎ LeftInput (Ok n) old new
+input_called called old new filled n within (inl (full, ok, held, same)) = inr (record { same = same; held = λ _. full })
+input_called called old new filled n within (inr (empty, call)) =
+    inl (record { empty = empty; reply = Ok (length filled.held); call = call; gave = λ some. (length filled.held, omega (arith, some, within), refl) })

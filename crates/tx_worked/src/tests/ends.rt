@@ -2,7 +2,7 @@
 use crate::cases::{Told, tell, tell_broken, tell_count, tell_parts};
 use crate::tests::flaky::Flaky;
 use std::alloc::Global;
-use tx_pipe::{PlanPart, ScriptPart};
+use tx_pipe::{Ahead, PlanPart, ScriptPart};
 use tx_text::{
     FromRead, MemorySink, MemorySource, Sink, Source, ToWrite, WriteFault, write_bytes, write_parts,
 };
@@ -36,9 +36,10 @@ pub(crate) fn tell_sources(text: &[u8], piece: usize, out: &mut Told) {
 pub(crate) fn tell_two_texts(text: &[u8], piece: usize, fails: u64, room: usize, out: &mut Told) {
     let fails_at = if fails > 0 { Some(fails) } else { None };
     let mut source = MemorySource::new(text, piece.max(1), fails_at);
-    let mut script = ScriptPart::new(&mut source);
-    let mut plan = PlanPart::new(&mut script);
+    let mut ahead = Ahead::new();
+    let mut plan = PlanPart::new(&mut source, &mut ahead);
     tell_reads(&mut plan, 5, room, out);
+    let mut script = ScriptPart::new(&mut source, &mut ahead);
     tell_reads(&mut script, 3, room, out);
 }
 

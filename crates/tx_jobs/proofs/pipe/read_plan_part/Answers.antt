@@ -1,13 +1,9 @@
-use Rattle.std.proofs.Common.{ap, refl}
+use Rattle.tx_text.specs.Calls.{source_calls}
+use Rattle.tx_jobs.proofs.Piping.{plan_same}
 use Rattle.tx_jobs.proofs.pipe.read_plan_part.Goals as goal
 
-pub returns : goal.returns
-returns g c =
-    record {
-      begun = c.new-part.result;
-      done = c.read_part.new.part;
-      blank = c.new-part.ensures.seen;
-      lent = ap (λ b. b.now) c.new-part.ensures.script;
-      left = refl;
-      read = c.read_part.ensures.read;
-    }
+pub returns-clause-same_input : goal.returns-clause-same_input
+returns-clause-same_input g c = (plan_same g.R.Source.rest g.R.Source.failed g.R.Source.called source_calls c.args.part.now c.read_plan_from.new.source c.read_plan_from.ensures.calls).input
+
+pub returns-clause-same_ahead : goal.returns-clause-same_ahead
+returns-clause-same_ahead g c = (plan_same g.R.Source.rest g.R.Source.failed g.R.Source.called source_calls c.args.part.now c.read_plan_from.new.source c.read_plan_from.ensures.calls).ahead

@@ -5,6 +5,6 @@ use Rattle.tx_pipe.proofs.script_part.ScriptPartSource.read.Goals as goal
 
 pub returns-clause-bytes : goal.returns-clause-bytes
 returns-clause-bytes g c =
-    let s = c.refill.new.self in
-    sym c.in_ok-refill.ensures.ahead ∙ split_known c.min-n.result s.held (g.R.Source.rest s.input.now)
-    ∙ (λ i. prepend_known (sym c.give.ensures.given i) (prepend_known (sym c.give.ensures.left i) (g.R.Source.rest s.input.now)))
+    let input = g.R.Source.rest c.refill.new.input in
+    sym c.in_ok-refill.ensures.bytes ∙ split_known c.min-n.result c.refill.new.self.held input
+    ∙ (λ i. prepend_known (sym c.give.ensures.given i) (prepend_known (sym c.give.ensures.left i) input))
