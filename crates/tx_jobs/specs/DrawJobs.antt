@@ -11,7 +11,9 @@ use Rattle.tx_jobs.specs.Shown.{first_shown}
 use Rattle.tx_jobs.specs.CodeDrawing.{code_drawing}
 use Rattle.tx_audit.specs.Audits.{IsAllFound}
 use Rattle.tx_jobs.specs.declared.job_fault.JobFault.{JobFault}
-use Rattle.tx_jobs.specs.declared.job_fault.JobFault.TheVariants.{Write, NoMemory, UnknownCode}
+use Rattle.tx_jobs.specs.declared.job_fault.JobFault.TheVariants.{Write, NoMemory}
+use Rattle.tx_jobs.specs.declared.drawn.Drawn.{Drawn}
+use Rattle.tx_jobs.specs.declared.drawn.Drawn.TheVariants.{Picture, NoSuchCode}
 use Rattle.tx_jobs.specs.JobEnds.{Input, Output}
 use Rattle.tx_jobs.specs.Jobs.{PlanRead, PlanRefused}
 
@@ -29,31 +31,32 @@ pub record IsCodePicture (A : Type 0) (p : Plan) (c : ℕ) (bounds : Option (ℕ
   pub is : text ≡ code_drawing p c marks (first_shown c findings)
 
 -- the text was written, or a front of it before the sink failed
-abbrev pub ToldText : List ℕ → Output → Result (Unit {0}) JobFault → Type 0
-ToldText text out (Ok x) = out.new ≡ append_known out.old text
+abbrev pub ToldText : List ℕ → Output → Result Drawn JobFault → Type 0
+ToldText text out (Ok Picture) = out.new ≡ append_known out.old text
+ToldText text out (Ok NoSuchCode) = ⊥
 ToldText text out (Err Write) = StopsIn out.old out.new text
 ToldText text out (Err other) = ⊥
 
 -- the picture of the code was written
-pub record CodeDrawn (A : Type 0) (p : Plan) (c : ℕ) (bounds : Option (ℕ × ℕ)) (out : Output) (result : Result (Unit {0}) JobFault) : Type 0 where
+pub record CodeDrawn (A : Type 0) (p : Plan) (c : ℕ) (bounds : Option (ℕ × ℕ)) (out : Output) (result : Result Drawn JobFault) : Type 0 where
   pub text : List ℕ
   pub picture : IsCodePicture A p c bounds text
   pub told : ToldText text out result
 
 -- it was written, or there was no memory for it, and nothing was written
-abbrev pub DrewCode : (A : Type 0) → Plan → ℕ → Option (ℕ × ℕ) → Output → Result (Unit {0}) JobFault → Type 0
+abbrev pub DrewCode : (A : Type 0) → Plan → ℕ → Option (ℕ × ℕ) → Output → Result Drawn JobFault → Type 0
 DrewCode A p c bounds out result = CodeDrawn A p c bounds out result ⊎ ((result ≡ Err NoMemory) × out.silent)
 
 -- the code of some figures was drawn, or the plan has none, and nothing was written
-abbrev pub DrewNamed : (A : Type 0) → Plan → Option ℕ → Option (ℕ × ℕ) → Output → Result (Unit {0}) JobFault → Type 0
+abbrev pub DrewNamed : (A : Type 0) → Plan → Option ℕ → Option (ℕ × ℕ) → Output → Result Drawn JobFault → Type 0
 DrewNamed A p (Some c) bounds out result = DrewCode A p c bounds out result
-DrewNamed A p None bounds out result = (result ≡ Err UnknownCode) × out.silent
+DrewNamed A p None bounds out result = (result ≡ Ok NoSuchCode) × out.silent
 
 -- THE PICTURE of a plan, or of the code of some figures
-abbrev pub Drew : (A : Type 0) → Plan → Option (List ℕ) → Option (ℕ × ℕ) → Output → Result (Unit {0}) JobFault → Type 0
+abbrev pub Drew : (A : Type 0) → Plan → Option (List ℕ) → Option (ℕ × ℕ) → Output → Result Drawn JobFault → Type 0
 Drew A p None bounds out result = ToldText (drawing p) out result
 Drew A p (Some figures) bounds out result = DrewNamed A p (code_named p figures) bounds out result
 
 -- `draw PLAN [--code C] [--limit L --spare K]`
-abbrev pub DrawJobAnswers : (A : Type 0) → (code : Option (List ℕ)) → Option (ℕ × ℕ) → Input → Output → Result (Unit {0}) JobFault → Type 0
+abbrev pub DrawJobAnswers : (A : Type 0) → (code : Option (List ℕ)) → Option (ℕ × ℕ) → Input → Output → Result Drawn JobFault → Type 0
 DrawJobAnswers A code bounds plan out result = PlanRead plan (λ p. Drew A p code bounds out result) ⊎ PlanRefused plan out.silent result

@@ -19,9 +19,9 @@ use Rattle.tx_script.specs.declared.run_cause.RunCause.{RunCause}
 use Rattle.tx_script.specs.declared.run_cause.RunCause.TheVariants.{Read as RunRead, Write as RunWrite, Script as RunScript, NoMemory as RunNoMemory}
 use Rattle.tx_script.specs.ScriptFaults.{fault_row as script_row}
 use Rattle.tx_jobs.specs.declared.job_fault.JobFault.{JobFault}
-use Rattle.tx_jobs.specs.declared.job_fault.JobFault.TheVariants.{Plan, Cert, Script, Read, Write, NoMemory, UnknownCode}
+use Rattle.tx_jobs.specs.declared.job_fault.JobFault.TheVariants.{Plan, Cert, Script, Read, Write, NoMemory}
 
--- 2 for a refused text, 3 for a read or a write fault, 4 for want of memory, 64 for a code that the plan has not
+-- 2 for a refused text, 3 for a read or a write fault, 4 for want of memory
 abbrev pub status_of : JobFault → ℕ
 status_of (Plan f) = 2
 status_of (Cert f) = 2
@@ -29,7 +29,6 @@ status_of (Script f) = 2
 status_of Read = 3
 status_of Write = 3
 status_of NoMemory = 4
-status_of UnknownCode = 64
 
 -- A failure to read and a want of memory are told as such.
 abbrev pub plan_fault_by : FaultAt PlanWord → FaultKind PlanWord → JobFault
@@ -74,7 +73,6 @@ mark_by old (Script f) = old
 mark_by old Read = old
 mark_by old Write = true
 mark_by old NoMemory = old
-mark_by old UnknownCode = old
 
 abbrev pub mark_after : {X : Type 0} → Bool → Result X JobFault → Bool
 mark_after old (Ok x) = old
@@ -92,4 +90,3 @@ fault_line (Script f) = text_fault_line (codes "script") f.line (script_row f.ki
 fault_line Read = codes "telexplan: read fault\n"
 fault_line Write = codes "telexplan: write fault\n"
 fault_line NoMemory = codes "telexplan: no memory\n"
-fault_line UnknownCode = codes "telexplan: no such code in the plan\n"

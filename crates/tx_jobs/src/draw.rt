@@ -6,6 +6,7 @@ ghost use Rattle.tx_jobs.specs.JobFaults.{mark_after};
 ghost use Rattle.tx_jobs.specs.JobEnds.{input, output};
 ghost use Rattle.tx_jobs.specs.DrawJobs.{AreToShow, ToldText, DrewCode, Drew, DrawJobAnswers};
 
+use crate::drawn::Drawn;
 use crate::job_fault::JobFault;
 use crate::{reached, write_code_drawing, write_drawing};
 use std::alloc::Allocator;
@@ -17,14 +18,15 @@ use tx_text::{NoMemory, Sink, Source, WriteFault};
 /// Reads a plan, and writes its picture; with the figures of a code that of the routes for the code, and with a limit and a spare number too that with the
 /// walk of the code's first finding.
 ///
-/// Nothing is written where the plan is refused or has no such code, or where memory is wanting. Without a code the limit and the spare number change nothing.
+/// Answers whether the picture was written, or the plan has no such code. Nothing is written where it has none or is refused, or where memory is wanting.
+/// Without a code the limit and the spare number change nothing.
 pub fn draw_job<A: Allocator + Copy, P: Source, W: Sink>(
     alloc: A,
     plan: &mut P,
     code: Option<&[u8]>,
     bounds: Option<(u8, u8)>,
     out: &mut W,
-) -> Result<(), JobFault>
+) -> Result<Drawn, JobFault>
     requires limit { IfSome bounds (λ b. b.0 ≤ 62) }
     requires spare { IfSome bounds (λ b. b.1 ≤ 15) }
     ensures answers { DrawJobAnswers A (option_map (λ f. f.now) code.entry) bounds (input P.rest P.failed P.called plan.old plan.new) (output W.taken out.old out.new) result }
@@ -49,7 +51,7 @@ fn draw_plan<A: Allocator + Copy, W: Sink>(
     code: Option<&[u8]>,
     bounds: Option<(u8, u8)>,
     out: &mut W,
-) -> Result<(), JobFault>
+) -> Result<Drawn, JobFault>
     requires limit { IfSome bounds (λ b. b.0 ≤ 62) }
     requires spare { IfSome bounds (λ b. b.1 ≤ 15) }
     ensures drew { Drew A plan.now (option_map (λ f. f.now) code.entry) bounds (output W.taken out.old out.new) result }
@@ -59,17 +61,17 @@ fn draw_plan<A: Allocator + Copy, W: Sink>(
         None => draw_whole(plan, out),
         Some(figures) => match plan.code_named(figures) {
             Some(code) => draw_code(alloc, plan, code, bounds, out),
-            None => Err(JobFault::UnknownCode),
+            None => Ok(Drawn::NoSuchCode),
         },
     }
 }
 
-fn draw_whole<A: Allocator, W: Sink>(plan: &Plan<A>, out: &mut W) -> Result<(), JobFault>
+fn draw_whole<A: Allocator, W: Sink>(plan: &Plan<A>, out: &mut W) -> Result<Drawn, JobFault>
     ensures told { ToldText (drawing plan.now) (output W.taken out.old out.new) result }
     ensures mark { W.failed out.new ≡ mark_after (W.failed out.old) result }
 {
     match write_drawing(plan, out) {
-        Ok(()) => Ok(()),
+        Ok(()) => Ok(Drawn::Picture),
         Err(WriteFault) => Err(JobFault::Write),
     }
 }
@@ -80,7 +82,7 @@ fn draw_code<A: Allocator + Copy, W: Sink>(
     code: CodeId,
     bounds: Option<(u8, u8)>,
     out: &mut W,
-) -> Result<(), JobFault>
+) -> Result<Drawn, JobFault>
     requires code { code < length plan.now.codes }
     requires limit { IfSome bounds (λ b. b.0 ≤ 62) }
     requires spare { IfSome bounds (λ b. b.1 ≤ 15) }
@@ -121,7 +123,7 @@ fn draw_finding<A: Allocator + Copy, W: Sink>(
     bounds: Option<(u8, u8)>,
     findings: &[Finding<A>],
     out: &mut W,
-) -> Result<(), JobFault>
+) -> Result<Drawn, JobFault>
     requires code { code < length plan.now.codes }
     requires found { AreToShow plan.now bounds findings.now }
     ensures drew { DrewCode A plan.now code bounds (output W.taken out.old out.new) result }
@@ -129,7 +131,7 @@ fn draw_finding<A: Allocator + Copy, W: Sink>(
 {
     match reached(alloc, plan, code) {
         Ok(marks) => match write_code_drawing(plan, code, &marks, findings, out) {
-            Ok(()) => Ok(()),
+            Ok(()) => Ok(Drawn::Picture),
             Err(WriteFault) => Err(JobFault::Write),
         },
         Err(_) => Err(JobFault::NoMemory),

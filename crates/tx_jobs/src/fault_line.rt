@@ -31,7 +31,6 @@ pub fn write_fault<W: Sink>(fault: &JobFault, sink: &mut W) -> Result<(), WriteF
         JobFault::Read => write_bytes(b"telexplan: read fault\n", sink),
         JobFault::Write => write_bytes(b"telexplan: write fault\n", sink),
         JobFault::NoMemory => write_bytes(b"telexplan: no memory\n", sink),
-        JobFault::UnknownCode => write_bytes(b"telexplan: no such code in the plan\n", sink),
     }
 }
 

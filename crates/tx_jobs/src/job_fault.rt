@@ -33,9 +33,6 @@ pub enum JobFault {
     /// No memory was left.
     #[error("no memory")]
     NoMemory,
-    /// The plan has no code of the figures that were asked for.
-    #[error("no such code in the plan")]
-    UnknownCode,
 }
 
 impl Debug for JobFault {
@@ -45,7 +42,7 @@ impl Debug for JobFault {
 }
 
 impl JobFault {
-    /// The exit status: 2 for a refused text, 3 for a read or a write fault, 4 for want of memory, 64 for a code that the plan has not.
+    /// The exit status: 2 for a refused text, 3 for a read or a write fault, 4 for want of memory.
     pub fn status(&self) -> u8
         ensures { result ≡ status_of self.now }
     {
@@ -53,7 +50,6 @@ impl JobFault {
             JobFault::Plan(_) | JobFault::Cert(_) | JobFault::Script(_) => 2,
             JobFault::Read | JobFault::Write => 3,
             JobFault::NoMemory => 4,
-            JobFault::UnknownCode => 64,
         }
     }
 

@@ -1,50 +1,72 @@
 // The job of the program without words.
 ghost use Rattle.std.specs.Prelude.{◌≡◌};
-ghost use Rattle.tx_pipe.specs.declared.two_texts.Part.TheVariants.{Plan};
+ghost use Rattle.tx_text.specs.Calls.{Broken, CallsAtMost, source_calls};
+ghost use Rattle.tx_text.specs.Said.{told_fault};
+ghost use Rattle.tx_plantext.specs.PlanText.{ReadsPlan};
+ghost use Rattle.tx_pipe.specs.inner.Reading.{left, plan_rest, PlanCall, ScriptCall};
 ghost use Rattle.tx_jobs.specs.JobFaults.{mark_after};
-ghost use Rattle.tx_jobs.specs.JobEnds.{output};
-ghost use Rattle.tx_jobs.specs.PipeJobs.{PipeJobAnswers, TwoTextsAnswers};
+ghost use Rattle.tx_jobs.specs.JobEnds.{input, output};
+ghost use Rattle.tx_jobs.specs.Jobs.{ScriptRan};
+ghost use Rattle.tx_jobs.specs.PipeJobs.{PipeJobAnswers};
 
 use crate::job_fault::JobFault;
 use crate::simulate::simulate;
 use std::alloc::Allocator;
-use tx_pipe::TwoTexts;
-use tx_plantext::read_plan_from;
+use tx_pipe::{Ahead, PlanPart, ScriptPart};
+use tx_plan::Plan;
+use tx_plantext::{PlanFault, read_plan_from};
 use tx_script::Summary;
 use tx_text::{Sink, Source};
 
 /// Reads a plan from an input, up to and with the first line whose one word is END, and then runs the script that follows, whose lines count from 1. `Err` is
 /// the fault of the first call that failed.
-pub fn pipe_job<A: Allocator + Copy, R: Source + Drop, W: Sink>(
+pub fn pipe_job<A: Allocator + Copy, R: Source, W: Sink>(
     alloc: A,
-    input: R,
+    input: &mut R,
     out: &mut W,
 ) -> Result<Summary, JobFault>
-    ensures answers { PipeJobAnswers R.rest R.failed R.called input (output W.taken out.old out.new) result }
+    ensures answers { PipeJobAnswers R.rest R.failed R.called input.old input.new (output W.taken out.old out.new) result }
     ensures mark { W.failed out.new ≡ mark_after (W.failed out.old) result }
 {
-    let mut texts = TwoTexts::new(input);
-    run_two_texts(alloc, &mut texts, out)
-}
-
-/// Reads a plan, and then runs the script that stands behind it in the same input.
-fn run_two_texts<A: Allocator + Copy, R: Source, W: Sink>(
-    alloc: A,
-    input: &mut TwoTexts<R>,
-    out: &mut W,
-) -> Result<Summary, JobFault>
-    requires { input.old.part ≡ Plan }
-    ensures answers { TwoTextsAnswers R.rest R.failed R.called input.old input.new (output W.taken out.old out.new) result }
-    ensures mark { W.failed out.new ≡ mark_after (W.failed out.old) result }
-{
-    match read_plan_from(alloc, input) {
+    let mut ahead = Ahead::new();
+    let mut part = PlanPart::new(input, &mut ahead);
+    match read_plan_part(alloc, &mut part) {
         Ok(plan) => {
             plan.rules();
-            input.go_on();
-            let ran = simulate(alloc, &plan, input, out);
+            let mut script = ScriptPart::new(input, &mut ahead);
+            let ran = run_script_part(alloc, &plan, &mut script, out);
             drop(plan);
             ran
         }
         Err(fault) => Err(JobFault::of_plan(fault)),
     }
+}
+
+/// Reads the plan. The part keeps what it is lent.
+fn read_plan_part<A: Allocator + Copy, R: Source>(
+    alloc: A,
+    part: &mut PlanPart<'_, R>,
+) -> Result<Plan<A>, PlanFault>
+    ensures same_input { part.new.input.ghost_name ≡ part.old.input.ghost_name }
+    ensures same_ahead { part.new.ahead.ghost_name ≡ part.old.ahead.ghost_name }
+    ensures answer { ReadsPlan (plan_rest R.rest part.old) (plan_rest R.rest part.new) (Broken (PlanCall R.rest R.failed R.called) part.new.ahead.now.failed source_calls part.old part.new) (part.new ≡ part.old) (told_fault result) }
+    ensures calls { CallsAtMost (PlanCall R.rest R.failed R.called) source_calls part.old part.new }
+{
+    read_plan_from(alloc, part)
+}
+
+/// Runs the script behind the plan. The part keeps what it is lent.
+fn run_script_part<A: Allocator + Copy, R: Source, W: Sink>(
+    alloc: A,
+    plan: &Plan<A>,
+    script: &mut ScriptPart<'_, R>,
+    out: &mut W,
+) -> Result<Summary, JobFault>
+    ensures same_input { script.new.input.ghost_name ≡ script.old.input.ghost_name }
+    ensures same_ahead { script.new.ahead.ghost_name ≡ script.old.ahead.ghost_name }
+    ensures answers { ScriptRan plan.now (input (left R.rest) (λ s. s.ahead.now.failed) (ScriptCall R.rest R.failed R.called) script.old script.new) (output W.taken out.old out.new) result }
+    ensures mark { W.failed out.new ≡ mark_after (W.failed out.old) result }
+    ensures calls { CallsAtMost (ScriptCall R.rest R.failed R.called) source_calls script.old script.new }
+{
+    simulate(alloc, plan, script, out)
 }

@@ -1,5 +1,5 @@
-mod Parting
-mod Passing
-mod Giving
-pub mod Kept
-pub mod InputCount
+mod EndLines
+mod Cutting
+mod Taking
+pub mod PartCalls
+pub mod PlanCalls

@@ -1,4 +1,2 @@
 pub mod Parts
-pub mod InputCalls
-pub mod Telling
 pub mod inner

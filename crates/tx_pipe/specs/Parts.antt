@@ -1,38 +1,26 @@
--- The two texts of one input: a plan, which goes on up to and with the first line whose one word is END, and then a script.
-use Rattle.std.specs.Prelude.{◌≡◌, ℕ, Bool, false, ◌&&◌, nat_lt, ◌<◌, ◌≤◌, List, [], ◌∷◌, ◌++◌, Option, None, Some, length, take, drop, if◌then◌else◌}
-use Rattle.tx_text.specs.Text.{is_lf, without_cr}
+-- The two texts of one input: a plan, which goes up to and with the first line whose only word is END, and then a script.
+use Rattle.std.specs.Prelude.{ℕ, ◌-◌, List, [], ◌∷◌, Option, None, Some, length, take, drop, if◌then◌else◌}
+use Rattle.tx_text.specs.Text.{Line, lines_of}
 use Rattle.tx_text.specs.Words.{words_of}
 use Rattle.tx_text.specs.Frame.{is_end}
 
--- the bytes of a line and one more: none where they are more than 512 and a CR
-abbrev pub grown : Option (List ℕ) → ℕ → Option (List ℕ)
-grown None b = None
-grown (Some line) b = if nat_lt (length line) 513 then Some (line ++ b ∷ []) else None
+-- Where the plan ends in a text of this length: behind the first line whose only word is END, which is where the next line starts; or at the end of the text.
+unfoldable pub plan_end : ℕ → List Line → ℕ
+plan_end size [] = size
+plan_end size (last ∷ []) = size
+plan_end size (line ∷ next ∷ lines) = if is_end (words_of line.bytes) then next.start else plan_end size (next ∷ lines)
 
--- the one word of the line is END
-unfoldable pub is_end_line : Option (List ℕ) → Bool
-is_end_line None = false
-is_end_line (Some line) = is_end (words_of (without_cr line))
+-- THE CUT
+abbrev pub cut_of : List ℕ → ℕ
+cut_of text = plan_end (length text) (lines_of text)
 
--- the byte is the LF of a line whose one word is END
-abbrev pub ends_plan : Option (List ℕ) → ℕ → Bool
-ends_plan line b = is_lf b && is_end_line line
+abbrev pub plan_part : List ℕ → List ℕ
+plan_part text = take (cut_of text) text
 
--- the line that stands behind the byte
-abbrev pub next_line : Option (List ℕ) → ℕ → Option (List ℕ)
-next_line line b = if is_lf b then Some [] else grown line b
+abbrev pub script_part : List ℕ → List ℕ
+script_part text = drop (cut_of text) text
 
--- what is still of the plan, behind these bytes of a line
-unfoldable pub plan_part : Option (List ℕ) → List ℕ → List ℕ
-plan_part line [] = []
-plan_part line (b ∷ bs) = b ∷ (if ends_plan line b then [] else plan_part (next_line line b) bs)
-
--- what stands behind the plan
-unfoldable pub script_part : Option (List ℕ) → List ℕ → List ℕ
-script_part line [] = []
-script_part line (b ∷ bs) = if ends_plan line b then bs else script_part (next_line line b) bs
-
--- The plan ends behind the first n of the bytes, or goes on behind them with this line.
-abbrev pub Finds : Option (List ℕ) → List ℕ → Option (List ℕ) → Option ℕ → Type 0
-Finds old bytes new None = (more : List ℕ) → (plan_part old (bytes ++ more) ≡ bytes ++ plan_part new more) × (script_part old (bytes ++ more) ≡ script_part new more)
-Finds old bytes new (Some n) = (0 < n) × (n ≤ length bytes) × ((more : List ℕ) → (plan_part old (bytes ++ more) ≡ take n bytes) × (script_part old (bytes ++ more) ≡ drop n bytes ++ more))
+-- what is left of the plan of this text, where these bytes of the text are left
+abbrev pub left_of_plan : Option (List ℕ) → Option (List ℕ) → Option (List ℕ)
+left_of_plan (Some text) (Some more) = Some (drop (length text - length more) (plan_part text))
+left_of_plan text more = None

@@ -1,7 +1,7 @@
 // The bytes that were read ahead.
-ghost use Rattle.std.specs.Prelude.{◌≡◌, ◌≤◌, [], drop, length, is_err, IfOk, OnErr};
+ghost use Rattle.std.specs.Prelude.{◌≡◌, ◌≤◌, [], take, drop, length, is_err, IfOk, OnErr};
 ghost use Rattle.std.specs.Io.KnownBytes.{prepend_known, IsAtEnd};
-ghost use Rattle.tx_pipe.specs.InputCalls.{input_answer};
+ghost use Rattle.tx_pipe.specs.inner.Reading.{input_answer};
 
 use std::marker::Model;
 use tx_text::{ReadFault, Source};
@@ -27,7 +27,6 @@ impl Model for Held {
 }
 
 impl Held {
-    #[inline(always)]
     pub(crate) fn new() -> Held
         ensures { result ≡ [] }
     {
@@ -38,7 +37,6 @@ impl Held {
         }
     }
 
-    #[inline(always)]
     pub(crate) fn bytes(&self) -> &[u8]
         ensures bytes { result.now ≡ self.now }
         ensures short { length result.now ≤ 4096 }
@@ -46,17 +44,18 @@ impl Held {
         &self.bytes[self.from..self.to]
     }
 
-    /// Gives so many bytes on.
-    #[inline(always)]
-    pub(crate) fn give(&mut self, n: usize)
-        requires { n ≤ length self.old }
-        ensures { self.new ≡ drop n self.old }
+    /// Gives the first bytes on, so many.
+    pub(crate) fn give(&mut self, n: usize, buf: &mut [u8])
+        requires held { n ≤ length self.old }
+        requires room { n ≤ length buf.old }
+        ensures given { take n buf.new ≡ take n self.old }
+        ensures left { self.new ≡ drop n self.old }
     {
+        buf[..n].copy_from_slice(&self.bytes()[..n]);
         self.from += n;
     }
 
     /// Reads the next piece.
-    #[inline(always)]
     pub(crate) fn fill<R: Source>(&mut self, source: &mut R) -> Result<(), ReadFault>
         requires { self.old ≡ [] }
         ensures bytes { R.rest source.old ≡ prepend_known self.new (R.rest source.new) }

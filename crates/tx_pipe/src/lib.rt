@@ -1,8 +1,12 @@
-//! One input that holds two texts, a plan and then a script, as two sources one after the other.
+//! One input that holds two texts, a plan and then a script, as two sources, one after the other.
 #![tactic(auto)]
 
+mod ahead;
 mod held;
-mod line_so_far;
-mod two_texts;
+mod plan_part;
+mod script_part;
+mod seen;
 
-pub use two_texts::TwoTexts;
+pub use ahead::Ahead;
+pub use plan_part::PlanPart;
+pub use script_part::ScriptPart;

@@ -16,11 +16,6 @@ pub given_by : (m : ArgMatches) (id : List ℕ) (n : ℕ) (one : Option (List �
 given_by m id n None e none value = let bad = none e in cc
 given_by m id n (Some t) e none value = let v = value t e in record { text = t; given = sym (one_text-rows (found_of m) id) ∙ e; numeral = v.0.0; value = v.1 }
 
--- what was given is what was read
-pub read_alike : (m : ArgMatches) (id : List ℕ) (n given : ℕ) → ((t : List ℕ) → one_text (found_of m) id ≡ Some t → (IsNumeral 10 (without_leading_plus t) × (digits_value 10 (without_leading_plus t) < 2 ^ 8)) × (n ≡ digits_value 10 (without_leading_plus t)))
-    → Gives (rows_of (found_of m)) id given → given ≡ n
-read_alike m id n given value g = g.value ∙ sym (value g.text (one_text-rows (found_of m) id ∙ g.given)).1
-
 -- the library says what it finds for words like the program's
 simple : is_simple program_words ≡ true
 unfolding clap_on_literals

@@ -1,15 +1,13 @@
 -- Why words give no command, and the exit status of each.
-use Rattle.std.specs.Prelude.{◌≡◌, ℕ, ◌≤◌, Bool, true, ◌||◌, List, Option, Some, None, is_some, map, codes, string_bytes, IsSomeAnd}
+use Rattle.std.specs.Prelude.{◌≡◌, ℕ, Bool, true, false, ◌&&◌, ◌||◌, List, Option, is_some, map, codes, IsSomeAnd}
 use Rattle.std.specs.Borrow.{Bor}
 use Rattle.clap.specs.Words.{Row, first_of, kind_of, subcommand_of}
 use Rattle.clap.specs.declared.error.Error.{Error}
 use Rattle.clap.specs.declared.error.kind.ErrorKind.{ErrorKind}
 use Rattle.clap.specs.declared.error.kind.ErrorKind.TheVariants.{DisplayHelp, DisplayVersion, OutOfMemory}
-use Rattle.tx_program.specs.Entries.{explanation}
 use Rattle.tx_program.specs.Grammar.{program_words}
-use Rattle.tx_program.specs.Commands.{Gives}
 use Rattle.tx_program.specs.declared.fault.WordsFault.{WordsFault}
-use Rattle.tx_program.specs.declared.fault.WordsFault.TheVariants.{Clap, Together, DrawTogether, NoSuchCode, NoMemory}
+use Rattle.tx_program.specs.declared.fault.WordsFault.TheVariants.{Clap, Together, NoMemory}
 
 -- 0 for a request for help, 4 for want of memory, else 64
 abbrev pub status_of_kind : ErrorKind → ℕ
@@ -21,8 +19,6 @@ status_of_kind other = 64
 abbrev pub status_of : WordsFault → ℕ
 status_of (Clap e) = status_of_kind (kind_of e)
 status_of Together = 64
-status_of DrawTogether = 64
-status_of (NoSuchCode word) = 64
 status_of NoMemory = 4
 
 -- want of memory is told as such
@@ -37,33 +33,15 @@ fault_of_clap e = fault_by e (kind_of e)
 abbrev pub has : List Row → List ℕ → Bool
 has found id = is_some (first_of id found)
 
--- a number up to the greatest was found
-abbrev pub HasNumber : List Row → List ℕ → ℕ → Type 0
-HasNumber found id most = (n : ℕ) × (n ≤ most) × Gives found id n
-
--- `run` has some of the words of a certificate, a limit and a spare number, and not all three
+-- `run` has some of its three options, and not all
 pub record IsRunInPart (name : List ℕ) (found : List Row) : Type 0 where
   pub run : name ≡ codes "run"
   pub some : (has found (codes "cert") || (has found (codes "limit") || has found (codes "spare"))) ≡ true
-  pub not_all : has found (codes "cert") ≡ true → HasNumber found (codes "limit") 62 → HasNumber found (codes "spare") 15 → ⊥
+  pub not_all : (has found (codes "cert") && (has found (codes "limit") && has found (codes "spare"))) ≡ false
 
--- `draw` has a limit or a spare number, and not both with a code
-pub record IsDrawInPart (name : List ℕ) (found : List Row) : Type 0 where
-  pub draw : name ≡ codes "draw"
-  pub some : (has found (codes "limit") || has found (codes "spare")) ≡ true
-  pub not_all : has found (codes "code") ≡ true → HasNumber found (codes "limit") 62 → HasNumber found (codes "spare") 15 → ⊥
-
--- `explain` has a word that the table has not
-pub record IsNoCode (word name : List ℕ) (found : List Row) : Type 0 where
-  pub explain : name ≡ codes "explain"
-  pub given : first_of (codes "code") found ≡ Some word
-  pub unknown : explanation word ≡ None
-
--- Why the words of a command that was found are refused. What the library refuses, and want of memory, are left open.
+-- Why the words of a command that was found are refused. What is told through the library, and want of memory, are left open.
 abbrev pub IsRefusalIn : Option (List ℕ × List Row) → WordsFault → Type 0
 IsRefusalIn command Together = IsSomeAnd command (λ c. IsRunInPart c.0 c.1)
-IsRefusalIn command DrawTogether = IsSomeAnd command (λ c. IsDrawInPart c.0 c.1)
-IsRefusalIn command (NoSuchCode word) = IsSomeAnd command (λ c. IsNoCode (string_bytes word) c.0 c.1)
 IsRefusalIn command other = Unit {0}
 
 -- the words are refused for this

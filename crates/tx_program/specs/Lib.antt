@@ -5,3 +5,4 @@ pub mod Commands
 pub mod Faults
 pub mod Entries
 pub mod Written
+pub mod inner

@@ -1,12 +1,14 @@
 // Commands, and the words that ask for them.
-ghost use Rattle.std.specs.Prelude.{◌≡◌, ◌≢◌, ◌≤◌, ℕ, List, Option, [], Ok, Some, None, IfOk, IfErr, IfSome, ◌||◌, codes, option_map, string_bytes};
+ghost use Rattle.std.specs.Prelude.{◌≡◌, ◌≢◌, ◌≤◌, ℕ, List, Option, [], Ok, Some, IfOk, IfErr, IfSome, codes, option_map, string_bytes};
 ghost use Rattle.clap.specs.Words.{Row, app_of, first_of, found_of, rows_of, subcommand_rows_of};
 ghost use Rattle.tx_program.specs.Commands.{IsInRange, Names, Gives, Asks, AskFor, IsFoundIn};
 ghost use Rattle.tx_program.specs.Grammar.{program_words};
-ghost use Rattle.tx_program.specs.Faults.{HasNumber, IsRefusalIn, IsRefusalOf, has, status_of};
+ghost use Rattle.tx_program.specs.Faults.{IsRefusalIn, IsRefusalOf, has};
+ghost use Rattle.tx_program.specs.inner.Refused.{IsRefused};
 
 use crate::fault::WordsFault;
 use crate::grammar::grammar;
+use crate::refusal::Refusal;
 use crate::{Entry, entry_of};
 use clap::ArgMatches;
 use clap::error::ErrorKind;
@@ -78,7 +80,6 @@ fn is_given(matches: &ArgMatches<'_>, id: &str) -> bool
 fn number(matches: &ArgMatches<'_>, id: &str, most: u8) -> Option<u8>
     ensures range { IfSome result (λ n. n ≤ most) }
     ensures given { IfSome result (Gives (rows_of (found_of matches.now)) id.now) }
-    ensures none { result ≡ None → HasNumber (rows_of (found_of matches.now)) id.now most → ⊥ }
 {
     match matches.get_one::<u8>(id) {
         Some(n) if n <= most => Some(n),
@@ -90,7 +91,6 @@ fn number(matches: &ArgMatches<'_>, id: &str, most: u8) -> Option<u8>
 fn bounds(matches: &ArgMatches<'_>) -> Option<(u8, u8)>
     ensures range { IfSome result (λ b. (b.0 ≤ 62) × (b.1 ≤ 15)) }
     ensures given { IfSome result (λ b. Gives (rows_of (found_of matches.now)) (codes "limit") b.0 × Gives (rows_of (found_of matches.now)) (codes "spare") b.1) }
-    ensures none { result ≡ None → HasNumber (rows_of (found_of matches.now)) (codes "limit") 62 → HasNumber (rows_of (found_of matches.now)) (codes "spare") 15 → ⊥ }
 {
     match (number(matches, "limit", 62), number(matches, "spare", 15)) {
         (Some(limit), Some(spare)) => Some((limit, spare)),
@@ -98,185 +98,192 @@ fn bounds(matches: &ArgMatches<'_>) -> Option<(u8, u8)>
     }
 }
 
-/// Whether a word stands for the limit or for the spare number.
-fn has_bounds(matches: &ArgMatches<'_>) -> bool
-    ensures { result ≡ (has (rows_of (found_of matches.now)) (codes "limit") || has (rows_of (found_of matches.now)) (codes "spare")) }
-{
-    is_given(matches, "limit") || is_given(matches, "spare")
-}
-
 /// The words of `check` behind the plan.
-fn check_of(
-    alloc: Global,
-    plan: String,
-    matches: &ArgMatches<'_>,
-) -> Result<Option<Command>, WordsFault>
+fn check_of(alloc: Global, plan: String, matches: &ArgMatches<'_>) -> Result<Command, Refusal>
     requires { Names (rows_of (found_of matches.now)) (codes "plan") plan }
-    ensures range { IfOk result (λ c. IfSome c IsInRange) }
-    ensures asked { IfOk result (λ c. IfSome c (Asks (codes "check") (rows_of (found_of matches.now)))) }
-    ensures refused { IfErr result (IsRefusalIn (Some (codes "check", rows_of (found_of matches.now)))) }
+    ensures range { IfOk result IsInRange }
+    ensures asked { IfOk result (Asks (codes "check") (rows_of (found_of matches.now))) }
+    ensures refused { IfErr result (IsRefused (Some (codes "check", rows_of (found_of matches.now)))) }
 {
     let cert = text(alloc, matches, "cert")?;
     match (cert, bounds(matches)) {
-        (Some(cert), Some((limit, spare))) => Ok(Some(Command::Check {
+        (Some(cert), Some((limit, spare))) => Ok(Command::Check {
             plan,
             cert,
             limit,
             spare,
-        })),
-        _ => Ok(None),
+        }),
+        _ => Err(Refusal::Incomplete),
     }
 }
 
 /// The words of `audit` behind the plan.
-fn audit_of(
-    alloc: Global,
-    plan: String,
-    matches: &ArgMatches<'_>,
-) -> Result<Option<Command>, WordsFault>
+fn audit_of(alloc: Global, plan: String, matches: &ArgMatches<'_>) -> Result<Command, Refusal>
     requires { Names (rows_of (found_of matches.now)) (codes "plan") plan }
-    ensures range { IfOk result (λ c. IfSome c IsInRange) }
-    ensures asked { IfOk result (λ c. IfSome c (Asks (codes "audit") (rows_of (found_of matches.now)))) }
-    ensures refused { IfErr result (IsRefusalIn (Some (codes "audit", rows_of (found_of matches.now)))) }
+    ensures range { IfOk result IsInRange }
+    ensures asked { IfOk result (Asks (codes "audit") (rows_of (found_of matches.now))) }
+    ensures refused { IfErr result (IsRefused (Some (codes "audit", rows_of (found_of matches.now)))) }
 {
     let cert = text(alloc, matches, "cert")?;
     let counter = text(alloc, matches, "counter")?;
     match bounds(matches) {
-        Some((limit, spare)) => Ok(Some(Command::Audit {
+        Some((limit, spare)) => Ok(Command::Audit {
             plan,
             limit,
             spare,
             cert,
             counter,
-        })),
-        None => Ok(None),
+        }),
+        None => Err(Refusal::Incomplete),
     }
 }
 
 /// The words of `run` behind the plan.
-fn run_of(
-    alloc: Global,
-    plan: String,
-    matches: &ArgMatches<'_>,
-) -> Result<Option<Command>, WordsFault>
+fn run_of(alloc: Global, plan: String, matches: &ArgMatches<'_>) -> Result<Command, Refusal>
     requires { Names (rows_of (found_of matches.now)) (codes "plan") plan }
-    ensures range { IfOk result (λ c. IfSome c IsInRange) }
-    ensures asked { IfOk result (λ c. IfSome c (Asks (codes "run") (rows_of (found_of matches.now)))) }
-    ensures refused { IfErr result (IsRefusalIn (Some (codes "run", rows_of (found_of matches.now)))) }
+    ensures range { IfOk result IsInRange }
+    ensures asked { IfOk result (Asks (codes "run") (rows_of (found_of matches.now))) }
+    ensures refused { IfErr result (IsRefused (Some (codes "run", rows_of (found_of matches.now)))) }
 {
     let Some(script) = text(alloc, matches, "script")? else {
-        return Ok(None);
+        return Err(Refusal::Incomplete);
     };
     let cert = text(alloc, matches, "cert")?;
-    let checked = match (cert, bounds(matches), has_bounds(matches)) {
-        (Some(cert), Some((limit, spare)), _) => Some((cert, limit, spare)),
-        (None, _, false) => None,
-        _ => return Err(WordsFault::Together),
+    let checked = match (cert, is_given(matches, "limit"), is_given(matches, "spare")) {
+        (None, false, false) => None,
+        (Some(cert), true, true) => match bounds(matches) {
+            Some((limit, spare)) => Some((cert, limit, spare)),
+            None => return Err(Refusal::Incomplete),
+        },
+        _ => return Err(Refusal::Together),
     };
-    Ok(Some(Command::Run {
+    Ok(Command::Run {
         plan,
         script,
         checked,
-    }))
+    })
 }
 
 /// The words of `draw` behind the plan.
-fn draw_of(
-    alloc: Global,
-    plan: String,
-    matches: &ArgMatches<'_>,
-) -> Result<Option<Command>, WordsFault>
+fn draw_of(alloc: Global, plan: String, matches: &ArgMatches<'_>) -> Result<Command, Refusal>
     requires { Names (rows_of (found_of matches.now)) (codes "plan") plan }
-    ensures range { IfOk result (λ c. IfSome c IsInRange) }
-    ensures asked { IfOk result (λ c. IfSome c (Asks (codes "draw") (rows_of (found_of matches.now)))) }
-    ensures refused { IfErr result (IsRefusalIn (Some (codes "draw", rows_of (found_of matches.now)))) }
+    ensures range { IfOk result IsInRange }
+    ensures asked { IfOk result (Asks (codes "draw") (rows_of (found_of matches.now))) }
+    ensures refused { IfErr result (IsRefused (Some (codes "draw", rows_of (found_of matches.now)))) }
 {
     let code = text(alloc, matches, "code")?;
-    let routes = match (code, bounds(matches), has_bounds(matches)) {
-        (Some(code), Some(bounds), _) => Some((code, Some(bounds))),
-        (Some(code), None, false) => Some((code, None)),
-        (None, _, false) => None,
-        _ => return Err(WordsFault::DrawTogether),
+    let routes = match (code, is_given(matches, "limit"), is_given(matches, "spare")) {
+        (None, false, false) => None,
+        (Some(code), false, false) => Some((code, None)),
+        (Some(code), true, true) => match bounds(matches) {
+            Some(bounds) => Some((code, Some(bounds))),
+            None => return Err(Refusal::Incomplete),
+        },
+        _ => return Err(Refusal::DrawTogether),
     };
-    Ok(Some(Command::Draw { plan, routes }))
+    Ok(Command::Draw { plan, routes })
 }
 
 /// The words of `explain`. A word that is no code is refused.
-fn explain_of(alloc: Global, matches: &ArgMatches<'_>) -> Result<Option<Command>, WordsFault>
-    ensures range { IfOk result (λ c. IfSome c IsInRange) }
-    ensures asked { IfOk result (λ c. IfSome c (Asks (codes "explain") (rows_of (found_of matches.now)))) }
-    ensures refused { IfErr result (IsRefusalIn (Some (codes "explain", rows_of (found_of matches.now)))) }
+fn explain_of(alloc: Global, matches: &ArgMatches<'_>) -> Result<Command, Refusal>
+    ensures range { IfOk result IsInRange }
+    ensures asked { IfOk result (Asks (codes "explain") (rows_of (found_of matches.now))) }
+    ensures refused { IfErr result (IsRefused (Some (codes "explain", rows_of (found_of matches.now)))) }
 {
     let Some(word) = text(alloc, matches, "code")? else {
-        return Ok(Some(Command::Explain { entry: None }));
+        return Ok(Command::Explain { entry: None });
     };
     match entry_of(word.as_str()) {
-        Some(entry) => Ok(Some(Command::Explain { entry: Some(entry) })),
-        None => Err(WordsFault::NoSuchCode(word)),
+        Some(entry) => Ok(Command::Explain { entry: Some(entry) }),
+        None => Err(Refusal::NoSuchCode),
     }
 }
 
-/// The command of a subcommand whose first word is a plan, or None where a word that it needs is missing, which the grammar rules out.
+/// The command of a subcommand whose first word is a plan.
 fn plan_command(
     alloc: Global,
     name: &str,
     plan: String,
     matches: &ArgMatches<'_>,
-) -> Result<Option<Command>, WordsFault>
+) -> Result<Command, Refusal>
     requires { Names (rows_of (found_of matches.now)) (codes "plan") plan }
-    ensures range { IfOk result (λ c. IfSome c IsInRange) }
-    ensures asked { IfOk result (λ c. IfSome c (Asks name.now (rows_of (found_of matches.now)))) }
-    ensures refused { IfErr result (IsRefusalIn (Some (name.now, rows_of (found_of matches.now)))) }
+    ensures range { IfOk result IsInRange }
+    ensures asked { IfOk result (Asks name.now (rows_of (found_of matches.now))) }
+    ensures refused { IfErr result (IsRefused (Some (name.now, rows_of (found_of matches.now)))) }
 {
     match name {
         "run" => run_of(alloc, plan, matches),
         "check" => check_of(alloc, plan, matches),
-        "codes" => Ok(Some(Command::Codes { plan })),
+        "codes" => Ok(Command::Codes { plan }),
         "audit" => audit_of(alloc, plan, matches),
-        "grade" => Ok(Some(Command::Grade { plan })),
+        "grade" => Ok(Command::Grade { plan }),
         "draw" => draw_of(alloc, plan, matches),
-        _ => Ok(None),
+        _ => Err(Refusal::Incomplete),
     }
 }
 
-/// The command of a subcommand's words, or None as above.
-fn command_of(
-    alloc: Global,
-    name: &str,
-    matches: &ArgMatches<'_>,
-) -> Result<Option<Command>, WordsFault>
-    ensures range { IfOk result (λ c. IfSome c IsInRange) }
-    ensures asked { IfOk result (λ c. IfSome c (Asks name.now (rows_of (found_of matches.now)))) }
-    ensures refused { IfErr result (IsRefusalIn (Some (name.now, rows_of (found_of matches.now)))) }
+/// The command of a subcommand's words.
+fn command_of(alloc: Global, name: &str, matches: &ArgMatches<'_>) -> Result<Command, Refusal>
+    ensures range { IfOk result IsInRange }
+    ensures asked { IfOk result (Asks name.now (rows_of (found_of matches.now))) }
+    ensures refused { IfErr result (IsRefused (Some (name.now, rows_of (found_of matches.now)))) }
 {
     if name == "explain" {
         return explain_of(alloc, matches);
     }
     match text(alloc, matches, "plan")? {
         Some(plan) => plan_command(alloc, name, plan, matches),
-        None => Ok(None),
+        None => Err(Refusal::Incomplete),
     }
 }
 
 /// The command that was found in the words.
-fn found_command(alloc: Global, matches: &ArgMatches<'_>) -> Result<Option<Command>, WordsFault>
-    ensures range { IfOk result (λ c. IfSome c IsInRange) }
-    ensures asked { IfOk result (λ c. IfSome c (IsFoundIn (subcommand_rows_of matches.now))) }
-    ensures refused { IfErr result (IsRefusalIn (subcommand_rows_of matches.now)) }
+fn found_command(alloc: Global, matches: &ArgMatches<'_>) -> Result<Command, Refusal>
+    ensures range { IfOk result IsInRange }
+    ensures asked { IfOk result (IsFoundIn (subcommand_rows_of matches.now)) }
+    ensures refused { IfErr result (IsRefused (subcommand_rows_of matches.now)) }
 {
     match matches.subcommand() {
         Some((name, matches)) => command_of(alloc, name, matches),
-        None => Ok(None),
+        None => Err(Refusal::Incomplete),
     }
 }
 
-/// Why words without a command are refused.
-fn no_command(grammar: &mut clap::Command<'_>) -> Result<WordsFault, AllocError>
-    ensures status { IfOk result (λ fault. status_of fault ≡ 64) }
-    ensures refused { IfOk result (λ fault. (command : Option (List ℕ × List Row)) → IsRefusalIn command fault) }
+/// A refusal in the words of the library of command lines.
+fn in_its_words(
+    grammar: &mut clap::Command<'_>,
+    kind: ErrorKind,
+    message: &str,
+) -> Result<WordsFault, AllocError>
+    ensures { IfOk result (λ fault. (command : Option (List ℕ × List Row)) → IsRefusalIn command fault) }
 {
-    let e = grammar.error(ErrorKind::MissingSubcommand, "a command is missing")?;
+    let e = grammar.error(kind, message)?;
     Ok(WordsFault::of_clap(e))
+}
+
+/// Why the words are refused. What has no fault of its own is told in the words of the library.
+fn words_fault(grammar: &mut clap::Command<'_>, refusal: Refusal) -> Result<WordsFault, AllocError>
+    ensures { IfOk result (λ fault. (command : Option (List ℕ × List Row)) → IsRefused command refusal → IsRefusalIn command fault) }
+{
+    match refusal {
+        Refusal::Together => Ok(WordsFault::Together),
+        Refusal::NoMemory => Ok(WordsFault::NoMemory),
+        Refusal::Incomplete => in_its_words(
+            grammar,
+            ErrorKind::MissingSubcommand,
+            "a command is missing",
+        ),
+        Refusal::DrawTogether => in_its_words(
+            grammar,
+            ErrorKind::MissingRequiredArgument,
+            "--limit and --spare go together, and with --code",
+        ),
+        Refusal::NoSuchCode => in_its_words(
+            grammar,
+            ErrorKind::InvalidValue,
+            "no such code; there are X1 to X3, P3 to P22, C1 to C10, S1 to S7, M1 to M12, K1 to K7 and F1 to F4",
+        ),
+    }
 }
 
 /// The command that stands in the words, which are not none, by the grammar of the program.
@@ -297,9 +304,8 @@ fn command_in<'a>(
     let found = found_command(alloc, &matches);
     drop(matches);
     match found {
-        Ok(Some(command)) => Ok(command),
-        Ok(None) => Err(no_command(grammar)?),
-        Err(fault) => Err(fault),
+        Ok(command) => Ok(command),
+        Err(refusal) => Err(words_fault(grammar, refusal)?),
     }
 }
 

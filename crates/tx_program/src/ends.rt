@@ -4,7 +4,6 @@ use std::cell::RefCell;
 use std::io;
 use std::io::{BufReader, BufWriter, Read, Write};
 use tx_jobs::JobFault;
-use tx_pipe::TwoTexts;
 use tx_text::{FromRead, Sink, WriteFault};
 
 /// How many bytes an output holds, and how many are read of an input at a time.
@@ -96,17 +95,6 @@ impl<W: Write + Drop, A: Allocator> Output<W, A> {
             })),
             Err(_) => Err(JobFault::NoMemory),
         }
-    }
-
-    /// The source of a script that stands alone. It has the type of one that stands behind a plan.
-    pub(crate) fn script<R: Read + Drop>(
-        &self,
-        alloc: A,
-        reader: R,
-    ) -> Result<TwoTexts<FromRead<Flushing<'_, R, W, A>>>, JobFault> {
-        let mut script = TwoTexts::new(self.source(alloc, reader)?);
-        script.go_on();
-        Ok(script)
     }
 }
 

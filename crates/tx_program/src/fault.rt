@@ -13,10 +13,6 @@ pub enum WordsFault {
     Clap(clap::Error),
     /// `run` has some of its three options, and not all.
     Together,
-    /// `draw` has one of `--limit` and `--spare` without the other, or both without `--code`.
-    DrawTogether,
-    /// `explain` has a word that is no code.
-    NoSuchCode(String),
     /// No memory was left.
     NoMemory,
 }
@@ -32,7 +28,7 @@ impl WordsFault {
                 ErrorKind::OutOfMemory => 4,
                 _ => 64,
             },
-            WordsFault::Together | WordsFault::DrawTogether | WordsFault::NoSuchCode(_) => 64,
+            WordsFault::Together => 64,
             WordsFault::NoMemory => 4,
         }
     }

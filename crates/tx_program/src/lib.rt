@@ -5,6 +5,7 @@
 mod audited;
 mod code_table;
 mod command;
+mod command_fault;
 mod ends;
 mod entry;
 mod explained;
@@ -12,11 +13,11 @@ mod explanation;
 mod fault;
 mod folder;
 mod grammar;
-mod input;
 mod new_file;
 mod opened;
 mod perform;
 mod program;
+mod refusal;
 mod tell;
 
 pub use code_table::Entry;

@@ -4,7 +4,6 @@ ghost use Rattle.tx_program.specs.declared.command.Command.TheVariants.{Run, Dra
 ghost use Rattle.tx_program.specs.Commands.{IsInRange};
 
 use crate::folder::Folder;
-use crate::input::Input;
 use crate::{Command, Entry};
 use std::io::Read;
 use tx_jobs::JobFault;
@@ -55,16 +54,16 @@ pub(crate) enum PlanJob<'a> {
 #[derive(Drop)]
 pub(crate) enum Opened<'a, I: Read + Drop, R: Read + Drop> {
     Pipe {
-        input: Input<I, R>,
+        input: I,
     },
     Run {
         plan: R,
-        script: Input<I, R>,
+        script: R,
     },
     Checked {
         plan: R,
         cert: R,
-        script: Input<I, R>,
+        script: R,
         bounds: Bounds,
     },
     Check {
@@ -124,9 +123,7 @@ impl<'a, I: Read + Drop, R: Read + Drop> Opened<'a, I, R> {
         requires { IsInRange command.now }
     {
         match command {
-            Command::Pipe => Ok(Opened::Pipe {
-                input: Input::Standard(input),
-            }),
+            Command::Pipe => Ok(Opened::Pipe { input }),
             Command::Run {
                 plan,
                 script,
@@ -163,10 +160,7 @@ impl<'a, I: Read + Drop, R: Read + Drop> Opened<'a, I, R> {
         match checked {
             None => {
                 let (plan, script) = open_both(folder, plan.as_str(), script.as_str())?;
-                Ok(Opened::Run {
-                    plan,
-                    script: Input::File(script),
-                })
+                Ok(Opened::Run { plan, script })
             }
             Some((cert, limit, spare)) => {
                 Opened::checked(folder, plan, cert, script, Bounds::of(*limit, *spare))
@@ -186,7 +180,7 @@ impl<'a, I: Read + Drop, R: Read + Drop> Opened<'a, I, R> {
             Ok(script) => Ok(Opened::Checked {
                 plan,
                 cert,
-                script: Input::File(script),
+                script,
                 bounds,
             }),
             Err(fault) => {

@@ -3,6 +3,7 @@ ghost use Rattle.std.specs.Prelude.{◌≡◌, ◌≤◌, IfSome, option_map};
 ghost use Rattle.tx_program.specs.Commands.{IsInRange};
 
 use crate::audited::audit_file;
+use crate::command_fault::CommandFault;
 use crate::ends::Output;
 use crate::folder::Folder;
 use crate::opened::{Bounds, Opened, PlanJob};
@@ -10,8 +11,8 @@ use crate::{Command, Entry, write_explanation};
 use std::alloc::Allocator;
 use std::io::{Read, Write};
 use tx_jobs::{
-    JobFault, check_status, codes_status, draw_job, grade_status, pipe_job, run_checked_status,
-    run_job,
+    Drawn, JobFault, check_status, codes_status, draw_job, grade_status, pipe_job,
+    run_checked_status, run_job,
 };
 use tx_text::Source;
 
@@ -22,18 +23,19 @@ pub(crate) fn perform<A: Allocator + Copy, F: Folder, I: Read + Drop, O: Write +
     folder: &F,
     input: I,
     output: O,
-) -> Result<u8, JobFault>
+) -> Result<u8, CommandFault>
     requires { IsInRange command.now }
 {
     let opened = Opened::new(command, folder, input)?;
     match Output::new(alloc, output) {
         Ok(output) => {
             let done = do_job(alloc, opened, folder, &output);
-            output.let_out().and(done)
+            output.let_out()?;
+            done
         }
         Err(fault) => {
             drop(opened);
-            Err(fault)
+            Err(CommandFault::Job(fault))
         }
     }
 }
@@ -43,23 +45,24 @@ fn do_job<A: Allocator + Copy, F: Folder, I: Read + Drop, O: Write + Drop>(
     opened: Opened<'_, I, F::Input>,
     folder: &F,
     output: &Output<O, A>,
-) -> Result<u8, JobFault> {
-    match opened {
-        Opened::Pipe { input } => run_input(alloc, input, output),
-        Opened::Run { plan, script } => run_files(alloc, plan, script, output),
+) -> Result<u8, CommandFault> {
+    let status = match opened {
+        Opened::Pipe { input } => run_input(alloc, input, output)?,
+        Opened::Run { plan, script } => run_files(alloc, plan, script, output)?,
         Opened::Checked {
             plan,
             cert,
             script,
             bounds,
-        } => run_checked_files(alloc, plan, cert, bounds, script, output),
-        Opened::Check { plan, cert, bounds } => check_files(alloc, plan, cert, bounds, output),
-        Opened::Plan { plan, job } => do_over_plan(alloc, plan, job, output),
+        } => run_checked_files(alloc, plan, cert, bounds, script, output)?,
+        Opened::Check { plan, cert, bounds } => check_files(alloc, plan, cert, bounds, output)?,
+        Opened::Plan { plan, job } => do_over_plan(alloc, plan, job, output)?,
         Opened::Audit { plan, bounds, keep } => {
-            audit_file(alloc, plan, bounds, keep, folder, output)
+            audit_file(alloc, plan, bounds, keep, folder, output)?
         }
-        Opened::Explain { entry } => explain(entry, output),
-    }
+        Opened::Explain { entry } => explain(entry, output)?,
+    };
+    Ok(status)
 }
 
 /// A plan and then a script on standard input.
@@ -68,8 +71,8 @@ fn run_input<A: Allocator + Copy, I: Read + Drop, O: Write + Drop>(
     input: I,
     output: &Output<O, A>,
 ) -> Result<u8, JobFault> {
-    let input = output.source(alloc, input)?;
-    pipe_job(alloc, input, &mut output.sink()).and(Ok(0))
+    let mut input = output.source(alloc, input)?;
+    pipe_job(alloc, &mut input, &mut output.sink()).and(Ok(0))
 }
 
 /// `run PLAN SCRIPT`.
@@ -90,7 +93,7 @@ fn run_script<A: Allocator + Copy, P: Source, R: Read + Drop, O: Write + Drop>(
     script: R,
     output: &Output<O, A>,
 ) -> Result<u8, JobFault> {
-    let mut script = output.script(alloc, script)?;
+    let mut script = output.source(alloc, script)?;
     run_job(alloc, plan, &mut script, &mut output.sink()).and(Ok(0))
 }
 
@@ -117,7 +120,7 @@ fn run_after_yes<A: Allocator + Copy, P: Source, C: Read + Drop, R: Read + Drop,
     output: &Output<O, A>,
 ) -> Result<u8, JobFault> {
     let mut cert = output.source(alloc, cert)?;
-    let mut script = output.script(alloc, script)?;
+    let mut script = output.source(alloc, script)?;
     run_checked_status(
         alloc,
         plan,
@@ -135,7 +138,7 @@ fn do_over_plan<A: Allocator + Copy, R: Read + Drop, O: Write + Drop>(
     plan: R,
     job: PlanJob<'_>,
     output: &Output<O, A>,
-) -> Result<u8, JobFault> {
+) -> Result<u8, CommandFault> {
     let mut plan = output.source(alloc, plan)?;
     do_plan_job(alloc, &mut plan, job, output)
 }
@@ -146,13 +149,16 @@ fn do_plan_job<A: Allocator + Copy, P: Source, O: Write + Drop>(
     plan: &mut P,
     job: PlanJob<'_>,
     output: &Output<O, A>,
-) -> Result<u8, JobFault> {
+) -> Result<u8, CommandFault> {
     let mut sink = output.sink();
     match job {
-        PlanJob::Codes => codes_status(alloc, plan, &mut sink),
-        PlanJob::Grade => grade_status(alloc, plan, &mut sink),
+        PlanJob::Codes => Ok(codes_status(alloc, plan, &mut sink)?),
+        PlanJob::Grade => Ok(grade_status(alloc, plan, &mut sink)?),
         PlanJob::Draw { code, bounds } => {
-            draw_job(alloc, plan, code, numbers(bounds), &mut sink).and(Ok(0))
+            match draw_job(alloc, plan, code, numbers(bounds), &mut sink)? {
+                Drawn::Picture => Ok(0),
+                Drawn::NoSuchCode => Err(CommandFault::NoSuchCode),
+            }
         }
     }
 }

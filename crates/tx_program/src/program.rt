@@ -5,6 +5,7 @@ ghost use Rattle.tx_jobs.specs.JobFaults.{status_of};
 ghost use Rattle.tx_program.specs.Statuses.{AskNothing, IsRefusedWith};
 ghost use Rattle.tx_program.specs.Faults.{status_of as words_status};
 
+use crate::command_fault::CommandFault;
 use crate::folder::Folder;
 use crate::perform::perform;
 use crate::tell::tell_words;
@@ -12,7 +13,7 @@ use crate::{Command, WordsFault, read_command};
 use std::alloc::{Allocator, Global};
 use std::io::{Read, Write};
 use tx_jobs::{JobFault, write_fault};
-use tx_text::ToWrite;
+use tx_text::{ToWrite, write_bytes};
 
 /// The ends of the program: a folder of files, standard input, standard output and standard error.
 #[derive(Drop)]
@@ -89,8 +90,20 @@ pub fn run_command<
     } = ends;
     match perform(alloc, command, folder, input, output) {
         Ok(status) => status,
-        Err(fault) => tell_fault(&fault, errors),
+        Err(CommandFault::Job(fault)) => tell_fault(&fault, errors),
+        Err(CommandFault::NoSuchCode) => refuse_code(errors),
     }
+}
+
+/// Tells that a plan has no code of the figures that were to be drawn, and answers the exit status.
+fn refuse_code<E: Write + Drop>(errors: E) -> u8
+    ensures { result ≡ 64 }
+{
+    let _ = write_bytes(
+        b"telexplan: no such code in the plan\n",
+        &mut ToWrite::new(errors),
+    );
+    64
 }
 
 /// Tells a fault by its line, and answers its exit status.

@@ -25,15 +25,6 @@ pub fn tell_words<O: Write, E: Write>(
         WordsFault::Together => {
             errors.write_all(b"telexplan: --cert, --limit and --spare go together\n")
         }
-        WordsFault::DrawTogether => {
-            errors.write_all(b"telexplan: --limit and --spare go together, and with --code\n")
-        }
-        WordsFault::NoSuchCode(word) => {
-            writeln!(
-                errors,
-                "telexplan: no such code: {word}; there are X1 to X3, P3 to P22, C1 to C10, S1 to S7, M1 to M12, K1 to K7 and F1 to F4",
-            )
-        }
         WordsFault::NoMemory => errors.write_all(b"telexplan: no memory\n"),
     }
 }

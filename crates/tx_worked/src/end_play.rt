@@ -121,8 +121,6 @@ fn tell_fault(fault: &WordsFault, log: &Log) {
     match fault {
         WordsFault::Clap(e) => log.tell_value(&e.kind()),
         WordsFault::Together => log.tell("refused:", "Together"),
-        WordsFault::DrawTogether => log.tell("refused:", "DrawTogether"),
-        WordsFault::NoSuchCode(word) => log.tell("refused: NoSuchCode", word.as_str()),
         WordsFault::NoMemory => log.tell("refused:", "NoMemory"),
     }
     log.tell_number("status", u64::from(fault.status()));

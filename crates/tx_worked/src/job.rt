@@ -7,7 +7,7 @@ use std::alloc::{Allocator, Global};
 use tx_audit::write_counter;
 use tx_cert::{Cert, write_cert};
 use tx_jobs::{
-    CounterScript, Evidence, JobFault, check_status, codes_status, draw_job, evidence_job,
+    CounterScript, Drawn, Evidence, JobFault, check_status, codes_status, draw_job, evidence_job,
     grade_status, pipe_job, run_checked_status, run_job,
 };
 use tx_plan::Plan;
@@ -108,7 +108,7 @@ fn do_draw_code<A: Allocator + Copy>(
     code: u16,
     bounds: Option<(u8, u8)>,
     out: &mut MemorySink,
-) -> Result<(), JobFault>
+) -> Result<Drawn, JobFault>
     requires limit { IfSome bounds (λ b. b.0 ≤ 62) }
     requires spare { IfSome bounds (λ b. b.1 ≤ 15) }
 {
@@ -123,7 +123,7 @@ fn do_draw<A: Allocator + Copy>(
     job: Job,
     plan: &mut MemorySource<'_>,
     out: &mut MemorySink,
-) -> Result<(), JobFault> {
+) -> Result<Drawn, JobFault> {
     let (code, bounds) = match job {
         Job::DrawCode { code } => (code, None),
         Job::DrawFinding { code, limit, spare } => (code, Some((limit.min(62), spare.min(15)))),
@@ -143,7 +143,11 @@ fn do_plan_job<A: Allocator + Copy>(
         Job::Codes => codes_status(alloc, plan, out),
         Job::Grade => grade_status(alloc, plan, out),
         Job::Audit { limit, spare } => do_audit(alloc, plan, limit.min(62), spare.min(15), out),
-        _ => status(do_draw(alloc, job, plan, out)),
+        _ => match do_draw(alloc, job, plan, out) {
+            Ok(Drawn::Picture) => Ok(0),
+            Ok(Drawn::NoSuchCode) => Ok(64),
+            Err(fault) => Err(fault),
+        },
     }
 }
 
@@ -178,7 +182,7 @@ pub(crate) fn do_task<A: Allocator + Copy>(
 ) -> Result<u8, JobFault> {
     let mut first = ends.source(End::First, task.first);
     if let Job::Pipe = task.job {
-        return status(pipe_job(alloc, first, out));
+        return status(pipe_job(alloc, &mut first, out));
     }
     let mut second = ends.source(End::Second, task.second);
     let mut third = ends.source(End::Third, task.third);

@@ -3,7 +3,7 @@ use crate::cases::{Told, tell, tell_broken, tell_count, tell_parts};
 use crate::tests::flaky::Flaky;
 use std::alloc::Global;
 use std::io::ErrorKind;
-use tx_pipe::TwoTexts;
+use tx_pipe::{Ahead, PlanPart, ScriptPart};
 use tx_text::{
     FromRead, MemorySink, MemorySource, Sink, Source, ToWrite, WriteFault, write_bytes, write_parts,
 };
@@ -36,11 +36,12 @@ pub(crate) fn tell_sources(text: &[u8], piece: usize, out: &mut Told) {
 /// Calls before and behind the end of the plan of an input, of which that of a number fails, where it is not 0.
 pub(crate) fn tell_two_texts(text: &[u8], piece: usize, fails: u64, room: usize, out: &mut Told) {
     let fails_at = if fails > 0 { Some(fails) } else { None };
-    let source = MemorySource::new(text, piece.max(1), fails_at);
-    let mut input = TwoTexts::new(source);
-    tell_reads(&mut input, 5, room, out);
-    input.go_on();
-    tell_reads(&mut input, 3, room, out);
+    let mut source = MemorySource::new(text, piece.max(1), fails_at);
+    let mut ahead = Ahead::new();
+    let mut plan = PlanPart::new(&mut source, &mut ahead);
+    tell_reads(&mut plan, 5, room, out);
+    let mut script = ScriptPart::new(&mut source, &mut ahead);
+    tell_reads(&mut script, 3, room, out);
 }
 
 /// Tells what a sink took, and whether it took all that it was given.

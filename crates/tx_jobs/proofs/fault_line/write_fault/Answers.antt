@@ -30,6 +30,3 @@ returns-in-Write-clause-ok g c = rw c.in-Write.is c.write_bytes-in-Write.ensures
 
 pub returns-in-NoMemory-clause-ok : goal.returns-in-NoMemory-clause-ok
 returns-in-NoMemory-clause-ok g c = rw c.in-NoMemory.is c.write_bytes-in-NoMemory.ensures.ok
-
-pub returns-in-UnknownCode-clause-ok : goal.returns-in-UnknownCode-clause-ok
-returns-in-UnknownCode-clause-ok g c = rw c.in-UnknownCode.is c.write_bytes-in-UnknownCode.ensures.ok

@@ -1,0 +1,17 @@
+// Why a command was not done.
+use tx_jobs::JobFault;
+
+/// Why a command was not done.
+#[derive(Clone, Copy)]
+pub(crate) enum CommandFault {
+    /// Its job stopped.
+    Job(JobFault),
+    /// The plan has no code of the figures that were to be drawn.
+    NoSuchCode,
+}
+
+impl From<JobFault> for CommandFault {
+    fn from(fault: JobFault) -> CommandFault {
+        CommandFault::Job(fault)
+    }
+}
