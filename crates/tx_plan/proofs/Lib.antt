@@ -10,3 +10,8 @@ pub mod SeenWords
 pub mod Fronts
 pub mod Longest
 pub mod Refusing
+pub mod ListFound
+pub mod Networks
+pub mod CommonRanks
+pub mod Filtered
+pub mod Mixing

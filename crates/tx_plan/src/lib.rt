@@ -34,5 +34,6 @@ pub use keyed::{code_of, rest_after};
 pub use plan::Plan;
 pub use refusal::PlanRefusal;
 pub use tx_entries::{
-    Circuit, CodeId, Direction, ExchangeId, GroupId, Line, LineRange, NameKey, National, Pair,
+    Bars, Circuit, CodeId, Direction, ExchangeId, GroupId, GroupList, Line, LineRange, NameKey,
+    National, Pair, Routes,
 };

@@ -6,6 +6,7 @@ ghost use Rattle.tx_plan.specs.Lines.{is_line_at};
 ghost use Rattle.tx_plan.specs.Routes.{route_list, is_barred, is_origin, is_origin_for};
 ghost use Rattle.tx_plan.specs.Circuits.{direction_of, count_of, ends_of, other_end, may_seize};
 ghost use Rattle.tx_plan.specs.Rules.{IsPlan};
+ghost use Rattle.tx_plan.specs.Rerouted.{rerouted};
 ghost use Rattle.tx_plan.specs.Declaring.{has_route, overlaps};
 
 use std::alloc::{Allocator, Global};
@@ -161,6 +162,20 @@ impl<A: Allocator> Plan<A> {
             Some(pair) => Some((pair.exchange, pair.code)),
             None => None,
         }
+    }
+}
+
+/// Other routes.
+impl<A: Allocator> Plan<A> {
+    /// The same plan with other routes and bars, with which it obeys the rules. Takes no memory.
+    pub fn rerouted(self, routes: Routes<A>, bars: Bars<A>) -> Plan<A>
+        requires { IsPlan (rerouted self routes bars) }
+        ensures { result ≡ rerouted self routes bars }
+    {
+        let mut plan = self;
+        plan.routes = routes;
+        plan.bars = bars;
+        plan
     }
 }
 

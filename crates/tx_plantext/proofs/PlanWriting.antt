@@ -1,10 +1,10 @@
 -- Writing a plan text, part by part.
-use Rattle.std.proofs.Common.{◌≡◌, ◌≢◌, ℕ, zero, suc, ◌+◌, ◌<◌, ◌≤◌, ◌==◌, ◌&&◌, Bool, false, nat_lt, List, [], ◌∷◌, ◌++◌, map, length, take, drop, get_or, codes, Option, None, Some, Ok, Err, refl, sym, ap, ◌∙◌, subst, append_assoc, append-nil, add-one, inl, inr}
-use Rattle.std.specs.Prelude.{if◌then◌else◌, IsErr, find}
+use Rattle.std.proofs.Common.{◌≡◌, ◌≢◌, ℕ, zero, suc, ◌+◌, ◌<◌, ◌≤◌, Bool, false, nat_lt, List, [], ◌∷◌, ◌++◌, map, length, take, drop, get_or, codes, Option, None, Some, Ok, Err, refl, sym, ap, ◌∙◌, subst, append_assoc, append-nil, add-one, inl, inr}
+use Rattle.std.specs.Prelude.{if◌then◌else◌, IsErr}
 use Rattle.std.specs.List.{flat_map, slice_get}
 use Rattle.std.specs.Option.{option_map_or, option_map}
 use Rattle.std.specs.Fmt.{decimal}
-use Rattle.std.proofs.lemmas.Bool.{false≢true, cases_lt, lt-ltb, le-ltb, and_from, and_left, and_right, eq-eqb, ne_eqb, cases_eq}
+use Rattle.std.proofs.lemmas.Bool.{false≢true, cases_lt, lt-ltb, le-ltb}
 use Rattle.std.proofs.lemmas.Option.{slice_get_past}
 use Rattle.std.proofs.lemmas.List.{take_all}
 use Rattle.tx_text.proofs.Writing.{stops_first, stops_at}
@@ -17,9 +17,10 @@ use Rattle.tx_entries.specs.declared.direction.Direction.{Direction}
 use Rattle.tx_plan.specs.Plan.{Plan, Route, exchange_name, figures_of, group_name, home_of}
 use Rattle.tx_plan.specs.Circuits.{direction_of, count_of, ends_of}
 use Rattle.tx_plan.specs.Routes.{route_list}
-use Rattle.tx_plan.specs.Rules.{IsPlan, EachPair}
+use Rattle.tx_plan.specs.Rules.{IsPlan}
 use Rattle.tx_plantext.specs.PlanWritten.{plan_written, has_bars, head_of, exchange_words, code_words, range_words, direction_word, group_words, route_words, bar_words, lines_of_list, line_at}
-use Rattle.tx_plan.proofs.ByPlace.{entry_at, all_at}
+use Rattle.tx_plan.proofs.ByPlace.{entry_at}
+use Rattle.tx_plan.proofs.ListFound.{list_found}
 
 -- ---- the lines of a list
 
@@ -126,25 +127,6 @@ group_text p i j count ends direction name first second e n b f s d k =
 joined_after : (p : Plan) (w : List ℕ) (gs : List ℕ) → joined (w ∷ map (group_name p) gs) ≡ w ++ flat_map (λ g. codes " " ++ group_name p g) gs
 joined_after p w [] = sym (append-nil w)
 joined_after p w (g ∷ gs) = ap (λ l. w ++ 32 ∷ l) (joined_after p (group_name p g) gs)
-
--- the list of a route is found by its exchange and code
-found_at : (r : Route) (rs : List Route) (k : ℕ) → EachPair (λ q s. q.exchange ≡ s.exchange → q.code ≢ s.code) rs → slice_get rs k ≡ Some r → find (λ q. (q.exchange == r.exchange) && (q.code == r.code)) rs ≡ Some r
-found_at r [] k d at = absurd (let z : ⊥ = cc in z)
-found_at r (q ∷ rs) zero d at =
-    let s : q ≡ r = cc in
-    let t = and_from (q.exchange == r.exchange) (q.code == r.code) (eq-eqb q.exchange r.exchange (ap (λ (y : Route). y.exchange) s)) (eq-eqb q.code r.code (ap (λ (y : Route). y.code) s)) in
-    rw t at
-found_at r (q ∷ rs) (suc k) d at =
-    let apart = all_at (λ s. q.exchange ≡ s.exchange → q.code ≢ s.code) rs k r d.0 at in
-    let t : ((q.exchange == r.exchange) && (q.code == r.code)) ≡ false =
-    elim (cases_eq q.exchange r.exchange) [
-      | inr n ↦ and_left (q.exchange == r.exchange) (q.code == r.code) (ne_eqb q.exchange r.exchange n)
-      | inl m ↦ and_right (q.exchange == r.exchange) (q.code == r.code) (ne_eqb q.code r.code (apart m))
-    ] in
-    rw t (found_at r rs k d.1 at)
-
-list_found : (p : Plan) (i : ℕ) (r : Route) → IsPlan p → slice_get p.routes i ≡ Some r → route_list p r.exchange r.code ≡ r.groups
-list_found p i r h e = ap (λ o. option_map_or (λ (q : Route). q.groups) o []) (found_at r p.routes i h.routes_differ e)
 
 route_line : (p : Plan) (name figures : List ℕ) (gs : List ℕ) → line_written (codes "ROUTE" ∷ name ∷ figures ∷ map (group_name p) gs)
     ≡ (codes "ROUTE " ++ (name ++ (codes " " ++ (figures ++ [])))) ++ (flat_map (λ g. codes " " ++ group_name p g) gs ++ codes "\n")

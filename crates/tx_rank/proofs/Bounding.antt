@@ -107,11 +107,11 @@ module _ (n : Net) (ranks : ℕ → Option ℕ) where
                 absurd (no_long w.start f.0 (record { walk = record { origin = w.walk.origin; goes = f.1 }; once = once_down n ranks falls w.start o.0 f.0 o.1 f.1; away = f.2; long = f.3 }))
             | inr within ↦ within
           ],
-          elim (cases_lt s (length (n.list x))) [
+          elim (cases_lt s (n.fewest x)) [
             | inl enough ↦ enough
             | inr few ↦
                 let once = once_down n ranks falls w.start o.0 w.steps o.1 w.walk.goes in
-                absurd (no_short w.start w.steps (record { walk = w.walk; once = once; away = λ e. away (sym w.ends ∙ e); few = subst (λ y. length (n.list y) < s + 1) (sym w.ends) (omega arith) }))
+                absurd (no_short w.start w.steps (record { walk = w.walk; once = once; away = λ e. away (sym w.ends ∙ e); few = subst (λ y. n.fewest y < s + 1) (sym w.ends) (omega arith) }))
           ],
         )
 

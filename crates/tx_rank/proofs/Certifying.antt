@@ -81,4 +81,4 @@ module _ (p : Plan) (ranks : Ranks) (limit spare : ℕ) where
   none_true cert (Ambiguous a b) h = let e = distinct_none p.codes cert.no_prefix in let bad : ⊥ = cc in bad
   none_true cert (Loop c w) h = certified_no_loop (net_of p c) (ranks c) limit spare (certifies_code cert c h.0) w.start w.steps h.1
   none_true cert (Short c w) h = certified_no_short (net_of p c) (ranks c) limit spare (certifies_code cert c h.0) w.start w.steps h.1
-  none_true cert (Long c w) h = certified_no_long (net_of p c) (ranks c) limit spare (certifies_code cert c h.0) w.start w.steps h.1
+  none_true cert (Long c w) h = certified_no_long (net_of p c) (ranks c) limit spare (certifies_code cert c h.0) (λ x. omega arith) w.start w.steps h.1

@@ -4,10 +4,12 @@ use Rattle.tx_plan.specs.Among.{Among}
 use Rattle.tx_rank.specs.declared.finding.Finding.{Finding}
 use Rattle.tx_rank.specs.declared.finding.Finding.TheVariants.{Loop, Short, Long}
 use Rattle.tx_rank.specs.Walks.{Net, Walk, end_of, IsLoop, IsShort, IsLong}
+use Rattle.tx_rank.specs.Nets.{IsNet}
 use Rattle.tx_rank.specs.Findings.{end_at}
 use Rattle.tx_rank.specs.Findings.AreFindingsOfCode.{looped, straight}
 use Rattle.tx_rank.specs.inner.Marks.{AreSettled}
-use Rattle.tx_rank.specs.inner.Judged.{LowOrigins, AddsShorts, IsJudged}
+use Rattle.tx_rank.specs.Judged.{IsJudged}
+use Rattle.tx_rank.specs.inner.Judged.{LowOrigins, AddsShorts}
 use Rattle.tx_rank.proofs.Walked.{loops_none, longs_none, certifies, heights}
 
 abbrev shorts : {A : Type 0} → ℕ → List Walk → List (Finding A)
@@ -36,13 +38,13 @@ module _ {A : Type 0} (n : Net) (code limit spare : ℕ) where
         some_long (f ∷ fs) e = cc
 
     -- none is
-    pub judged_none : LowOrigins n ranks limit → IsJudged n code limit spare old new ranks
-    judged_none low =
+    pub judged_none : IsNet n → LowOrigins n ranks limit → IsJudged n code limit spare old new ranks
+    judged_none net low =
         record {
           mine = map (Short code) a.walks;
           added = a.added;
           listed = straight (loops_none n ranks done) a.walks a.found None (longs_none n ranks done limit low) (sym (append-nil (map (Short code) a.walks)));
-          heights = λ e. heights n ranks done spare (no_short e);
+          heights = λ e. heights n ranks done net spare (no_short e);
           certified = λ e. certifies n ranks done limit spare low (no_short e);
         }
       where

@@ -1,4 +1,5 @@
 pub mod Ways
+pub mod PassedOnce
 pub mod Ranks
 pub mod Turns
 pub mod Heights

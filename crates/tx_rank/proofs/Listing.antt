@@ -6,6 +6,7 @@ use Rattle.tx_plan.specs.Plan.{Plan}
 use Rattle.tx_plan.specs.Ambiguous.{ambiguous_of}
 use Rattle.tx_plan.specs.Certified.{IsCertified}
 use Rattle.tx_plan.specs.Among.{Among}
+use Rattle.tx_plan.proofs.Filtered.{all_joined}
 use Rattle.tx_cert.specs.Certificate.{Certificate, rank_at, no_ranks_for, ranks_of}
 use Rattle.tx_cert.proofs.Ranks.{none_ranked}
 use Rattle.tx_rank.specs.declared.finding.Finding.{Finding}
@@ -15,7 +16,8 @@ use Rattle.tx_rank.specs.Heights.{RanksByHeight, AreHeights}
 use Rattle.tx_rank.specs.Findings.{IsTrueOf, IsLongIfAny, long_findings, AreFindingsOfCode, AreFindingsBelow, pair_findings, AreFindings}
 use Rattle.tx_rank.specs.Findings.AreFindingsOfCode.{looped, straight}
 use Rattle.tx_rank.specs.Nets.{Certifies}
-use Rattle.tx_rank.specs.inner.Judged.{IsJudged, IsRankedBelow}
+use Rattle.tx_rank.specs.Judged.{IsJudged}
+use Rattle.tx_rank.specs.inner.Judged.{IsRankedBelow}
 use Rattle.tx_rank.proofs.Certifying.{none_distinct, certified_codes}
 
 -- NOTHING IN FRONT AND NOTHING BEHIND
@@ -24,17 +26,13 @@ pub none_of : {X : Type 0} (xs : List X) → length xs ≡ 0 → xs ≡ []
 none_of [] h = refl
 none_of (x ∷ xs) h = absurd (omega arith)
 
-front_none : {X : Type 0} (xs ys : List X) → xs ++ ys ≡ [] → xs ≡ []
+pub front_none : {X : Type 0} (xs ys : List X) → xs ++ ys ≡ [] → xs ≡ []
 front_none [] ys e = refl
 front_none (x ∷ xs) ys e = absurd (let bad : ⊥ = cc in bad)
 
-back_none : {X : Type 0} (xs ys : List X) → xs ++ ys ≡ [] → ys ≡ []
+pub back_none : {X : Type 0} (xs ys : List X) → xs ++ ys ≡ [] → ys ≡ []
 back_none [] ys e = e
 back_none (x ∷ xs) ys e = absurd (let bad : ⊥ = cc in bad)
-
-all_both : {X : Type 0} (P : X → Type 0) (xs ys : List X) → AllByRecursion P xs → AllByRecursion P ys → AllByRecursion P (xs ++ ys)
-all_both P [] ys a b = b
-all_both P (x ∷ xs) ys a b = (a.0, all_both P xs ys a.1 b)
 
 -- EACH FINDING IS TRUE
 
@@ -48,7 +46,7 @@ module _ {A : Type 0} (p : Plan) (limit spare : ℕ) where
 
   code_true : (c : ℕ) (fs : List (Finding A)) → c < length p.codes → AreFindingsOfCode (net_of p c) c limit spare fs → AllTrue fs
   code_true c fs h (looped w l e) = subst AllTrue (sym e) ((h, l), tt)
-  code_true c fs h (straight none shorts s long l e) = subst AllTrue (sym e) (all_both (IsTrueOf p limit spare) (map (Short c) shorts) (long_findings c long) (shorts_true shorts s.each) (long_true long l))
+  code_true c fs h (straight none shorts s long l e) = subst AllTrue (sym e) (all_joined (IsTrueOf p limit spare) (map (Short c) shorts) (long_findings c long) (shorts_true shorts s.each) (long_true long l))
     where
       shorts_true : (ws : List Walk) → ((w : Walk) → Among w ws → IsShort (net_of p c) spare w.start w.steps) → AllTrue (map (Short c) ws)
       shorts_true [] each = tt
@@ -60,10 +58,10 @@ module _ {A : Type 0} (p : Plan) (limit spare : ℕ) where
 
   below_true : (c : ℕ) (fs : List (Finding A)) → c ≤ length p.codes → AreFindingsBelow p limit spare c fs → AllTrue fs
   below_true zero fs h e = subst AllTrue (sym e) tt
-  below_true (suc c) fs h l = subst AllTrue (sym l.2) (all_both (IsTrueOf p limit spare) l.0 l.1 (below_true c l.0 (omega arith) l.3) (code_true c l.1 (omega arith) l.4))
+  below_true (suc c) fs h l = subst AllTrue (sym l.2) (all_joined (IsTrueOf p limit spare) l.0 l.1 (below_true c l.0 (omega arith) l.3) (code_true c l.1 (omega arith) l.4))
 
   pub all_true : (fs : List (Finding A)) → AreFindings p limit spare fs → AllTrue fs
-  all_true fs l = subst AllTrue (sym l.joined) (all_both (IsTrueOf p limit spare) (pair_findings (ambiguous_of p.codes)) l.rest (pair_true A p limit spare (ambiguous_of p.codes) refl) (below_true (length p.codes) l.rest (omega arith) l.codes))
+  all_true fs l = subst AllTrue (sym l.joined) (all_joined (IsTrueOf p limit spare) (pair_findings (ambiguous_of p.codes)) l.rest (pair_true A p limit spare (ambiguous_of p.codes) refl) (below_true (length p.codes) l.rest (omega arith) l.codes))
 
   -- a finding in a list that is not empty
   pub some_true : (fs : List (Finding A)) → AllTrue fs → fs ≢ [] → ((f : Finding A) → IsTrueOf p limit spare f → ⊥) → ⊥

@@ -70,7 +70,7 @@ module _ (p : Plan) (ok : IsPlan p) where
           leads_from g x (ap (may_seize p g) (sym at) ∙ all_among (λ (h : ℕ). may_seize p h r.exchange ≡ true) r.groups g a m)
 
   pub is_net : (c : ℕ) → c < length p.codes → IsNet (net_of p c)
-  is_net c h = record { few = ok.few_exchanges; home = home_within c h; origins = origin_within c; leads = λ x g m. leads_in c x g m }
+  is_net c h = record { few = ok.few_exchanges; home = home_within c h; origins = origin_within c; leads = λ x g m. leads_in c x g m; listed = λ x. omega arith }
 
 pub leads_somewhere : (p : Plan) → IsPlan p → (c x g : ℕ) → Among g (route_list p x c) → other_end p g x ≡ None → ⊥
 leads_somewhere p ok c x g m e = let l = leads_in p ok c x g m in let q = l.1 in let bad : ⊥ = cc in bad

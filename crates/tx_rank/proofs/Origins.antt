@@ -4,7 +4,7 @@ use Rattle.std.specs.Prelude.{slice_get}
 use Rattle.std.proofs.lemmas.List.{length_push}
 use Rattle.tx_plan.specs.Plan.{Plan}
 use Rattle.tx_plan.specs.Routes.{is_origin}
-use Rattle.tx_rank.specs.inner.Judged.{AreOrigins}
+use Rattle.tx_rank.specs.Judged.{AreOrigins}
 
 pub record AreOriginsBelow (p : Plan) (i : ℕ) (origins : List Bool) : Type 0 where
   pub long : length origins ≡ i

@@ -5,7 +5,7 @@ use borrow.Author.Tests.{leb-true, leb-false}
 use Rattle.tx_plan.specs.Among.{Among}
 use Rattle.tx_rank.specs.Walks.{Net, AllDiffer, end_of, passed, IsWalk, IsLoop, IsShort, IsLong}
 use Rattle.tx_rank.specs.Heights.{RanksByHeight}
-use Rattle.tx_rank.specs.Nets.{Certifies}
+use Rattle.tx_rank.specs.Nets.{IsNet, Certifies}
 use Rattle.tx_rank.specs.inner.Marks.{AreSettled}
 use Rattle.tx_rank.specs.inner.Judged.{IsShortAt, LowOrigins}
 use Rattle.tx_rank.proofs.Ranks.{Falls, falling, all_down, once_down, no_loop, reached_ranked}
@@ -19,9 +19,9 @@ module _ (n : Net) (ranks : ℕ → Option ℕ) (done : AreSettled n ranks) wher
   pub walk_once : (x : ℕ) (steps : List (ℕ × ℕ)) → IsWalk n x steps → AllDiffer (passed x steps)
   walk_once x steps w = let o = done.origins x w.origin in once_down n ranks (falling n ranks done) x o.0 steps o.1 w.goes
 
-  pub short_true : (spare x : ℕ) (start : ℕ) (steps : List (ℕ × ℕ)) → IsWalk n start steps → end_of start steps ≡ x → x ≢ n.home → length (n.list x) ≤ spare → IsShort n spare start steps
+  pub short_true : (spare x : ℕ) (start : ℕ) (steps : List (ℕ × ℕ)) → IsWalk n start steps → end_of start steps ≡ x → x ≢ n.home → n.fewest x ≤ spare → IsShort n spare start steps
   short_true spare x start steps w e away few =
-      record { walk = w; once = walk_once start steps w; away = λ q. away (sym e ∙ q); few = let l = ap (λ k. length (n.list k)) e in omega arith }
+      record { walk = w; once = walk_once start steps w; away = λ q. away (sym e ∙ q); few = let l = ap n.fewest e in omega arith }
 
   pub long_true : (limit : ℕ) (start : ℕ) (steps : List (ℕ × ℕ)) → IsWalk n start steps → length steps ≡ limit + 1 → end_of start steps ≢ n.home → IsLong n limit start steps
   long_true limit start steps w e away = record { walk = w; once = walk_once start steps w; away = away; long = e }
@@ -61,10 +61,10 @@ module _ (n : Net) (ranks : ℕ → Option ℕ) (done : AreSettled n ranks) wher
       ] refl
 
   -- where there is no short walk, each ranked exchange has groups enough
-  pub enough_from : (spare : ℕ) → ((x : ℕ) (steps : List (ℕ × ℕ)) → IsShort n spare x steps → ⊥) → (x r : ℕ) → ranks x ≡ Some r → x ≢ n.home → spare < length (n.list x)
+  pub enough_from : (spare : ℕ) → ((x : ℕ) (steps : List (ℕ × ℕ)) → IsShort n spare x steps → ⊥) → (x r : ℕ) → ranks x ≡ Some r → x ≢ n.home → spare < n.fewest x
   enough_from spare none x r ranked away =
-      elim (leb (length (n.list x)) spare) as (λ b. leb (length (n.list x)) spare ≡ b → spare < length (n.list x)) [
-        | true ↦ λ e. let few : length (n.list x) ≤ spare = omega (arith, leb-true) in let w = done.ranked x r ranked away in absurd (none w.start w.steps (short_true spare x w.start w.steps w.walk w.ends away few))
+      elim (leb (n.fewest x) spare) as (λ b. leb (n.fewest x) spare ≡ b → spare < n.fewest x) [
+        | true ↦ λ e. let few : n.fewest x ≤ spare = omega (arith, leb-true) in let w = done.ranked x r ranked away in absurd (none w.start w.steps (short_true spare x w.start w.steps w.walk w.ends away few))
         | false ↦ λ e. omega (arith, leb-false)
       ] refl
 
@@ -72,8 +72,8 @@ module _ (n : Net) (ranks : ℕ → Option ℕ) (done : AreSettled n ranks) wher
   certifies limit spare low none =
       record { home = done.home; origins = done.origins; low = all_low limit low; enough = enough_from spare none; lower = λ x r ranked away. (done.settled x r ranked away).lower }
 
-  pub heights : (spare : ℕ) → ((x : ℕ) (steps : List (ℕ × ℕ)) → IsShort n spare x steps → ⊥) → RanksByHeight n ranks
-  heights spare none = ranking n ranks done (λ x r ranked away. first_of (n.list x) (let e = enough_from spare none x r ranked away in omega arith))
+  pub heights : IsNet n → (spare : ℕ) → ((x : ℕ) (steps : List (ℕ × ℕ)) → IsShort n spare x steps → ⊥) → RanksByHeight n ranks
+  heights net spare none = ranking n ranks done (λ x r ranked away. first_of (n.list x) (let e = enough_from spare none x r ranked away in let l = net.listed x in omega arith))
 
 -- where ranks certify a code, no finding of it is true
 module _ (n : Net) (ranks : ℕ → Option ℕ) (limit spare : ℕ) (c : Certifies n ranks limit spare) where
@@ -91,13 +91,13 @@ module _ (n : Net) (ranks : ℕ → Option ℕ) (limit spare : ℕ) (c : Certifi
       let f = s.few in
       absurd (omega arith)
 
-  pub certified_no_long : (x : ℕ) (steps : List (ℕ × ℕ)) → IsLong n limit x steps → ⊥
-  certified_no_long x steps l =
+  pub certified_no_long : ((x : ℕ) → n.fewest x ≤ length (n.list x)) → (x : ℕ) (steps : List (ℕ × ℕ)) → IsLong n limit x steps → ⊥
+  certified_no_long listed x steps l =
       let o = c.origins x l.walk.origin in
       let d = all_down n ranks falls x o.0 steps o.1 l.walk.goes in
       let top = c.low x o.0 o.1 in
       let e = l.long in
-      let f = first_of (n.list (end_of x steps)) (let q = c.enough (end_of x steps) d.rank d.ranked l.away in omega arith) in
+      let f = first_of (n.list (end_of x steps)) (let q = c.enough (end_of x steps) d.rank d.ranked l.away in let k = listed (end_of x steps) in omega arith) in
       let b = (c.lower (end_of x steps) d.rank d.ranked l.away f.0 f.1).below in
       let w = d.within in
       absurd (omega arith)

@@ -36,4 +36,4 @@ AreUnmended p findings = (limit : ℕ) → length p.exchanges ≤ limit → AreF
 
 -- what a ranked exchange other than the home asks for: its rank is at most limit + 1, and its list has more groups than spare
 abbrev pub Suits : Net → (ranks : ℕ → Option ℕ) → (x limit spare : ℕ) → Type 0
-Suits n ranks x limit spare = (r : ℕ) → ranks x ≡ Some r → x ≢ n.home → (r ≤ limit + 1) × (spare < length (n.list x))
+Suits n ranks x limit spare = (r : ℕ) → ranks x ≡ Some r → x ≢ n.home → (r ≤ limit + 1) × (spare < n.fewest x)

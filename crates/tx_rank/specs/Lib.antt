@@ -3,6 +3,7 @@ pub mod Heights
 pub mod Findings
 pub mod Rankings
 pub mod Nets
+pub mod Judged
 pub mod Grades
 pub mod Gradings
 pub mod inner

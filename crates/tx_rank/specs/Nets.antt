@@ -9,6 +9,7 @@ pub record IsNet (n : Net) : Type 0 where
   pub home : n.home < n.exchanges
   pub origins : (x : ℕ) → n.is_origin x ≡ true → x < n.exchanges
   pub leads : (x g : ℕ) → Among g (n.list x) → (y : ℕ) × (n.far g x ≡ Some y) × (y < n.exchanges)
+  pub listed : (x : ℕ) → n.fewest x ≤ length (n.list x)
 
 -- a group of x leads to a rank below r
 pub record LeadsBelow (n : Net) (ranks : ℕ → Option ℕ) (x r g : ℕ) : Type 0 where
@@ -23,5 +24,5 @@ pub record Certifies (n : Net) (ranks : ℕ → Option ℕ) (limit spare : ℕ) 
   pub home : ranks n.home ≡ Some 0
   pub origins : (x : ℕ) → n.is_origin x ≡ true → (r : ℕ) × (ranks x ≡ Some r)
   pub low : (x r : ℕ) → ranks x ≡ Some r → r ≤ limit + 1
-  pub enough : (x r : ℕ) → ranks x ≡ Some r → x ≢ n.home → spare < length (n.list x)
+  pub enough : (x r : ℕ) → ranks x ≡ Some r → x ≢ n.home → spare < n.fewest x
   pub lower : (x r : ℕ) → ranks x ≡ Some r → x ≢ n.home → (g : ℕ) → Among g (n.list x) → LeadsBelow n ranks x r g

@@ -6,12 +6,14 @@ use Rattle.tx_plan.specs.Routes.{route_list, is_origin_for}
 use Rattle.tx_plan.specs.Circuits.{other_end}
 use Rattle.tx_plan.specs.Among.{Among}
 
--- The network as calls for one code see it: how many exchanges there are, the home of the code, the groups that each exchange tries, where a group
--- leads from an exchange, and where calls may start.
+-- The network as calls for one code see it: how many exchanges there are, the home of the code, the
+-- groups that each exchange may try, how many it tries at the least, where a group leads from an
+-- exchange, and where calls may start.
 pub record Net : Type 0 where
   pub exchanges : ℕ
   pub home : ℕ
   pub list : ℕ → List ℕ
+  pub fewest : ℕ → ℕ
   pub far : ℕ → ℕ → Option ℕ
   pub is_origin : ℕ → Bool
 
@@ -21,6 +23,7 @@ net_of p c = record {
   exchanges = length p.exchanges;
   home = home_of p c;
   list = λ x. route_list p x c;
+  fewest = λ x. length (route_list p x c);
   far = λ g x. other_end p g x;
   is_origin = λ x. is_origin_for p x c;
 }
@@ -65,12 +68,12 @@ pub record IsLoop (n : Net) (x : ℕ) (steps : List (ℕ × ℕ)) : Type 0 where
   pub again : Among (end_of x steps) (before_end x steps)
   pub once : AllDiffer (before_end x steps)
 
--- SHORT: nothing repeats, and the last exchange is not the home and lists fewer than spare + 1 groups.
+-- SHORT: nothing repeats, and the last exchange is not the home and may list fewer than spare + 1 groups.
 pub record IsShort (n : Net) (spare : ℕ) (x : ℕ) (steps : List (ℕ × ℕ)) : Type 0 where
   pub walk : IsWalk n x steps
   pub once : AllDiffer (passed x steps)
   pub away : end_of x steps ≢ n.home
-  pub few : length (n.list (end_of x steps)) < spare + 1
+  pub few : n.fewest (end_of x steps) < spare + 1
 
 -- LONG: nothing repeats, there are limit + 1 steps, and the last exchange is not the home.
 pub record IsLong (n : Net) (limit : ℕ) (x : ℕ) (steps : List (ℕ × ℕ)) : Type 0 where

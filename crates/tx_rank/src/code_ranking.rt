@@ -2,7 +2,7 @@
 ghost use Rattle.std.specs.Prelude.{◌≡◌, ◌≢◌, ◌<◌, ℕ, None, IfOk};
 ghost use Rattle.tx_cert.specs.Certificate.{rank_at as ranked_at};
 ghost use Rattle.tx_rank.specs.inner.Marks.{IsPassed};
-ghost use Rattle.tx_rank.specs.inner.Judged.{IsJudged};
+ghost use Rattle.tx_rank.specs.Judged.{IsJudged};
 
 use crate::explore::{pass, unseen, walk_in_hand};
 use crate::finding::Finding;
@@ -36,6 +36,7 @@ fn judge_ranked<A: Allocator + Copy, N: Routes>(
     ensures codes { cert.new.codes ≡ cert.old.codes }
     ensures exchanges { cert.new.exchanges ≡ cert.old.exchanges }
 {
+    net.rules();
     put_ranks(net, marks, code, cert);
     add_shorts(alloc, net, marks, code, spare, findings)?;
     match long_walk(alloc, net, marks, limit)? {

@@ -2,7 +2,7 @@
 ghost use Rattle.std.specs.Prelude.{◌≡◌, ◌<◌, ℕ, Bool, length, Some, slice_get, IfOk};
 ghost use Rattle.tx_plan.specs.Routes.{is_origin};
 ghost use Rattle.tx_rank.specs.Walks.{net_of};
-ghost use Rattle.tx_rank.specs.inner.Judged.{AreOrigins};
+ghost use Rattle.tx_rank.specs.Judged.{AreOrigins};
 
 use crate::routes::Routes;
 use std::alloc::Allocator;
@@ -53,6 +53,10 @@ impl<'a, A: Allocator> Routes for CodeRoutes<'a, A> {
 
     fn list(&self, exchange: ExchangeId) -> &[GroupId] {
         self.plan.list(exchange, self.code)
+    }
+
+    fn fewest(&self, exchange: ExchangeId) -> usize {
+        self.plan.list(exchange, self.code).len()
     }
 
     fn far(&self, group: GroupId, exchange: ExchangeId) -> ExchangeId {

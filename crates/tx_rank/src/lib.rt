@@ -36,8 +36,11 @@ mod walk;
 mod written;
 
 pub use bounds::Bounds;
+pub use code_ranking::rank_code;
+pub use code_routes::origins_of;
 pub use finding::Finding;
 pub use grading::grade;
 pub use plan_grade::Grade;
-pub use ranking::{Ranking, rank};
+pub use ranking::{Ranking, pair_found, rank};
+pub use routes::Routes;
 pub use walk::{Steps, Walk};

@@ -7,7 +7,8 @@ ghost use Rattle.tx_cert.specs.Certificate.{ranks_of, no_ranks_for, IsCertificat
 ghost use Rattle.tx_rank.specs.Heights.{AreHeights};
 ghost use Rattle.tx_rank.specs.Findings.{IsTrueOf, AreFindings, pair_findings};
 ghost use Rattle.tx_rank.specs.Rankings.{IsFound, OnFound, OnFails};
-ghost use Rattle.tx_rank.specs.inner.Judged.{AreOrigins, IsRankedBelow};
+ghost use Rattle.tx_rank.specs.Judged.{AreOrigins};
+ghost use Rattle.tx_rank.specs.inner.Judged.{IsRankedBelow};
 
 use crate::code_ranking::rank_code;
 use crate::code_routes::{CodeRoutes, origins_of};

@@ -28,9 +28,13 @@ pub trait Routes {
         requires { exchange < (net self.now).exchanges }
         ensures { result ≡ (net self.now).is_origin exchange };
 
-    /// The groups that an exchange tries, in order.
+    /// The groups that an exchange may try, in order.
     fn list(&self, exchange: ExchangeId) -> &[GroupId]
         ensures { result.now ≡ (net self.now).list exchange };
+
+    /// How many of them it tries at the least.
+    fn fewest(&self, exchange: ExchangeId) -> usize
+        ensures { result ≡ (net self.now).fewest exchange };
 
     /// Where a group in the list of an exchange leads.
     fn far(&self, group: GroupId, exchange: ExchangeId) -> ExchangeId

@@ -15,7 +15,7 @@ use std::alloc::Allocator;
 use tx_plan::{CodeId, ExchangeId};
 use tx_text::NoMemory;
 
-/// Whether a walk comes to the exchange, which is not the home and has no more than this many groups in its list.
+/// Whether a walk comes to the exchange, which is not the home and may try no more than this many groups.
 fn is_short<N: Routes>(net: &N, marks: &[Mark], exchange: ExchangeId, spare: u8) -> bool
     requires { exchange < length marks.now }
     ensures yes { result ≡ true → IsShortAt (N.net net.now) (rank_in marks.now) spare exchange }
@@ -27,7 +27,7 @@ fn is_short<N: Routes>(net: &N, marks: &[Mark], exchange: ExchangeId, spare: u8)
     if exchange == net.home() {
         return false;
     }
-    net.list(exchange).len() <= usize::from(spare)
+    net.fewest(exchange) <= usize::from(spare)
 }
 
 /// Whether there is such an exchange.

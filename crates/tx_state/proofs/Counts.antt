@@ -170,12 +170,12 @@ moves_used p e c c' (goes_on x calls q) =
 moves_used p e c c' (falls_back x calls first q) = let w = ap waits calls in let f = ap one_if first in let u = ap used q in omega arith
 
 -- k Routes of call n were accepted so far
-record IsCounted (limit : ℕ) (calls : List Call) (numbers n k : ℕ) : Type 0 where
-  few : k ≤ 2 * limit + 3
-  open' : (c : Call) → Among c calls → c.number ≡ n → k ≤ used c
-  later : numbers < n → k ≡ 0
+pub record IsCounted (limit : ℕ) (calls : List Call) (numbers n k : ℕ) : Type 0 where
+  pub few : k ≤ 2 * limit + 3
+  pub open' : (c : Call) → Among c calls → c.number ≡ n → k ≤ used c
+  pub later : numbers < n → k ≡ 0
 
-abbrev is_counted : ℕ → Event → Reply → Bool
+abbrev pub is_counted : ℕ → Event → Reply → Bool
 is_counted n e r = is_route_of n (routed_call e) && not (is_refused r)
 
 module _ (p : Plan) (ok : IsPlan p) (ranks : Ranks) (limit spare : ℕ) (cert : IsCertified p ranks limit spare) (n : ℕ) where
@@ -259,7 +259,7 @@ module _ (p : Plan) (ok : IsPlan p) (ranks : Ranks) (limit spare : ℕ) (cert : 
       at (Some c) e a b = found c e (stands c.phase b)
 
   -- any event, with the Route that it may be
-  counted_step : (s : State) → Holds p s → AllRanked p ranks limit spare cert s.calls → (e : Event) → (k : ℕ) → IsCounted limit s.calls s.numbers n k → IsCounted limit (step p s e).1.calls (step p s e).1.numbers n (k + (if is_counted n e (step p s e).0 then 1 else 0))
+  pub counted_step : (s : State) → Holds p s → AllRanked p ranks limit spare cert s.calls → (e : Event) → (k : ℕ) → IsCounted limit s.calls s.numbers n k → IsCounted limit (step p s e).1.calls (step p s e).1.numbers n (k + (if is_counted n e (step p s e).0 then 1 else 0))
   counted_step s h ranked e k i = at (is_counted n e (step p s e).0) refl
     where
       as_route : (e : Event) → is_route_of n (routed_call e) ≡ true → e ≡ Route n

@@ -15,3 +15,5 @@ pub mod RunOn
 pub mod Playing
 pub mod OneCall
 pub mod LastHop
+pub mod ByNetwork
+pub mod ChangingRuns

@@ -14,6 +14,7 @@ pub mod Passed
 pub mod Safe
 pub mod Excused
 pub mod Sound
+pub mod ChangingRuns
 pub mod Unrefused
 pub mod Invariant
 pub mod Driven

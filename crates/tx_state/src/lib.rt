@@ -2,6 +2,7 @@
 #![tactic(auto)]
 
 mod cause;
+mod changing;
 mod driving;
 mod event;
 mod facts;
@@ -20,6 +21,7 @@ mod service;
 mod ticket;
 
 pub use cause::Cause;
+pub use changing::{common_ranks_certify, live_change_is_sound};
 pub use driving::drive;
 pub use event::Event;
 pub use facts::Facts;

@@ -1,7 +1,6 @@
--- What the ranking of one code adds to the findings, and the parts of this.
-use Rattle.std.specs.Prelude.{◌≡◌, ◌≢◌, ℕ, ◌+◌, ◌<◌, ◌≤◌, Bool, true, List, [], ◌++◌, length, map, Option, Some, None, slice_get}
+-- The parts of what the ranking of one code adds to the findings, and what is kept from code to code.
+use Rattle.std.specs.Prelude.{◌≡◌, ◌≢◌, ℕ, ◌+◌, ◌<◌, ◌≤◌, true, List, [], ◌++◌, length, map, Option, Some, None}
 use Rattle.tx_plan.specs.Plan.{Plan}
-use Rattle.tx_plan.specs.Routes.{is_origin}
 use Rattle.tx_plan.specs.Ambiguous.{ambiguous_of}
 use Rattle.tx_plan.specs.Rules.{EachPair}
 use Rattle.tx_plan.specs.Among.{Among}
@@ -10,15 +9,15 @@ use Rattle.tx_rank.specs.declared.finding.Finding.{Finding}
 use Rattle.tx_rank.specs.declared.finding.Finding.TheVariants.{Short}
 use Rattle.tx_rank.specs.Walks.{Net, Walk, net_of, end_of, IsShort, IsLong}
 use Rattle.tx_rank.specs.Heights.{RanksByHeight}
-use Rattle.tx_rank.specs.Findings.{end_at, AreShorts, AreFindingsOfCode, AreFindingsBelow, pair_findings}
+use Rattle.tx_rank.specs.Findings.{end_at, AreShorts, AreFindingsBelow, pair_findings}
 use Rattle.tx_rank.specs.Nets.{Certifies}
 
--- a walk ends at x, which is not the home and lists no more than spare groups
+-- a walk ends at x, which is not the home and may list no more than spare groups
 pub record IsShortAt (n : Net) (ranks : ℕ → Option ℕ) (spare x : ℕ) : Type 0 where
   pub rank : ℕ
   pub ranked : ranks x ≡ Some rank
   pub away : x ≢ n.home
-  pub few : length (n.list x) ≤ spare
+  pub few : n.fewest x ≤ spare
 
 -- no origin is ranked above limit + 1
 abbrev pub LowOrigins : Net → (ℕ → Option ℕ) → ℕ → Type 0
@@ -33,11 +32,6 @@ IsLongFound n ranks limit (Some w) = IsLong n limit w.start w.steps
 abbrev pub IsLongFrom : Net → (ℕ → Option ℕ) → ℕ → ℕ → Option Walk → Type 0
 IsLongFrom n ranks limit x None = (r : ℕ) → n.is_origin x ≡ true → ranks x ≡ Some r → r ≤ limit + 1
 IsLongFrom n ranks limit x (Some w) = IsLong n limit w.start w.steps
-
--- each exchange has whether calls may start there
-pub record AreOrigins (p : Plan) (origins : List Bool) : Type 0 where
-  pub long : length origins ≡ length p.exchanges
-  pub each : (x : ℕ) (b : Bool) → slice_get origins x ≡ Some b → b ≡ is_origin p x
 
 module _ {A : Type 0} where
   -- a short walk was added for each exchange to which there is one
@@ -54,14 +48,6 @@ module _ {A : Type 0} where
     pub order : EachPair (λ x y. x < y) (map end_at walks)
     pub below : (y : ℕ) → Among y (map end_at walks) → y < i
     pub all : (x : ℕ) (steps : List (ℕ × ℕ)) → IsShort n spare x steps → end_of x steps < i → Among (end_of x steps) (map end_at walks)
-
-  -- the findings of a code were added, and where there are none its ranks are heights and certify it
-  pub record IsJudged (n : Net) (code limit spare : ℕ) (old new : List (Finding A)) (ranks : ℕ → Option ℕ) : Type 0 where
-    pub mine : List (Finding A)
-    pub added : new ≡ old ++ mine
-    pub listed : AreFindingsOfCode n code limit spare mine
-    pub heights : mine ≡ [] → RanksByHeight n ranks
-    pub certified : mine ≡ [] → Certifies n ranks limit spare
 
   -- the codes before c were ranked
   pub record IsRankedBelow (p : Plan) (limit spare c : ℕ) (cert : Certificate) (findings : List (Finding A)) : Type 0 where

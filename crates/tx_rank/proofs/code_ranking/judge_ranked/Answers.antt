@@ -3,7 +3,8 @@ use Rattle.tx_cert.specs.Certificate.{rank_at as ranked_at}
 use Rattle.tx_rank.specs.declared.finding.Finding.{Finding}
 use Rattle.tx_rank.specs.declared.finding.Finding.TheVariants.{Long}
 use Rattle.tx_rank.specs.inner.Marks.{rank_in}
-use Rattle.tx_rank.specs.inner.Judged.{IsJudged, IsLongFound}
+use Rattle.tx_rank.specs.Judged.{IsJudged}
+use Rattle.tx_rank.specs.inner.Judged.{IsLongFound}
 use Rattle.tx_rank.proofs.Judging.{judged_long, judged_none}
 use Rattle.tx_rank.proofs.code_ranking.judge_ranked.Goals as goal
 
@@ -27,7 +28,7 @@ returns-in-None-clause-judged g c =
     let here = c.put_ranks.ensures.here in
     let same : ranks ≡ ranked_at c.put_ranks.new.cert c.args.code = λ i x. sym (here x) i in
     let low = subst (IsLongFound n ranks c.args.limit) c.in-None.is c.in_ok-walk.ensures in
-    let j = judged_none n c.args.code c.args.limit c.args.spare ranks c.requires.passed.ranks old c.add_shorts.new.findings.items c.in_ok-add_shorts.ensures low in
+    let j = judged_none n c.args.code c.args.limit c.args.spare ranks c.requires.passed.ranks old c.add_shorts.new.findings.items c.in_ok-add_shorts.ensures c.rules.ensures low in
     subst (IsJudged n c.args.code c.args.limit c.args.spare old c.add_shorts.new.findings.items) same j
 
 pub put_ranks-requires-clause-long : goal.put_ranks-requires-clause-long

@@ -1,0 +1,126 @@
+-- Lists that are alike at each place, and entries that are.
+use Rattle.std.proofs.Common.{◌≡◌, ◌≢◌, ℕ, zero, suc, ◌<◌, ◌≤◌, min, Bool, true, List, [], ◌∷◌, length, Option, Some, refl, sym, ap, ◌∙◌, arith}
+use Rattle.std.specs.Prelude.{slice_get}
+use Rattle.std.specs.Option.{option_map_or}
+use Rattle.std.specs.Str.{bytes_eq}
+use Rattle.std.proofs.lemmas.Slice.Eq.{bytes_eq-Decides}
+use Rattle.tx_entries.specs.declared.direction.Direction.{Direction}
+use Rattle.tx_entries.specs.declared.direction.Direction.TheVariants.{OneWay}
+use Rattle.tx_plan.specs.Plan.{Plan, Code, Group, exchange_name, figures_of, home_of, group_name}
+use Rattle.tx_plan.specs.Circuits.{direction_of, count_of, ends_of}
+use Rattle.tx_plan.specs.Rules.{IsPlan}
+use Rattle.tx_plan.specs.Mixtures.{SameNetwork}
+use Rattle.tx_plan.proofs.ByPlace.{entry_at}
+use Rattle.tx_change.specs.declared.difference.NetworkList.{NetworkList}
+use Rattle.tx_change.specs.declared.difference.NetworkList.TheVariants.{Exchanges, Codes, Ranges, Groups}
+use Rattle.tx_change.specs.Difference.{SameAt, entries_in, SameList}
+
+pub alike : {A : Type 0} (xs ys : List A) → ((i : ℕ) → slice_get xs i ≡ slice_get ys i) → xs ≡ ys
+alike [] [] h = refl
+alike [] (y ∷ ys) h = let s = h 0 in let bad : ⊥ = cc in absurd bad
+alike (x ∷ xs) [] h = let s = h 0 in let bad : ⊥ = cc in absurd bad
+alike (x ∷ xs) (y ∷ ys) h =
+    let head : x ≡ y = let s = h 0 in cc in
+    let tail = alike xs ys (λ i. h (suc i)) in
+    λ k. head k ∷ tail k
+
+-- lists of which one ends before the other differ where it ends
+ends_differ : {A : Type 0} (xs ys : List A) (n : ℕ) → n ≡ min (length xs) (length ys) → length xs ≢ length ys → slice_get xs n ≡ slice_get ys n → ⊥
+ends_differ [] [] n e h s = h refl
+ends_differ [] (y ∷ ys) zero e h s = let bad : ⊥ = cc in bad
+ends_differ [] (y ∷ ys) (suc n) e h s = absurd (omega arith)
+ends_differ (x ∷ xs) [] zero e h s = let bad : ⊥ = cc in bad
+ends_differ (x ∷ xs) [] (suc n) e h s = absurd (omega arith)
+ends_differ (x ∷ xs) (y ∷ ys) zero e h s = absurd (omega arith)
+ends_differ (x ∷ xs) (y ∷ ys) (suc n) e h s = ends_differ xs ys n (omega arith) (λ k. h (ap suc k)) s
+
+-- lists of one length are the same at each place if they are before their end
+same_past : {A : Type 0} (xs ys : List A) → length xs ≡ length ys → ((i : ℕ) → i < length xs → slice_get xs i ≡ slice_get ys i) → (i : ℕ) → slice_get xs i ≡ slice_get ys i
+same_past [] [] e h i = refl
+same_past [] (y ∷ ys) e h i = absurd (omega arith)
+same_past (x ∷ xs) [] e h i = absurd (omega arith)
+same_past (x ∷ xs) (y ∷ ys) e h zero = h 0 (omega arith)
+same_past (x ∷ xs) (y ∷ ys) e h (suc i) = same_past xs ys (omega arith) (λ j l. h (suc j) (omega arith)) i
+
+pub differs_at_end : (list : NetworkList) (p q : Plan) (n : ℕ) → n ≡ min (entries_in list p) (entries_in list q) → entries_in list p ≢ entries_in list q → SameAt list p q n → ⊥
+differs_at_end Exchanges p q n e h s = ends_differ p.exchanges q.exchanges n e h s
+differs_at_end Codes p q n e h s = ends_differ p.codes q.codes n e h s
+differs_at_end Ranges p q n e h s = ends_differ p.ranges q.ranges n e h s
+differs_at_end Groups p q n e h s = ends_differ p.groups q.groups n e h s
+
+-- a place of a list is small
+pub entries_few : (list : NetworkList) (p : Plan) → IsPlan p → entries_in list p ≤ 65535
+entries_few Exchanges p ok = let few = ok.few_exchanges in omega arith
+entries_few Codes p ok = let few = ok.few_codes in omega arith
+entries_few Ranges p ok = let few = ok.few_ranges in omega arith
+entries_few Groups p ok = let few = ok.few_groups in omega arith
+
+pub same_list : (list : NetworkList) (p q : Plan) → entries_in list p ≡ entries_in list q → ((i : ℕ) → i < entries_in list p → SameAt list p q i) → SameList list p q
+same_list Exchanges p q e h = same_past p.exchanges q.exchanges e h
+same_list Codes p q e h = same_past p.codes q.codes e h
+same_list Ranges p q e h = same_past p.ranges q.ranges e h
+same_list Groups p q e h = same_past p.groups q.groups e h
+
+pub one_network : (p q : Plan) → SameList Exchanges p q → SameList Codes p q → SameList Ranges p q → SameList Groups p q → SameNetwork p q
+one_network p q a b c d = record { exchanges = alike p.exchanges q.exchanges a; codes = alike p.codes q.codes b; ranges = alike p.ranges q.ranges c; groups = alike p.groups q.groups d }
+
+-- entries at a place are alike if what they are made of is
+entries_alike : {A : Type 0} (xs ys : List A) (i : ℕ) → i < length xs → i < length ys → ((x y : A) → slice_get xs i ≡ Some x → slice_get ys i ≡ Some y → x ≡ y) → slice_get xs i ≡ slice_get ys i
+entries_alike xs ys i l m h = let a = entry_at xs i l in let b = entry_at ys i m in a.1 ∙ (ap (λ k. Some k) (h a.0 b.0 a.1 b.1) ∙ sym b.1)
+
+-- a part of an entry
+part : {A B : Type 0} (f : A → B) (d : B) (o p : Option A) (x y : A) → o ≡ Some x → p ≡ Some y → option_map_or f o d ≡ option_map_or f p d → f x ≡ f y
+part f d o p x y a b e = sym (ap (λ k. option_map_or f k d) a) ∙ (e ∙ ap (λ k. option_map_or f k d) b)
+
+module _ (p q : Plan) (i x : ℕ) (at : x ≡ i) where
+  pub exchange_alike : (a b : List ℕ) (r : Bool) → i < length p.exchanges → i < length q.exchanges → a ≡ exchange_name p x → b ≡ exchange_name q x → r ≡ bytes_eq a b
+      → (r ≡ true → slice_get p.exchanges i ≡ slice_get q.exchanges i) × (slice_get p.exchanges i ≡ slice_get q.exchanges i → r ≡ true)
+  exchange_alike a b r l m ea eb er = (
+    λ t.
+        let same : exchange_name p i ≡ exchange_name q i = sym (ea ∙ ap (exchange_name p) at) ∙ ((bytes_eq-Decides a b).0 (sym er ∙ t) ∙ (eb ∙ ap (exchange_name q) at)) in
+        entries_alike p.exchanges q.exchanges i l m (λ y z hy hz. part (λ name. name) [] (slice_get p.exchanges i) (slice_get q.exchanges i) y z hy hz same),
+    λ e. er ∙ (bytes_eq-Decides a b).1 (ea ∙ (ap (exchange_name p) at ∙ (ap (λ o. option_map_or (λ name. name) o []) e ∙ (ap (exchange_name q) (sym at) ∙ sym eb)))),
+  )
+
+  pub code_alike : (h k : ℕ) (a b : List ℕ) (r : Bool) → i < length p.codes → i < length q.codes → h ≡ home_of p x → k ≡ home_of q x → h ≡ k → a ≡ figures_of p x → b ≡ figures_of q x → r ≡ bytes_eq a b
+      → (r ≡ true → slice_get p.codes i ≡ slice_get q.codes i) × (slice_get p.codes i ≡ slice_get q.codes i → r ≡ true)
+  code_alike h k a b r l m eh ek hk ea eb er = (
+    λ t.
+        let same : figures_of p i ≡ figures_of q i = sym (ea ∙ ap (figures_of p) at) ∙ ((bytes_eq-Decides a b).0 (sym er ∙ t) ∙ (eb ∙ ap (figures_of q) at)) in
+        let home : home_of p i ≡ home_of q i = sym (eh ∙ ap (home_of p) at) ∙ (hk ∙ (ek ∙ ap (home_of q) at)) in
+        entries_alike p.codes q.codes i l m (λ y z hy hz.
+        let f = part (λ (c : Code). c.figures) [] (slice_get p.codes i) (slice_get q.codes i) y z hy hz same in
+        let g = part (λ (c : Code). c.home) 0 (slice_get p.codes i) (slice_get q.codes i) y z hy hz home in
+        λ j. record { figures = f j; home = g j }),
+    λ e. er ∙ (bytes_eq-Decides a b).1 (ea ∙ (ap (figures_of p) at ∙ (ap (λ o. option_map_or (λ (c : Code). c.figures) o []) e ∙ (ap (figures_of q) (sym at) ∙ sym eb)))),
+  )
+
+  pub home_apart : (h k : ℕ) → h ≡ home_of p x → k ≡ home_of q x → slice_get p.codes i ≡ slice_get q.codes i → h ≡ k
+  home_apart h k eh ek e = eh ∙ (ap (home_of p) at ∙ (ap (λ o. option_map_or (λ (c : Code). c.home) o 0) e ∙ (ap (home_of q) (sym at) ∙ sym ek)))
+
+  pub ends_apart : (e f : ℕ × ℕ) → e ≡ ends_of p x → f ≡ ends_of q x → slice_get p.groups i ≡ slice_get q.groups i → e ≡ f
+  ends_apart a b ea eb e = ea ∙ (ap (ends_of p) at ∙ (ap (λ o. option_map_or (λ (r : Group). (r.a, r.b)) o (0, 0)) e ∙ (ap (ends_of q) (sym at) ∙ sym eb)))
+
+  pub direction_apart : (a b : Direction) → a ≡ direction_of p x → b ≡ direction_of q x → slice_get p.groups i ≡ slice_get q.groups i → a ≡ b
+  direction_apart a b ea eb e = ea ∙ (ap (direction_of p) at ∙ (ap (λ o. option_map_or (λ (r : Group). r.direction) o OneWay) e ∙ (ap (direction_of q) (sym at) ∙ sym eb)))
+
+  pub count_apart : (a b : ℕ) → a ≡ count_of p x → b ≡ count_of q x → slice_get p.groups i ≡ slice_get q.groups i → a ≡ b
+  count_apart a b ea eb e = ea ∙ (ap (count_of p) at ∙ (ap (λ o. option_map_or (λ (r : Group). r.count) o 0) e ∙ (ap (count_of q) (sym at) ∙ sym eb)))
+
+  pub group_alike : (n o : ℕ × ℕ) (d e : Direction) (h k : ℕ) (a b : List ℕ) (r : Bool) → i < length p.groups → i < length q.groups → n ≡ ends_of p x → o ≡ ends_of q x → n ≡ o → d ≡ direction_of p x → e ≡ direction_of q x → d ≡ e
+      → h ≡ count_of p x → k ≡ count_of q x → h ≡ k → a ≡ group_name p x → b ≡ group_name q x → r ≡ bytes_eq a b
+      → (r ≡ true → slice_get p.groups i ≡ slice_get q.groups i) × (slice_get p.groups i ≡ slice_get q.groups i → r ≡ true)
+  group_alike n o d e h k a b r l m en eo both ed ee de eh ek hk ea eb er = (
+    λ t.
+        let same : group_name p i ≡ group_name q i = sym (ea ∙ ap (group_name p) at) ∙ ((bytes_eq-Decides a b).0 (sym er ∙ t) ∙ (eb ∙ ap (group_name q) at)) in
+        let ends : ends_of p i ≡ ends_of q i = sym (en ∙ ap (ends_of p) at) ∙ (both ∙ (eo ∙ ap (ends_of q) at)) in
+        let turn : direction_of p i ≡ direction_of q i = sym (ed ∙ ap (direction_of p) at) ∙ (de ∙ (ee ∙ ap (direction_of q) at)) in
+        let count : count_of p i ≡ count_of q i = sym (eh ∙ ap (count_of p) at) ∙ (hk ∙ (ek ∙ ap (count_of q) at)) in
+        entries_alike p.groups q.groups i l m (λ y z hy hz.
+        let f = part (λ (g : Group). g.name) [] (slice_get p.groups i) (slice_get q.groups i) y z hy hz same in
+        let u = part (λ (g : Group). (g.a, g.b)) (0, 0) (slice_get p.groups i) (slice_get q.groups i) y z hy hz ends in
+        let v = part (λ (g : Group). g.direction) OneWay (slice_get p.groups i) (slice_get q.groups i) y z hy hz turn in
+        let w = part (λ (g : Group). g.count) 0 (slice_get p.groups i) (slice_get q.groups i) y z hy hz count in
+        λ j. record { name = f j; a = (u j).0; b = (u j).1; direction = v j; count = w j }),
+    λ s. er ∙ (bytes_eq-Decides a b).1 (ea ∙ (ap (group_name p) at ∙ (ap (λ k. option_map_or (λ (g : Group). g.name) k []) s ∙ (ap (group_name q) (sym at) ∙ sym eb)))),
+  )

@@ -1,0 +1,47 @@
+-- What certifies the network of a change for each code certifies both plans.
+use Rattle.std.proofs.Common.{ℕ, ◌<◌, length, Option, sym, ap, ◌∙◌, subst, arith}
+use Rattle.std.proofs.lemmas.Bool.{or_left, or_right}
+use Rattle.tx_plan.specs.Plan.{Plan}
+use Rattle.tx_plan.specs.Certified.{Ranks}
+use Rattle.tx_plan.specs.Routes.{route_list, is_origin_for}
+use Rattle.tx_plan.proofs.Among.{among_left, among_right}
+use Rattle.tx_rank.specs.Walks.{net_of}
+use Rattle.tx_rank.specs.Nets.{Certifies}
+use Rattle.tx_rank.proofs.Certifying.{AreDistinct, certified_codes}
+use Rattle.tx_plan.specs.Mixtures.{SameNetwork, AreCommon}
+use Rattle.tx_plan.proofs.Networks.{homes_same, ends_same}
+use Rattle.tx_change.specs.ChangeNets.{change_net}
+
+module _ (old new : Plan) (same : SameNetwork old new) (ranks : ℕ → Option ℕ) (limit spare c : ℕ) (cert : Certifies (change_net old new c) ranks limit spare) where
+  old_certified : Certifies (net_of old c) ranks limit spare
+  old_certified = record {
+    home = cert.home;
+    origins = λ x o. cert.origins x (or_left (is_origin_for old x c) (is_origin_for new x c) o);
+    low = cert.low;
+    enough = λ x r ranked away. let e = cert.enough x r ranked away in omega arith;
+    lower = λ x r ranked away g m.
+        let l = cert.lower x r ranked away g (among_left g (route_list old x c) (route_list new x c) m) in
+        record { to = l.to; rank = l.rank; leads = l.leads; ranked = l.ranked; below = l.below };
+  }
+
+  new_certified : Certifies (net_of new c) ranks limit spare
+  new_certified =
+      let home = homes_same old new same c in
+      record {
+        home = ap ranks home ∙ cert.home;
+        origins = λ x o. cert.origins x (or_right (is_origin_for old x c) (is_origin_for new x c) o);
+        low = cert.low;
+        enough = λ x r ranked away. let e = cert.enough x r ranked (λ q. away (q ∙ sym home)) in omega arith;
+        lower = λ x r ranked away g m.
+            let l = cert.lower x r ranked (λ q. away (q ∙ sym home)) g (among_right g (route_list old x c) (route_list new x c) m) in
+            record { to = l.to; rank = l.rank; leads = ends_same old new same g x ∙ l.leads; ranked = l.ranked; below = l.below };
+      }
+
+module _ (old new : Plan) (same : SameNetwork old new) (ranks : Ranks) (limit spare : ℕ) where
+  pub common_codes : AreDistinct old.codes → ((c : ℕ) → c < length old.codes → Certifies (change_net old new c) (ranks c) limit spare) → AreCommon old new ranks limit spare
+  common_codes distinct each =
+      record {
+        before = certified_codes old ranks limit spare distinct (λ c h. old_certified old new same (ranks c) limit spare c (each c h));
+        after = certified_codes new ranks limit spare (subst AreDistinct same.codes distinct)
+            (λ c h. new_certified old new same (ranks c) limit spare c (each c (subst (λ n. c < n) (ap length (sym same.codes)) h)));
+      }

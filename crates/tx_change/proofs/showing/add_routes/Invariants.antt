@@ -1,0 +1,7 @@
+use Rattle.std.proofs.Common.{◌≡◌, ◌++◌, take}
+use Rattle.std.specs.Prelude.{filter}
+use Rattle.tx_change.specs.inner.Kept.{keeps_route}
+use Rattle.tx_change.proofs.showing.add_routes.Given as goal
+
+abbrev pub invariant-loop-place : goal.invariant-loop-place
+invariant-loop-place g l = l.routes ≡ l.initial.routes ++ filter (keeps_route l.from_new l.taking) (take l.place l.from.routes)

@@ -1,0 +1,5 @@
+pub mod ChangeNets
+pub mod ChangeFindings
+pub mod Shown
+pub mod Difference
+pub mod inner

@@ -1,0 +1,4 @@
+pub mod Joined
+pub mod Changed
+pub mod Kept
+pub mod Apart

@@ -1,0 +1,75 @@
+// The routes of one code while a plan is changed.
+ghost use Rattle.std.specs.Prelude.{◌<◌, length};
+ghost use Rattle.tx_rank.specs.Judged.{AreOrigins};
+ghost use Rattle.tx_plan.specs.Mixtures.{SameNetwork};
+ghost use Rattle.tx_change.specs.ChangeNets.{change_net};
+ghost use Rattle.tx_change.specs.inner.Joined.{AreJoined};
+
+use crate::joined::Groups;
+use std::alloc::Allocator;
+use tx_plan::{CodeId, ExchangeId, GroupId, Plan};
+use tx_rank::Routes;
+
+/// The routes of one code of an old and a new plan of one network.
+#[derive(Drop)]
+pub struct ChangeRoutes<'a, A: Allocator> {
+    pub old: &'a Plan<A>,
+    pub new: &'a Plan<A>,
+    pub origins: &'a [bool],
+    pub lists: &'a [Groups<A>],
+    pub code: CodeId,
+    ghost known: { code < length old.now.codes },
+    ghost network: { SameNetwork old.now new.now },
+    ghost right: { AreOrigins old.now origins.now },
+    ghost joined: { AreJoined old.now new.now code lists.now },
+}
+
+impl<'a, A: Allocator> Routes for ChangeRoutes<'a, A> {
+    ghost net = { λ r. change_net r.old.now r.new.now r.code };
+
+    fn exchanges(&self) -> usize {
+        self.old.exchanges()
+    }
+
+    fn exchange(&self, place: usize) -> ExchangeId {
+        self.old.rules();
+        ExchangeId::at(place as u16)
+    }
+
+    fn home(&self) -> ExchangeId {
+        self.old.home(self.code)
+    }
+
+    fn is_origin(&self, exchange: ExchangeId) -> bool {
+        self.origins[exchange.index()]
+            && !(self.old.is_barred(exchange, self.code) && self.new.is_barred(exchange, self.code))
+    }
+
+    fn list(&self, exchange: ExchangeId) -> &[GroupId] {
+        self.old.rules();
+        self.new.rules();
+        match self.lists.get(exchange.index()) {
+            Some(groups) => groups.as_slice(),
+            None => &[],
+        }
+    }
+
+    fn fewest(&self, exchange: ExchangeId) -> usize {
+        let first = self.old.list(exchange, self.code).len();
+        let second = self.new.list(exchange, self.code).len();
+        first.min(second)
+    }
+
+    fn far(&self, group: GroupId, exchange: ExchangeId) -> ExchangeId {
+        self.rules();
+        match self.old.other_end(group, exchange) {
+            Some(to) => to,
+            None => unreachable!(),
+        }
+    }
+
+    fn rules(&self) {
+        self.old.rules();
+        self.new.rules();
+    }
+}

@@ -1,0 +1,101 @@
+// In what two plans are not of one network.
+ghost use Rattle.std.specs.Prelude.{◌≡◌, ◌<◌, ◌↔◌, true};
+ghost use Rattle.tx_change.specs.Difference.{SameAt, entries_in, DifferenceAnswer};
+ghost use Rattle.tx_change.specs.inner.Apart.{ApartAnswer};
+
+use crate::entries::{is_same_code, is_same_exchange, is_same_group, is_same_range};
+use std::alloc::Allocator;
+use tx_plan::Plan;
+
+/// The lists that two plans of one network share.
+#[derive(Clone, Copy)]
+pub enum NetworkList {
+    /// The exchanges.
+    Exchanges,
+    /// The codes, with their homes.
+    Codes,
+    /// The ranges.
+    Ranges,
+    /// The groups.
+    Groups,
+}
+
+/// An entry in which two plans are not of one network.
+#[derive(Clone, Copy)]
+pub struct Difference {
+    /// The list.
+    pub list: NetworkList,
+    /// The place of the entry, from 0.
+    pub place: u16,
+}
+
+/// The first list in which two plans are not of one network, and its first entry that differs. None
+/// where they have the same exchanges, codes with their homes, ranges and groups, in the same
+/// order, so that they differ at most in routes and bars.
+pub fn first_difference<A: Allocator>(old: &Plan<A>, new: &Plan<A>) -> Option<Difference>
+    ensures { DifferenceAnswer old.now new.now result }
+{
+    let list = NetworkList::Exchanges;
+    if let Some(place) = first_apart(list, old, new) {
+        return Some(Difference { list, place });
+    }
+    let list = NetworkList::Codes;
+    if let Some(place) = first_apart(list, old, new) {
+        return Some(Difference { list, place });
+    }
+    let list = NetworkList::Ranges;
+    if let Some(place) = first_apart(list, old, new) {
+        return Some(Difference { list, place });
+    }
+    let list = NetworkList::Groups;
+    if let Some(place) = first_apart(list, old, new) {
+        return Some(Difference { list, place });
+    }
+    None
+}
+
+/// The first place at which a list differs.
+fn first_apart<A: Allocator>(list: NetworkList, old: &Plan<A>, new: &Plan<A>) -> Option<u16>
+    ensures { ApartAnswer list old.now new.now result }
+{
+    old.rules();
+    let before = entries(list, old);
+    let after = entries(list, new);
+    let shorter = before.min(after);
+    for place in 0..shorter {
+        if !is_same_at(list, old, new, place) {
+            return Some(place as u16);
+        }
+    }
+    if before == after {
+        None
+    } else {
+        Some(shorter as u16)
+    }
+}
+
+/// How many entries a list has.
+fn entries<A: Allocator>(list: NetworkList, plan: &Plan<A>) -> usize
+    ensures { result ≡ entries_in list plan.now }
+{
+    match list {
+        NetworkList::Exchanges => plan.exchanges(),
+        NetworkList::Codes => plan.codes(),
+        NetworkList::Ranges => plan.ranges(),
+        NetworkList::Groups => plan.groups(),
+    }
+}
+
+/// Whether a list has the same entry at a place.
+fn is_same_at<A: Allocator>(list: NetworkList, old: &Plan<A>, new: &Plan<A>, place: usize) -> bool
+    requires old { place < entries_in list old.now }
+    requires new { place < entries_in list new.now }
+    ensures { result ≡ true ↔ SameAt list old.now new.now place }
+{
+    match list {
+        NetworkList::Exchanges => is_same_exchange(old, new, place),
+        NetworkList::Codes => is_same_code(old, new, place),
+        NetworkList::Ranges => is_same_range(old, new, place),
+        NetworkList::Groups => is_same_group(old, new, place),
+    }
+}

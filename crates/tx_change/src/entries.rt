@@ -1,0 +1,77 @@
+// Whether entries of two plans are the same.
+ghost use Rattle.std.specs.Prelude.{◌≡◌, ◌<◌, ◌↔◌, true, length, slice_get};
+
+use std::alloc::Allocator;
+use tx_plan::{CodeId, Direction, ExchangeId, GroupId, Plan};
+
+/// Whether two plans have the same exchange at a place.
+pub fn is_same_exchange<A: Allocator>(old: &Plan<A>, new: &Plan<A>, place: usize) -> bool
+    requires old { place < length old.now.exchanges }
+    requires new { place < length new.now.exchanges }
+    ensures { result ≡ true
+        ↔ slice_get old.now.exchanges place ≡ slice_get new.now.exchanges place }
+{
+    old.rules();
+    let exchange = ExchangeId::at(place as u16);
+    old.exchange_name(exchange) == new.exchange_name(exchange)
+}
+
+/// Whether two plans have the same code at a place.
+pub fn is_same_code<A: Allocator>(old: &Plan<A>, new: &Plan<A>, place: usize) -> bool
+    requires old { place < length old.now.codes }
+    requires new { place < length new.now.codes }
+    ensures { result ≡ true ↔ slice_get old.now.codes place ≡ slice_get new.now.codes place }
+{
+    old.rules();
+    let code = CodeId::at(place as u16);
+    old.home(code) == new.home(code) && old.code_figures(code) == new.code_figures(code)
+}
+
+/// Whether two plans have the same range at a place.
+pub fn is_same_range<A: Allocator>(old: &Plan<A>, new: &Plan<A>, place: usize) -> bool
+    requires old { place < length old.now.ranges }
+    requires new { place < length new.now.ranges }
+    ensures { result ≡ true ↔ slice_get old.now.ranges place ≡ slice_get new.now.ranges place }
+{
+    match (old.range_at(place), new.range_at(place)) {
+        (Some(a), Some(b)) => a.code == b.code && a.low == b.low && a.high == b.high,
+        _ => false,
+    }
+}
+
+/// Whether two plans have the same group at a place.
+pub fn is_same_group<A: Allocator>(old: &Plan<A>, new: &Plan<A>, place: usize) -> bool
+    requires old { place < length old.now.groups }
+    requires new { place < length new.now.groups }
+    ensures { result ≡ true ↔ slice_get old.now.groups place ≡ slice_get new.now.groups place }
+{
+    old.rules();
+    let group = GroupId::at(place as u16);
+    let (a, b) = old.ends(group);
+    let (c, d) = new.ends(group);
+    if a != c || b != d {
+        return false;
+    }
+    if !is_same_direction(old.direction(group), new.direction(group)) {
+        return false;
+    }
+    if old.group_count(group) != new.group_count(group) {
+        return false;
+    }
+    old.group_name(group) == new.group_name(group)
+}
+
+fn is_same_direction(a: Direction, b: Direction) -> bool
+    ensures { result ≡ true ↔ a ≡ b }
+{
+    match a {
+        Direction::OneWay => match b {
+            Direction::OneWay => true,
+            Direction::BothWay => false,
+        },
+        Direction::BothWay => match b {
+            Direction::OneWay => false,
+            Direction::BothWay => true,
+        },
+    }
+}
