@@ -103,7 +103,8 @@ fn check_of(alloc: Global, plan: String, matches: &ArgMatches<'_>) -> Result<Com
     requires { Names (rows_of (found_of matches.now)) (codes "plan") plan }
     ensures range { IfOk result IsInRange }
     ensures asked { IfOk result (Asks (codes "check") (rows_of (found_of matches.now))) }
-    ensures refused { IfErr result (IsRefused (Some (codes "check", rows_of (found_of matches.now)))) }
+    ensures refused { IfErr result
+        (IsRefused (Some (codes "check", rows_of (found_of matches.now)))) }
 {
     let cert = text(alloc, matches, "cert")?;
     match (cert, bounds(matches)) {
@@ -122,7 +123,8 @@ fn audit_of(alloc: Global, plan: String, matches: &ArgMatches<'_>) -> Result<Com
     requires { Names (rows_of (found_of matches.now)) (codes "plan") plan }
     ensures range { IfOk result IsInRange }
     ensures asked { IfOk result (Asks (codes "audit") (rows_of (found_of matches.now))) }
-    ensures refused { IfErr result (IsRefused (Some (codes "audit", rows_of (found_of matches.now)))) }
+    ensures refused { IfErr result
+        (IsRefused (Some (codes "audit", rows_of (found_of matches.now)))) }
 {
     let cert = text(alloc, matches, "cert")?;
     let counter = text(alloc, matches, "counter")?;
@@ -143,7 +145,8 @@ fn run_of(alloc: Global, plan: String, matches: &ArgMatches<'_>) -> Result<Comma
     requires { Names (rows_of (found_of matches.now)) (codes "plan") plan }
     ensures range { IfOk result IsInRange }
     ensures asked { IfOk result (Asks (codes "run") (rows_of (found_of matches.now))) }
-    ensures refused { IfErr result (IsRefused (Some (codes "run", rows_of (found_of matches.now)))) }
+    ensures refused { IfErr result
+        (IsRefused (Some (codes "run", rows_of (found_of matches.now)))) }
 {
     let Some(script) = text(alloc, matches, "script")? else {
         return Err(Refusal::Incomplete);
@@ -169,7 +172,8 @@ fn draw_of(alloc: Global, plan: String, matches: &ArgMatches<'_>) -> Result<Comm
     requires { Names (rows_of (found_of matches.now)) (codes "plan") plan }
     ensures range { IfOk result IsInRange }
     ensures asked { IfOk result (Asks (codes "draw") (rows_of (found_of matches.now))) }
-    ensures refused { IfErr result (IsRefused (Some (codes "draw", rows_of (found_of matches.now)))) }
+    ensures refused { IfErr result
+        (IsRefused (Some (codes "draw", rows_of (found_of matches.now)))) }
 {
     let code = text(alloc, matches, "code")?;
     let routes = match (code, is_given(matches, "limit"), is_given(matches, "spare")) {
@@ -188,7 +192,8 @@ fn draw_of(alloc: Global, plan: String, matches: &ArgMatches<'_>) -> Result<Comm
 fn explain_of(alloc: Global, matches: &ArgMatches<'_>) -> Result<Command, Refusal>
     ensures range { IfOk result IsInRange }
     ensures asked { IfOk result (Asks (codes "explain") (rows_of (found_of matches.now))) }
-    ensures refused { IfErr result (IsRefused (Some (codes "explain", rows_of (found_of matches.now)))) }
+    ensures refused { IfErr result
+        (IsRefused (Some (codes "explain", rows_of (found_of matches.now)))) }
 {
     let Some(word) = text(alloc, matches, "code")? else {
         return Ok(Command::Explain { entry: None });
@@ -255,7 +260,8 @@ fn in_its_words(
     kind: ErrorKind,
     message: &str,
 ) -> Result<WordsFault, AllocError>
-    ensures { IfOk result (λ fault. (command : Option (List ℕ × List Row)) → IsRefusalIn command fault) }
+    ensures { IfOk result
+        (λ fault. (command : Option (List ℕ × List Row)) → IsRefusalIn command fault) }
 {
     let e = grammar.error(kind, message)?;
     Ok(WordsFault::of_clap(e))
@@ -263,7 +269,8 @@ fn in_its_words(
 
 /// Why the words are refused. What has no fault of its own is told in the words of the library.
 fn words_fault(grammar: &mut clap::Command<'_>, refusal: Refusal) -> Result<WordsFault, AllocError>
-    ensures { IfOk result (λ fault. (command : Option (List ℕ × List Row)) → IsRefused command refusal → IsRefusalIn command fault) }
+    ensures { IfOk result (λ fault. (command : Option (List ℕ × List Row))
+        → IsRefused command refusal → IsRefusalIn command fault) }
 {
     match refusal {
         Refusal::Together => Ok(WordsFault::Together),
