@@ -14,7 +14,7 @@ pub enum WordsFault {
     #[error(transparent)]
     Clap(clap::Error),
     /// `run` has some of its three options, and not all.
-    #[error("run has some of its three options, and not all")]
+    #[error("--cert, --limit and --spare go together")]
     Together,
     /// No memory was left.
     #[error("no memory")]
