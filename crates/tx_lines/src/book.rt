@@ -243,27 +243,3 @@ fn take_mark<A: Allocator>(
         let _status = statuses.swap_remove(line);
     }
 }
-
-#[cfg(test)]
-mod tests {
-    use super::*;
-    use std::test::Fail;
-    use tx_plan::PlanBuilder;
-
-    #[test]
-    fn line_out_of_order_answers_so(rt: HostRuntime) -> Result<(), Fail> {
-        let mut plan = PlanBuilder::new(rt.alloc());
-        plan.exchange(b"NORTH")?;
-        plan.code(b"22", b"NORTH")?;
-        plan.lines(b"22", b"31000", b"32999")?;
-        let code = CodeId::at(0);
-        let mut book = LineBook::build(rt.alloc(), &plan.finish())?;
-        book.reserve_one()?;
-        let line = book.find(code, b"31000").expect(&rt, "a line of the plan");
-        assert!(rt; matches!(book.answer(code, b"31000"), LineAnswer::Free(_)));
-        book.set_fault(&line, true);
-        assert!(rt; matches!(book.answer(code, b"31000"), LineAnswer::OutOfOrder));
-        assert!(rt; matches!(book.answer(code, b"33000"), LineAnswer::NoLine));
-        Ok(())
-    }
-}

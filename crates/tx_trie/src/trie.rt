@@ -121,24 +121,3 @@ impl<A: Allocator> CodeTrie<A> {
         Some(found)
     }
 }
-
-#[cfg(test)]
-mod tests {
-    use super::*;
-    use std::test::Fail;
-    use tx_plan::PlanBuilder;
-
-    #[test]
-    fn reads_the_longest_code(rt: HostRuntime) -> Result<(), Fail> {
-        let mut plan = PlanBuilder::new(rt.alloc());
-        plan.exchange(b"NORTH")?;
-        plan.code(b"22", b"NORTH")?;
-        plan.code(b"224", b"NORTH")?;
-        let trie = CodeTrie::build(rt.alloc(), &plan.finish())?;
-        assert_eq!(rt; trie.read(b"2231000"), Some(CodeId::at(0)));
-        assert_eq!(rt; trie.read(b"2241000"), Some(CodeId::at(1)));
-        assert_eq!(rt; trie.read(b"2"), None);
-        assert_eq!(rt; trie.ambiguous(), Some((CodeId::at(0), CodeId::at(1))));
-        Ok(())
-    }
-}
