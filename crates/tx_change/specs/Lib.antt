@@ -2,4 +2,6 @@ pub mod ChangeNets
 pub mod ChangeFindings
 pub mod Shown
 pub mod Difference
+pub mod ChangeReport
+pub mod ChangeAnswers
 pub mod inner
