@@ -4,7 +4,7 @@ use Rattle.std.specs.List.{AllByRecursion}
 use Rattle.std.specs.Io.KnownBytes.{append_known}
 use Rattle.tx_text.specs.Ends.{StopsIn}
 use Rattle.tx_plan.specs.Plan.{Plan}
-use Rattle.tx_cert.specs.Certificate.{Certificate, ranks_of}
+use Rattle.tx_cert.specs.Certificate.{Certificate, IsCertificateOf, ranks_of}
 use Rattle.tx_state.specs.Sound.{IsSound}
 use Rattle.tx_check.specs.declared.verdict.Verdict.TheVariants.{Yes}
 use Rattle.tx_check.specs.Checks.{check_faults, ranks_for, verdict_of}
@@ -13,7 +13,7 @@ use Rattle.tx_rank.specs.declared.ranking.Ranking.{Ranking}
 use Rattle.tx_rank.specs.declared.ranking.Ranking.TheVariants.{Found, Fails}
 use Rattle.tx_rank.specs.Grades.{CanBeCertified}
 use Rattle.tx_plan.specs.Mixtures.{EachMixture, AreCommon}
-use Rattle.tx_state.specs.ChangingRuns.{IsSoundChange}
+use Rattle.tx_state.specs.ChangingRuns.{IsSoundChange, HasFewRoutesMeanwhile, SufficesMeanwhile}
 use Rattle.tx_audit.specs.declared.audited.AuditFault.{AuditFault}
 use Rattle.tx_audit.specs.declared.audited.AuditFault.TheVariants.{Plan as PlanRefused, Write, NoMemory}
 use Rattle.tx_audit.specs.Ranked.{findings_of}
@@ -21,14 +21,18 @@ use Rattle.tx_change.specs.ChangeFindings.{AreChangeFindings}
 use Rattle.tx_change.specs.Shown.{IsShown}
 use Rattle.tx_change.specs.ChangeReport.{change_report}
 
--- YES: the checker says Yes to the certificate for both plans, it certifies each mixture, and the
--- change is sound with calls up.
+-- YES: the checker says Yes to the certificate for both plans, its ranks certify both, and so each
+-- mixture is sound, and the change is with calls up: calls are routed a few times only, and spare
+-- groups suffice.
 pub record IsCleared (old new : Plan) (limit spare : ℕ) (cert : Certificate) : Type 0 where
+  pub fits : IsCertificateOf old cert
   pub before : verdict_of (check_faults old (ranks_for old cert) limit spare) ≡ Yes
   pub after : verdict_of (check_faults new (ranks_for new cert) limit spare) ≡ Yes
   pub common : AreCommon old new (ranks_of cert) limit spare
   pub mixtures : EachMixture old new (λ m. IsSound m limit spare)
   pub live : IsSoundChange old new limit spare
+  pub few_routes : HasFewRoutesMeanwhile old new limit
+  pub suffice : SufficesMeanwhile old new spare
 
 -- NO: there are findings, each is true of the mixture that it shows, and so not every mixture can
 -- be certified.
