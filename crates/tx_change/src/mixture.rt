@@ -73,12 +73,7 @@ fn show_mixture<A: Allocator + Copy>(
 fn first_walked<A: Allocator>(findings: &[Finding<A>]) -> Option<&Finding<A>>
     ensures { option_map (λ f. f.now) result ≡ first_walked findings.now }
 {
-    for finding in findings {
-        if has_walk(finding) {
-            return Some(finding);
-        }
-    }
-    None
+    findings.iter().find(|finding| has_walk(finding))
 }
 
 /// Whether a finding has a walk.

@@ -54,8 +54,12 @@ difference_line d =
     codes "telexplan: plans of two networks: "
     ++ (list_word d.list ++ (codes " " ++ (decimal (d.place + 1) ++ codes " differs\n")))
 
+-- as of a job, where a plan that is refused is the old one
+abbrev pub old_fault_line : JobFault → List ℕ
+old_fault_line (Plan f) = text_fault_line (codes "old plan") f.line (fault_row f.kind)
+old_fault_line other = fault_line other
+
 abbrev pub change_fault_line : ChangeFault → List ℕ
-change_fault_line (Job (Plan f)) = text_fault_line (codes "old plan") f.line (fault_row f.kind)
-change_fault_line (Job f) = fault_line f
+change_fault_line (Job f) = old_fault_line f
 change_fault_line (NewPlan f) = text_fault_line (codes "new plan") f.line (fault_row f.kind)
 change_fault_line (TwoNetworks d) = difference_line d

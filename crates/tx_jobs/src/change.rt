@@ -29,6 +29,24 @@ pub enum Changed<A: Allocator = Global> {
     Unsound(Plan<A>, Plan<A>, Vec<Finding<A>, A>),
 }
 
+impl<A: Allocator> Changed<A> {
+    ghost use Rattle.std.specs.Prelude.{◌≡◌};
+    ghost use Rattle.tx_jobs.specs.inner.Changing.{changed_of};
+
+    /// The plans, with what the ranking of the change came to.
+    fn of(old: Plan<A>, new: Plan<A>, ranking: Ranking<A>) -> Changed<A>
+        ensures { result ≡ changed_of old new ranking }
+    {
+        match ranking {
+            Ranking::Found(cert) => {
+                drop(new);
+                Changed::Sound(old, cert)
+            }
+            Ranking::Fails(findings) => Changed::Unsound(old, new, findings),
+        }
+    }
+}
+
 /// Reads an old plan and then a new one, and writes the report on the change of the one into the
 /// other, list by list, for at most `limit` transits (0 to 62) and `spare` groups to spare (0 to
 /// 15). `Err` is the fault of the first call that failed.
@@ -114,11 +132,7 @@ fn change_into<A: Allocator + Copy, W: Sink>(
         return Err(ChangeFault::TwoNetworks(difference));
     }
     match report_change(alloc, &old, &new, limit, spare, out) {
-        Ok(Ranking::Found(cert)) => {
-            drop(new);
-            Ok(Changed::Sound(old, cert))
-        }
-        Ok(Ranking::Fails(findings)) => Ok(Changed::Unsound(old, new, findings)),
+        Ok(ranking) => Ok(Changed::of(old, new, ranking)),
         Err(fault) => {
             drop(new);
             drop(old);

@@ -2,7 +2,7 @@
 ghost use Rattle.std.specs.Prelude.{◌≡◌, true, OnOk, OnErr};
 ghost use Rattle.std.specs.Io.KnownBytes.{append_known};
 ghost use Rattle.tx_text.specs.Ends.{StopsIn};
-ghost use Rattle.tx_jobs.specs.ChangeFaults.{change_fault_line, difference_line, list_word};
+ghost use Rattle.tx_jobs.specs.ChangeFaults.{change_fault_line, old_fault_line, difference_line, list_word};
 
 use crate::change_fault::ChangeFault;
 use crate::fault_line::{write_fault, write_text_fault};
@@ -22,14 +22,30 @@ pub fn write_change_fault<W: Sink>(fault: &ChangeFault, sink: &mut W) -> Result<
     ensures unmarked { OnOk result (W.failed sink.new ≡ W.failed sink.old) }
 {
     match fault {
-        ChangeFault::Job(JobFault::Plan(fault)) => {
-            write_text_fault(b"old plan", fault.line, code_and_name(fault.kind), sink)
-        }
-        ChangeFault::Job(fault) => write_fault(fault, sink),
+        ChangeFault::Job(fault) => write_old_fault(fault, sink),
         ChangeFault::NewPlan(fault) => {
-            write_text_fault(b"new plan", fault.line, code_and_name(fault.kind), sink)
+            let row = code_and_name(fault.kind);
+            write_text_fault(b"new plan", fault.line, row, sink)
         }
         ChangeFault::TwoNetworks(difference) => write_difference(difference, sink),
+    }
+}
+
+/// Writes the line of a job's fault, where a plan that is refused is the old one.
+fn write_old_fault<W: Sink>(fault: &JobFault, sink: &mut W) -> Result<(), WriteFault>
+    ensures ok { OnOk result (W.taken sink.new
+        ≡ append_known (W.taken sink.old) (old_fault_line fault.now)) }
+    ensures err { OnErr result (StopsIn (W.taken sink.old) (W.taken sink.new)
+        (old_fault_line fault.now)) }
+    ensures mark { OnErr result (W.failed sink.new ≡ true) }
+    ensures unmarked { OnOk result (W.failed sink.new ≡ W.failed sink.old) }
+{
+    match fault {
+        JobFault::Plan(fault) => {
+            let row = code_and_name(fault.kind);
+            write_text_fault(b"old plan", fault.line, row, sink)
+        }
+        _ => write_fault(fault, sink),
     }
 }
 
