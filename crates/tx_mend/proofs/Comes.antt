@@ -2,7 +2,7 @@
 use Rattle.std.proofs.Common.{◌≡◌, ◌≢◌, ℕ, zero, suc, ◌+◌, ◌<◌, ◌≤◌, Bool, true, false, ◌&&◌, ◌||◌, ◌==◌, eqb-true, eq-eqb, List, [], ◌∷◌, ◌++◌, length, Option, Some, None, inl, inr, refl, sym, ap, subst, ◌∙◌, arith}
 use Rattle.std.specs.List.{list_any}
 use Rattle.std.specs.Option.{option_map_or}
-use Rattle.std.proofs.lemmas.Bool.{and_parts, and_from, or_cases, or_left, or_right, false≢true}
+use Rattle.std.proofs.lemmas.Bool.{cases_lt, and_parts, and_from, or_cases, or_left, or_right, false≢true}
 use Rattle.tx_plan.specs.Plan.{Plan, Route, home_of}
 use Rattle.tx_plan.specs.Rules.{IsPlan}
 use Rattle.tx_plan.specs.Routes.{route_list, is_origin_for}
@@ -15,7 +15,6 @@ use Rattle.tx_rank.specs.Nets.{IsNet, Certifies}
 use Rattle.tx_rank.proofs.Nets.{is_net}
 use Rattle.tx_rank.proofs.Ways.{end_push, goes_push}
 use Rattle.tx_rank.proofs.Ranks.{all_down}
-use Rattle.tx_rank.proofs.Walked.{falls}
 use Rattle.tx_mend.specs.LeastRanks.{places}
 use Rattle.tx_mend.specs.Lists.{leads_between, comes_in}
 use Rattle.tx_mend.proofs.Distinct.{among_range, range_among}
@@ -62,9 +61,12 @@ module _ (p : Plan) (lists : ℕ → List ℕ) (c : ℕ) (known : c < length p.c
   comes n x = comes_in p lists c n x
 
   -- over more groups
-  pub comes_more : (n k x : ℕ) → comes n x ≡ true → comes (k + n) x ≡ true
-  comes_more n zero x h = h
-  comes_more n (suc k) x h = or_left (comes (k + n) x) (list_any (λ y. comes (k + n) y && list_any (leads_between p y x) (lists y)) (places (length p.exchanges))) (comes_more n k x h)
+  pub comes_more : (n m x : ℕ) → n ≤ m → comes n x ≡ true → comes m x ≡ true
+  comes_more n zero x few h = let e : n ≡ 0 = omega arith in subst (λ (k : ℕ). comes k x ≡ true) e h
+  comes_more n (suc m) x few h = elim (cases_lt m n) [
+    | inl l ↦ (let e : n ≡ suc m = omega arith in subst (λ (k : ℕ). comes k x ≡ true) e h)
+    | inr l ↦ or_left (comes m x) (list_any (λ y. comes m y && list_any (leads_between p y x) (lists y)) (places (length p.exchanges))) (comes_more n m x l h)
+  ]
 
   module _ (routes : List Route) where
     abbrev Q : Plan
@@ -72,36 +74,26 @@ module _ (p : Plan) (lists : ℕ → List ℕ) (c : ℕ) (known : c < length p.c
 
     -- calls come to the end of a walk
     module _ (ok : IsPlan Q) (has : (x : ℕ) → x < length p.exchanges → route_list Q x c ≡ lists x) where
-      goes_comes : (n x : ℕ) (steps : List (ℕ × ℕ)) → comes n x ≡ true → x < length p.exchanges → Goes (net_of Q c) x steps → comes (length steps + n) (end_of x steps) ≡ true
-      goes_comes n x [] h w go = h
-      goes_comes n x (s ∷ steps) h w go =
+      goes_comes : (n m x : ℕ) (steps : List (ℕ × ℕ)) → m ≡ n + length steps → comes n x ≡ true → x < length p.exchanges → Goes (net_of Q c) x steps → comes m (end_of x steps) ≡ true
+      goes_comes n m x [] e h w go = let same : n ≡ m = omega arith in subst (λ (k : ℕ). comes k x ≡ true) same h
+      goes_comes n m x (s ∷ steps) e h w go =
           let l = (is_net Q ok c known).leads x s.0 go.1 in
           let far = l.1 in
           let far' = go.2 in
           let same : l.0 ≡ s.1 = cc in
-          let m = subst (λ (k : List ℕ). Among s.0 k) (has x w) go.1 in
-          let over = member_any (leads_between p x s.1) (lists x) s.0 m (is_leads p x s.1 s.0 go.2) in
+          let group = subst (λ (k : List ℕ). Among s.0 k) (has x w) go.1 in
+          let over = member_any (leads_between p x s.1) (lists x) s.0 group (is_leads p x s.1 s.0 go.2) in
           let step = or_right (comes n s.1) (list_any (λ y. comes n y && list_any (leads_between p y s.1) (lists y)) (places (length p.exchanges))) (member_any (λ y. comes n y && list_any (leads_between p y s.1) (lists y)) (places (length p.exchanges)) x (among_range 0 (length p.exchanges) x (omega arith) (omega arith)) (and_from (comes n x) (list_any (leads_between p x s.1) (lists x)) h over)) in
-          let rest = goes_comes (suc n) s.1 steps step (subst (λ k. k < length p.exchanges) same l.2) go.3 in
-          let e : length steps + suc n ≡ suc (length steps) + n = omega arith in
-          subst (λ (k : ℕ). comes k (end_of s.1 steps) ≡ true) e rest
+          goes_comes (suc n) m s.1 steps (omega arith) step (subst (λ k. k < length p.exchanges) same l.2) go.3
 
       pub reached_comes : (limit spare : ℕ) (ranks : ℕ → Option ℕ) → Certifies (net_of Q c) ranks limit spare → (x : ℕ) → IsReached (net_of Q c) x → comes (suc limit) x ≡ true
       reached_comes limit spare ranks cert x w =
           let o = cert.origins w.start w.walk.origin in
           let low = cert.low w.start o.0 o.1 in
-          let d = all_down (net_of Q c) ranks (falls (net_of Q c) ranks limit spare cert) w.start o.0 w.steps o.1 w.walk.goes in
+          let d = all_down (net_of Q c) ranks (record { lower = cert.lower }) w.start o.0 w.steps o.1 w.walk.goes in
           let few = d.within in
-          let at = goes_comes 0 w.start w.steps w.walk.origin ((is_net Q ok c known).origins w.start w.walk.origin) w.walk.goes in
-          let k = more (length w.steps) (suc limit) (omega arith) in
-          let far = comes_more (length w.steps + 0) k.0 (end_of w.start w.steps) at in
-          let e : k.0 + (length w.steps + 0) ≡ suc limit = let q = k.1 in omega arith in
-          subst (λ (z : ℕ). comes (suc limit) z ≡ true) w.ends (subst (λ (n : ℕ). comes n (end_of w.start w.steps) ≡ true) e far)
-        where
-          more : (a b : ℕ) → a ≤ b → (k : ℕ) × (k + a ≡ b)
-          more a zero h = (0, omega arith)
-          more zero (suc b) h = (suc b, omega arith)
-          more (suc a) (suc b) h = let i = more a b (omega arith) in (i.0, let e = i.1 in omega arith)
+          let at = goes_comes 0 (length w.steps) w.start w.steps (omega arith) w.walk.origin ((is_net Q ok c known).origins w.start w.walk.origin) w.walk.goes in
+          subst (λ (z : ℕ). comes (suc limit) z ≡ true) w.ends (comes_more (length w.steps) (suc limit) (end_of w.start w.steps) (omega arith) at)
 
     -- a walk ends where calls come
     module _ (last : ℕ) (away : (x g : ℕ) → Among g (lists x) → home_of p c ≢ x) (has : (n x : ℕ) → n ≤ last → comes n x ≡ true → x < length p.exchanges → route_list Q x c ≡ lists x) where

@@ -17,3 +17,4 @@ pub mod Comes
 pub mod Trimmed
 pub mod Staying
 pub mod Local
+pub mod Try

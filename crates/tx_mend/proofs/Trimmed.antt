@@ -59,6 +59,10 @@ module _ (p : Plan) (ok : IsPlan p) (limit spare : ℕ) (small : spare ≤ 15) w
   full_there : (x c : ℕ) → comes_to p limit spare c x ≡ true → mended_list p limit spare c x ≡ full_list p limit spare c x
   full_there x c h = ap (λ b. if b then full_list p limit spare c x else []) (or_right (has_route p x c) (comes_to p limit spare c x) h)
 
+  -- the same ranks where calls come, and at the home
+  abbrev there : ℕ → (ℕ → Option ℕ) → ℕ → Option ℕ
+  there c ranks x = if (x == home_of p c) || comes_to p limit spare c x then ranks x else None
+
   module _ (c : ℕ) (known : c < length p.codes) where
     abbrev N : Net
     N = net_of F c
@@ -98,20 +102,16 @@ module _ (p : Plan) (ok : IsPlan p) (limit spare : ℕ) (small : spare ≤ 15) w
               record { to = l.to; rank = l.rank; leads = l.leads; ranked = l.ranked; below = l.below };
         }
 
-    -- THE SAME RANKS, where calls come
-    abbrev there : (ℕ → Option ℕ) → ℕ → Option ℕ
-    there ranks x = if (x == home_of p c) || comes_to p limit spare c x then ranks x else None
-
-    is_there : (ranks : ℕ → Option ℕ) (x r : ℕ) → there ranks x ≡ Some r → (ranks x ≡ Some r) × (x ≢ home_of p c → comes_to p limit spare c x ≡ true)
+    is_there : (ranks : ℕ → Option ℕ) (x r : ℕ) → there c ranks x ≡ Some r → (ranks x ≡ Some r) × (x ≢ home_of p c → comes_to p limit spare c x ≡ true)
     is_there ranks x r e = elim ((x == home_of p c) || comes_to p limit spare c x) as (λ b. ((x == home_of p c) || comes_to p limit spare c x) ≡ b → (if b then ranks x else None) ≡ Some r → (ranks x ≡ Some r) × (x ≢ home_of p c → comes_to p limit spare c x ≡ true)) [
       | true ↦ λ t k. (k, λ away. elim (or_cases (x == home_of p c) (comes_to p limit spare c x) t) [ inl a ↦ absurd (away (eqb-true x (home_of p c) a)) | inr b ↦ b ])
       | false ↦ λ t k. absurd (let bad : ⊥ = cc in bad)
     ] refl e
 
-    there_called : (ranks : ℕ → Option ℕ) (x : ℕ) → comes_to p limit spare c x ≡ true → there ranks x ≡ ranks x
+    there_called : (ranks : ℕ → Option ℕ) (x : ℕ) → comes_to p limit spare c x ≡ true → there c ranks x ≡ ranks x
     there_called ranks x h = ap (λ b. if b then ranks x else None) (or_right (x == home_of p c) (comes_to p limit spare c x) h)
 
-    there_certifies : (ranks : ℕ → Option ℕ) → Certifies N ranks limit spare → Certifies N (there ranks) limit spare
+    there_certifies : (ranks : ℕ → Option ℕ) → Certifies N ranks limit spare → Certifies N (there c ranks) limit spare
     there_certifies ranks cert = record {
       home = ap (λ b. if b then ranks (home_of p c) else None) (or_left (home_of p c == home_of p c) (comes_to p limit spare c (home_of p c)) (eq-eqb (home_of p c) (home_of p c) refl)) ∙ cert.home;
       origins = λ x o.
@@ -129,14 +129,7 @@ module _ (p : Plan) (ok : IsPlan p) (limit spare : ℕ) (small : spare ≤ 15) w
     -- A NEW LIST
     has_there : (n x : ℕ) → n ≤ limit → comes_in p (full_list p limit spare c) c n x ≡ true → x < length p.exchanges → route_list M x c ≡ full_list p limit spare c x
     has_there n x few h w =
-        let k = more n (suc limit) (omega arith) in
-        let e : k.0 + n ≡ suc limit = k.1 in
-        is_mended.lists x c w known ∙ full_there x c (subst (λ (m : ℕ). comes_in p (full_list p limit spare c) c m x ≡ true) e (comes_more p (full_list p limit spare c) c known n k.0 x h))
-      where
-        more : (a b : ℕ) → a ≤ b → (k : ℕ) × (k + a ≡ b)
-        more a zero h = (0, omega arith)
-        more zero (suc b) h = (suc b, omega arith)
-        more (suc a) (suc b) h = let i = more a b (omega arith) in (i.0, let e = i.1 in omega arith)
+        is_mended.lists x c w known ∙ full_there x c (comes_more p (full_list p limit spare c) c known n (suc limit) x (omega arith) h)
 
     new_reached : (x : ℕ) → x < length p.exchanges → route_list p x c ≡ [] → route_list M x c ≢ [] → IsReached (net_of M c) x
     new_reached x h none some =
@@ -153,11 +146,12 @@ module _ (p : Plan) (ok : IsPlan p) (limit spare : ℕ) (small : spare ≤ 15) w
 
   pub certified_there : ambiguous_of p.codes ≡ None → unserved p limit spare ≡ [] → (ranks : Ranks) × IsCertified M ranks limit spare
   certified_there distinct none =
-      let ranks : Ranks = λ c x. there c (full_ranks p ok limit spare small c) x in (
+      let all = full_ranks p ok limit spare small in
+      let ranks : Ranks = λ c. there c (all c) in (
         ranks,
         certified_codes M ranks limit spare (none_distinct p.codes distinct) (λ c h.
             let cert = full_certifies p ok limit spare small c h (none_for p ok limit spare small c h none) in
-            trims c h (there c (full_ranks p ok limit spare small c)) (there_certifies c h (full_ranks p ok limit spare small c) cert) (λ x r e away. (is_there c (full_ranks p ok limit spare small c) x r e).1 away)),
+            trims c h (there c (all c)) (there_certifies c h (all c) cert) (λ x r e away. (is_there c h (all c) x r e).1 away)),
       )
 
   -- a certificate of the full lists that ranks by heights is one of the mended plan
