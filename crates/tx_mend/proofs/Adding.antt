@@ -36,9 +36,9 @@ fresh lists ks x c h = elim (list_any (at x c) (flat_map (routed lists) ks)) as 
 abbrev pub pair_of : Route → ℕ × ℕ
 pair_of r = (r.exchange, r.code)
 
-pub no_none : (o : Option Route) (r : Route) → o ≡ Some r → None ≡ option_map pair_of o → ⊥
-no_none None r e h = let bad : ⊥ = cc in bad
-no_none (Some q) r e h = let bad : ⊥ = cc in bad
+pub no_none : {A B : Type 0} (f : A → B) (o : Option A) (r : A) → o ≡ Some r → None ≡ option_map f o → ⊥
+no_none f None r e h = let bad : ⊥ = cc in bad
+no_none f (Some q) r e h = let bad : ⊥ = cc in bad
 
 pub pair_got : (rs : List Route) (i : ℕ) → slice_get (map pair_of rs) i ≡ option_map pair_of (slice_get rs i)
 pair_got [] i = refl

@@ -17,4 +17,3 @@ pub mod Comes
 pub mod Trimmed
 pub mod Staying
 pub mod Local
-pub mod Try

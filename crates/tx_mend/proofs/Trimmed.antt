@@ -11,7 +11,10 @@ use Rattle.tx_plan.specs.Declaring.{has_route}
 use Rattle.tx_plan.specs.Ambiguous.{ambiguous_of}
 use Rattle.tx_plan.specs.Certified.{Ranks, IsBelow, LeadsLower, IsCertified}
 use Rattle.tx_plan.specs.Among.{Among}
-use Rattle.tx_cert.specs.Certificate.{Certificate, rank_at, ranks_of}
+use Rattle.tx_entries.specs.declared.pair.Pair.{Pair}
+use Rattle.tx_plan.specs.Rerouted.{rerouted}
+use Rattle.tx_cert.specs.Certificate.{Certificate, IsCertificateOf, rank_at, ranks_of}
+use Rattle.tx_rank.specs.Grades.{CanBeCertified}
 use Rattle.tx_rank.specs.Walks.{Net, net_of}
 use Rattle.tx_rank.specs.Heights.{IsReached, AreHeights}
 use Rattle.tx_rank.specs.Nets.{Certifies, LeadsBelow}
@@ -196,6 +199,38 @@ module _ (p : Plan) (ok : IsPlan p) (limit spare : ℕ) (small : spare ≤ 15) w
       (λ n e. to_comes r.code h (rank_at cert r.code) each r.exchange ((heights r.code h).ranked r.exchange n e (λ q. rule.away (sym q))))
       (λ called. (heights r.code h).reached r.exchange (to_reached r.code h r.exchange called))))
       ∙ all_stand (pairs_of p)
+
+-- WHAT IS ANSWERED
+
+-- the plan with all full lists can be certified
+pub full_can : (p : Plan) → IsPlan p → (limit spare : ℕ) → spare ≤ 15 → ambiguous_of p.codes ≡ None → unserved p limit spare ≡ [] → CanBeCertified (full p limit spare) limit spare
+full_can p ok limit spare small distinct none =
+    let all = full_ranks p ok limit spare small in
+    (all, certified_codes (full p limit spare) all limit spare (none_distinct p.codes distinct) (λ c h. full_certifies p ok limit spare small c h (none_for p ok limit spare small c h none)))
+
+-- a mended plan and its certificate
+pub record IsDone (p q : Plan) (cert : Certificate) (limit spare : ℕ) : Type 0 where
+  pub is : q ≡ mended p limit spare
+  pub certified : IsCertified q (ranks_of cert) limit spare
+  pub fits : IsCertificateOf q cert
+
+pub done : (p : Plan) → IsPlan p → (limit spare : ℕ) → spare ≤ 15 → (f : Plan) → f ≡ full p limit spare → (before : List Route) → before ≡ p.routes
+    → (cert : Certificate) → IsCertified f (ranks_of cert) limit spare → AreHeights f (ranks_of cert) → IsCertificateOf f cert
+    → (routes : List Route) → routes ≡ filter (stays before cert) f.routes → (bars : List Pair) → bars ≡ f.bars → IsDone p (rerouted f routes bars) cert limit spare
+done p ok limit spare small f e before b cert certified heights fits routes r bars s =
+    let F = full p limit spare in
+    let M = mended p limit spare in
+    let k = subst (λ (q : Plan). IsCertified q (ranks_of cert) limit spare) e certified in
+    let h = subst (λ (q : Plan). AreHeights q (ranks_of cert)) e heights in
+    let own = subst (λ (q : Plan). IsCertificateOf q cert) e fits in
+    let all : routes ≡ mended_routes p limit spare = r ∙ ap (λ (q : Plan). filter (stays before cert) q.routes) e ∙ ap (λ (l : List Route). filter (stays l cert) F.routes) b ∙ routes_stay p ok limit spare small cert k h in
+    let barred : bars ≡ p.bars = s ∙ ap (λ (q : Plan). q.bars) e in
+    let same : rerouted f routes bars ≡ M = λ i. rerouted (e i) (all i) (barred i) in
+    record {
+      is = same;
+      certified = subst (λ (q : Plan). IsCertified q (ranks_of cert) limit spare) (sym same) (trimmed p ok limit spare small cert k h);
+      fits = subst (λ (q : Plan). IsCertificateOf q cert) (sym same) (record { codes = own.codes; exchanges = own.exchanges; rules = own.rules });
+    }
 
 -- the mended list of a code that keeps its routes
 pub kept_mended : (p : Plan) → IsPlan p → (limit spare x code : ℕ) → keeps_routes p code limit spare ≡ true → mended_list p limit spare code x ≡ route_list p x code

@@ -1,11 +1,11 @@
 // The routes and the bars of a plan, once more.
-ghost use Rattle.std.specs.Prelude.{◌≡◌, IfOk, filter};
+ghost use Rattle.std.specs.Prelude.{◌≡◌, ℕ, List, IfOk, filter};
 ghost use Rattle.tx_mend.specs.inner.Full.{stays};
 
 use crate::filling::present_list;
 use std::alloc::Allocator;
 use tx_cert::Cert;
-use tx_plan::{Bars, Pair, Plan, Routes};
+use tx_plan::{Bars, CodeId, ExchangeId, Pair, Plan, Routes};
 use tx_text::NoMemory;
 
 /// The routes.
@@ -41,6 +41,22 @@ pub fn bars_of<A: Allocator + Copy>(alloc: A, plan: &Plan<A>) -> Result<Bars<A>,
     Ok(bars)
 }
 
+/// Whether the route of an exchange for a code stays.
+fn is_staying<A: Allocator>(
+    before: &Routes<A>,
+    cert: &Cert<A>,
+    exchange: ExchangeId,
+    code: CodeId,
+) -> bool
+    ensures { (groups : List ℕ) → result ≡ stays before.now cert.now (record {
+      exchange = exchange;
+      code = code;
+      groups = groups;
+    }) }
+{
+    before.has(&Pair { exchange, code }) || cert.rank(code, exchange).is_some()
+}
+
 /// The routes that stood before, and those of exchanges that a certificate ranks for their codes.
 pub fn staying_routes<A: Allocator + Copy>(
     alloc: A,
@@ -56,9 +72,9 @@ pub fn staying_routes<A: Allocator + Copy>(
     for place in 0..plan.routes() {
         match plan.route_at(place) {
             Some((exchange, code)) => {
-                let pair = Pair { exchange, code };
-                if before.has(&pair) || cert.rank(code, exchange).is_some() {
-                    routes.add(pair, present_list(plan, code, exchange))?;
+                if is_staying(before, cert, exchange, code) {
+                    let list = present_list(plan, code, exchange);
+                    routes.add(Pair { exchange, code }, list)?;
                 }
             }
             None => unreachable!(),

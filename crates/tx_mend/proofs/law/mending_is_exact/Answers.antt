@@ -1,5 +1,4 @@
 use Rattle.tx_mend.proofs.Trimmed.{mended_is, mending_exact, no_list_without_calls}
-use Rattle.tx_mend.proofs.Try.{loop_mended, loop_served, bare_mended, bare_full, bare_calls, loop_two}
 use Rattle.tx_mend.proofs.law.mending_is_exact.Goals as goal
 
 pub returns : goal.returns

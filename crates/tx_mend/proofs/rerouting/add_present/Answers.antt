@@ -6,7 +6,7 @@ use Rattle.tx_plan.proofs.ByPlace.{entry_at}
 use Rattle.tx_mend.specs.Mended.{route_if}
 use Rattle.tx_mend.specs.Lists.{full_list}
 use Rattle.tx_mend.specs.inner.Pairs.{full_route}
-use Rattle.tx_mend.proofs.Adding.{no_none, present_within, present_fresh, present_more}
+use Rattle.tx_mend.proofs.Adding.{pair_of, no_none, present_within, present_fresh, present_more}
 use Rattle.tx_mend.proofs.rerouting.add_present.Goals as goal
 
 pub add_route-requires : goal.add_route-requires
@@ -28,7 +28,7 @@ unreachable-requires g c =
     let t = c.loop-place-test.true in
     let n = c.routes-place-end.ensures in
     let e = entry_at p.routes c.loop-place.place (omega arith) in
-    no_none (slice_get p.routes c.loop-place.place) e.0 e.1 (sym c.in-None.is ∙ c.route_at.ensures)
+    no_none pair_of (slice_get p.routes c.loop-place.place) e.0 e.1 (sym c.in-None.is ∙ c.route_at.ensures)
 
 pub loop-place-preserved : goal.loop-place-preserved
 loop-place-preserved g c =
