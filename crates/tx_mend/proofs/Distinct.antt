@@ -1,9 +1,8 @@
 -- Lists of numbers in which nothing stands twice.
-use Rattle.std.proofs.Common.{◌≡◌, ◌≢◌, ℕ, zero, suc, ◌+◌, ◌<◌, ◌≤◌, ◌⊎◌, Bool, true, false, cond, eqb, eqb-true, eq-eqb, List, [], ◌∷◌, ◌++◌, length, inl, inr, refl, sym, subst, arith}
-use Rattle.std.specs.Prelude.{filter}
+use Rattle.std.proofs.Common.{◌≡◌, ◌≢◌, ℕ, zero, suc, ◌+◌, ◌<◌, ◌≤◌, ◌⊎◌, true, eqb, eqb-true, eq-eqb, List, [], ◌∷◌, ◌++◌, length, inl, inr, refl, sym, arith}
 use Rattle.std.specs.Cmp.{nat_eq_equiv}
-use Rattle.std.specs.List.{IsDistinct, list_any, AllByRecursion, range_with_len}
-use Rattle.std.proofs.lemmas.Bool.{cases_lt, ne_eqb, or_cases, or_left, or_right, false≢true}
+use Rattle.std.specs.List.{list_any, AllByRecursion, range_with_len}
+use Rattle.std.proofs.lemmas.Bool.{cases_lt, or_cases, or_left, or_right, false≢true}
 use Rattle.std.proofs.lemmas.Map.Made.{length-le_from_is_member}
 use Rattle.tx_plan.specs.Rules.{EachPair}
 use Rattle.tx_plan.specs.Among.{Among}

@@ -30,7 +30,7 @@ use Rattle.tx_mend.proofs.RoundRanks.{Ranked, at_home, stays_on, within, why, no
 use Rattle.tx_mend.proofs.Least.{below_rank, list_cases, leads, least}
 use Rattle.tx_mend.proofs.LeastLists.{Leads, IsList, on_rank, across_to, outgoing_seizes, present_list, is_least_list, filled_enough, filled_leads}
 use Rattle.tx_mend.proofs.Routed.{routed_list, routes_rules, routes_differ}
-use Rattle.tx_mend.proofs.Rerouted.{AreRoutes, kept_rerouted}
+use Rattle.tx_mend.proofs.Rerouted.{kept_rerouted}
 
 pub all_holds : (t : ℕ → Bool) (xs : List ℕ) (x : ℕ) → list_all t xs ≡ true → Among x xs → t x ≡ true
 all_holds t [] x h m = absurd m

@@ -1,6 +1,6 @@
 -- A plan whose codes all keep their routes stays as it is.
 use Rattle.std.proofs.Common.{◌≡◌, ◌≢◌, ℕ, ◌<◌, ◌≤◌, true, false, cond, ◌==◌, ◌&&◌, List, [], ◌∷◌, ◌++◌, length, map, Option, Some, inl, inr, refl, sym, ap, ◌∙◌, arith, append-nil, eq-eqb, eqb-true}
-use Rattle.std.specs.Prelude.{filter, find, if◌then◌else◌}
+use Rattle.std.specs.Prelude.{filter, find}
 use Rattle.std.specs.List.{flat_map}
 use Rattle.std.specs.Option.{option_map_or}
 use Rattle.std.proofs.lemmas.Bool.{and_parts, and_from, not-true}
@@ -14,7 +14,7 @@ use Rattle.tx_plan.proofs.Among.{among_right, filter_among}
 use Rattle.tx_mend.specs.LeastRanks.{keeps_routes}
 use Rattle.tx_mend.specs.Mended.{mended_routes, all_pairs, route_if}
 use Rattle.tx_mend.specs.Laws.{CertifiedStays}
-use Rattle.tx_mend.specs.Lists.{least_list, mended_list}
+use Rattle.tx_mend.specs.Lists.{mended_list}
 use Rattle.tx_mend.specs.inner.Pairs.{present_pairs, is_absent}
 use Rattle.tx_rank.proofs.Ways.{all_among}
 use Rattle.tx_mend.proofs.Least.{list_cases}

@@ -1,15 +1,15 @@
 -- The mended plan: the one of all full lists, without those that are new and to which no call comes.
-use Rattle.std.proofs.Common.{◌≡◌, ◌≢◌, ℕ, suc, ◌+◌, ◌<◌, ◌≤◌, Bool, true, false, not, cond, ◌&&◌, ◌||◌, ◌==◌, eqb-true, eq-eqb, List, [], ◌∷◌, ◌++◌, length, Option, Some, None, inl, inr, refl, sym, ap, subst, ◌∙◌, arith}
+use Rattle.std.proofs.Common.{◌≡◌, ◌≢◌, ℕ, suc, ◌<◌, ◌≤◌, Bool, true, false, cond, ◌||◌, ◌==◌, eqb-true, eq-eqb, List, [], ◌∷◌, ◌++◌, length, Option, Some, None, inl, inr, refl, sym, ap, subst, ◌∙◌, arith}
 use Rattle.std.specs.Prelude.{filter, is_some, if◌then◌else◌}
-use Rattle.std.specs.List.{flat_map, list_any}
-use Rattle.std.proofs.lemmas.Bool.{and_parts, and_from, or_cases, or_left, or_right, false≢true, not-true, eqb-false}
+use Rattle.std.specs.List.{flat_map}
+use Rattle.std.proofs.lemmas.Bool.{or_cases, or_left, or_right, not-true}
 use Rattle.std.proofs.lemmas.List.Elements.{filter-append}
 use Rattle.tx_plan.specs.Plan.{Plan, Route, home_of}
 use Rattle.tx_plan.specs.Rules.{IsPlan, IsRoute}
-use Rattle.tx_plan.specs.Routes.{route_list, is_origin_for}
+use Rattle.tx_plan.specs.Routes.{route_list}
 use Rattle.tx_plan.specs.Declaring.{has_route}
 use Rattle.tx_plan.specs.Ambiguous.{ambiguous_of}
-use Rattle.tx_plan.specs.Certified.{Ranks, IsBelow, LeadsLower, IsCertified}
+use Rattle.tx_plan.specs.Certified.{Ranks, IsCertified}
 use Rattle.tx_plan.specs.Among.{Among}
 use Rattle.tx_entries.specs.declared.pair.Pair.{Pair}
 use Rattle.tx_plan.specs.Rerouted.{rerouted}
@@ -17,14 +17,14 @@ use Rattle.tx_cert.specs.Certificate.{Certificate, IsCertificateOf, rank_at, ran
 use Rattle.tx_rank.specs.Grades.{CanBeCertified}
 use Rattle.tx_rank.specs.Walks.{Net, net_of}
 use Rattle.tx_rank.specs.Heights.{IsReached, AreHeights}
-use Rattle.tx_rank.specs.Nets.{Certifies, LeadsBelow}
-use Rattle.tx_rank.proofs.Ways.{all_among, among_all}
+use Rattle.tx_rank.specs.Nets.{Certifies}
+use Rattle.tx_rank.proofs.Ways.{all_among}
 use Rattle.tx_rank.proofs.Certifying.{none_distinct, certifies_code, certified_codes}
-use Rattle.tx_mend.specs.Routings.{IsRouting, CanBeKept, CanBeMended}
+use Rattle.tx_mend.specs.Routings.{CanBeKept}
 use Rattle.tx_mend.specs.LeastRanks.{keeps_routes}
 use Rattle.tx_mend.specs.Lists.{least_list, full_list, comes_in, comes_to, mended_list}
 use Rattle.tx_mend.specs.Mended.{pairs_of, route_if, mended_routes, mended, unserved}
-use Rattle.tx_mend.specs.Laws.{IsMendedPlan, MendedIsMended, MendsWhatCanBeMended, MendingIsExact, NoListWithoutCalls}
+use Rattle.tx_mend.specs.Laws.{IsMendedPlan, MendedIsMended, MendingIsExact, NoListWithoutCalls}
 use Rattle.tx_mend.specs.inner.Full.{full_routes, full, stays}
 use Rattle.tx_mend.proofs.Rerouted.{AreRoutes}
 use Rattle.tx_mend.proofs.Least.{list_cases}

@@ -27,21 +27,21 @@ pub record IsConfirmed (q : Plan) (cert : Certificate) (limit spare : ℕ) : Typ
   pub few_routes : HasFewRoutes q limit
 
 -- YES: the mended plan, of the same network, with a certificate to which the checker says Yes
-pub record IsMendedInto (p q : Plan) (before : List Route) (cert : Certificate) (limit spare : ℕ)
+pub record IsMendedInto (p q : Plan) (routes : List Route) (cert : Certificate) (limit spare : ℕ)
     : Type 0 where
   pub routing : IsRouting p q
   pub mended : q ≡ mended p limit spare
-  pub before : before ≡ p.routes
+  pub before : routes ≡ p.routes
   pub kept : KeepsSafeLists p q limit spare
   pub called : NewListsAreReached p q
   pub confirmed : IsConfirmed q cert limit spare
 
 -- NO: no routes of the network are certified by any ranks; what cannot be served, and the pair
-pub record HasNoRouting (p q : Plan) (pairs : List (ℕ × ℕ)) (pair : Option (ℕ × ℕ))
+pub record HasNoRouting (p q : Plan) (pairs : List (ℕ × ℕ)) (both : Option (ℕ × ℕ))
     (limit spare : ℕ) : Type 0 where
   pub same : q ≡ p
   pub told : pairs ≡ unserved p limit spare
-  pub pair : pair ≡ ambiguous_of p.codes
+  pub pair : both ≡ ambiguous_of p.codes
   pub none : CanBeMended p limit spare → ⊥
 
 module _ {A : Type 0} where

@@ -1,8 +1,7 @@
 use Rattle.std.proofs.Common.{◌∙◌, ap, sym, arith}
-use Rattle.std.specs.Prelude.{◌==◌, ◌&&◌, slice_get}
+use Rattle.std.specs.Prelude.{slice_get}
 use Rattle.std.specs.List.{list_any}
 use Rattle.tx_plan.specs.Plan.{Route}
-use Rattle.tx_plan.specs.Routes.{route_list}
 use Rattle.tx_plan.proofs.ByPlace.{entry_at}
 use Rattle.tx_mend.specs.inner.Full.{stays}
 use Rattle.std.proofs.Common.{take, refl, []}

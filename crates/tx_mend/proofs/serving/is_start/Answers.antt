@@ -1,7 +1,7 @@
-use Rattle.std.proofs.Common.{◌∙◌, false, length, sym, ap, get_or, arith}
+use Rattle.std.proofs.Common.{◌∙◌, false, sym, ap, get_or, arith}
 use Rattle.std.specs.Prelude.{not, ◌&&◌}
 use Rattle.std.proofs.lemmas.Option.{slice_get-get_or}
-use Rattle.tx_plan.specs.Routes.{is_origin, is_barred}
+use Rattle.tx_plan.specs.Routes.{is_barred}
 use Rattle.tx_mend.proofs.serving.is_start.Goals as goal
 
 pub bounds-origins-place : goal.bounds-origins-place
