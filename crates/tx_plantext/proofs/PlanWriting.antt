@@ -147,15 +147,20 @@ route_head name figures = codes "ROUTE " ++ (name ++ (codes " " ++ (figures ++ [
 abbrev pub route_end : Plan → List ℕ → List ℕ
 route_end p groups = flat_map (λ g. codes " " ++ group_name p g) groups ++ codes "\n"
 
-pub route_text : (p : Plan) (i : ℕ) (at : ℕ × ℕ) (name figures : List ℕ) (groups : List ℕ) → IsPlan p → ◌≡◌ {A = Option (ℕ × ℕ)} (Some at) (option_map (λ (r : Route). (r.exchange, r.code)) (slice_get p.routes i))
-    → name ≡ exchange_name p at.0 → figures ≡ figures_of p at.1 → groups ≡ route_list p at.0 at.1 → line_at (route_words p) p.routes i ≡ route_head name figures ++ route_end p groups
-route_text p i at name figures groups h e n f l =
+-- the route of an exchange for a code
+pub named_route : (p : Plan) (x c : ℕ) (name figures groups : List ℕ) → name ≡ exchange_name p x → figures ≡ figures_of p c → groups ≡ route_list p x c
+    → line_written (route_words p (record { exchange = x; code = c; groups = route_list p x c })) ≡ route_head name figures ++ route_end p groups
+named_route p x c name figures groups n f l = rw (l, n, f) (route_line p (exchange_name p x) (figures_of p c) (route_list p x c))
+
+-- the route at a place is that of its exchange for its code
+pub route_placed : (p : Plan) (i : ℕ) (at : ℕ × ℕ) → IsPlan p → ◌≡◌ {A = Option (ℕ × ℕ)} (Some at) (option_map (λ (r : Route). (r.exchange, r.code)) (slice_get p.routes i))
+    → line_at (route_words p) p.routes i ≡ line_written (route_words p (record { exchange = at.0; code = at.1; groups = route_list p at.0 at.1 }))
+route_placed p i at h e =
     let q = route_there (slice_get p.routes i) at e in
     let r = q.0 in
-    let listed : groups ≡ r.groups = l ∙ (λ k. route_list p (q.2 k) (q.3 k)) ∙ list_found p i r h q.1 in
-    let named : name ≡ exchange_name p r.exchange = n ∙ ap (exchange_name p) q.2 in
-    let coded : figures ≡ figures_of p r.code = f ∙ ap (figures_of p) q.3 in
-    rw (listed, coded, named) (ap (λ (o : Option Route). option_map_or (λ z. line_written (route_words p z)) o []) q.1 ∙ route_line p (exchange_name p r.exchange) (figures_of p r.code) r.groups)
+    let listed : r.groups ≡ route_list p at.0 at.1 = sym (list_found p i r h q.1) ∙ (λ k. route_list p (sym q.2 k) (sym q.3 k)) in
+    ap (λ (o : Option Route). option_map_or (λ z. line_written (route_words p z)) o []) q.1
+    ∙ (λ k. line_written (route_words p (record { exchange = sym q.2 k; code = sym q.3 k; groups = listed k })))
 
 -- the sink failed at one of the names
 pub names_stopped : (p : Plan) (gs : List ℕ) (i x : ℕ) (a b c : Option (List ℕ)) (f g h : Bool) (r : Outcome) (fault : WriteFault) → i < length gs → x ≡ get_or gs i x

@@ -6,11 +6,12 @@ ghost use Rattle.tx_text.specs.Ends.{StopsIn};
 ghost use Rattle.tx_text.specs.Written.{line_written};
 ghost use Rattle.tx_text.specs.Wrote.{Wrote};
 ghost use Rattle.tx_plan.specs.Plan.{group_name};
+ghost use Rattle.tx_plan.specs.Routes.{route_list};
 ghost use Rattle.tx_plantext.specs.PlanWritten.{plan_written, head_of, exchange_words, code_words, range_words, group_words, route_words, bar_words, direction_word, line_at, lines_of_list};
 
 use itoa::Buffer;
 use std::alloc::Allocator;
-use tx_plan::{Direction, GroupId, Plan};
+use tx_plan::{CodeId, Direction, ExchangeId, GroupId, Plan};
 use tx_text::{Sink, WriteFault, write_text};
 
 /// Writes the text of a plan: the header, a line for each entry of the six lists in order of declaration, and END.
@@ -105,7 +106,7 @@ fn write_routes<A: Allocator, W: Sink>(plan: &Plan<A>, sink: &mut W) -> Result<(
     ensures { Wrote (W.taken sink.old) (W.taken sink.new) (W.failed sink.old) (W.failed sink.new) (lines_of_list (route_words plan.now) plan.now.routes) result }
 {
     for place in 0..plan.routes() {
-        write_route(plan, place, sink)?;
+        write_route_at(plan, place, sink)?;
     }
     Ok(())
 }
@@ -219,29 +220,45 @@ fn write_count<W: Sink>(count: u32, sink: &mut W) -> Result<(), WriteFault>
     write_text(&[b" ", figures, b"\n"], sink)
 }
 
-fn write_route<A: Allocator, W: Sink>(
+fn write_route_at<A: Allocator, W: Sink>(
     plan: &Plan<A>,
     place: usize,
     sink: &mut W,
 ) -> Result<(), WriteFault>
-    ensures { Wrote (W.taken sink.old) (W.taken sink.new) (W.failed sink.old) (W.failed sink.new) (line_at (route_words plan.now) plan.now.routes place) result }
+    ensures { Wrote (W.taken sink.old) (W.taken sink.new) (W.failed sink.old) (W.failed sink.new)
+        (line_at (route_words plan.now) plan.now.routes place) result }
 {
     plan.rules();
     match plan.route_at(place) {
-        Some((exchange, code)) => {
-            write_text(
-                &[
-                    b"ROUTE ",
-                    plan.exchange_name(exchange),
-                    b" ",
-                    plan.code_figures(code),
-                ],
-                sink,
-            )?;
-            write_names(plan, plan.list(exchange, code), sink)
-        }
+        Some((exchange, code)) => write_route(plan, exchange, code, sink),
         None => Ok(()),
     }
+}
+
+/// Writes the route of an exchange for a code, as a line of the plan.
+pub fn write_route<A: Allocator, W: Sink>(
+    plan: &Plan<A>,
+    exchange: ExchangeId,
+    code: CodeId,
+    sink: &mut W,
+) -> Result<(), WriteFault>
+    ensures { Wrote (W.taken sink.old) (W.taken sink.new) (W.failed sink.old) (W.failed sink.new)
+        (line_written (route_words plan.now (record {
+          exchange = exchange;
+          code = code;
+          groups = route_list plan.now exchange code;
+        }))) result }
+{
+    write_text(
+        &[
+            b"ROUTE ",
+            plan.exchange_name(exchange),
+            b" ",
+            plan.code_figures(code),
+        ],
+        sink,
+    )?;
+    write_names(plan, plan.list(exchange, code), sink)
 }
 
 /// Writes a space and a name for each group, and the end of the line.

@@ -1,0 +1,120 @@
+-- Least ranks are least.
+use Rattle.std.proofs.Common.{◌≡◌, ◌≢◌, ℕ, suc, ◌<◌, ◌≤◌, ◌⊎◌, Bool, true, false, ◌==◌, ◌&&◌, cond, eqb-true, List, [], ◌∷◌, length, Option, Some, None, inl, inr, refl, sym, ap, subst, ◌∙◌, arith}
+use Rattle.std.specs.Prelude.{find, filter, slice_get, is_some, option_and_then}
+use Rattle.std.specs.Option.{option_map_or}
+use Rattle.std.proofs.lemmas.Bool.{and_parts, lt-ltb, false≢true}
+use Rattle.std.proofs.lemmas.Option.{slice_get_within}
+use Rattle.tx_plan.specs.Plan.{Plan, Route, Group, home_of}
+use Rattle.tx_plan.specs.Rules.{IsPlan, IsRoute}
+use Rattle.tx_plan.specs.Routes.{route_list}
+use Rattle.tx_plan.specs.Circuits.{may_seize, may_seize_row, other_end}
+use Rattle.tx_plan.specs.Certified.{Ranks, IsBelow, LeadsLower}
+use Rattle.tx_plan.specs.Among.{Among}
+use Rattle.tx_plan.proofs.Among.{among_filter}
+use Rattle.tx_plan.specs.Rerouted.{rerouted}
+use Rattle.tx_mend.specs.Routings.{IsFalling}
+use Rattle.tx_mend.specs.LeastRanks.{places, RanksOfCode, outgoing, leads_on, can_follow, least_rank, LeastRanksAreLeast}
+use Rattle.tx_mend.proofs.Distinct.{some_among, fits, among_range}
+use Rattle.tx_rank.specs.Walks.{AllDiffer}
+use Rattle.tx_rank.proofs.Ways.{all_among}
+use Rattle.tx_mend.proofs.RoundRanks.{no_greater}
+
+pub below_rank : (o : Option ℕ) (r : ℕ) → IsBelow o r → (m : ℕ) × (o ≡ Some m) × (m < r)
+below_rank None r h = absurd h
+below_rank (Some m) r h = (m, refl, h)
+
+-- the route that was found is one of them
+pub record IsFoundRoute (p : Plan) (x c : ℕ) : Type 0 where
+  pub route : Route
+  pub among : Among route p.routes
+  pub exchange : route.exchange ≡ x
+  pub code : route.code ≡ c
+  pub groups : route_list p x c ≡ route.groups
+
+pub found_among : (t : Route → Bool) (xs : List Route) (z : Route) → find t xs ≡ Some z → Among z xs × (t z ≡ true)
+found_among t [] z h = absurd (let bad : ⊥ = cc in bad)
+found_among t (x ∷ xs) z h =
+    elim (t x) as (λ b. t x ≡ b → cond b (Some x) (find t xs) ≡ Some z → Among z (x ∷ xs) × (t z ≡ true)) [
+      | true ↦ λ tx e. let same : x ≡ z = cc in (inl same, ap t (sym same) ∙ tx)
+      | false ↦ λ tx e. let i = found_among t xs z e in (inr i.0, i.1)
+    ] refl h
+
+-- an exchange lists nothing for a code, or has a route for it
+pub list_cases : (p : Plan) (x c : ℕ) → (route_list p x c ≡ []) ⊎ IsFoundRoute p x c
+list_cases p x c = by_find (find (λ r. (r.exchange == x) && (r.code == c)) p.routes) refl
+  where
+    by_find : (o : Option Route) → find (λ (r : Route). (r.exchange == x) && (r.code == c)) p.routes ≡ o → (route_list p x c ≡ []) ⊎ IsFoundRoute p x c
+    by_find None e = inl (ap (λ (o : Option Route). option_map_or (λ (r : Route). r.groups) o []) e)
+    by_find (Some r) e =
+        let f = found_among (λ (k : Route). (k.exchange == x) && (k.code == c)) p.routes r e in
+        let b = and_parts (r.exchange == x) (r.code == c) f.1 in
+        inr (record { route = r; among = f.0; exchange = eqb-true r.exchange x b.0; code = eqb-true r.code c b.1; groups = ap (λ (o : Option Route). option_map_or (λ (r : Route). r.groups) o []) e })
+
+-- what the rules say of lists
+module _ (p : Plan) (ok : IsPlan p) (x c : ℕ) where
+  pub list_differs : AllDiffer (route_list p x c)
+  list_differs = elim (list_cases p x c) [
+    | inl e ↦ subst AllDiffer (sym e) tt
+    | inr f ↦ subst AllDiffer (sym f.groups) (all_among (IsRoute p) p.routes f.route ok.routes f.among).differ
+  ]
+
+  pub list_seizes : (g : ℕ) → Among g (route_list p x c) → may_seize p g x ≡ true
+  list_seizes g m = elim (list_cases p x c) [
+    | inl e ↦ absurd (subst (λ (l : List ℕ). Among g l) e m)
+    | inr f ↦ (let r = all_among (IsRoute p) p.routes f.route ok.routes f.among in
+        ap (may_seize p g) (sym f.exchange) ∙ all_among (λ (h : ℕ). may_seize p h f.route.exchange ≡ true) f.route.groups g r.outgoing (subst (λ (l : List ℕ). Among g l) f.groups m))
+  ]
+
+  pub list_few : length (route_list p x c) ≤ 16
+  list_few = elim (list_cases p x c) [
+    | inl e ↦ subst (λ (l : List ℕ). length l ≤ 16) (sym e) (omega arith)
+    | inr f ↦ subst (λ (l : List ℕ). length l ≤ 16) (sym f.groups) (all_among (IsRoute p) p.routes f.route ok.routes f.among).few
+  ]
+
+-- a group that may be seized is one of the plan, and so stands among those that its exchange may seize
+pub seizes_within : (p : Plan) (g x : ℕ) → may_seize p g x ≡ true → g < length p.groups
+seizes_within p g x h = by_get (slice_get p.groups g) refl h
+  where
+    by_get : (o : Option Group) → slice_get p.groups g ≡ o → option_map_or (λ (r : Group). may_seize_row r x) o false ≡ true → g < length p.groups
+    by_get None e k = absurd (false≢true k)
+    by_get (Some r) e k = slice_get_within p.groups g r e
+
+pub outgoing_has : (p : Plan) (g x : ℕ) → may_seize p g x ≡ true → Among g (outgoing p x)
+outgoing_has p g x h = among_filter (λ (g : ℕ). may_seize p g x) g (places (length p.groups)) (among_range 0 (length p.groups) g (omega arith) (let w = seizes_within p g x h in omega arith)) h
+
+-- a group that leads to a ranked exchange
+pub leads : (p : Plan) (ranks : RanksOfCode) (x g y n : ℕ) → other_end p g x ≡ Some y → ranks y ≡ Some n → leads_on p ranks x g ≡ true
+leads p ranks x g y n e k = ap (λ (o : Option ℕ). is_some (option_and_then ranks o)) e ∙ ap (λ (o : Option ℕ). is_some o) k
+
+module _ (p : Plan) (routes : List Route) where
+  abbrev Q : Plan
+  Q = rerouted p routes p.bars
+
+  module _ (ok : IsPlan Q) (ranks : Ranks) (code limit spare : ℕ) (f : IsFalling Q ranks code limit spare) where
+    positive : (x r : ℕ) → ranks code x ≡ Some r → x ≢ home_of p code → 0 < r
+    positive x r e away =
+        let d = f.lists x r e away in
+        let s = some_among (route_list Q x code) spare d.enough in
+        let l = all_among (LeadsLower Q ranks code x r) (route_list Q x code) s.0 d.each s.1 in
+        let b = below_rank (ranks code l.to) r l.lower in
+        let m = b.2 in
+        omega arith
+
+    fed : (x r : ℕ) → ranks code x ≡ Some r → x ≢ home_of p code → (other : RanksOfCode) → ((y m : ℕ) → ranks code y ≡ Some m → m < r → (n : ℕ) × (other y ≡ Some n)) → can_follow p spare other x ≡ true
+    fed x r e away other h =
+        let d = f.lists x r e away in
+        let each : (g : ℕ) → Among g (route_list Q x code) → Among g (filter (λ g. leads_on p other x g) (outgoing p x)) = λ g m.
+        let l = all_among (LeadsLower Q ranks code x r) (route_list Q x code) g d.each m in
+        let b = below_rank (ranks code l.to) r l.lower in
+        let o = h l.to b.0 b.1 b.2 in
+        among_filter (λ g. leads_on p other x g) g (outgoing p x) (outgoing_has p g x (list_seizes Q ok x code g m)) (leads p other x g l.to o.0 l.leads o.1) in
+        let long = fits (route_list Q x code) (filter (λ g. leads_on p other x g) (outgoing p x)) (list_differs Q ok x code) each in
+        let enough = d.enough in
+        lt-ltb spare (length (filter (λ g. leads_on p other x g) (outgoing p x))) (omega arith)
+
+    pub least_with : (x r : ℕ) → ranks code x ≡ Some r → (n : ℕ) × (least_rank p code limit spare x ≡ Some n) × (n ≤ r)
+    least_with x r e = let low = f.low x r e in no_greater (home_of p code) (can_follow p spare) (ranks code) positive fed (suc limit) x r (omega arith) e
+
+pub least : LeastRanksAreLeast
+least p q s ranks code limit spare f =
+    least_with p q.routes (subst (λ (k : Plan). IsPlan k) s.same s.plan) ranks code limit spare (subst (λ (k : Plan). IsFalling k ranks code limit spare) s.same f)

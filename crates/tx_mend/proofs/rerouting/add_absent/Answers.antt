@@ -1,0 +1,53 @@
+use Rattle.std.proofs.Common.{◌≡◌, ℕ, ◌∙◌, ◌++◌, [], List, length, sym, ap, arith}
+use Rattle.std.specs.List.{list_any, flat_map}
+use Rattle.tx_plan.specs.Plan.{Route}
+use Rattle.std.specs.Prelude.{◌==◌, ◌&&◌, filter}
+use Rattle.tx_plan.specs.Routes.{route_list}
+use Rattle.std.proofs.lemmas.Bool.{eqb-true, eqb-false}
+use Rattle.std.proofs.lemmas.List.{nil_from_length}
+use Rattle.tx_mend.specs.Mended.{route_if}
+use Rattle.tx_mend.specs.Lists.{full_list}
+use Rattle.tx_mend.specs.inner.Pairs.{present_pairs, pairs_for, is_absent, absent_below, full_route}
+use Rattle.tx_mend.proofs.Adding.{is_absent_if, is_present_if, absent_fresh, absent_more, absent_same, absent_all}
+use Rattle.tx_mend.proofs.rerouting.add_absent.Goals as goal
+use Rattle.tx_mend.proofs.rerouting.add_absent.Goals.{then-is_empty+in_ok-add_route, else-is_empty}
+
+pub add_route-requires : goal.add_route-requires
+add_route-requires g c =
+    let b = c.args.basis.now in
+    let p = b.plan.now in
+    let n = c.loop-place.place in
+    let code = c.args.code in
+    let e = c.of-exchange.ensures in
+    let none = nil_from_length c.list.result.now (eqb-true (length c.list.result.now) 0 (sym c.is_empty.ensures ∙ c.if-is_empty.true)) in
+    let empty : route_list p n code ≡ [] = sym (c.list.ensures ∙ ap (λ (y : ℕ). route_list p y code) e) ∙ none in
+    ap (λ (y : ℕ). list_any (λ (r : Route). (r.exchange == y) && (r.code == code)) c.loop-place.routes) e ∙ ap (list_any (λ (r : Route). (r.exchange == n) && (r.code == code))) c.loop-place.invariant
+    ∙ absent_fresh p c.rules.ensures (full_list p b.limit b.spare) code n (is_absent_if p c.rules.ensures n code empty)
+
+pub loop-place-preserved : goal.loop-place-preserved
+loop-place-preserved g c =
+    let b = c.args.basis.now in
+    let p = b.plan.now in
+    let n = c.loop-place.place in
+    let code = c.args.code in
+    let e = c.of-exchange.ensures in
+    let f = full_route p b.limit b.spare in
+    let here = c.list.ensures ∙ ap (λ (y : ℕ). route_list p y code) e in
+    elim c.if-is_empty.branch [
+      | then-is_empty+in_ok-add_route w ↦ (
+          let none = nil_from_length c.list.result.now (eqb-true (length c.list.result.now) 0 (sym c.is_empty.ensures ∙ w.if-is_empty.true)) in
+          w.routes-is ∙ w.in_ok-add_route.ensures ∙ ap (λ (l : List ℕ). c.loop-place.routes ++ route_if (c.of-exchange.result, code) l) w.full_list-list.ensures
+          ∙ ap (λ (y : ℕ). c.loop-place.routes ++ f (y, code)) e ∙ ap (λ (l : List Route). l ++ f (n, code)) c.loop-place.invariant
+          ∙ sym (absent_more p c.rules.ensures (full_list p b.limit b.spare) code n (is_absent_if p c.rules.ensures n code (sym here ∙ none))))
+      | else-is_empty w ↦ (
+          let some = eqb-false (length c.list.result.now) 0 (sym c.is_empty.ensures ∙ w.if-is_empty.false) in
+          w.routes-is ∙ c.loop-place.invariant ∙ sym (absent_same p c.rules.ensures (full_list p b.limit b.spare) code n (is_present_if p c.rules.ensures n code (λ k. some (ap length (here ∙ k))))))
+    ]
+
+pub returns : goal.returns
+returns g c =
+    let b = c.args.basis.now in
+    let p = b.plan.now in
+    let f = full_route p b.limit b.spare in
+    let all : c.loop-place.place ≡ length p.exchanges = let t = c.loop-place-test.false in let a = c.loop-place.auto.place-end in let e = c.exchanges-place-end.ensures in omega arith in
+    c.loop-place.invariant ∙ ap (λ (n : ℕ). flat_map f (present_pairs p ++ (absent_below p c.args.code ++ filter (is_absent p) (pairs_for n c.args.code)))) all ∙ absent_all p c.rules.ensures (full_list p b.limit b.spare) c.args.code

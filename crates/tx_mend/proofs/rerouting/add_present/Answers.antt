@@ -1,0 +1,39 @@
+use Rattle.std.proofs.Common.{ℕ, ◌∙◌, ◌++◌, List, sym, ap, arith}
+use Rattle.std.specs.List.{list_any}
+use Rattle.tx_plan.specs.Plan.{Route}
+use Rattle.std.specs.Prelude.{◌==◌, ◌&&◌, slice_get}
+use Rattle.tx_plan.proofs.ByPlace.{entry_at}
+use Rattle.tx_mend.specs.Mended.{route_if}
+use Rattle.tx_mend.specs.Lists.{full_list}
+use Rattle.tx_mend.specs.inner.Pairs.{full_route}
+use Rattle.tx_mend.proofs.Adding.{pair_of, no_none, present_within, present_fresh, present_more}
+use Rattle.tx_mend.proofs.rerouting.add_present.Goals as goal
+
+pub add_route-requires : goal.add_route-requires
+add_route-requires g c =
+    let b = c.args.basis.now in
+    let p = b.plan.now in
+    let k = c.in-Some.pair in
+    ap (list_any (λ (r : Route). (r.exchange == k.0) && (r.code == k.1))) c.loop-place.invariant ∙ present_fresh p c.rules.ensures c.loop-place.place k (sym c.in-Some.is ∙ c.route_at.ensures) (full_list p b.limit b.spare)
+
+pub full_list-list-requires-clause-code : goal.full_list-list-requires-clause-code
+full_list-list-requires-clause-code g c = (present_within c.args.basis.now.plan.now c.rules.ensures c.loop-place.place c.in-Some.pair (sym c.in-Some.is ∙ c.route_at.ensures)).1
+
+pub full_list-list-requires-clause-exchange : goal.full_list-list-requires-clause-exchange
+full_list-list-requires-clause-exchange g c = (present_within c.args.basis.now.plan.now c.rules.ensures c.loop-place.place c.in-Some.pair (sym c.in-Some.is ∙ c.route_at.ensures)).0
+
+pub unreachable-requires : goal.unreachable-requires
+unreachable-requires g c =
+    let p = c.args.basis.now.plan.now in
+    let t = c.loop-place-test.true in
+    let n = c.routes-place-end.ensures in
+    let e = entry_at p.routes c.loop-place.place (omega arith) in
+    no_none pair_of (slice_get p.routes c.loop-place.place) e.0 e.1 (sym c.in-None.is ∙ c.route_at.ensures)
+
+pub loop-place-preserved : goal.loop-place-preserved
+loop-place-preserved g c =
+    let b = c.args.basis.now in
+    let p = b.plan.now in
+    let k = c.in-Some.pair in
+    let f = full_route p b.limit b.spare in
+    c.in_ok-add_route-in-Some.ensures ∙ ap (λ (l : List ℕ). c.loop-place.routes ++ route_if k l) c.full_list-list.ensures ∙ ap (λ (l : List Route). l ++ f k) c.loop-place.invariant ∙ sym (present_more p c.rules.ensures c.loop-place.place k (sym c.in-Some.is ∙ c.route_at.ensures) (full_list p b.limit b.spare))

@@ -1,0 +1,67 @@
+-- The laws of mending.
+use Rattle.std.specs.Prelude.{◌≡◌, ◌≢◌, ◌↔◌, ◌<◌, ◌≤◌, ℕ, true, [], length, None, is_some}
+use Rattle.tx_plan.specs.Plan.{Plan}
+use Rattle.tx_plan.specs.Routes.{route_list}
+use Rattle.tx_plan.specs.Rules.{IsPlan}
+use Rattle.tx_plan.specs.Ambiguous.{ambiguous_of}
+use Rattle.tx_plan.specs.Certified.{Ranks, IsCertified}
+use Rattle.tx_rank.specs.Walks.{net_of}
+use Rattle.tx_rank.specs.Heights.{IsReached}
+use Rattle.tx_mend.specs.Routings.{IsRouting, CanBeServed, CanBeKept, CanBeMended}
+use Rattle.tx_mend.specs.LeastRanks.{least_rank, keeps_routes}
+use Rattle.tx_mend.specs.Lists.{mended_list}
+use Rattle.tx_mend.specs.Mended.{mended, unserved}
+
+-- An exchange has a least rank exactly where it can be served.
+abbrev pub LeastRanksServe : Type 0
+LeastRanksServe = (p : Plan) → IsPlan p → (code limit spare x : ℕ) → code < length p.codes
+    → spare ≤ 15
+    → (is_some (least_rank p code limit spare x) ≡ true) ↔ CanBeServed p code limit spare x
+
+-- A code keeps its routes exactly where some ranks certify them for it.
+abbrev pub KeepsWhatCanBeKept : Type 0
+KeepsWhatCanBeKept = (p : Plan) → IsPlan p → (code limit spare : ℕ) → code < length p.codes
+    → (keeps_routes p code limit spare ≡ true) ↔ CanBeKept p code limit spare
+
+-- The mended plan is one of the same network, and each pair has its mended list.
+pub record IsMendedPlan (p : Plan) (limit spare : ℕ) (q : Plan) : Type 0 where
+  pub routing : IsRouting p q
+  pub lists : (x code : ℕ) → x < length p.exchanges → code < length p.codes
+      → route_list q x code ≡ mended_list p limit spare code x
+
+abbrev pub MendedIsMended : Type 0
+MendedIsMended = (p : Plan) → IsPlan p → (limit spare : ℕ) → spare ≤ 15
+    → IsMendedPlan p limit spare (mended p limit spare)
+
+-- EXACTNESS: the mended plan is certified by some ranks exactly where no code begins another and no
+-- origin is unserved, and then alone any routes of the network are certified by any ranks.
+pub record MendsWhatCanBeMended (p : Plan) (limit spare : ℕ) : Type 0 where
+  pub mends : unserved p limit spare ≡ [] → ambiguous_of p.codes ≡ None
+      → (ranks : Ranks) × IsCertified (mended p limit spare) ranks limit spare
+  pub can_be : CanBeMended p limit spare
+      → (unserved p limit spare ≡ []) × (ambiguous_of p.codes ≡ None)
+
+abbrev pub MendingIsExact : Type 0
+MendingIsExact = (p : Plan) → IsPlan p → (limit spare : ℕ) → spare ≤ 15
+    → MendsWhatCanBeMended p limit spare
+
+-- The plan q has the same lists as the plan p for each code whose routes in p can be certified.
+abbrev pub KeepsSafeLists : (p q : Plan) → (limit spare : ℕ) → Type 0
+KeepsSafeLists p q limit spare = (x code : ℕ) → x < length p.exchanges → code < length p.codes
+    → CanBeKept p code limit spare → route_list q x code ≡ route_list p x code
+
+-- a walk for the code by the lists of the plan q ends at each exchange that has a list there and
+-- none in the plan p
+abbrev pub NewListsAreReached : (p q : Plan) → Type 0
+NewListsAreReached p q = (x code : ℕ) → x < length p.exchanges → code < length p.codes
+    → route_list p x code ≡ [] → route_list q x code ≢ [] → IsReached (net_of q code) x
+
+-- A list is new only where calls come by the mended lists.
+abbrev pub NoListWithoutCalls : Type 0
+NoListWithoutCalls = (p : Plan) → IsPlan p → (limit spare : ℕ) → spare ≤ 15
+    → NewListsAreReached p (mended p limit spare)
+
+-- A plan that is certified stays as it is.
+abbrev pub CertifiedStays : Type 0
+CertifiedStays = (p : Plan) → IsPlan p → (ranks : Ranks) (limit spare : ℕ)
+    → IsCertified p ranks limit spare → mended p limit spare ≡ p

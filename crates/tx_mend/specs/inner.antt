@@ -1,0 +1,3 @@
+pub mod CodeRanks
+pub mod Pairs
+pub mod Full

@@ -1,0 +1,24 @@
+// What mended lists are made of.
+ghost use Rattle.std.specs.Prelude.{◌≡◌, ◌≤◌, map, length};
+ghost use Rattle.tx_mend.specs.LeastRanks.{places, outgoing};
+ghost use Rattle.tx_mend.specs.inner.CodeRanks.{code_ranks};
+
+use crate::code_ranks::CodeRanks;
+use crate::outgoing::Outgoing;
+use std::alloc::Allocator;
+use tx_plan::Plan;
+
+/// What mended lists are made of: the plan, the groups that each exchange may seize, and what the
+/// mending of each code goes by.
+#[derive(Drop)]
+pub struct Basis<'a, A: Allocator> {
+    pub plan: &'a Plan<A>,
+    pub seizable: &'a [Outgoing<A>],
+    pub table: &'a [CodeRanks<A>],
+    pub limit: u8,
+    pub spare: u8,
+    ghost groups: { seizable.now ≡ map (outgoing plan.now) (places (length plan.now.exchanges)) },
+    ghost ranks: { table.now ≡ map (code_ranks plan.now limit spare)
+        (places (length plan.now.codes)) },
+    ghost few: { spare ≤ 15 },
+}

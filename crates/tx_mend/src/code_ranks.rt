@@ -1,0 +1,111 @@
+// What the mending of each code goes by.
+ghost use Rattle.std.specs.Prelude.{◌≡◌, ◌≤◌, map, length, option_and_then, slice_get, IfOk};
+ghost use Rattle.std.specs.Option.{option_copied};
+ghost use Rattle.tx_rank.specs.Judged.{AreOrigins};
+ghost use Rattle.tx_mend.specs.LeastRanks.{places, outgoing};
+ghost use Rattle.tx_mend.specs.inner.CodeRanks.{code_ranks};
+
+use crate::outgoing::Outgoing;
+use crate::rounds::ranks_after;
+use crate::rules::{AnyRoutes, PresentRoutes};
+use crate::serving::all_ranked;
+use std::alloc::{Allocator, Global};
+use std::marker::Model;
+use tx_plan::{CodeId, Plan};
+use tx_text::NoMemory;
+
+/// The least ranks of the exchanges for a code, unless the code keeps its routes.
+#[derive(Drop)]
+pub struct CodeRanks<A: Allocator = Global> {
+    kept: bool,
+    ranks: Vec<Option<u8>, A>,
+}
+
+impl<A: Allocator> Model for CodeRanks<A> {
+    ghost use Rattle.std.specs.Prelude.{ℕ, if◌then◌else◌, List, Option, Some, None};
+
+    ghost Value = { Option (List (Option ℕ)) };
+
+    ghost view = { λ c. if c.kept then None else Some c.ranks.items };
+}
+
+impl<A: Allocator> CodeRanks<A> {
+    /// The least ranks, unless the code keeps its routes.
+    pub fn least(&self) -> Option<&[Option<u8>]>
+        ensures { option_copied result ≡ self.now }
+    {
+        if self.kept { None } else { Some(&self.ranks) }
+    }
+}
+
+/// Those of the code at a place; none for a place that the table has not.
+pub fn least_at<A: Allocator>(table: &[CodeRanks<A>], place: usize) -> Option<&[Option<u8>]>
+    ensures { option_copied result ≡ option_and_then (λ r. r) (slice_get table.now place) }
+{
+    match table.get(place) {
+        Some(ranks) => ranks.least(),
+        None => None,
+    }
+}
+
+/// Those of one code.
+fn ranks_for<A: Allocator + Copy>(
+    alloc: A,
+    plan: &Plan<A>,
+    seizable: &[Outgoing<A>],
+    origins: &[bool],
+    code: CodeId,
+    limit: u8,
+    spare: u8,
+) -> Result<CodeRanks<A>, NoMemory>
+    requires seizable { seizable.now
+        ≡ map (outgoing plan.now) (places (length plan.now.exchanges)) }
+    requires origins { AreOrigins plan.now origins.now }
+    requires limit { limit ≤ 62 }
+    ensures { IfOk result (λ ranks. ranks ≡ code_ranks plan.now limit spare code) }
+{
+    let home = plan.home(code);
+    let by_lists = PresentRoutes { plan, code, spare };
+    let present = ranks_after(alloc, &by_lists, home, limit)?;
+    if all_ranked(plan, origins, code, &present) {
+        return Ok(CodeRanks {
+            kept: true,
+            ranks: present,
+        });
+    }
+    let by_groups = AnyRoutes {
+        plan,
+        seizable,
+        spare,
+    };
+    let least = ranks_after(alloc, &by_groups, home, limit)?;
+    Ok(CodeRanks {
+        kept: false,
+        ranks: least,
+    })
+}
+
+/// Those of each code.
+pub fn all_code_ranks<A: Allocator + Copy>(
+    alloc: A,
+    plan: &Plan<A>,
+    seizable: &[Outgoing<A>],
+    origins: &[bool],
+    limit: u8,
+    spare: u8,
+) -> Result<Vec<CodeRanks<A>, A>, NoMemory>
+    requires seizable { seizable.now
+        ≡ map (outgoing plan.now) (places (length plan.now.exchanges)) }
+    requires origins { AreOrigins plan.now origins.now }
+    requires limit { limit ≤ 62 }
+    ensures { IfOk result (λ table. table.items
+        ≡ map (code_ranks plan.now limit spare) (places (length plan.now.codes))) }
+{
+    plan.rules();
+    let mut table = Vec::new(alloc);
+    for place in 0..plan.codes() {
+        let code = CodeId::of(place);
+        table.push(ranks_for(alloc, plan, seizable, origins, code, limit, spare)?)?;
+    }
+    Ok(table)
+}

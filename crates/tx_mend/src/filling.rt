@@ -1,0 +1,176 @@
+// The list of an exchange.
+ghost use Rattle.std.specs.Prelude.{◌≡◌, ◌==◌, ◌<◌, ◌≤◌, ℕ, Option, map, length, filter};
+ghost use Rattle.std.specs.List.{list_any};
+ghost use Rattle.tx_plan.specs.Routes.{route_list};
+ghost use Rattle.tx_mend.specs.LeastRanks.{outgoing};
+ghost use Rattle.tx_mend.specs.Lists.{put, filled, leads_below, leads_to, groups_below, list_of_rank, full_list};
+ghost use Rattle.tx_mend.specs.inner.CodeRanks.{rank_list};
+
+use crate::across::{leads_below, leads_to};
+use crate::basis::Basis;
+use crate::code_ranks::least_at;
+use crate::outgoing::groups_at;
+use std::alloc::Allocator;
+use tx_entries::GroupList;
+use tx_plan::{CodeId, ExchangeId, GroupId, Plan};
+
+/// Whether the group stands in the list.
+fn stands(list: &GroupList, group: GroupId) -> bool
+    ensures { result ≡ list_any (λ h. h == group) list.now }
+{
+    let groups = list.groups();
+    for other in groups {
+        if *other == group {
+            return true;
+        }
+    }
+    false
+}
+
+/// Appends a group, unless it stands there already or there are more than `spare`.
+fn put(list: &mut GroupList, group: GroupId, spare: u8)
+    requires { spare ≤ 15 }
+    ensures { list.new ≡ put spare list.old group }
+{
+    if list.groups().len() > usize::from(spare) {
+        return;
+    }
+    if stands(list, group) {
+        return;
+    }
+    list.keep(group);
+}
+
+/// Appends groups that lead to one rank, in order of declaration, until there are more than
+/// `spare`.
+fn fill_at<A: Allocator>(
+    plan: &Plan<A>,
+    seizable: &[GroupId],
+    ranks: &[Option<u8>],
+    exchange: ExchangeId,
+    rank: u8,
+    spare: u8,
+    list: &mut GroupList,
+)
+    requires long { length ranks.now ≡ length plan.now.exchanges }
+    requires spare { spare ≤ 15 }
+    ensures { (of : ℕ → Option ℕ) → ranks.now ≡ rank_list plan.now of → list.new
+        ≡ filled spare list.old (filter (λ g. leads_to plan.now of rank exchange g) seizable.now) }
+{
+    for group in seizable {
+        if leads_to(plan, ranks, exchange, rank, *group) {
+            put(list, *group, spare);
+        }
+    }
+}
+
+/// Appends groups that lead below a rank, by rank and then in order of declaration, until there are
+/// more than `spare`.
+fn fill<A: Allocator>(
+    plan: &Plan<A>,
+    seizable: &[GroupId],
+    ranks: &[Option<u8>],
+    exchange: ExchangeId,
+    rank: u8,
+    spare: u8,
+    list: &mut GroupList,
+)
+    requires seizable { seizable.now ≡ outgoing plan.now exchange }
+    requires long { length ranks.now ≡ length plan.now.exchanges }
+    requires spare { spare ≤ 15 }
+    ensures { (of : ℕ → Option ℕ) → ranks.now ≡ rank_list plan.now of
+        → list.new ≡ filled spare list.old (groups_below plan.now of rank exchange) }
+{
+    for lower in 0..rank {
+        if list.groups().len() > usize::from(spare) {
+            return;
+        }
+        fill_at(plan, seizable, ranks, exchange, lower, spare, list);
+    }
+}
+
+/// The groups of the present list that lead below a rank.
+fn kept_below<A: Allocator>(
+    plan: &Plan<A>,
+    ranks: &[Option<u8>],
+    code: CodeId,
+    exchange: ExchangeId,
+    rank: u8,
+) -> GroupList
+    requires { length ranks.now ≡ length plan.now.exchanges }
+    ensures { (of : ℕ → Option ℕ) → ranks.now ≡ rank_list plan.now of
+        → result ≡ filter (λ g. leads_below plan.now of rank exchange g)
+        (route_list plan.now exchange code) }
+{
+    plan.rules();
+    let mut list = GroupList::new();
+    let present = plan.list(exchange, code);
+    for group in present {
+        if leads_below(plan, ranks, exchange, rank, *group) {
+            list.keep(*group);
+        }
+    }
+    list
+}
+
+/// The groups of the present list.
+pub fn present_list<A: Allocator>(plan: &Plan<A>, code: CodeId, exchange: ExchangeId) -> GroupList
+    ensures { result ≡ route_list plan.now exchange code }
+{
+    plan.rules();
+    let mut list = GroupList::new();
+    let present = plan.list(exchange, code);
+    for group in present {
+        list.keep(*group);
+    }
+    list
+}
+
+/// The list of an exchange by ranks.
+fn list_by_ranks<A: Allocator>(
+    plan: &Plan<A>,
+    seizable: &[GroupId],
+    ranks: &[Option<u8>],
+    code: CodeId,
+    exchange: ExchangeId,
+    spare: u8,
+) -> GroupList
+    requires seizable { seizable.now ≡ outgoing plan.now exchange }
+    requires long { length ranks.now ≡ length plan.now.exchanges }
+    requires exchange { exchange < length plan.now.exchanges }
+    requires spare { spare ≤ 15 }
+    ensures { (of : ℕ → Option ℕ) → ranks.now ≡ rank_list plan.now of
+        → result ≡ list_of_rank plan.now of code spare exchange (of exchange) }
+{
+    match ranks[exchange.index()] {
+        Some(rank) => {
+            let mut list = kept_below(plan, ranks, code, exchange, rank);
+            fill(plan, seizable, ranks, exchange, rank, spare, &mut list);
+            list
+        }
+        None => GroupList::new(),
+    }
+}
+
+/// The mended list of an exchange for a code.
+pub fn full_list<A: Allocator>(
+    basis: &Basis<'_, A>,
+    code: CodeId,
+    exchange: ExchangeId,
+) -> GroupList
+    requires code { code < length basis.now.plan.now.codes }
+    requires exchange { exchange < length basis.now.plan.now.exchanges }
+    ensures { result ≡ full_list basis.now.plan.now basis.now.limit basis.now.spare code exchange }
+{
+    match least_at(basis.table, code.index()) {
+        None => present_list(basis.plan, code, exchange),
+        Some(ranks) => list_by_ranks(
+            basis.plan,
+            groups_at(basis.seizable, exchange.index()),
+            ranks,
+            code,
+            exchange,
+            basis.spare,
+        ),
+    }
+}

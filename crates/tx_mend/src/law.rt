@@ -1,0 +1,35 @@
+// The laws of mending.
+ghost use Rattle.tx_mend.specs.LeastRanks.{LeastRanksAreLeast};
+ghost use Rattle.tx_mend.specs.Laws.{LeastRanksServe, KeepsWhatCanBeKept, MendedIsMended, MendingIsExact, NoListWithoutCalls, CertifiedStays};
+
+/// No ranks of any routes of a network are smaller than its least ranks. Does nothing: its contract
+/// is a law.
+pub fn least_ranks_are_least()
+    ensures { LeastRanksAreLeast }
+{}
+
+/// An exchange has a least rank for a code exactly where some routes of the network can serve it.
+/// Does nothing: its contract is a law.
+pub fn least_ranks_serve()
+    ensures { LeastRanksServe }
+{}
+
+/// A code keeps its routes exactly where some ranks certify them. Does nothing: its contract is a
+/// law.
+pub fn keeps_what_can_be_kept()
+    ensures { KeepsWhatCanBeKept }
+{}
+
+/// The mended plan is a plan of the same network, with the mended lists, and it is certified
+/// wherever any routes of the network are. It has a new list only where calls come. Does nothing:
+/// its contract is a law.
+pub fn mending_is_exact()
+    ensures mended { MendedIsMended }
+    ensures exact { MendingIsExact }
+    ensures called { NoListWithoutCalls }
+{}
+
+/// A plan that is certified is its own mended plan. Does nothing: its contract is a law.
+pub fn certified_stays()
+    ensures { CertifiedStays }
+{}

@@ -1,0 +1,120 @@
+// Ranks, round by round.
+ghost use Rattle.std.specs.Prelude.{◌≡◌, ◌<◌, ◌≤◌, ℕ, suc, true, Option, Some, None, ◌==◌, if◌then◌else◌, map, length, IfOk};
+ghost use Rattle.tx_mend.specs.LeastRanks.{places, kept_or, ranked_in};
+
+use crate::rules::Rule;
+use std::alloc::Allocator;
+use tx_plan::ExchangeId;
+use tx_text::NoMemory;
+
+/// The home has rank 0, and no other exchange has a rank.
+fn first_rank(place: usize, home: ExchangeId) -> Option<u8>
+    ensures { result ≡ (if place == home then Some 0 else None) }
+{
+    if place == home.index() { Some(0) } else { None }
+}
+
+/// The first ranks.
+fn home_alone<A: Allocator + Copy>(
+    alloc: A,
+    exchanges: usize,
+    home: ExchangeId,
+) -> Result<Vec<Option<u8>, A>, NoMemory>
+    ensures { IfOk result (λ ranks. ranks.items
+        ≡ map (λ x. if x == home then Some 0 else None) (places exchanges)) }
+{
+    let mut ranks = Vec::new(alloc);
+    for place in 0..exchanges {
+        ranks.push(first_rank(place, home))?;
+    }
+    Ok(ranks)
+}
+
+/// The rank that an exchange keeps, or gets in a round.
+fn rank_on<R: Rule>(rule: &R, ranks: &[Option<u8>], place: usize, round: u8) -> Option<u8>
+    requires long { length ranks.now ≡ R.exchanges rule.now }
+    requires place { place < R.exchanges rule.now }
+    ensures { (of : ℕ → Option ℕ) → ranks.now ≡ map of (places (R.exchanges rule.now))
+        → result ≡ kept_or (of place) (R.follows rule.now of place) round }
+{
+    match ranks[place] {
+        Some(rank) => Some(rank),
+        None => {
+            if rule.follows(ranks, place) {
+                Some(round)
+            } else {
+                None
+            }
+        }
+    }
+}
+
+/// The ranks after a round.
+fn next_ranks<A: Allocator + Copy, R: Rule>(
+    alloc: A,
+    rule: &R,
+    ranks: &[Option<u8>],
+    round: u8,
+) -> Result<Vec<Option<u8>, A>, NoMemory>
+    requires { length ranks.now ≡ R.exchanges rule.now }
+    ensures { IfOk result (λ next. (of : ℕ → Option ℕ) → ranks.now
+        ≡ map of (places (R.exchanges rule.now))
+        → next.items ≡ map (λ x. kept_or (of x) (R.follows rule.now of x) round)
+        (places (R.exchanges rule.now))) }
+{
+    let mut next = Vec::new(alloc);
+    for place in 0..rule.exchanges() {
+        next.push(rank_on(rule, ranks, place, round))?;
+    }
+    Ok(next)
+}
+
+/// Whether two ranks are the same.
+fn is_same(old: Option<u8>, new: Option<u8>) -> bool
+    ensures { result ≡ true → old ≡ new }
+{
+    match old {
+        Some(rank) => match new {
+            Some(other) => rank == other,
+            None => false,
+        },
+        None => new.is_none(),
+    }
+}
+
+/// Whether a round left the ranks as they were.
+fn are_same(old: &[Option<u8>], new: &[Option<u8>]) -> bool
+    requires { length old.now ≡ length new.now }
+    ensures { result ≡ true → old.now ≡ new.now }
+{
+    for place in 0..old.len() {
+        if !is_same(old[place], new[place]) {
+            return false;
+        }
+    }
+    true
+}
+
+/// The ranks after `limit + 1` rounds. A round that ranks no exchange is the last that is gone
+/// through.
+pub fn ranks_after<A: Allocator + Copy, R: Rule>(
+    alloc: A,
+    rule: &R,
+    home: ExchangeId,
+    limit: u8,
+) -> Result<Vec<Option<u8>, A>, NoMemory>
+    requires { limit ≤ 62 }
+    ensures { IfOk result (λ ranks. ranks.items
+        ≡ map (ranked_in home (R.follows rule.now) (suc limit)) (places (R.exchanges rule.now))) }
+{
+    rule.local();
+    let mut ranks = home_alone(alloc, rule.exchanges(), home)?;
+    for done in 0..limit + 1 {
+        let next = next_ranks(alloc, rule, &ranks, done + 1)?;
+        if are_same(&ranks, &next) {
+            return Ok(next);
+        }
+        ranks = next;
+    }
+    Ok(ranks)
+}

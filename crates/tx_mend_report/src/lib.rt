@@ -1,0 +1,9 @@
+//! The report of the mending of a plan: the lists that are other ones than before, once the checker
+//! said Yes to the plan with them; or what no routes can serve.
+#![tactic(auto)]
+
+mod changed_lists;
+mod reporting;
+mod unserved;
+
+pub use reporting::{MendFault, report_mend};

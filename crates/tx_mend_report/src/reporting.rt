@@ -1,0 +1,98 @@
+// The report of a mending.
+ghost use Rattle.std.specs.Prelude.{◌≡◌, ◌≤◌};
+ghost use Rattle.tx_text.specs.Wrote.{Wrote};
+ghost use Rattle.tx_plan.specs.Certified.{IsCertified};
+ghost use Rattle.tx_cert.specs.Certificate.{IsCertificateOf, ranks_of};
+ghost use Rattle.tx_mend.specs.Mendings.{OnMended};
+ghost use Rattle.tx_mend_report.specs.MendText.{mended_text};
+ghost use Rattle.tx_mend_report.specs.MendAnswers.{IsConfirmed, mend_report, MendAnswers, mark_after};
+
+use crate::changed_lists::write_mended;
+use crate::unserved::write_unserved;
+use std::alloc::Allocator;
+use tx_cert::Cert;
+use tx_check::{Verdict, check};
+use tx_mend::{Mending, mend};
+use tx_plan::{Plan, Routes};
+use tx_text::{Sink, WriteFault};
+
+/// Why there is no whole report.
+#[derive(Clone, Copy)]
+pub enum MendFault {
+    /// The sink failed.
+    Write,
+    /// Want of memory. Nothing was written.
+    NoMemory,
+}
+
+/// Mends a plan for at most `limit` transits (0 to 62) and `spare` groups to spare (0 to 15), and
+/// writes the report. YES exactly where any routes of the network can be certified, and after the
+/// checker said Yes to the mended plan with its certificate. Else what cannot be served.
+pub fn report_mend<A: Allocator + Copy, W: Sink>(
+    alloc: A,
+    plan: Plan<A>,
+    limit: u8,
+    spare: u8,
+    out: &mut W,
+) -> Result<Mending<A>, MendFault>
+    requires limit { limit ≤ 62 }
+    requires spare { spare ≤ 15 }
+    ensures answers { MendAnswers plan limit spare (W.taken out.old) (W.taken out.new)
+        (out.new ≡ out.old) result }
+    ensures mark { W.failed out.new ≡ mark_after (W.failed out.old) result }
+{
+    match mend(alloc, plan, limit, spare) {
+        Ok(mending) => match write_mending(&mending, limit, spare, out) {
+            Ok(()) => Ok(mending),
+            Err(WriteFault) => Err(MendFault::Write),
+        },
+        Err(_) => Err(MendFault::NoMemory),
+    }
+}
+
+/// Reports what a mending came to; a certificate after the checker said Yes to it.
+fn write_mending<A: Allocator, W: Sink>(
+    mending: &Mending<A>,
+    limit: u8,
+    spare: u8,
+    out: &mut W,
+) -> Result<(), WriteFault>
+    requires limit { limit ≤ 62 }
+    requires spare { spare ≤ 15 }
+    requires fits { OnMended (λ q before cert. IsCertificateOf q cert) mending.now }
+    requires certified { OnMended (λ q before cert. IsCertified q (ranks_of cert) limit spare)
+        mending.now }
+    ensures confirmed { OnMended (λ q before cert. IsConfirmed q cert limit spare) mending.now }
+    ensures wrote { Wrote (W.taken out.old) (W.taken out.new) (W.failed out.old) (W.failed out.new)
+        (mend_report limit spare mending.now) result }
+{
+    match mending {
+        Mending::Mended(plan, before, cert) => confirm(plan, before, cert, limit, spare, out),
+        Mending::NoRouting(plan, unserved, pair) => {
+            write_unserved(plan, limit, spare, unserved, pair, out)
+        }
+    }
+}
+
+/// Asks the checker, who says Yes to the certificate of a mended plan, and reports it.
+fn confirm<A: Allocator, W: Sink>(
+    plan: &Plan<A>,
+    before: &Routes<A>,
+    cert: &Cert<A>,
+    limit: u8,
+    spare: u8,
+    out: &mut W,
+) -> Result<(), WriteFault>
+    requires limit { limit ≤ 62 }
+    requires spare { spare ≤ 15 }
+    requires fits { IsCertificateOf plan.now cert.now }
+    requires certified { IsCertified plan.now (ranks_of cert.now) limit spare }
+    ensures confirmed { IsConfirmed plan.now cert.now limit spare }
+    ensures wrote { Wrote (W.taken out.old) (W.taken out.new) (W.failed out.old) (W.failed out.new)
+        (mended_text before.now plan.now limit spare) result }
+{
+    match check(plan, cert, limit, spare) {
+        Verdict::Yes => write_mended(before, plan, limit, spare, out),
+        Verdict::No(_) => unreachable!(),
+    }
+}
