@@ -51,13 +51,6 @@ module _ (A : Type 0) where
   among_got (j ∷ ks) zero k h = inl (let e : j ≡ k = cc in e)
   among_got (j ∷ ks) (suc i) k h = inr (among_got ks i k h)
 
-  taken_among : (ks : List A) (i : ℕ) (k : A) → Among k (take i ks) → Among k ks
-  taken_among [] zero k m = m
-  taken_among [] (suc i) k m = m
-  taken_among (j ∷ ks) zero k m = absurd m
-  taken_among (j ∷ ks) (suc i) k (inl e) = inl e
-  taken_among (j ∷ ks) (suc i) k (inr m) = inr (taken_among ks i k m)
-
   take_got : (ks : List A) (i : ℕ) (k : A) → slice_get ks i ≡ Some k → take (suc i) ks ≡ take i ks ++ k ∷ []
   take_got [] i k h = absurd (let bad : ⊥ = cc in bad)
   take_got (j ∷ ks) zero k h = let e : j ≡ k = cc in ap (λ y. y ∷ []) e

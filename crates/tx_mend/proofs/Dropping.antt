@@ -12,9 +12,6 @@ module _ (xs : List ℕ) (i x : ℕ) (h : i < length xs) (e : x ≡ get_or xs i 
   pub all_step : (t : ℕ → Bool) → list_all t xs ≡ list_all t (drop i xs) → t x ≡ true → list_all t xs ≡ list_all t (drop (i + 1) xs)
   all_step t a k = a ∙ ap (list_all t) at_drop ∙ ap (λ b. b && list_all t (drop (i + 1) xs)) k
 
-  pub all_stops : (t : ℕ → Bool) → list_all t xs ≡ list_all t (drop i xs) → t x ≡ false → list_all t xs ≡ false
-  all_stops t a k = a ∙ ap (list_all t) at_drop ∙ ap (λ b. b && list_all t (drop (i + 1) xs)) k
-
   filter_step : (t : ℕ → Bool) (b : Bool) → t x ≡ b → filter t (drop i xs) ≡ cond b (x ∷ filter t (drop (i + 1) xs)) (filter t (drop (i + 1) xs))
   filter_step t b k = ap (filter t) at_drop ∙ ap (λ b. cond b (x ∷ filter t (drop (i + 1) xs)) (filter t (drop (i + 1) xs))) k
 

@@ -26,10 +26,9 @@ use Rattle.tx_mend.specs.Lists.{least_list, full_list, comes_in, comes_to, mende
 use Rattle.tx_mend.specs.Mended.{pairs_of, route_if, mended_routes, mended, unserved}
 use Rattle.tx_mend.specs.Laws.{IsMendedPlan, MendedIsMended, MendingIsExact, NoListWithoutCalls}
 use Rattle.tx_mend.specs.inner.Full.{full_routes, full, stays}
-use Rattle.tx_mend.proofs.Rerouted.{AreRoutes}
 use Rattle.tx_mend.proofs.Least.{list_cases}
 use Rattle.tx_mend.proofs.LeastLists.{IsList}
-use Rattle.tx_mend.proofs.Routed.{routed_list, routes_rules, routes_differ, has_any}
+use Rattle.tx_mend.proofs.Routed.{routed_list, has_any}
 use Rattle.tx_mend.proofs.Adding.{is_absent_if}
 use Rattle.tx_mend.proofs.Mendable.{routing, full_good, full_rules, full_ranks, full_certifies, none_for, served_all, distinct_all, keeps}
 use Rattle.tx_mend.proofs.Comes.{comes_more, reached_next, reached_comes, comes_reached}
@@ -51,9 +50,6 @@ module _ (p : Plan) (ok : IsPlan p) (limit spare : ℕ) (small : spare ≤ 15) w
     | true ↦ full_good p ok limit spare small x c
     | false ↦ record { differs = tt; seizes = λ g m. absurd m; few = omega arith; away = λ some. absurd (some refl) }
   ]
-
-  pub mended_are : AreRoutes p (mended_routes p limit spare)
-  mended_are = record { each = routes_rules p (mended_list p limit spare) ok good; differ = routes_differ p (mended_list p limit spare) ok good }
 
   pub is_mended : IsMendedPlan p limit spare M
   is_mended = record { routing = routing p ok (mended_list p limit spare) good; lists = λ x c h l. routed_list p (mended_list p limit spare) x c h l }
