@@ -15,16 +15,14 @@ head_line limit spare =
 
 -- WHERE A PLAN IS MENDED
 
--- a route, as a plan writes it
-abbrev pub route_line : Plan → Route → List ℕ
-route_line p r = line_written (route_words p r)
-
--- the list of an exchange for a code: the route, or that none is needed
+-- the list of an exchange for a code: the route, as a plan writes it, or that none is needed
 abbrev pub list_line : Plan → (code x : ℕ) → List ℕ → List ℕ
-list_line p code x [] = codes "DROP " ++ (exchange_name p x ++ (codes " " ++ (figures_of p code ++ codes "\n")))
-list_line p code x (g ∷ gs) = route_line p (record { exchange = x; code = code; groups = g ∷ gs })
+list_line p code x [] =
+    codes "DROP " ++ (exchange_name p x ++ (codes " " ++ (figures_of p code ++ codes "\n")))
+list_line p code x (g ∷ gs) =
+    line_written (route_words p (record { exchange = x; code = code; groups = g ∷ gs }))
 
--- a line for a list, if it is another one than before
+-- a line for a list, unless it has the groups that it had before, in the same order
 abbrev pub line_unless_same : Plan → (code x : ℕ) → (before now : List ℕ) → List ℕ
 line_unless_same p code x before now = if bytes_eq before now then [] else list_line p code x now
 
@@ -52,7 +50,8 @@ mended_text before p limit spare =
 -- the ambiguous pair of codes, if there is one
 abbrev pub pair_line : Plan → Option (ℕ × ℕ) → List ℕ
 pair_line p None = []
-pair_line p (Some q) = codes "F1 AMBIGUOUS " ++ (figures_of p q.0 ++ (codes " " ++ (figures_of p q.1 ++ codes "\n")))
+pair_line p (Some q) = codes "F1 AMBIGUOUS "
+    ++ (figures_of p q.0 ++ (codes " " ++ (figures_of p q.1 ++ codes "\n")))
 
 abbrev pub pair_count : Option (ℕ × ℕ) → ℕ
 pair_count None = 0
@@ -60,7 +59,8 @@ pair_count (Some q) = 1
 
 -- a code, and an exchange that cannot be served for it
 abbrev pub unserved_line : Plan → ℕ × ℕ → List ℕ
-unserved_line p k = codes "F5 UNSERVED " ++ (figures_of p k.0 ++ (codes " " ++ (exchange_name p k.1 ++ codes "\n")))
+unserved_line p k = codes "F5 UNSERVED "
+    ++ (figures_of p k.0 ++ (codes " " ++ (exchange_name p k.1 ++ codes "\n")))
 
 -- how many lines stand before
 abbrev pub verdict_line : ℕ → List ℕ
