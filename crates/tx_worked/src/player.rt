@@ -7,7 +7,7 @@ use crate::end_cases::{play_arguments, play_program};
 use crate::play::play_texts;
 use crate::tests::play_call;
 use crate::twins::{Tallies, play_twins, tell_tallies};
-use crate::walks::play_family;
+use crate::walks::{play_family, play_pairs};
 use std::{fs, io};
 
 /// How many cases were played, and how many of them differ from what they have to print.
@@ -57,6 +57,7 @@ impl<'a> Player<'a> {
             Some(Kind::Program) => play_program(self.rt, case.head, out),
             Some(Kind::Arguments) => play_arguments(alloc, head.first, out),
             Some(Kind::Family) => play_family(alloc, texts, out),
+            Some(Kind::Pairs) => play_pairs(alloc, texts, out),
             Some(Kind::Twins) => play_twins(alloc, head, texts, &mut self.tallies, out),
             None => tell_broken(b"no such kind of case", 0, out),
         }

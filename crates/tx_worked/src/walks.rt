@@ -1,16 +1,22 @@
 // Judges the ranking by brute force. It makes all plans of a family, goes every walk of each of their codes, and compares what these show with what
 // the ranking and the grade answer. It runs the events of each finding over the plain network too, and judges by the replies whether they show it.
 
+mod changes;
 mod compare;
 mod families;
 mod grades;
 mod judge;
 mod lists;
+mod members;
+mod mixtures;
+mod pairs;
 mod refusals;
 mod replay;
 mod scripts;
+mod shown;
 mod stop;
 mod survey;
+mod surveys;
 mod tally;
 mod texts;
 mod trail;
@@ -18,3 +24,4 @@ mod walks;
 mod wanted;
 
 pub(crate) use judge::play_family;
+pub(crate) use pairs::play_pairs;

@@ -33,6 +33,8 @@ pub enum Kind {
     Arguments,
     /// A family of plans, whose ranking is judged by brute force.
     Family,
+    /// A family of plans, each of which is changed into each, judged by brute force.
+    Pairs,
     /// A plan, over which the engine is played beside the plain network.
     Twins,
 }
@@ -95,10 +97,11 @@ static TEXTS: [(&str, TextKind); 17] = [
     ("starting", TextKind::Driven(Driven::Starting)),
 ];
 
-static OTHERS: [(&str, Kind); 4] = [
+static OTHERS: [(&str, Kind); 5] = [
     ("program", Kind::Program),
     ("arguments", Kind::Arguments),
     ("family", Kind::Family),
+    ("pairs", Kind::Pairs),
     ("twins", Kind::Twins),
 ];
 

@@ -17,19 +17,37 @@ pub struct Survey {
     pub nearest: Vec<Option<usize>>,
     /// For each exchange, the steps of the longest part of a walk from it to the home; 0 for the home.
     pub heights: Vec<Option<usize>>,
+    /// For each exchange, how many groups it lists.
+    pub groups: Vec<usize>,
+}
+
+/// The greater of two counts, where there are both.
+fn greater(one: Option<usize>, other: Option<usize>) -> Option<usize> {
+    match (one, other) {
+        (Some(one), Some(other)) => Some(one.max(other)),
+        (None, count) | (count, None) => count,
+    }
+}
+
+/// The lesser of two counts, where there are both.
+fn lesser(one: Option<usize>, other: Option<usize>) -> Option<usize> {
+    match (one, other) {
+        (Some(one), Some(other)) => Some(one.min(other)),
+        (None, count) | (count, None) => count,
+    }
 }
 
 /// Takes in a count for an exchange, where it is the greater.
 fn note_greater(counts: &mut [Option<usize>], exchange: ExchangeId, count: usize) {
     if let Some(known) = counts.get_mut(exchange.index()) {
-        *known = Some(known.unwrap_or(0).max(count));
+        *known = greater(*known, Some(count));
     }
 }
 
 /// Takes in a count for an exchange, where it is the lesser.
 fn note_lesser(counts: &mut [Option<usize>], exchange: ExchangeId, count: usize) {
     if let Some(known) = counts.get_mut(exchange.index()) {
-        *known = Some(known.unwrap_or(count).min(count));
+        *known = lesser(*known, Some(count));
     }
 }
 
@@ -41,6 +59,17 @@ fn note_heights(heights: &mut [Option<usize>], trail: &Trail<'_>) {
         left = left.saturating_sub(1);
         note_greater(heights, *exchange, left);
     }
+}
+
+/// How many groups each exchange lists for a code.
+fn list_lengths(alloc: Global, plan: &Plan, code: CodeId) -> Result<Vec<usize>, NoMemory> {
+    let mut lengths = Vec::new(alloc);
+    for place in 0..plan.exchanges() {
+        if let Some(exchange) = plan.exchange_at(place) {
+            lengths.push(plan.list(exchange, code).len())?;
+        }
+    }
+    Ok(lengths)
 }
 
 impl Survey {
@@ -56,6 +85,7 @@ impl Survey {
             away: vec![in alloc; false; plan.exchanges()]?,
             nearest: vec![in alloc; None; plan.exchanges()]?,
             heights,
+            groups: list_lengths(alloc, plan, code)?,
         })
     }
 
@@ -80,6 +110,23 @@ impl Survey {
         match self.away.get(usize::from(limit).saturating_add(1)) {
             Some(away) => *away,
             None => false,
+        }
+    }
+
+    /// Takes in what the walks of another plan of the network show for the code: what some walk of the one or of the other shows, and the shorter lists.
+    pub fn join(&mut self, other: &Survey) {
+        self.has_loop |= other.has_loop;
+        for (known, away) in self.away.iter_mut().zip(&other.away) {
+            *known |= *away;
+        }
+        for (known, steps) in self.nearest.iter_mut().zip(&other.nearest) {
+            *known = lesser(*known, *steps);
+        }
+        for (known, steps) in self.heights.iter_mut().zip(&other.heights) {
+            *known = greater(*known, *steps);
+        }
+        for (known, groups) in self.groups.iter_mut().zip(&other.groups) {
+            *known = (*known).min(*groups);
         }
     }
 }

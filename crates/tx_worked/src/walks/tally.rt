@@ -62,11 +62,9 @@ impl PlanTally {
     }
 }
 
-/// What stands before each count of a family.
-static BEFORE: [&str; 11] = [
-    "",
-    " plans, ",
-    " rankings\n- ",
+/// What stands before each count of what was found.
+static BEFORE: [&str; 8] = [
+    "\n- ",
     " found, with ranks of ",
     " in all\n- ",
     " fail, by ",
@@ -74,14 +72,11 @@ static BEFORE: [&str; 11] = [
     " loops, ",
     " short walks of ",
     " steps in all, ",
-    " long walks\n- ",
 ];
 
-/// Tells what there was in a family.
-pub fn tell_tally(tally: &PlanTally, out: &mut Told) {
+/// Tells what was found.
+fn tell_answers(tally: &PlanTally, out: &mut Told) {
     let counts = [
-        tally.plans,
-        tally.rankings,
         tally.found,
         tally.ranks,
         tally.failed,
@@ -90,10 +85,58 @@ pub fn tell_tally(tally: &PlanTally, out: &mut Told) {
         tally.shorts,
         tally.steps,
         tally.longs,
-        tally.scripts.findings,
     ];
     for (before, count) in BEFORE.iter().zip(&counts) {
         tell_count(before.as_bytes(), *count, b"", out);
     }
-    tell(b" loops and walks judged by their events\n", out);
+    tell(b" long walks\n- ", out);
+}
+
+/// Tells what there was in a family.
+pub fn tell_tally(tally: &PlanTally, out: &mut Told) {
+    tell_count(b"", tally.plans, b" plans, ", out);
+    tell_count(b"", tally.rankings, b" rankings", out);
+    tell_answers(tally, out);
+    let judged = tally.scripts.findings;
+    tell_count(b"", judged, b" loops and walks judged by their events\n", out);
+}
+
+/// Counts of pairs of plans, and of answers for the change of the one into the other.
+#[derive(Clone, Copy, Default)]
+pub struct PairTally {
+    pairs: u64,
+    mixtures: u64,
+    /// The mixtures that were shown.
+    shown: u64,
+    pub answers: PlanTally,
+}
+
+impl PairTally {
+    /// A pair with so many mixtures.
+    pub fn add_pair(&mut self, mixtures: usize) {
+        add(&mut self.pairs, 1);
+        add(&mut self.mixtures, mixtures);
+    }
+
+    /// What is wanted of a change, or its heights where nothing is.
+    pub fn add_answer(&mut self, joined: &[Survey], wanted: &[Wanted]) {
+        if wanted.is_empty() {
+            self.answers.add_found(joined);
+        } else {
+            self.answers.add_failed(wanted);
+        }
+        if wanted.iter().any(|it| it.has_walk()) {
+            add(&mut self.shown, 1);
+        }
+    }
+}
+
+/// Tells what there was among the pairs of a family.
+pub fn tell_pairs(tally: &PairTally, out: &mut Told) {
+    tell_count(b"", tally.answers.plans, b" plans, ", out);
+    tell_count(b"", tally.pairs, b" pairs with ", out);
+    tell_count(b"", tally.mixtures, b" mixtures, ", out);
+    tell_count(b"", tally.answers.rankings, b" changes", out);
+    tell_answers(&tally.answers, out);
+    tell_count(b"", tally.shown, b" mixtures judged by their audit and their events\n", out);
 }
