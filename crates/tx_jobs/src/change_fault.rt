@@ -9,7 +9,7 @@ use tx_change::Difference;
 use tx_plantext::PlanFault;
 
 /// Why the job of a change stopped before its end. `write_change_fault` says it in full.
-#[derive(Clone, Copy, Error)]
+#[derive(Clone, Copy, PartialEq, Eq, Error)]
 pub enum ChangeFault {
     /// As other jobs stop. A plan that is refused is the old one.
     #[error(transparent)]

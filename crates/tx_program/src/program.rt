@@ -2,6 +2,7 @@
 ghost use Rattle.std.specs.Prelude.{◌≡◌, ◌⊎◌};
 ghost use Rattle.tx_program.specs.Commands.{IsInRange};
 ghost use Rattle.tx_jobs.specs.JobFaults.{status_of};
+ghost use Rattle.tx_jobs.specs.ChangeFaults.{status_of_change};
 ghost use Rattle.tx_program.specs.Statuses.{AskNothing, IsRefusedWith};
 ghost use Rattle.tx_program.specs.Faults.{status_of as words_status};
 
@@ -12,7 +13,7 @@ use crate::tell::tell_words;
 use crate::{Command, WordsFault, read_command};
 use std::alloc::{Allocator, Global};
 use std::io::{Read, Write};
-use tx_jobs::{JobFault, write_fault};
+use tx_jobs::{ChangeFault, JobFault, write_change_fault, write_fault};
 use tx_text::{ToWrite, write_bytes};
 
 /// The ends of the program: a folder of files, standard input, standard output and standard error.
@@ -91,6 +92,7 @@ pub fn run_command<
     match perform(alloc, command, folder, input, output) {
         Ok(status) => status,
         Err(CommandFault::Job(fault)) => tell_fault(&fault, errors),
+        Err(CommandFault::Change(fault)) => tell_change_fault(&fault, errors),
         Err(CommandFault::NoSuchCode) => refuse_code(errors),
     }
 }
@@ -111,5 +113,13 @@ fn tell_fault<E: Write + Drop>(fault: &JobFault, errors: E) -> u8
     ensures { result ≡ status_of fault.now }
 {
     let _ = write_fault(fault, &mut ToWrite::new(errors));
+    fault.status()
+}
+
+/// The same of a fault of a change.
+fn tell_change_fault<E: Write + Drop>(fault: &ChangeFault, errors: E) -> u8
+    ensures { result ≡ status_of_change fault.now }
+{
+    let _ = write_change_fault(fault, &mut ToWrite::new(errors));
     fault.status()
 }

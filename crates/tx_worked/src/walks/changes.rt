@@ -67,13 +67,7 @@ fn cert_differs(
 fn is_of_some(finding: &Finding, wanted: Wanted, mixing: Mixing<'_>) -> bool {
     for number in mixing.mixtures {
         if let Some(member) = mixing.members.get(*number as usize) {
-            if shows(
-                &member.plan,
-                finding,
-                wanted,
-                mixing.limit,
-                mixing.spare,
-            ) {
+            if shows(&member.plan, finding, wanted, mixing.limit, mixing.spare) {
                 return true;
             }
         }

@@ -123,12 +123,7 @@ fn judge_change(
     let (Some(old), Some(new)) = (members.get(work.old), members.get(work.new)) else {
         return Ok(());
     };
-    put_mixtures(
-        lines,
-        work.old as u64,
-        work.new as u64,
-        &mut work.mixtures,
-    )?;
+    put_mixtures(lines, work.old as u64, work.new as u64, &mut work.mixtures)?;
     join_codes(alloc, old, members, &work.mixtures, &mut work.joined)?;
     tally.add_pair(work.mixtures.len());
     for limit in 0..NUMBERS {

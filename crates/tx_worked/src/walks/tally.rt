@@ -98,7 +98,12 @@ pub fn tell_tally(tally: &PlanTally, out: &mut Told) {
     tell_count(b"", tally.rankings, b" rankings", out);
     tell_answers(tally, out);
     let judged = tally.scripts.findings;
-    tell_count(b"", judged, b" loops and walks judged by their events\n", out);
+    tell_count(
+        b"",
+        judged,
+        b" loops and walks judged by their events\n",
+        out,
+    );
 }
 
 /// Counts of pairs of plans, and of answers for the change of the one into the other.
@@ -138,5 +143,10 @@ pub fn tell_pairs(tally: &PairTally, out: &mut Told) {
     tell_count(b"", tally.mixtures, b" mixtures, ", out);
     tell_count(b"", tally.answers.rankings, b" changes", out);
     tell_answers(&tally.answers, out);
-    tell_count(b"", tally.shown, b" mixtures judged by their audit and their events\n", out);
+    tell_count(
+        b"",
+        tally.shown,
+        b" mixtures judged by their audit and their events\n",
+        out,
+    );
 }
