@@ -44,8 +44,8 @@ pub enum Command {
         cert: Option<String>,
         counter: Option<String>,
     },
-    /// `change OLD NEW --limit L --spare K`: the certificate goes to a file, if one is named, and so
-    /// do the mixture and the counter script.
+    /// `change OLD NEW --limit L --spare K`: the certificate goes to a file, if one is named, and
+    /// so do the mixture and the counter script.
     Change {
         old: String,
         new: String,

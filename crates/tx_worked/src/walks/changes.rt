@@ -27,7 +27,8 @@ fn all_are_ranked(mixing: Mixing<'_>) -> bool {
     true
 }
 
-/// Whether the checker says Yes to a certificate for each mixture, the old plan and the new one among them.
+/// Whether the checker says Yes to a certificate for each mixture, the old plan and the new one
+/// among them.
 fn certifies_all(mixing: Mixing<'_>, cert: &Cert) -> bool
     requires limit { mixing.limit ≤ 62 }
     requires spare { mixing.spare ≤ 15 }
@@ -115,7 +116,8 @@ fn answer_differs(
     }
 }
 
-/// How the answer for a change differs from what the mixtures show, or the mixture that it shows from what that has to be.
+/// How the answer for a change differs from what the mixtures show, or the mixture that it shows
+/// from what that has to be.
 pub fn change_differs(
     alloc: Global,
     old: &Member,

@@ -1,14 +1,16 @@
 // The mixtures of two plans of a family.
 //
-// A line of a family that leaves a choice gives one list of an exchange for a code, or one bar. So a mixture goes, at each line, the way of the one plan or that of
-// the other, and is a plan of the family too.
+// A line of a family that leaves a choice gives one list of an exchange for a code, or one bar. So
+// a mixture goes, at each line, the way of the one plan or that of the other, and is a plan of the
+// family too.
 use crate::cases::next_line;
 use crate::walks::families::count_ways;
 use tx_change::first_difference;
 use tx_plan::{CodeId, ExchangeId, Plan};
 use tx_text::NoMemory;
 
-/// Adds to each number what the way of the one plan counts, or that of the other, where they differ.
+/// Adds to each number what the way of the one plan counts, or that of the other, where they
+/// differ.
 fn go_both_ways(one: u64, other: u64, numbers: &mut Vec<u64>) -> Result<(), NoMemory> {
     for place in 0..numbers.len() {
         if let Some(number) = numbers.get_mut(place) {

@@ -14,7 +14,8 @@ use crate::walks::wanted::{Wanted, put_wanted};
 use std::alloc::Global;
 use tx_text::NoMemory;
 
-/// The pair of plans in hand, by their numbers, and what its mixtures show: one of each kind serves all pairs of a family.
+/// The pair of plans in hand, by their numbers, and what its mixtures show: one of each kind serves
+/// all pairs of a family.
 #[derive(Drop)]
 struct PairWork {
     old: usize,
@@ -173,7 +174,8 @@ fn tell_stopped(alloc: Global, stop: Stop, lines: &[u8], work: &PairWork, out: &
     drop(text);
 }
 
-/// Judges the changes between all plans of a family, and tells what there was, or why it stopped and the two plans where it did.
+/// Judges the changes between all plans of a family, and tells what there was, or why it stopped
+/// and the two plans where it did.
 pub fn play_pairs(alloc: Global, lines: &[u8], out: &mut Told) {
     let mut work = PairWork::new(alloc);
     match judge_pairs(alloc, lines, &mut work) {

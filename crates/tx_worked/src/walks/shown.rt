@@ -19,7 +19,8 @@ use tx_plantext::read_plan;
 use tx_rank::{Finding, Ranking, rank};
 use tx_text::NoMemory;
 
-/// What a mixture is judged beside: the mixtures of the two plans, as members of the family, and a limit and a spare number.
+/// What a mixture is judged beside: the mixtures of the two plans, as members of the family, and a
+/// limit and a spare number.
 #[derive(Clone, Copy)]
 pub struct Mixing<'a> {
     pub members: &'a [Member],
@@ -87,8 +88,8 @@ fn is_refused(
     }
 }
 
-/// How the plan that a finding shows differs from what it has to be: one of the mixtures, which an audit refuses with such a finding, and in which the finding has
-/// the events that it has to have.
+/// How the plan that a finding shows differs from what it has to be: one of the mixtures, which an
+/// audit refuses with such a finding, and in which the finding has the events that it has to have.
 fn mixture_differs(
     alloc: Global,
     mixture: &Plan,
@@ -189,7 +190,8 @@ fn change_differs(
     }
 }
 
-/// How the mixture differs that the first finding with a walk of a change shows, whose old plan has this text.
+/// How the mixture differs that the first finding with a walk of a change shows, whose old plan has
+/// this text.
 pub fn shown_differs(
     alloc: Global,
     old: &[u8],

@@ -113,7 +113,8 @@ impl Survey {
         }
     }
 
-    /// Takes in what the walks of another plan of the network show for the code: what some walk of the one or of the other shows, and the shorter lists.
+    /// Takes in what the walks of another plan of the network show for the code: what some walk of
+    /// the one or of the other shows, and the shorter lists.
     pub fn join(&mut self, other: &Survey) {
         self.has_loop |= other.has_loop;
         for (known, away) in self.away.iter_mut().zip(&other.away) {
