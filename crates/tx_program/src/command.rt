@@ -160,7 +160,8 @@ fn kept_of(
     requires new { Names (rows_of (found_of matches.now)) (codes "new") new }
     ensures range { IfOk result IsInRange }
     ensures asked { IfOk result (Asks (codes "change") (rows_of (found_of matches.now))) }
-    ensures refused { IfErr result (IsRefused (Some (codes "change", rows_of (found_of matches.now)))) }
+    ensures refused { IfErr result
+        (IsRefused (Some (codes "change", rows_of (found_of matches.now)))) }
 {
     let cert = text(alloc, matches, "cert")?;
     let mixture = text(alloc, matches, "mixture")?;
@@ -183,7 +184,8 @@ fn kept_of(
 fn change_of(alloc: Global, matches: &ArgMatches<'_>) -> Result<Command, Refusal>
     ensures range { IfOk result IsInRange }
     ensures asked { IfOk result (Asks (codes "change") (rows_of (found_of matches.now))) }
-    ensures refused { IfErr result (IsRefused (Some (codes "change", rows_of (found_of matches.now)))) }
+    ensures refused { IfErr result
+        (IsRefused (Some (codes "change", rows_of (found_of matches.now)))) }
 {
     let old = text(alloc, matches, "old")?;
     let new = text(alloc, matches, "new")?;
