@@ -1,12 +1,12 @@
 // The change of one file into another one, and the files of what shows the verdict on it.
+use crate::command_fault::CommandFault;
 use crate::ends::Output;
 use crate::folder::Folder;
 use crate::kept::{Keep, Kept, keep};
 use crate::opened::Bounds;
 use std::alloc::Allocator;
 use std::io::{Read, Write};
-use tx_jobs::{ChangeEvidence, ChangeFault, JobFault, Mixture, change_evidence_job};
-use tx_text::Source;
+use tx_jobs::{ChangeEvidence, JobFault, Mixture, change_evidence_job};
 
 /// `change OLD NEW --limit L --spare K [--cert OUT] [--mixture OUT] [--counter OUT]`.
 pub(crate) fn change_files<A: Allocator + Copy, R: Read + Drop, F: Folder, O: Write + Drop>(
@@ -17,19 +17,13 @@ pub(crate) fn change_files<A: Allocator + Copy, R: Read + Drop, F: Folder, O: Wr
     files: Keep<'_>,
     folder: &F,
     output: &Output<O, A>,
-) -> Result<u8, ChangeFault> {
-    match report(alloc, old, new, bounds, files, output) {
-        Ok(evidence) => {
-            let status = evidence.status();
-            let kept = keep_evidence(alloc, &evidence, files, folder, output);
-            drop(evidence);
-            match kept {
-                Ok(()) => Ok(status),
-                Err(fault) => Err(ChangeFault::Job(fault)),
-            }
-        }
-        Err(fault) => Err(fault),
-    }
+) -> Result<u8, CommandFault> {
+    let evidence = report(alloc, old, new, bounds, files, output)?;
+    let status = evidence.status();
+    let kept = keep_evidence(alloc, &evidence, files, folder, output);
+    drop(evidence);
+    kept?;
+    Ok(status)
 }
 
 /// Writes the report of the change, and answers what shows its verdict.
@@ -40,39 +34,20 @@ fn report<A: Allocator + Copy, R: Read + Drop, O: Write + Drop>(
     bounds: Bounds,
     files: Keep<'_>,
     output: &Output<O, A>,
-) -> Result<ChangeEvidence<A>, ChangeFault> {
-    match output.source(alloc, old) {
-        Ok(mut old) => report_into(alloc, &mut old, new, bounds, files, output),
-        Err(fault) => {
-            drop(new);
-            Err(ChangeFault::Job(fault))
-        }
-    }
-}
-
-/// The same, of a change of the old plan that is open. A function of its own, since each exit lets
-/// go of what is open there.
-fn report_into<A: Allocator + Copy, P: Source, R: Read + Drop, O: Write + Drop>(
-    alloc: A,
-    old: &mut P,
-    new: R,
-    bounds: Bounds,
-    files: Keep<'_>,
-    output: &Output<O, A>,
-) -> Result<ChangeEvidence<A>, ChangeFault> {
+) -> Result<ChangeEvidence<A>, CommandFault> {
     let with_mixture = files.mixture.is_some() || files.counter.is_some();
-    match output.source(alloc, new) {
-        Ok(mut new) => change_evidence_job(
-            alloc,
-            old,
-            &mut new,
-            bounds.limit,
-            bounds.spare,
-            with_mixture,
-            &mut output.sink(),
-        ),
-        Err(fault) => Err(ChangeFault::Job(fault)),
-    }
+    let mut old = output.source(alloc, old)?;
+    let mut new = output.source(alloc, new)?;
+    let evidence = change_evidence_job(
+        alloc,
+        &mut old,
+        &mut new,
+        bounds.limit,
+        bounds.spare,
+        with_mixture,
+        &mut output.sink(),
+    )?;
+    Ok(evidence)
 }
 
 /// Keeps the certificate after a Yes, and the mixture after a No that has one.

@@ -149,37 +149,6 @@ fn audit_of(alloc: Global, plan: String, matches: &ArgMatches<'_>) -> Result<Com
     }
 }
 
-/// What `change` keeps, and its numbers, behind its two plans.
-fn kept_of(
-    alloc: Global,
-    old: String,
-    new: String,
-    matches: &ArgMatches<'_>,
-) -> Result<Command, Refusal>
-    requires old { Names (rows_of (found_of matches.now)) (codes "old") old }
-    requires new { Names (rows_of (found_of matches.now)) (codes "new") new }
-    ensures range { IfOk result IsInRange }
-    ensures asked { IfOk result (Asks (codes "change") (rows_of (found_of matches.now))) }
-    ensures refused { IfErr result
-        (IsRefused (Some (codes "change", rows_of (found_of matches.now)))) }
-{
-    let cert = text(alloc, matches, "cert")?;
-    let mixture = text(alloc, matches, "mixture")?;
-    let counter = text(alloc, matches, "counter")?;
-    match bounds(matches) {
-        Some((limit, spare)) => Ok(Command::Change {
-            old,
-            new,
-            limit,
-            spare,
-            cert,
-            mixture,
-            counter,
-        }),
-        None => Err(Refusal::Incomplete),
-    }
-}
-
 /// The words of `change`.
 fn change_of(alloc: Global, matches: &ArgMatches<'_>) -> Result<Command, Refusal>
     ensures range { IfOk result IsInRange }
@@ -189,8 +158,19 @@ fn change_of(alloc: Global, matches: &ArgMatches<'_>) -> Result<Command, Refusal
 {
     let old = text(alloc, matches, "old")?;
     let new = text(alloc, matches, "new")?;
-    match (old, new) {
-        (Some(old), Some(new)) => kept_of(alloc, old, new, matches),
+    let cert = text(alloc, matches, "cert")?;
+    let mixture = text(alloc, matches, "mixture")?;
+    let counter = text(alloc, matches, "counter")?;
+    match (old, new, bounds(matches)) {
+        (Some(old), Some(new), Some((limit, spare))) => Ok(Command::Change {
+            old,
+            new,
+            limit,
+            spare,
+            cert,
+            mixture,
+            counter,
+        }),
         _ => Err(Refusal::Incomplete),
     }
 }

@@ -154,12 +154,8 @@ impl<'a, I: Read + Drop, R: Read + Drop> Opened<'a, I, R> {
                 mixture,
                 counter,
             } => {
-                let keep = Keep {
-                    cert: name_of(cert),
-                    mixture: name_of(mixture),
-                    counter: name_of(counter),
-                };
-                Opened::change(folder, old, new, Bounds::of(*limit, *spare), keep)
+                let bounds = Bounds::of(*limit, *spare);
+                Opened::change(folder, old, new, bounds, cert, mixture, counter)
             }
         }
     }
@@ -263,9 +259,16 @@ impl<'a, I: Read + Drop, R: Read + Drop> Opened<'a, I, R> {
         old: &String,
         new: &String,
         bounds: Bounds,
-        keep: Keep<'a>,
+        cert: &'a Option<String>,
+        mixture: &'a Option<String>,
+        counter: &'a Option<String>,
     ) -> Result<Opened<'a, I, R>, JobFault> {
         let (old, new) = open_both(folder, old.as_str(), new.as_str())?;
+        let keep = Keep {
+            cert: name_of(cert),
+            mixture: name_of(mixture),
+            counter: name_of(counter),
+        };
         Ok(Opened::Change {
             old,
             new,

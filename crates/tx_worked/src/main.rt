@@ -25,12 +25,13 @@
 //! - `cert` has a plan and a certificate, and `plan` a plan, which are written and read back. A new certificate of the plan is written before.
 //! - `program` plays the program at its ends, over the files beside the folder `cases`: `cases/end_case.rt` has what stands in its head. `arguments` tells how it
 //!   refuses its arguments.
-//! - `family` judges the ranking over a family of plans, and `pairs` the change of each into each
-//!   (`walks`). `twins` plays the engine beside the plain network (`twins`). The calls of the crates
-//!   below have the kinds of `tests`.
+//! - `family` judges the ranking over a family of plans, and `pairs` the change of each into each.
+//!   `twins` plays the engine beside the plain network. The calls of the crates below have the kinds
+//!   of `tests`.
 #![tactic(auto)]
 
 mod cases;
+mod changes;
 mod checked;
 mod driven;
 mod end_cases;

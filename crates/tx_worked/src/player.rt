@@ -3,11 +3,12 @@ use crate::cases::{
     Case, Head, Kind, Told, cases_of, head_of, next_case, spell, tell, tell_broken, tell_count,
     tell_differing,
 };
+use crate::changes::play_pairs;
 use crate::end_cases::{play_arguments, play_program};
 use crate::play::play_texts;
 use crate::tests::play_call;
 use crate::twins::{Tallies, play_twins, tell_tallies};
-use crate::walks::{play_family, play_pairs};
+use crate::walks::play_family;
 use std::{fs, io};
 
 /// How many cases were played, and how many of them differ from what they have to print.

@@ -1,21 +1,14 @@
 // Judges the ranking by brute force. It makes all plans of a family, goes every walk of each of their codes, and compares what these show with what
 // the ranking and the grade answer. It runs the events of each finding over the plain network too, and judges by the replies whether they show it.
-// It also judges the change of each plan of a family into each. The mixtures of the two are plans of
-// the family, and what their walks show is what the change has to answer.
 
-mod changes;
 mod compare;
 mod families;
 mod grades;
 mod judge;
 mod lists;
-mod members;
-mod mixtures;
-mod pairs;
 mod refusals;
 mod replay;
 mod scripts;
-mod shown;
 mod stop;
 mod survey;
 mod surveys;
@@ -25,5 +18,14 @@ mod trail;
 mod walks;
 mod wanted;
 
-pub(crate) use judge::play_family;
-pub(crate) use pairs::play_pairs;
+pub(crate) use compare::{Difference, findings_differ, ranks_differ, shows};
+pub(crate) use families::{count_plans, count_ways, put_plan};
+pub(crate) use judge::{NUMBERS, play_family};
+pub(crate) use replay::Replay;
+pub(crate) use scripts::is_right;
+pub(crate) use stop::{WalksDiffer, tell_stop};
+pub(crate) use survey::Survey;
+pub(crate) use surveys::survey_codes;
+pub(crate) use tally::{PlanTally, add, tell_answers};
+pub(crate) use walks::Steps;
+pub(crate) use wanted::{Wanted, put_wanted};

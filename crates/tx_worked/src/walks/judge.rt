@@ -7,7 +7,6 @@ use crate::cases::{Stop, Told};
 use crate::walks::compare::{Difference, findings_differ, ranks_differ};
 use crate::walks::families::{count_plans, put_plan};
 use crate::walks::grades::grade_agrees;
-use crate::walks::members::NUMBERS;
 use crate::walks::replay::Replay;
 use crate::walks::scripts::{Judged, ScriptTally, scripts_differ};
 use crate::walks::stop::{WalksDiffer, tell_stop};
@@ -23,6 +22,9 @@ use tx_plan::Plan;
 use tx_plantext::read_plan;
 use tx_rank::{Finding, Ranking, rank};
 use tx_text::NoMemory;
+
+/// The limits 0 to 2 are tried, and the spare numbers 0 to 2.
+pub const NUMBERS: u8 = 3;
 
 /// What the walks of a plan show, and what a run of its events: one of each kind serves all plans of a family.
 #[derive(Drop)]

@@ -21,43 +21,27 @@ pub struct Survey {
     pub groups: Vec<usize>,
 }
 
-/// The greater of two counts, where there are both.
-fn greater(one: Option<usize>, other: Option<usize>) -> Option<usize> {
-    match (one, other) {
-        (Some(one), Some(other)) => Some(one.max(other)),
-        (None, count) | (count, None) => count,
+/// Takes in a count for the exchange at a place, where it is the greater.
+fn note_greater(counts: &mut [Option<usize>], place: usize, count: usize) {
+    if let Some(known) = counts.get_mut(place) {
+        *known = Some(known.unwrap_or(0).max(count));
     }
 }
 
-/// The lesser of two counts, where there are both.
-fn lesser(one: Option<usize>, other: Option<usize>) -> Option<usize> {
-    match (one, other) {
-        (Some(one), Some(other)) => Some(one.min(other)),
-        (None, count) | (count, None) => count,
-    }
-}
-
-/// Takes in a count for an exchange, where it is the greater.
-fn note_greater(counts: &mut [Option<usize>], exchange: ExchangeId, count: usize) {
-    if let Some(known) = counts.get_mut(exchange.index()) {
-        *known = greater(*known, Some(count));
-    }
-}
-
-/// Takes in a count for an exchange, where it is the lesser.
-fn note_lesser(counts: &mut [Option<usize>], exchange: ExchangeId, count: usize) {
-    if let Some(known) = counts.get_mut(exchange.index()) {
-        *known = lesser(*known, Some(count));
+/// Takes in a count for the exchange at a place, where it is the lesser.
+fn note_lesser(counts: &mut [Option<usize>], place: usize, count: usize) {
+    if let Some(known) = counts.get_mut(place) {
+        *known = Some(known.unwrap_or(count).min(count));
     }
 }
 
 /// Takes in how far a walk that ends at the home goes from each exchange that it passes.
 fn note_heights(heights: &mut [Option<usize>], trail: &Trail<'_>) {
     let mut left = trail.steps.len();
-    note_greater(heights, trail.start, left);
+    note_greater(heights, trail.start.index(), left);
     for (_, exchange) in trail.steps {
         left = left.saturating_sub(1);
-        note_greater(heights, *exchange, left);
+        note_greater(heights, exchange.index(), left);
     }
 }
 
@@ -77,7 +61,7 @@ impl Survey {
     pub fn new(alloc: Global, plan: &Plan, code: CodeId) -> Result<Survey, NoMemory> {
         let home = plan.home(code);
         let mut heights = vec![in alloc; None; plan.exchanges()]?;
-        note_greater(&mut heights, home, 0);
+        note_greater(&mut heights, home.index(), 0);
         Ok(Survey {
             code,
             home,
@@ -92,7 +76,7 @@ impl Survey {
     /// Takes in a walk.
     pub fn note(&mut self, trail: &Trail<'_>) {
         let steps = trail.steps.len();
-        note_lesser(&mut self.nearest, trail.end(), steps);
+        note_lesser(&mut self.nearest, trail.end().index(), steps);
         if trail.is_loop() {
             self.has_loop = true;
         }
@@ -120,11 +104,15 @@ impl Survey {
         for (known, away) in self.away.iter_mut().zip(&other.away) {
             *known |= *away;
         }
-        for (known, steps) in self.nearest.iter_mut().zip(&other.nearest) {
-            *known = lesser(*known, *steps);
+        for (place, steps) in other.nearest.iter().enumerate() {
+            if let Some(steps) = *steps {
+                note_lesser(&mut self.nearest, place, steps);
+            }
         }
-        for (known, steps) in self.heights.iter_mut().zip(&other.heights) {
-            *known = greater(*known, *steps);
+        for (place, steps) in other.heights.iter().enumerate() {
+            if let Some(steps) = *steps {
+                note_greater(&mut self.heights, place, steps);
+            }
         }
         for (known, groups) in self.groups.iter_mut().zip(&other.groups) {
             *known = (*known).min(*groups);

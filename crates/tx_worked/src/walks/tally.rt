@@ -8,7 +8,7 @@ use crate::walks::wanted::Wanted;
 #[derive(Clone, Copy, Default)]
 pub struct PlanTally {
     pub plans: u64,
-    rankings: u64,
+    pub rankings: u64,
     found: u64,
     /// The ranks of all that was found, added up.
     ranks: u64,
@@ -23,7 +23,7 @@ pub struct PlanTally {
 }
 
 /// Adds so many to a count.
-fn add(count: &mut u64, more: usize) {
+pub fn add(count: &mut u64, more: usize) {
     *count = count.saturating_add(more as u64);
 }
 
@@ -75,7 +75,7 @@ static BEFORE: [&str; 8] = [
 ];
 
 /// Tells what was found.
-fn tell_answers(tally: &PlanTally, out: &mut Told) {
+pub fn tell_answers(tally: &PlanTally, out: &mut Told) {
     let counts = [
         tally.found,
         tally.ranks,
@@ -102,51 +102,6 @@ pub fn tell_tally(tally: &PlanTally, out: &mut Told) {
         b"",
         judged,
         b" loops and walks judged by their events\n",
-        out,
-    );
-}
-
-/// Counts of pairs of plans, and of answers for the change of the one into the other.
-#[derive(Clone, Copy, Default)]
-pub struct PairTally {
-    pairs: u64,
-    mixtures: u64,
-    /// The mixtures that were shown.
-    shown: u64,
-    pub answers: PlanTally,
-}
-
-impl PairTally {
-    /// A pair with so many mixtures.
-    pub fn add_pair(&mut self, mixtures: usize) {
-        add(&mut self.pairs, 1);
-        add(&mut self.mixtures, mixtures);
-    }
-
-    /// What is wanted of a change, or its heights where nothing is.
-    pub fn add_answer(&mut self, joined: &[Survey], wanted: &[Wanted]) {
-        if wanted.is_empty() {
-            self.answers.add_found(joined);
-        } else {
-            self.answers.add_failed(wanted);
-        }
-        if wanted.iter().any(|it| it.has_walk()) {
-            add(&mut self.shown, 1);
-        }
-    }
-}
-
-/// Tells what there was among the pairs of a family.
-pub fn tell_pairs(tally: &PairTally, out: &mut Told) {
-    tell_count(b"", tally.answers.plans, b" plans, ", out);
-    tell_count(b"", tally.pairs, b" pairs with ", out);
-    tell_count(b"", tally.mixtures, b" mixtures, ", out);
-    tell_count(b"", tally.answers.rankings, b" changes", out);
-    tell_answers(&tally.answers, out);
-    tell_count(
-        b"",
-        tally.shown,
-        b" mixtures judged by their audit and their events\n",
         out,
     );
 }

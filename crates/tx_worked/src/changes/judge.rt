@@ -3,11 +3,9 @@ ghost use Rattle.std.specs.Prelude.{◌≤◌};
 ghost use Rattle.tx_plan.specs.Mixtures.{SameNetwork};
 
 use crate::cases::Stop;
-use crate::walks::compare::{Difference, ranks_differ, shows};
-use crate::walks::members::Member;
-use crate::walks::shown::{Mixing, Showing, shown_differs};
-use crate::walks::survey::Survey;
-use crate::walks::wanted::Wanted;
+use crate::changes::members::Member;
+use crate::changes::shown::{Mixing, Showing, shown_differs};
+use crate::walks::{Difference, Survey, Wanted, ranks_differ, shows};
 use std::alloc::Global;
 use tx_cert::Cert;
 use tx_change::{change, first_difference};

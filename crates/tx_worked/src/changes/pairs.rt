@@ -2,15 +2,12 @@
 ghost use Rattle.std.specs.Prelude.{◌≤◌};
 
 use crate::cases::{Stop, Told, tell};
-use crate::walks::changes::change_differs;
-use crate::walks::families::put_plan;
-use crate::walks::members::{Member, NUMBERS, members_of};
-use crate::walks::mixtures::put_mixtures;
-use crate::walks::shown::{Mixing, Showing};
-use crate::walks::stop::{WalksDiffer, tell_stop};
-use crate::walks::survey::Survey;
-use crate::walks::tally::{PairTally, tell_pairs};
-use crate::walks::wanted::{Wanted, put_wanted};
+use crate::changes::judge::change_differs;
+use crate::changes::members::{Member, members_of};
+use crate::changes::mixtures::put_mixtures;
+use crate::changes::shown::{Mixing, Showing};
+use crate::changes::tally::{PairTally, tell_pairs};
+use crate::walks::{NUMBERS, Survey, WalksDiffer, Wanted, put_plan, put_wanted, tell_stop};
 use std::alloc::Global;
 use tx_text::NoMemory;
 

@@ -6,12 +6,9 @@ ghost use Rattle.tx_rank.specs.Findings.{IsTrueOf};
 ghost use Rattle.tx_change.specs.Shown.{IsShown};
 
 use crate::cases::Stop;
-use crate::walks::compare::{Difference, findings_differ, shows};
-use crate::walks::members::Member;
-use crate::walks::mixtures::are_alike;
-use crate::walks::replay::Replay;
-use crate::walks::scripts::is_right;
-use crate::walks::wanted::{Wanted, put_wanted};
+use crate::changes::members::Member;
+use crate::changes::mixtures::are_alike;
+use crate::walks::{Difference, Replay, Wanted, findings_differ, is_right, put_wanted, shows};
 use std::alloc::Global;
 use tx_change::{change, first_difference, shown};
 use tx_plan::Plan;

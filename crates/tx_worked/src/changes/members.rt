@@ -2,18 +2,12 @@
 ghost use Rattle.std.specs.Prelude.{◌≤◌};
 
 use crate::cases::Stop;
-use crate::walks::families::{count_plans, put_plan};
-use crate::walks::survey::Survey;
-use crate::walks::surveys::survey_codes;
-use crate::walks::walks::Steps;
+use crate::walks::{Steps, Survey, count_plans, put_plan, survey_codes};
 use std::alloc::Global;
 use tx_plan::Plan;
 use tx_plantext::read_plan;
 use tx_rank::{Ranking, rank};
 use tx_text::NoMemory;
-
-/// The limits 0 to 2 are tried, and the spare numbers 0 to 2.
-pub const NUMBERS: u8 = 3;
 
 /// A plan of a family.
 #[derive(Drop)]
