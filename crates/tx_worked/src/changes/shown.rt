@@ -8,7 +8,7 @@ ghost use Rattle.tx_change.specs.Shown.{IsShown};
 use crate::cases::Stop;
 use crate::changes::members::Member;
 use crate::changes::mixtures::are_alike;
-use crate::walks::{Difference, Replay, Wanted, findings_differ, is_right, put_wanted, shows};
+use crate::walks::{Difference, Replay, Wanted, findings_differ, is_right, put_wanted};
 use std::alloc::Global;
 use tx_change::{change, first_difference, shown};
 use tx_plan::Plan;
@@ -56,7 +56,19 @@ impl Showing {
     }
 }
 
-/// Whether an audit of the mixture tells what its walks call for, and the finding is one of that.
+/// Whether two findings are the same, by the same walk.
+fn is_same(one: &Finding, other: &Finding) -> bool {
+    match (one, other) {
+        (Finding::Loop(code, walk), Finding::Loop(of, way))
+        | (Finding::Short(code, walk), Finding::Short(of, way))
+        | (Finding::Long(code, walk), Finding::Long(of, way)) => {
+            code == of && walk.start == way.start && walk.steps.as_slice() == way.steps.as_slice()
+        }
+        _ => false,
+    }
+}
+
+/// Whether an audit of the mixture tells what its walks call for, and the finding among that.
 fn is_refused(
     alloc: Global,
     mixture: &Plan,
@@ -75,11 +87,8 @@ fn is_refused(
         }
         Ranking::Fails(findings) => {
             let differs = findings_differ(mixture, &findings, wanted, limit, spare);
+            let is_told = findings.iter().any(|it| is_same(it, finding));
             drop(findings);
-            let mut is_told = false;
-            for it in wanted {
-                is_told |= shows(mixture, finding, *it, limit, spare);
-            }
             Ok(is_told && differs.is_none())
         }
     }
