@@ -1,5 +1,5 @@
 // The mixture that the first finding of a change shows, beside what it has to be.
-ghost use Rattle.std.specs.Prelude.{◌≤◌, IfSome};
+ghost use Rattle.std.specs.Prelude.{◌≤◌};
 ghost use Rattle.std.specs.List.{AllByRecursion};
 ghost use Rattle.tx_plan.specs.Mixtures.{SameNetwork};
 ghost use Rattle.tx_rank.specs.Findings.{IsTrueOf};
