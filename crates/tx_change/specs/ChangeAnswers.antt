@@ -36,7 +36,8 @@ pub record IsCleared (old new : Plan) (limit spare : ℕ) (cert : Certificate) :
 
 -- NO: there are findings, each is true of the mixture that it shows, and so not every mixture can
 -- be certified.
-pub record IsDenied {A : Type 0} (old new : Plan) (limit spare : ℕ) (findings : List (Finding A)) : Type 0 where
+pub record IsDenied {A : Type 0} (old new : Plan) (limit spare : ℕ)
+    (findings : List (Finding A)) : Type 0 where
   pub some : findings ≢ []
   pub listed : AreChangeFindings old new limit spare findings
   pub shown : AllByRecursion (IsShown old new limit spare) findings
@@ -48,14 +49,16 @@ module _ {A : Type 0} where
   IsRightChange old new limit spare (Fails findings) = IsDenied old new limit spare findings.items
 
 -- a ranking that is right, whose report was written in part
-pub record ChangeToldInPart (A : Type 0) (old new : Plan) (limit spare : ℕ) (taken_old taken_new : Option (List ℕ)) : Type 0 where
+pub record ChangeToldInPart (A : Type 0) (old new : Plan) (limit spare : ℕ)
+    (taken_old taken_new : Option (List ℕ)) : Type 0 where
   pub ranking : Ranking A
   pub right : IsRightChange old new limit spare ranking
   pub wrote : StopsIn taken_old taken_new (change_report old limit spare (findings_of ranking))
 
 -- The ranking is right, and its report was written. Silent says that nothing was written.
 abbrev pub ChangeAnswers : {A : Type 0} → (old new : Plan) → (limit spare : ℕ)
-    → (taken_old taken_new : Option (List ℕ)) → (silent : Type 0) → Result (Ranking A) AuditFault → Type 0
+    → (taken_old taken_new : Option (List ℕ)) → (silent : Type 0)
+    → Result (Ranking A) AuditFault → Type 0
 ChangeAnswers old new limit spare taken_old taken_new silent (Ok r) =
     IsRightChange old new limit spare r
     × (taken_new ≡ append_known taken_old (change_report old limit spare (findings_of r)))

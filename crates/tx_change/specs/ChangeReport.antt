@@ -13,4 +13,5 @@ change_head limit spare =
 -- THE REPORT: what was asked, a line for each finding, by the names of either plan, and the verdict
 abbrev pub change_report : {A : Type 0} → Plan → (limit spare : ℕ) → List (Finding A) → List ℕ
 change_report p limit spare findings =
-    change_head limit spare ++ (flat_map (finding_line p) findings ++ verdict_line (length findings))
+    change_head limit spare
+    ++ (flat_map (finding_line p) findings ++ verdict_line (length findings))

@@ -26,7 +26,8 @@ module _ {A : Type 0} where
 
   -- The mixture is the one that the finding shows, and the finding is true of it. The events are
   -- those of the finding, and show it there. A loop that turns back on one circuit has none.
-  pub record ShowsMixture (old new : Plan) (limit spare : ℕ) (f : Finding A) (m : Plan) (events : Option (List Event)) : Type 0 where
+  pub record ShowsMixture (old new : Plan) (limit spare : ℕ) (f : Finding A) (m : Plan)
+      (events : Option (List Event)) : Type 0 where
     pub plan : m ≡ shown_by old new spare f
     pub shown : IsShown old new limit spare f
     pub counter : events ≡ counter_of m f
@@ -35,12 +36,15 @@ module _ {A : Type 0} where
     pub writable : IfSome events (λ es. AllByRecursion (IsWritable m) es)
 
   -- it shows the first finding that has a walk
-  abbrev pub ShowsFirstWalk : (old new : Plan) → (limit spare : ℕ) → List (Finding A) → Plan → Option (List Event) → Type 0
+  abbrev pub ShowsFirstWalk : (old new : Plan) → (limit spare : ℕ) → List (Finding A)
+      → Plan → Option (List Event) → Type 0
   ShowsFirstWalk old new limit spare findings m events =
-      (f : Finding A) × (first_walked findings ≡ Some f) × ShowsMixture old new limit spare f m events
+      (f : Finding A) × (first_walked findings ≡ Some f)
+      × ShowsMixture old new limit spare f m events
 
   -- THE MIXTURE OF SOME FINDINGS: there is none where no finding has a walk
-  abbrev pub MixtureAnswer : (old new : Plan) → (limit spare : ℕ) → List (Finding A) → Option (ShownMixture A) → Type 0
+  abbrev pub MixtureAnswer : (old new : Plan) → (limit spare : ℕ) → List (Finding A)
+      → Option (ShownMixture A) → Type 0
   MixtureAnswer old new limit spare findings None = first_walked findings ≡ None
   MixtureAnswer old new limit spare findings (Some m) =
       ShowsFirstWalk old new limit spare findings m.plan (option_map (λ v. v.items) m.events)

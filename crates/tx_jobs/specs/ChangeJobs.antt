@@ -20,13 +20,15 @@ use Rattle.tx_jobs.specs.JobEnds.{Input, Output}
 use Rattle.tx_jobs.specs.Jobs.{PlanRead}
 
 -- it holds of both plans and the findings, if something was wrong
-abbrev pub OnUnsoundChange : {A : Type 0} → ((old new : Plan) → List (Finding A) → Type 0) → Changed A → Type 0
+abbrev pub OnUnsoundChange : {A : Type 0} → ((old new : Plan) → List (Finding A) → Type 0)
+    → Changed A → Type 0
 OnUnsoundChange Holds (Sound p cert) = Unit {0}
 OnUnsoundChange Holds (Unsound p q findings) = Holds p q findings.items
 
 -- TWO PLANS. They are of one network: the certificate clears the change, or the findings deny it,
 -- and the report was written. Or the first entry that differs is told.
-abbrev pub ToldChange : {A : Type 0} → (p q : Plan) → (limit spare : ℕ) → Output → Result (Changed A) ChangeFault → Type 0
+abbrev pub ToldChange : {A : Type 0} → (p q : Plan) → (limit spare : ℕ) → Output
+    → Result (Changed A) ChangeFault → Type 0
 ToldChange {A} p q limit spare out (Ok (Sound m cert)) =
     (m ≡ p) × SameNetwork p q × IsCleared p q limit spare cert
     × (out.new ≡ append_known out.old (change_report {A = A} p limit spare []))
@@ -40,20 +42,23 @@ ToldChange p q limit spare out (Err (TwoNetworks d)) = DifferenceAnswer p q (Som
 ToldChange p q limit spare out (Err other) = ⊥
 
 -- a plan was refused, and nothing else was read or written
-pub record RefusedAs {X : Type 0} (tell : FaultAt PlanWord → ChangeFault) (text : Input) (untouched : Type 0) (result : Result X ChangeFault) : Type 0 where
+pub record RefusedAs {X : Type 0} (tell : FaultAt PlanWord → ChangeFault) (text : Input)
+    (untouched : Type 0) (result : Result X ChangeFault) : Type 0 where
   pub fault : FaultAt PlanWord
   pub read : ReadsPlan text.old text.new text.broken text.unread (Err (fault.line, fault.kind))
   pub told : result ≡ Err (tell fault)
   pub rest : untouched
 
 -- the new plan was read, and the change into it judged
-abbrev pub NewPlanAnswers : {A : Type 0} → Plan → (limit spare : ℕ) → Input → Output → Result (Changed A) ChangeFault → Type 0
+abbrev pub NewPlanAnswers : {A : Type 0} → Plan → (limit spare : ℕ) → Input → Output
+    → Result (Changed A) ChangeFault → Type 0
 NewPlanAnswers p limit spare new out result =
     PlanRead new (λ q. ToldChange p q limit spare out result)
     ⊎ RefusedAs new_plan_fault new out.silent result
 
 -- `change OLD NEW --limit L --spare K`
-abbrev pub ChangeJobAnswers : {A : Type 0} → (limit spare : ℕ) → (old new : Input) → Output → Result (Changed A) ChangeFault → Type 0
+abbrev pub ChangeJobAnswers : {A : Type 0} → (limit spare : ℕ) → (old new : Input) → Output
+    → Result (Changed A) ChangeFault → Type 0
 ChangeJobAnswers limit spare old new out result =
     PlanRead old (λ p. NewPlanAnswers p limit spare new out result)
     ⊎ RefusedAs old_plan_fault old (new.unread × out.silent) result

@@ -89,8 +89,8 @@ fn change_from<A: Allocator + Copy, Q: Source, W: Sink>(
 ) -> Result<Changed<A>, ChangeFault>
     requires limit { limit ≤ 62 }
     requires spare { spare ≤ 15 }
-    ensures answers { NewPlanAnswers old limit spare (input Q.rest Q.failed Q.called new.old new.new)
-        (output W.taken out.old out.new) result }
+    ensures answers { NewPlanAnswers old limit spare
+        (input Q.rest Q.failed Q.called new.old new.new) (output W.taken out.old out.new) result }
     ensures network { IfOk result (OnUnsoundChange (λ p q findings. SameNetwork p q)) }
     ensures each { IfOk result (OnUnsoundChange (λ p q findings.
         AllByRecursion (IsShown p q limit spare) findings)) }

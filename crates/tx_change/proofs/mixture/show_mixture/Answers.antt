@@ -1,8 +1,8 @@
 use Rattle.tx_change.proofs.MixtureEvents.{true_there, shows_mixture}
 use Rattle.tx_change.proofs.mixture.show_mixture.Goals as goal
 
-pub counter-events-requires : goal.counter-events-requires
-counter-events-requires g c =
+pub counter-requires : goal.counter-requires
+counter-requires g c =
     true_there c.args.old c.args.new.now c.args.limit c.args.spare c.args.finding.now c.in_ok-plan.plan c.in_ok-plan.ensures c.requires.shown
 
 pub returns : goal.returns
