@@ -1,7 +1,7 @@
 // The audit of a file, and the files of what shows its verdict.
 use crate::ends::Output;
 use crate::folder::Folder;
-use crate::kept::{Keep, Kept, keep};
+use crate::kept::{Keep, Kept, keep_file};
 use crate::opened::Bounds;
 use std::alloc::Allocator;
 use std::io::{Read, Write};
@@ -57,10 +57,10 @@ fn keep_evidence<A: Allocator + Copy, F: Folder, O: Write + Drop>(
 ) -> Result<(), JobFault> {
     match evidence {
         Evidence::Sound(plan, cert) => {
-            keep(alloc, Kept::Cert(plan, cert), files.cert, folder, report)
+            keep_file(alloc, Kept::Cert(plan, cert), files.cert, folder, report)
         }
         Evidence::Unsound(Some(script)) => {
-            keep(alloc, Kept::Script(script), files.counter, folder, report)
+            keep_file(alloc, Kept::Script(script), files.counter, folder, report)
         }
         Evidence::Unsound(None) => Ok(()),
     }

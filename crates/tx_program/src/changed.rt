@@ -2,7 +2,7 @@
 use crate::command_fault::CommandFault;
 use crate::ends::Output;
 use crate::folder::Folder;
-use crate::kept::{Keep, Kept, keep};
+use crate::kept::{Keep, Kept, keep_file};
 use crate::opened::Bounds;
 use std::alloc::Allocator;
 use std::io::{Read, Write};
@@ -60,7 +60,7 @@ fn keep_evidence<A: Allocator + Copy, F: Folder, O: Write + Drop>(
 ) -> Result<(), JobFault> {
     match evidence {
         ChangeEvidence::Sound(plan, cert) => {
-            keep(alloc, Kept::Cert(plan, cert), files.cert, folder, report)
+            keep_file(alloc, Kept::Cert(plan, cert), files.cert, folder, report)
         }
         ChangeEvidence::Unsound(Some(mixture)) => {
             keep_mixture(alloc, mixture, files, folder, report)
@@ -86,7 +86,7 @@ fn keep_mixture<A: Allocator + Copy, F: Folder, O: Write + Drop>(
     )?;
     match mixture {
         Mixture::Scripted(script) => {
-            keep(alloc, Kept::Script(script), files.counter, folder, report)
+            keep_file(alloc, Kept::Script(script), files.counter, folder, report)
         }
         Mixture::Unscripted(_) => Ok(()),
     }

@@ -33,7 +33,7 @@ pub(crate) enum Kept<'a, A: Allocator> {
 }
 
 /// Once the report is out, makes the file of what is to be kept, if one is named.
-pub(crate) fn keep<A: Allocator + Copy, F: Folder, O: Write + Drop>(
+pub(crate) fn keep_file<A: Allocator + Copy, F: Folder, O: Write + Drop>(
     alloc: A,
     kept: Kept<'_, A>,
     name: Option<&str>,
