@@ -77,7 +77,7 @@ fn keep_mixture<A: Allocator + Copy, F: Folder, O: Write + Drop>(
     folder: &F,
     report: &Output<O, A>,
 ) -> Result<(), JobFault> {
-    keep(
+    keep_file(
         alloc,
         Kept::Mixture(mixture.plan()),
         files.mixture,
