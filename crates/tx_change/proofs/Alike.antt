@@ -1,5 +1,5 @@
 -- Lists that are alike at each place, and entries that are.
-use Rattle.std.proofs.Common.{◌≡◌, ◌≢◌, ℕ, zero, suc, ◌<◌, ◌≤◌, min, Bool, true, List, [], ◌∷◌, length, Option, Some, refl, sym, ap, ◌∙◌, arith}
+use Rattle.std.proofs.Common.{◌≡◌, ℕ, suc, ◌<◌, Bool, true, List, [], ◌∷◌, length, Option, Some, refl, sym, ap, ◌∙◌}
 use Rattle.std.specs.Prelude.{slice_get}
 use Rattle.std.specs.Option.{option_map_or}
 use Rattle.std.specs.Str.{bytes_eq}
@@ -8,12 +8,10 @@ use Rattle.tx_entries.specs.declared.direction.Direction.{Direction}
 use Rattle.tx_entries.specs.declared.direction.Direction.TheVariants.{OneWay}
 use Rattle.tx_plan.specs.Plan.{Plan, Code, Group, exchange_name, figures_of, home_of, group_name}
 use Rattle.tx_plan.specs.Circuits.{direction_of, count_of, ends_of}
-use Rattle.tx_plan.specs.Rules.{IsPlan}
 use Rattle.tx_plan.specs.Mixtures.{SameNetwork}
 use Rattle.tx_plan.proofs.ByPlace.{entry_at}
-use Rattle.tx_change.specs.declared.difference.NetworkList.{NetworkList}
 use Rattle.tx_change.specs.declared.difference.NetworkList.TheVariants.{Exchanges, Codes, Ranges, Groups}
-use Rattle.tx_change.specs.Difference.{SameAt, entries_in, SameList}
+use Rattle.tx_change.specs.Difference.{SameList}
 
 pub alike : {A : Type 0} (xs ys : List A) → ((i : ℕ) → slice_get xs i ≡ slice_get ys i) → xs ≡ ys
 alike [] [] h = refl
@@ -23,16 +21,6 @@ alike (x ∷ xs) (y ∷ ys) h =
     let head : x ≡ y = let s = h 0 in cc in
     let tail = alike xs ys (λ i. h (suc i)) in
     λ k. head k ∷ tail k
-
--- lists of which one ends before the other differ where it ends
-ends_differ : {A : Type 0} (xs ys : List A) (n : ℕ) → n ≡ min (length xs) (length ys) → length xs ≢ length ys → slice_get xs n ≡ slice_get ys n → ⊥
-ends_differ [] [] n e h s = h refl
-ends_differ [] (y ∷ ys) zero e h s = let bad : ⊥ = cc in bad
-ends_differ [] (y ∷ ys) (suc n) e h s = absurd (omega arith)
-ends_differ (x ∷ xs) [] zero e h s = let bad : ⊥ = cc in bad
-ends_differ (x ∷ xs) [] (suc n) e h s = absurd (omega arith)
-ends_differ (x ∷ xs) (y ∷ ys) zero e h s = absurd (omega arith)
-ends_differ (x ∷ xs) (y ∷ ys) (suc n) e h s = ends_differ xs ys n (omega arith) (λ k. h (ap suc k)) s
 
 pub one_network : (p q : Plan) → SameList Exchanges p q → SameList Codes p q → SameList Ranges p q → SameList Groups p q → SameNetwork p q
 one_network p q a b c d = record { exchanges = alike p.exchanges q.exchanges a; codes = alike p.codes q.codes b; ranges = alike p.ranges q.ranges c; groups = alike p.groups q.groups d }

@@ -25,7 +25,7 @@ use Rattle.tx_plan.specs.Mixtures.{SameNetwork, EachMixture, AreCommon}
 use Rattle.tx_plan.proofs.Filtered.{all_joined}
 use Rattle.tx_plan.proofs.CommonRanks.{mixture_certified}
 use Rattle.tx_change.specs.ChangeNets.{change_net, IsTrueOfChange}
-use Rattle.tx_change.specs.ChangeFindings.{AreChangeFindingsBelow, AreChangeFindings, AreChangeHeights}
+use Rattle.tx_change.specs.ChangeFindings.{AreChangeFindingsBelow, AreChangeFindings}
 use Rattle.tx_change.specs.Shown.{shown_by, IsShown}
 use Rattle.tx_change.specs.inner.Changed.{IsChangedBelow}
 use Rattle.tx_change.proofs.Common.{common_codes}

@@ -24,15 +24,10 @@ use Rattle.tx_jobs.specs.inner.Changing.{changed_of}
 use Rattle.tx_jobs.proofs.RefusedTexts.{plan_mark}
 
 module _ {A : Type 0} (old new : Plan) (limit spare : ℕ) (same : SameNetwork old new) where
-  -- the report was written, or its call stopped
+  -- the report was written
   pub change_told : (out : Output) (r : Ranking A) → ChangeAnswers old new limit spare out.old out.new out.silent (Ok r) → ToldChange old new limit spare out (Ok (changed_of old new r))
   change_told out (Found cert) h = (refl, same, h.0, h.1)
   change_told out (Fails findings) h = (refl, refl, same, h.0, h.1)
-
-  pub change_stopped : (out : Output) (f : AuditFault) → ChangeAnswers {A = A} old new limit spare out.old out.new out.silent (Err f) → ToldChange {A = A} old new limit spare out (Err (Job (audit_fault f)))
-  change_stopped out (AuditPlan f) h = absurd h
-  change_stopped out AuditWrite h = (same, h)
-  change_stopped out AuditNoMemory h = (same, h)
 
   -- what follows from findings
   pub change_network : (r : Ranking A) → OnUnsoundChange (λ p q findings. SameNetwork p q) (changed_of old new r)
@@ -42,6 +37,13 @@ module _ {A : Type 0} (old new : Plan) (limit spare : ℕ) (same : SameNetwork o
   pub change_shown : (r : Ranking A) → IsRightChange old new limit spare r → OnUnsoundChange (λ p q findings. AllByRecursion (IsShown p q limit spare) findings) (changed_of old new r)
   change_shown (Found cert) h = tt
   change_shown (Fails findings) h = h.shown
+
+-- the report stopped
+pub change_stopped : (A : Type 0) (old new : Plan) (limit spare : ℕ) (same : SameNetwork old new) (out : Output) (f : AuditFault) → ChangeAnswers {A = A} old new limit spare out.old out.new out.silent (Err f)
+    → ToldChange {A = A} old new limit spare out (Err (Job (audit_fault f)))
+change_stopped A old new limit spare same out (AuditPlan f) h = absurd h
+change_stopped A old new limit spare same out AuditWrite h = (same, h)
+change_stopped A old new limit spare same out AuditNoMemory h = (same, h)
 
 new_as : (old : Bool) (f : JobFault) → change_mark_by old (in_new_plan f) ≡ mark_by old f
 new_as old (PlanFault f) = refl

@@ -22,7 +22,7 @@ returns-in-Ok-clause-each g c = rw c.of.ensures (change_shown c.args.old c.args.
 pub returns-in-Err-clause-told : goal.returns-in-Err-clause-told
 returns-in-Err-clause-told g c =
     rw c.of_audit.ensures
-    (change_stopped c.args.old c.args.new c.args.limit c.args.spare c.in_default.ensures (output g.W.Sink.taken c.args.out.now c.report_change.new.out) c.in-Err.fault c.in-Err.ensures.answers)
+    (change_stopped _ c.args.old c.args.new c.args.limit c.args.spare c.in_default.ensures (output g.W.Sink.taken c.args.out.now c.report_change.new.out) c.in-Err.fault c.in-Err.ensures.answers)
 
 pub returns-in-Err-clause-mark : goal.returns-in-Err-clause-mark
 returns-in-Err-clause-mark g c = c.in-Err.ensures.mark ∙ (audit_marked (g.W.Sink.failed c.args.out.now) c.in-Err.fault ∙ ap (mark_by (g.W.Sink.failed c.args.out.now)) (sym c.of_audit.ensures))
