@@ -57,7 +57,12 @@ fn rank_all(alloc: Global, plan: &Plan) -> Result<Vec<bool>, NoMemory> {
 }
 
 /// The member of a plan that has this text.
-fn member(alloc: Global, text: Vec<u8>, plan: Plan, steps: &mut Steps) -> Result<Member, NoMemory> {
+fn surveyed(
+    alloc: Global,
+    text: Vec<u8>,
+    plan: Plan,
+    steps: &mut Steps,
+) -> Result<Member, NoMemory> {
     let mut surveys = Vec::new(alloc);
     survey_codes(alloc, &plan, steps, &mut surveys)?;
     let ranked = rank_all(alloc, &plan)?;
@@ -74,7 +79,7 @@ fn member_of(alloc: Global, lines: &[u8], number: u64, steps: &mut Steps) -> Res
     let mut text = Vec::new(alloc);
     put_plan(lines, number, &mut text)?;
     match read_plan(alloc, text.as_slice()) {
-        Ok(plan) => Ok(member(alloc, text, plan, steps)?),
+        Ok(plan) => Ok(surveyed(alloc, text, plan, steps)?),
         Err(fault) => Err(Stop::Refused(fault.line)),
     }
 }
