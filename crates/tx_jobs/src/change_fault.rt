@@ -3,29 +3,22 @@ ghost use Rattle.std.specs.Prelude.{◌≡◌};
 ghost use Rattle.tx_jobs.specs.ChangeFaults.{status_of_change, new_plan_fault};
 
 use crate::job_fault::JobFault;
-use std::fmt::{self, Debug, Display, Formatter, Write};
 use thiserror::Error;
 use tx_change::Difference;
 use tx_plantext::PlanFault;
 
 /// Why the job of a change stopped before its end. `write_change_fault` says it in full.
-#[derive(Clone, Copy, PartialEq, Eq, Error)]
+#[derive(Clone, Copy, Debug, PartialEq, Eq, Error)]
 pub enum ChangeFault {
     /// As other jobs stop. A plan that is refused is the old one.
     #[error(transparent)]
     Job(JobFault),
     /// The new plan's text is refused.
-    #[error("the new plan is refused")]
+    #[error("new plan {0}")]
     NewPlan(PlanFault),
     /// The plans are of two networks: the first entry that differs.
     #[error("the plans are of two networks")]
     TwoNetworks(Difference),
-}
-
-impl Debug for ChangeFault {
-    fn fmt<W: Write>(&self, f: &mut Formatter<W>) -> fmt::Result {
-        Display::fmt(self, f)
-    }
 }
 
 impl ChangeFault {

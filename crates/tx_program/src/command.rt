@@ -44,6 +44,17 @@ pub enum Command {
         cert: Option<String>,
         counter: Option<String>,
     },
+    /// `change OLD NEW --limit L --spare K`: the certificate goes to a file, if one is named, and
+    /// so do the mixture and the counter script.
+    Change {
+        old: String,
+        new: String,
+        limit: u8,
+        spare: u8,
+        cert: Option<String>,
+        mixture: Option<String>,
+        counter: Option<String>,
+    },
     /// `grade PLAN`: with which limits and spare numbers the plan is safe.
     Grade {
         plan: String,
@@ -140,6 +151,32 @@ fn audit_of(alloc: Global, plan: String, matches: &ArgMatches<'_>) -> Result<Com
     }
 }
 
+/// The words of `change`.
+fn change_of(alloc: Global, matches: &ArgMatches<'_>) -> Result<Command, Refusal>
+    ensures range { IfOk result IsInRange }
+    ensures asked { IfOk result (Asks (codes "change") (rows_of (found_of matches.now))) }
+    ensures refused { IfErr result
+        (IsRefused (Some (codes "change", rows_of (found_of matches.now)))) }
+{
+    let old = text(alloc, matches, "old")?;
+    let new = text(alloc, matches, "new")?;
+    let cert = text(alloc, matches, "cert")?;
+    let mixture = text(alloc, matches, "mixture")?;
+    let counter = text(alloc, matches, "counter")?;
+    match (old, new, bounds(matches)) {
+        (Some(old), Some(new), Some((limit, spare))) => Ok(Command::Change {
+            old,
+            new,
+            limit,
+            spare,
+            cert,
+            mixture,
+            counter,
+        }),
+        _ => Err(Refusal::Incomplete),
+    }
+}
+
 /// The words of `run` behind the plan.
 fn run_of(alloc: Global, plan: String, matches: &ArgMatches<'_>) -> Result<Command, Refusal>
     requires { Names (rows_of (found_of matches.now)) (codes "plan") plan }
@@ -233,8 +270,10 @@ fn command_of(alloc: Global, name: &str, matches: &ArgMatches<'_>) -> Result<Com
     ensures asked { IfOk result (Asks name.now (rows_of (found_of matches.now))) }
     ensures refused { IfErr result (IsRefused (Some (name.now, rows_of (found_of matches.now)))) }
 {
-    if name == "explain" {
-        return explain_of(alloc, matches);
+    match name {
+        "change" => return change_of(alloc, matches),
+        "explain" => return explain_of(alloc, matches),
+        _ => {}
     }
     match text(alloc, matches, "plan")? {
         Some(plan) => plan_command(alloc, name, plan, matches),
