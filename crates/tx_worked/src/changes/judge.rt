@@ -63,10 +63,10 @@ fn cert_differs(
 }
 
 /// Whether a finding is the one that is wanted, with a walk of one of the mixtures.
-fn is_of_some(finding: &Finding, wanted: Wanted, mixing: Mixing<'_>) -> bool {
+fn is_of_some(finding: &Finding, wanted: &Wanted, mixing: Mixing<'_>) -> bool {
     for number in mixing.mixtures {
         if let Some(member) = mixing.members.get(*number as usize) {
-            if shows(&member.plan, finding, wanted, mixing.limit, mixing.spare) {
+            if shows(&member.plan, finding, *wanted, mixing.limit, mixing.spare) {
                 return true;
             }
         }
@@ -80,7 +80,7 @@ fn fails_differ(findings: &[Finding], wanted: &[Wanted], mixing: Mixing<'_>) -> 
         return Some(Difference::Count);
     }
     for (place, (finding, it)) in findings.iter().zip(wanted).enumerate() {
-        if !is_of_some(finding, *it, mixing) {
+        if !is_of_some(finding, it, mixing) {
             return Some(Difference::FindingAt(place));
         }
     }
