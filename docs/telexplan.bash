@@ -4,13 +4,14 @@ _telexplan() {
     case ${COMP_WORDS[COMP_CWORD - 1]} in
         --limit) words=$(echo {0..62}) ;;
         --spare) words=$(echo {0..15}) ;;
-        --cert | --counter | --code) ;;
+        --cert | --mixture | --counter | --code) ;;
         *)
             case $COMP_CWORD:${COMP_WORDS[1]}:$word in
-                1:*) words="audit grade check run codes draw explain help --help --version" ;;
-                *:help:*) words="audit grade check run codes draw explain" ;;
+                1:*) words="audit grade change check run codes draw explain help --help --version" ;;
+                *:help:*) words="audit grade change check run codes draw explain" ;;
                 *:explain:*) words="--help $(telexplan explain 2>/dev/null | cut -d ' ' -f 1)" ;;
                 *:audit:-*) words="--limit --spare --cert --counter --help" ;;
+                *:change:-*) words="--limit --spare --cert --mixture --counter --help" ;;
                 *:check:-*) words="--limit --spare --help" ;;
                 *:run:-*) words="--cert --limit --spare --help" ;;
                 *:grade:-* | *:codes:-*) words="--help" ;;

@@ -12,3 +12,4 @@ pub mod Writable
 pub mod ReadBack
 pub mod Loops
 pub mod Firsts
+pub mod OwnRanks

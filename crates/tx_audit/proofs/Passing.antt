@@ -6,7 +6,7 @@ use Rattle.tx_plan.specs.Plan.{Plan, home_of}
 use Rattle.tx_plan.specs.Circuits.{other_end}
 use Rattle.tx_plan.specs.Among.{Among}
 use Rattle.tx_rank.specs.Walks.{AllDiffer, Goes, net_of, end_of, before_end, passed}
-use Rattle.tx_rank.proofs.Ways.{once_first, once_cons, end_passed}
+use Rattle.tx_rank.proofs.Ways.{once_first, end_passed}
 use Rattle.tx_state.specs.Members.{NoneTwice}
 use Rattle.tx_state.proofs.Lists.{none_any}
 use Rattle.tx_state.proofs.Uses.{two_ends}
@@ -16,16 +16,6 @@ use Rattle.tx_audit.specs.Counter.{is_single, turns_on_one}
 pub passed_is : (x : ℕ) (steps : List (ℕ × ℕ)) → passed x steps ≡ x ∷ map (λ s. s.1) steps
 passed_is x [] = refl
 passed_is x (s ∷ steps) = ap (λ l. x ∷ l) (passed_is s.1 steps)
-
-before_passed : (x : ℕ) (steps : List (ℕ × ℕ)) (u : ℕ) → Among u (before_end x steps) → Among u (passed x steps)
-before_passed x [] u m = absurd m
-before_passed x (s ∷ steps) u (inl e) = inl e
-before_passed x (s ∷ steps) u (inr m) = inr (before_passed s.1 steps u m)
-
--- where nothing repeats, nothing before the end does
-pub before_once : (x : ℕ) (steps : List (ℕ × ℕ)) → AllDiffer (passed x steps) → AllDiffer (before_end x steps)
-before_once x [] d = tt
-before_once x (s ∷ steps) d = once_cons x (before_end s.1 steps) (λ m. once_first x (passed s.1 steps) d (before_passed s.1 steps x m)) (before_once s.1 steps d.1)
 
 -- where the last exchange came before, one is passed twice
 pub twice : (x : ℕ) (steps : List (ℕ × ℕ)) → Among (end_of x steps) (before_end x steps) → NoneTwice (λ y z. y == z) (passed x steps) → ⊥

@@ -43,7 +43,8 @@ use Rattle.tx_audit.proofs.Listed.{listed_once, listed_few, listed_known}
 use Rattle.tx_audit.proofs.Walking.{IsOn, IfMore, walk_plays}
 use Rattle.tx_audit.proofs.Starting.{caller, code_itself}
 use Rattle.tx_audit.proofs.Sizes.{steps_few, walk_few}
-use Rattle.tx_audit.proofs.Passing.{passed_is, before_once, twice, no_turn, transits_are}
+use Rattle.tx_rank.proofs.PassedOnce.{before_once}
+use Rattle.tx_audit.proofs.Passing.{passed_is, twice, no_turn, transits_are}
 
 -- RUNS
 

@@ -2,6 +2,7 @@
 ghost use Rattle.std.specs.Prelude.{◌≡◌};
 
 use std::alloc::{Allocator, Global};
+use thiserror::Error;
 use tx_cert::Cert;
 use tx_plan::Plan;
 use tx_plantext::PlanFault;
@@ -31,12 +32,15 @@ impl<A: Allocator> Audited<A> {
 }
 
 /// Why an audit stopped.
-#[derive(Clone, Copy)]
+#[derive(Clone, Copy, Debug, Error)]
 pub enum AuditFault {
     /// The plan's text is refused, its source failed, or its reader wanted memory. Nothing was written.
+    #[error("plan {0}")]
     Plan(PlanFault),
     /// The sink failed: a front of the report was written.
+    #[error("a write failed")]
     Write,
     /// No memory was left to rank the plan. Nothing was written.
+    #[error("no memory")]
     NoMemory,
 }

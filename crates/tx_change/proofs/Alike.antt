@@ -1,5 +1,5 @@
 -- Lists that are alike at each place, and entries that are.
-use Rattle.std.proofs.Common.{◌≡◌, ◌≢◌, ℕ, zero, suc, ◌<◌, ◌≤◌, min, Bool, true, List, [], ◌∷◌, length, Option, Some, refl, sym, ap, ◌∙◌, arith}
+use Rattle.std.proofs.Common.{◌≡◌, ℕ, suc, ◌<◌, Bool, true, List, [], ◌∷◌, length, Option, Some, refl, sym, ap, ◌∙◌}
 use Rattle.std.specs.Prelude.{slice_get}
 use Rattle.std.specs.Option.{option_map_or}
 use Rattle.std.specs.Str.{bytes_eq}
@@ -8,12 +8,10 @@ use Rattle.tx_entries.specs.declared.direction.Direction.{Direction}
 use Rattle.tx_entries.specs.declared.direction.Direction.TheVariants.{OneWay}
 use Rattle.tx_plan.specs.Plan.{Plan, Code, Group, exchange_name, figures_of, home_of, group_name}
 use Rattle.tx_plan.specs.Circuits.{direction_of, count_of, ends_of}
-use Rattle.tx_plan.specs.Rules.{IsPlan}
 use Rattle.tx_plan.specs.Mixtures.{SameNetwork}
 use Rattle.tx_plan.proofs.ByPlace.{entry_at}
-use Rattle.tx_change.specs.declared.difference.NetworkList.{NetworkList}
 use Rattle.tx_change.specs.declared.difference.NetworkList.TheVariants.{Exchanges, Codes, Ranges, Groups}
-use Rattle.tx_change.specs.Difference.{SameAt, entries_in, SameList}
+use Rattle.tx_change.specs.Difference.{SameList}
 
 pub alike : {A : Type 0} (xs ys : List A) → ((i : ℕ) → slice_get xs i ≡ slice_get ys i) → xs ≡ ys
 alike [] [] h = refl
@@ -23,43 +21,6 @@ alike (x ∷ xs) (y ∷ ys) h =
     let head : x ≡ y = let s = h 0 in cc in
     let tail = alike xs ys (λ i. h (suc i)) in
     λ k. head k ∷ tail k
-
--- lists of which one ends before the other differ where it ends
-ends_differ : {A : Type 0} (xs ys : List A) (n : ℕ) → n ≡ min (length xs) (length ys) → length xs ≢ length ys → slice_get xs n ≡ slice_get ys n → ⊥
-ends_differ [] [] n e h s = h refl
-ends_differ [] (y ∷ ys) zero e h s = let bad : ⊥ = cc in bad
-ends_differ [] (y ∷ ys) (suc n) e h s = absurd (omega arith)
-ends_differ (x ∷ xs) [] zero e h s = let bad : ⊥ = cc in bad
-ends_differ (x ∷ xs) [] (suc n) e h s = absurd (omega arith)
-ends_differ (x ∷ xs) (y ∷ ys) zero e h s = absurd (omega arith)
-ends_differ (x ∷ xs) (y ∷ ys) (suc n) e h s = ends_differ xs ys n (omega arith) (λ k. h (ap suc k)) s
-
--- lists of one length are the same at each place if they are before their end
-same_past : {A : Type 0} (xs ys : List A) → length xs ≡ length ys → ((i : ℕ) → i < length xs → slice_get xs i ≡ slice_get ys i) → (i : ℕ) → slice_get xs i ≡ slice_get ys i
-same_past [] [] e h i = refl
-same_past [] (y ∷ ys) e h i = absurd (omega arith)
-same_past (x ∷ xs) [] e h i = absurd (omega arith)
-same_past (x ∷ xs) (y ∷ ys) e h zero = h 0 (omega arith)
-same_past (x ∷ xs) (y ∷ ys) e h (suc i) = same_past xs ys (omega arith) (λ j l. h (suc j) (omega arith)) i
-
-pub differs_at_end : (list : NetworkList) (p q : Plan) (n : ℕ) → n ≡ min (entries_in list p) (entries_in list q) → entries_in list p ≢ entries_in list q → SameAt list p q n → ⊥
-differs_at_end Exchanges p q n e h s = ends_differ p.exchanges q.exchanges n e h s
-differs_at_end Codes p q n e h s = ends_differ p.codes q.codes n e h s
-differs_at_end Ranges p q n e h s = ends_differ p.ranges q.ranges n e h s
-differs_at_end Groups p q n e h s = ends_differ p.groups q.groups n e h s
-
--- a place of a list is small
-pub entries_few : (list : NetworkList) (p : Plan) → IsPlan p → entries_in list p ≤ 65535
-entries_few Exchanges p ok = let few = ok.few_exchanges in omega arith
-entries_few Codes p ok = let few = ok.few_codes in omega arith
-entries_few Ranges p ok = let few = ok.few_ranges in omega arith
-entries_few Groups p ok = let few = ok.few_groups in omega arith
-
-pub same_list : (list : NetworkList) (p q : Plan) → entries_in list p ≡ entries_in list q → ((i : ℕ) → i < entries_in list p → SameAt list p q i) → SameList list p q
-same_list Exchanges p q e h = same_past p.exchanges q.exchanges e h
-same_list Codes p q e h = same_past p.codes q.codes e h
-same_list Ranges p q e h = same_past p.ranges q.ranges e h
-same_list Groups p q e h = same_past p.groups q.groups e h
 
 pub one_network : (p q : Plan) → SameList Exchanges p q → SameList Codes p q → SameList Ranges p q → SameList Groups p q → SameNetwork p q
 one_network p q a b c d = record { exchanges = alike p.exchanges q.exchanges a; codes = alike p.codes q.codes b; ranges = alike p.ranges q.ranges c; groups = alike p.groups q.groups d }
@@ -95,17 +56,8 @@ module _ (p q : Plan) (i x : ℕ) (at : x ≡ i) where
     λ e. er ∙ (bytes_eq-Decides a b).1 (ea ∙ (ap (figures_of p) at ∙ (ap (λ o. option_map_or (λ (c : Code). c.figures) o []) e ∙ (ap (figures_of q) (sym at) ∙ sym eb)))),
   )
 
-  pub home_apart : (h k : ℕ) → h ≡ home_of p x → k ≡ home_of q x → slice_get p.codes i ≡ slice_get q.codes i → h ≡ k
-  home_apart h k eh ek e = eh ∙ (ap (home_of p) at ∙ (ap (λ o. option_map_or (λ (c : Code). c.home) o 0) e ∙ (ap (home_of q) (sym at) ∙ sym ek)))
-
   pub ends_apart : (e f : ℕ × ℕ) → e ≡ ends_of p x → f ≡ ends_of q x → slice_get p.groups i ≡ slice_get q.groups i → e ≡ f
   ends_apart a b ea eb e = ea ∙ (ap (ends_of p) at ∙ (ap (λ o. option_map_or (λ (r : Group). (r.a, r.b)) o (0, 0)) e ∙ (ap (ends_of q) (sym at) ∙ sym eb)))
-
-  pub direction_apart : (a b : Direction) → a ≡ direction_of p x → b ≡ direction_of q x → slice_get p.groups i ≡ slice_get q.groups i → a ≡ b
-  direction_apart a b ea eb e = ea ∙ (ap (direction_of p) at ∙ (ap (λ o. option_map_or (λ (r : Group). r.direction) o OneWay) e ∙ (ap (direction_of q) (sym at) ∙ sym eb)))
-
-  pub count_apart : (a b : ℕ) → a ≡ count_of p x → b ≡ count_of q x → slice_get p.groups i ≡ slice_get q.groups i → a ≡ b
-  count_apart a b ea eb e = ea ∙ (ap (count_of p) at ∙ (ap (λ o. option_map_or (λ (r : Group). r.count) o 0) e ∙ (ap (count_of q) (sym at) ∙ sym eb)))
 
   pub group_alike : (n o : ℕ × ℕ) (d e : Direction) (h k : ℕ) (a b : List ℕ) (r : Bool) → i < length p.groups → i < length q.groups → n ≡ ends_of p x → o ≡ ends_of q x → n ≡ o → d ≡ direction_of p x → e ≡ direction_of q x → d ≡ e
       → h ≡ count_of p x → k ≡ count_of q x → h ≡ k → a ≡ group_name p x → b ≡ group_name q x → r ≡ bytes_eq a b

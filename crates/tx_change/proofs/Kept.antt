@@ -1,11 +1,10 @@
 -- Members of a list that are kept, one place after another.
-use Rattle.std.proofs.Common.{◌≡◌, ◌≢◌, ℕ, zero, suc, ◌+◌, ◌≤◌, ◌==◌, Bool, true, false, not, cond, ◌&&◌, ◌||◌, List, [], ◌∷◌, ◌++◌, length, take, Option, Some, None, Result, Ok, Err, OnOk, IfOk, inl, inr, eqb-true, refl, sym, ap, ◌∙◌, arith, append-nil, append_assoc}
+use Rattle.std.proofs.Common.{◌≡◌, ◌≢◌, ℕ, zero, suc, ◌+◌, ◌≤◌, ◌==◌, Bool, true, false, not, cond, ◌&&◌, ◌||◌, List, [], ◌∷◌, ◌++◌, length, take, Option, Some, None, Result, Ok, Err, OnOk, IfOk, inl, inr, eqb-true, refl, sym, ap, ◌∙◌, arith, append_assoc}
 use mathlib.Core.Bool.{beq}
 use Rattle.std.specs.Prelude.{filter, slice_get}
 use Rattle.std.specs.Option.{option_map}
 use Rattle.std.specs.List.{list_any}
 use Rattle.std.proofs.lemmas.Bool.{ne_eqb, cases_eq, and_left, and_right, and_parts}
-use Rattle.std.proofs.lemmas.List.{take_all}
 use Rattle.tx_entries.specs.declared.pair.Pair.{Pair}
 use Rattle.tx_plan.specs.Plan.{Plan, Route}
 use Rattle.tx_plan.specs.Rules.{EachPair, IsRoute, IsPlan}
@@ -34,9 +33,6 @@ module _ {A : Type 0} (s : A → Bool) where
   kept_next old now new xs i a b =
       let more : suc i ≡ i + 1 = omega arith in
       b ∙ (ap (λ l. l ++ kept_alone s (slice_get xs i)) a ∙ (append_assoc old (filter s (take i xs)) (kept_alone s (slice_get xs i)) ∙ (ap (λ l. old ++ l) (sym (kept_more xs i)) ∙ ap (λ n. old ++ filter s (take n xs)) more)))
-
-  pub kept_all : (old now xs : List A) (i : ℕ) → length xs ≤ i → now ≡ old ++ filter s (take i xs) → now ≡ old ++ filter s xs
-  kept_all old now xs i all e = e ∙ ap (λ l. old ++ filter s l) (take_all i xs all)
 
 any_joined : {A : Type 0} (t : A → Bool) (xs ys : List A) → list_any t xs ≡ false → list_any t ys ≡ false → list_any t (xs ++ ys) ≡ false
 any_joined t [] ys h k = k
@@ -113,10 +109,6 @@ bar_not_before c there r h rs =
 
 -- THE ENTRY AT A PLACE
 
-pub keeps_same : (w t : Bool) → t ≡ w → keeps w t ≡ true
-keeps_same true t e = e
-keeps_same false t e = ap not e
-
 pub keeps_test : (w t : Bool) → not (beq t w) ≡ false → keeps w t ≡ true
 keeps_test true true h = refl
 keeps_test true false h = let z : ⊥ = cc in absurd z
@@ -125,12 +117,6 @@ keeps_test false false h = refl
 
 pub groups_alike : (x c : ℕ) (gs hs : List ℕ) → gs ≡ hs → ◌≡◌ {A = Route} (record { exchange = x; code = c; groups = gs }) (record { exchange = x; code = c; groups = hs })
 groups_alike x c gs hs e = λ i. record { exchange = x; code = c; groups = e i }
-
-pub keeps_other : (w t : Bool) → (t ≡ w → ⊥) → keeps w t ≡ false
-keeps_other true true h = absurd (h refl)
-keeps_other true false h = refl
-keeps_other false true h = refl
-keeps_other false false h = absurd (h refl)
 
 -- the route at a place, of which the exchange and the code are told
 pub route_is : (p : Plan) → IsPlan p → (i : ℕ) (at : ℕ × ℕ) → ◌≡◌ {A = Option (ℕ × ℕ)} (Some at) (option_map (λ (r : Route). (r.exchange, r.code)) (slice_get p.routes i))
@@ -152,9 +138,3 @@ route_few p ok i r e = (all_among (IsRoute p) p.routes r ok.routes (among_at p.r
 pub entry_added : {A E : Type 0} (s : A → Bool) (o : Option A) (x y : A) (old new : List A) (result : Result (Unit {0}) E) → OnOk result (new ≡ old ++ y ∷ []) → y ≡ x → o ≡ Some x → s x ≡ true → IfOk result (λ _. new ≡ old ++ kept_alone s o)
 entry_added s o x y old new (Err f) ok same at k = tt
 entry_added s o x y old new (Ok u) ok same at k = ok ∙ ap (λ z. old ++ z ∷ []) same ∙ ap (λ l. old ++ l) (sym (ap (kept_alone s) at ∙ ap (λ b. cond b (x ∷ []) []) k))
-
-pub entry_left : {A : Type 0} (s : A → Bool) (o : Option A) (x : A) (old : List A) → o ≡ Some x → s x ≡ false → old ≡ old ++ kept_alone s o
-entry_left s o x old at k = sym (append-nil old) ∙ ap (λ l. old ++ l) (sym (ap (kept_alone s) at ∙ ap (λ b. cond b (x ∷ []) []) k))
-
-pub entry_none : {A : Type 0} (s : A → Bool) (o : Option A) (old : List A) → o ≡ None → old ≡ old ++ kept_alone s o
-entry_none s o old at = sym (append-nil old) ∙ ap (λ l. old ++ l) (sym (ap (kept_alone s) at))

@@ -25,7 +25,7 @@ use Rattle.tx_plan.specs.Mixtures.{SameNetwork, EachMixture, AreCommon}
 use Rattle.tx_plan.proofs.Filtered.{all_joined}
 use Rattle.tx_plan.proofs.CommonRanks.{mixture_certified}
 use Rattle.tx_change.specs.ChangeNets.{change_net, IsTrueOfChange}
-use Rattle.tx_change.specs.ChangeFindings.{AreChangeFindingsBelow, AreChangeFindings, AreChangeHeights}
+use Rattle.tx_change.specs.ChangeFindings.{AreChangeFindingsBelow, AreChangeFindings}
 use Rattle.tx_change.specs.Shown.{shown_by, IsShown}
 use Rattle.tx_change.specs.inner.Changed.{IsChangedBelow}
 use Rattle.tx_change.proofs.Common.{common_codes}
@@ -134,13 +134,7 @@ module _ {A : Type 0} (old new : Plan) (limit spare : ℕ) where
   changed_code c cert cert' before after (Ok u) r j o codes exchanges = changed_next c cert cert' before after r j o codes exchanges
 
   module _ (c : ℕ) (cert : Certificate) (findings : List (Finding A)) (r : IsChangedBelow old new limit spare c cert findings) (all : c ≡ length old.codes) where
-    pub changed_listed : AreChangeFindings old new limit spare findings
-    changed_listed = record { rest = r.rest; joined = r.joined; codes = subst (λ k. AreChangeFindingsBelow old new limit spare k r.rest) all r.listed }
-
     module _ (none : findings ≡ []) where
-      pub changed_heights : AreChangeHeights old new (ranks_of cert)
-      changed_heights d h = r.heights (back_none (pair_findings (ambiguous_of old.codes)) r.rest (sym r.joined ∙ none)) d (omega arith)
-
       pub changed_common : SameNetwork old new → AreCommon old new (ranks_of cert) limit spare
       changed_common same =
           common_codes old new same (ranks_of cert) limit spare

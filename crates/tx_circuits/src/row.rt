@@ -38,7 +38,8 @@ impl Row {
         requires sound { IsSound (group_slots slots.old self.old) self.old.lists }
         ensures row { self.new ≡ record self.old { lists = self.new.lists } }
         ensures sound { IsSound (group_slots slots.new self.old) self.new.lists }
-        ensures states { states_in slots.new self.old ≡ slice_set (states_in slots.old self.old) place to }
+        ensures states { states_in slots.new self.old
+            ≡ slice_set (states_in slots.old self.old) place to }
         ensures rest { OthersStay slots.old slots.new self.old }
     {
         let part = &mut slots[self.start..self.start + self.count];

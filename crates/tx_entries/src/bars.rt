@@ -63,7 +63,8 @@ impl<A: Allocator> Bars<A> {
     /// Appends a bar.
     #[inline(always)]
     pub fn add(&mut self, pair: Pair) -> Result<(), NoMemory>
-        requires { list_any (λ b. (b.exchange == pair.exchange) && (b.code == pair.code)) self.old ≡ false }
+        requires { list_any (λ b. (b.exchange == pair.exchange) && (b.code == pair.code)) self.old
+            ≡ false }
         ensures ok { OnOk result (self.new ≡ self.old ++ pair ∷ []) }
         ensures err { OnErr result (self.new ≡ self.old) }
     {

@@ -4,7 +4,7 @@ ghost use Rattle.std.specs.Prelude.{◌≡◌, ◌<◌};
 use std::marker::Model;
 
 /// An exchange of a plan, by its place. An id is foreign to a plan that has no such place.
-#[derive(Clone, Copy, PartialEq, Eq, Hash)]
+#[derive(Clone, Copy, Debug, PartialEq, Eq, Hash)]
 pub struct ExchangeId {
     place: u16,
 }
@@ -57,7 +57,7 @@ impl ExchangeId {
 }
 
 /// A destination code of a plan, by its place. An id is foreign to a plan that has no such place.
-#[derive(Clone, Copy, PartialEq, Eq, Hash)]
+#[derive(Clone, Copy, Debug, PartialEq, Eq, Hash)]
 pub struct CodeId {
     place: u16,
 }
@@ -110,7 +110,7 @@ impl CodeId {
 }
 
 /// A group of circuits of a plan, by its place. An id is foreign to a plan that has no such place.
-#[derive(Clone, Copy, PartialEq, Eq)]
+#[derive(Clone, Copy, Debug, PartialEq, Eq)]
 pub struct GroupId {
     place: u16,
 }

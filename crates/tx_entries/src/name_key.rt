@@ -59,7 +59,6 @@ impl Hash for NameKey {
 
     ghost respects_eq = { λ x y h. ap (λ n. padded_to 8 n ∷ []) ((bytes_decides x y).0 h) };
 
-    #[inline(always)]
     fn hash<H: Hasher>(&self, state: &mut H) {
         state.write(&self.bytes);
     }

@@ -79,7 +79,8 @@ impl<A: Allocator> Routes<A> {
     /// Appends a route.
     #[inline(always)]
     pub fn add(&mut self, pair: Pair, groups: GroupList) -> Result<(), NoMemory>
-        requires { list_any (λ r. (r.exchange == pair.exchange) && (r.code == pair.code)) self.old ≡ false }
+        requires { list_any (λ r. (r.exchange == pair.exchange) && (r.code == pair.code)) self.old
+            ≡ false }
         ensures ok { OnOk result (self.new ≡ self.old ++ record { exchange = pair.exchange; code = pair.code; groups = groups } ∷ []) }
         ensures err { OnErr result (self.new ≡ self.old) }
     {

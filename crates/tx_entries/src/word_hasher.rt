@@ -22,14 +22,12 @@ impl BuildHasher for ByWord {
 
     ghost build_hasher = { λ _. start };
 
-    #[inline(always)]
     fn build_hasher(&self) -> WordHasher {
         WordHasher { word: 0 }
     }
 }
 
 /// The first eight bytes as a number, or four or two that are all.
-#[inline(always)]
 fn first_word(bytes: &[u8]) -> u64
     ensures { result ≡ first_word bytes.now }
 {
@@ -42,7 +40,6 @@ fn first_word(bytes: &[u8]) -> u64
 }
 
 /// The ninth byte, if there is one.
-#[inline(always)]
 fn ninth(bytes: &[u8]) -> u64
     ensures { result ≡ slice_index bytes.now 8 }
 {
@@ -57,14 +54,12 @@ impl Hasher for WordHasher {
 
     ghost finish = { spread };
 
-    #[inline(always)]
     fn finish(&self) -> u64 {
         let upper = (u128::from(self.word) * u128::from(MULTIPLIER) >> 64) as u64;
         let lower = self.word.wrapping_mul(MULTIPLIER);
         (upper ^ lower >> 32 & 0xFF00_0000) & 0xFFFF_FFFF
     }
 
-    #[inline(always)]
     fn write(&mut self, bytes: &[u8]) {
         self.word = self.word.wrapping_mul(MULTIPLIER) ^ first_word(bytes) ^ ninth(bytes) << 28;
     }

@@ -4,6 +4,8 @@ mod Breaking
 mod CheckedRun
 mod Simulating
 mod Evidenced
+mod ChangeTold
+mod ChangeEvidenced
 mod Grading
 mod DrawnCode
 pub mod Before

@@ -5,9 +5,12 @@ pub mod PipeJobs
 pub mod CheckJobs
 pub mod DrawJobs
 pub mod AuditJobs
+pub mod ChangeFaults
+pub mod ChangeJobs
 pub mod GradeJobs
 pub mod Writables
 pub mod Evidences
+pub mod ChangeEvidences
 pub mod CheckedJobs
 pub mod Drawing
 pub mod Shown

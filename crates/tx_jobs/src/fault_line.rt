@@ -35,7 +35,7 @@ pub fn write_fault<W: Sink>(fault: &JobFault, sink: &mut W) -> Result<(), WriteF
 }
 
 /// Writes the line of a fault of a text: which text it is, and its row, of a code and a name.
-fn write_text_fault<'a, W: Sink>(
+pub(crate) fn write_text_fault<'a, W: Sink>(
     text: &'a [u8],
     line: u64,
     row: (&'a [u8], &'a [u8]),

@@ -3,7 +3,6 @@ ghost use Rattle.std.specs.Prelude.{◌≡◌};
 ghost use Rattle.tx_jobs.specs.JobFaults.{status_of, plan_fault, cert_fault, script_fault, run_fault};
 ghost use Rattle.tx_jobs.specs.AuditJobs.{audit_fault};
 
-use std::fmt::{self, Debug, Display, Formatter, Write};
 use thiserror::Error;
 use tx_audit::AuditFault;
 use tx_cert::{CertFault, CertWord};
@@ -13,16 +12,16 @@ use tx_script::{RunCause, RunFault, ScriptFault};
 use tx_text::{FaultKind, FrameFault, LineFault, TextFault};
 
 /// Why a job stopped before its end. `write_fault` says it in full.
-#[derive(Clone, Copy, PartialEq, Eq, Error)]
+#[derive(Clone, Copy, Debug, PartialEq, Eq, Error)]
 pub enum JobFault {
     /// The plan's text is refused.
-    #[error("the plan is refused")]
+    #[error("plan {0}")]
     Plan(PlanFault),
     /// The certificate's text is refused.
-    #[error("the certificate is refused")]
+    #[error("certificate {0}")]
     Cert(CertFault),
     /// The script's text is refused.
-    #[error("the script is refused")]
+    #[error("script {0}")]
     Script(ScriptFault),
     /// An input failed.
     #[error("a read failed")]
@@ -33,12 +32,6 @@ pub enum JobFault {
     /// No memory was left.
     #[error("no memory")]
     NoMemory,
-}
-
-impl Debug for JobFault {
-    fn fmt<W: Write>(&self, f: &mut Formatter<W>) -> fmt::Result {
-        Display::fmt(self, f)
-    }
 }
 
 impl JobFault {

@@ -3,6 +3,10 @@
 
 mod audit;
 mod audit_evidence;
+mod change;
+mod change_evidence;
+mod change_fault;
+mod change_fault_line;
 mod check;
 mod code_drawing;
 mod codes;
@@ -14,6 +18,7 @@ mod fault_line;
 mod grade;
 mod job_fault;
 mod marks;
+mod mixture;
 mod parts;
 mod pipe;
 mod reaching;
@@ -24,6 +29,10 @@ mod simulate;
 
 pub use audit::audit_job;
 pub use audit_evidence::evidence_job;
+pub use change::{Changed, change_job};
+pub use change_evidence::change_evidence_job;
+pub use change_fault::ChangeFault;
+pub use change_fault_line::write_change_fault;
 pub use check::{check_job, check_status};
 pub use code_drawing::write_code_drawing;
 pub use codes::{codes_job, codes_status};
@@ -34,6 +43,7 @@ pub use evidence::{CounterScript, Evidence};
 pub use fault_line::write_fault;
 pub use grade::{grade_job, grade_status};
 pub use job_fault::JobFault;
+pub use mixture::{ChangeEvidence, Mixture};
 pub use pipe::pipe_job;
 pub use reaching::reached;
 pub use run::run_job;

@@ -25,7 +25,8 @@ pub fn pipe_job<A: Allocator + Copy, R: Source, W: Sink>(
     input: &mut R,
     out: &mut W,
 ) -> Result<Summary, JobFault>
-    ensures answers { PipeJobAnswers R.rest R.failed R.called input.old input.new (output W.taken out.old out.new) result }
+    ensures answers { PipeJobAnswers R.rest R.failed R.called input.old input.new
+        (output W.taken out.old out.new) result }
     ensures mark { W.failed out.new ≡ mark_after (W.failed out.old) result }
 {
     let mut ahead = Ahead::new();
@@ -49,7 +50,10 @@ fn read_plan_part<A: Allocator + Copy, R: Source>(
 ) -> Result<Plan<A>, PlanFault>
     ensures same_input { part.new.input.ghost_name ≡ part.old.input.ghost_name }
     ensures same_ahead { part.new.ahead.ghost_name ≡ part.old.ahead.ghost_name }
-    ensures answer { ReadsPlan (plan_rest R.rest part.old) (plan_rest R.rest part.new) (Broken (PlanCall R.rest R.failed R.called) part.new.ahead.now.failed source_calls part.old part.new) (part.new ≡ part.old) (told_fault result) }
+    ensures answer { ReadsPlan (plan_rest R.rest part.old) (plan_rest R.rest part.new)
+        (Broken (PlanCall R.rest R.failed R.called) part.new.ahead.now.failed source_calls
+        part.old part.new)
+        (part.new ≡ part.old) (told_fault result) }
     ensures calls { CallsAtMost (PlanCall R.rest R.failed R.called) source_calls part.old part.new }
 {
     read_plan_from(alloc, part)
@@ -64,9 +68,13 @@ fn run_script_part<A: Allocator + Copy, R: Source, W: Sink>(
 ) -> Result<Summary, JobFault>
     ensures same_input { script.new.input.ghost_name ≡ script.old.input.ghost_name }
     ensures same_ahead { script.new.ahead.ghost_name ≡ script.old.ahead.ghost_name }
-    ensures answers { ScriptRan plan.now (input (left R.rest) (λ s. s.ahead.now.failed) (ScriptCall R.rest R.failed R.called) script.old script.new) (output W.taken out.old out.new) result }
+    ensures answers { ScriptRan plan.now
+        (input (left R.rest) (λ s. s.ahead.now.failed) (ScriptCall R.rest R.failed R.called)
+        script.old script.new)
+        (output W.taken out.old out.new) result }
     ensures mark { W.failed out.new ≡ mark_after (W.failed out.old) result }
-    ensures calls { CallsAtMost (ScriptCall R.rest R.failed R.called) source_calls script.old script.new }
+    ensures calls { CallsAtMost (ScriptCall R.rest R.failed R.called) source_calls
+        script.old script.new }
 {
     simulate(alloc, plan, script, out)
 }

@@ -26,6 +26,7 @@ mod truth;
 pub use plain::Plain;
 pub use tx_state::{
     Cause, Event, Hop, Network, Party, Path, Phase, Refusal, Reply, Service, Ticket,
-    certified_is_sound, drive, every_nc_is_excused, hops_join_and_carry_once, lines_take_part_once,
-    ranks_fall, routes_are_bounded, spare_groups_suffice, tickets_are_appended,
+    certified_is_sound, common_ranks_certify, drive, every_nc_is_excused, hops_join_and_carry_once,
+    lines_take_part_once, live_change_is_sound, ranks_fall, routes_are_bounded,
+    spare_groups_suffice, tickets_are_appended,
 };

@@ -10,6 +10,7 @@ ghost use Rattle.tx_mend_report.specs.MendAnswers.{IsConfirmed, mend_report, Men
 use crate::changed_lists::write_mended;
 use crate::unserved::write_unserved;
 use std::alloc::Allocator;
+use thiserror::Error;
 use tx_cert::Cert;
 use tx_check::{Verdict, check};
 use tx_mend::{Mending, mend};
@@ -17,11 +18,13 @@ use tx_plan::{Plan, Routes};
 use tx_text::{Sink, WriteFault};
 
 /// Why there is no whole report.
-#[derive(Clone, Copy)]
+#[derive(Clone, Copy, Debug, Error)]
 pub enum MendFault {
     /// The sink failed.
+    #[error("a write failed")]
     Write,
     /// Want of memory. Nothing was written.
+    #[error("no memory")]
     NoMemory,
 }
 

@@ -28,7 +28,8 @@ impl Ahead {
     /// Reads the next piece where the last one was given whole.
     pub(crate) fn refill<R: Source>(&mut self, input: &mut R) -> Result<(), ReadFault>
         requires { self.old.failed ≡ false }
-        ensures bytes { prepend_known self.new.held (R.rest input.new) ≡ prepend_known self.old.held (R.rest input.old) }
+        ensures bytes { prepend_known self.new.held (R.rest input.new)
+            ≡ prepend_known self.old.held (R.rest input.old) }
         ensures end { IfOk result (λ _. self.new.held ≡ [] → IsAtEnd (R.rest input.new)) }
         ensures kept { OnErr result (self.new.held ≡ self.old.held) }
         ensures call { Refilled R.called result self.old self.new input.old input.new }

@@ -2,7 +2,8 @@
 ghost use Rattle.std.specs.Prelude.{◌≡◌, ◌≢◌, ◌+◌, ◌<◌, ◌≤◌, [], ◌++◌, ℕ, List, drop, length, false};
 ghost use Rattle.tx_pipe.specs.inner.Seen.{after, is_over, end_from};
 
-/// What was seen of a plan: that it is over, or of the line in hand as much as tells whether its one word is END.
+/// What was seen of a plan: that it is over, or of the line in hand as much as tells whether its
+/// one word is END.
 #[derive(Clone, Copy, PartialEq, Eq)]
 pub(crate) enum Seen {
     /// Blanks alone.
@@ -52,7 +53,8 @@ impl Seen {
     /// Takes the bytes up to the end of the plan, and tells how many those are.
     pub(crate) fn take(&mut self, bytes: &[u8]) -> usize
         ensures within { result ≤ length bytes.now }
-        ensures end { (more : List ℕ) → end_from self.old (bytes.now ++ more) ≡ result + end_from self.new (drop result bytes.now ++ more) }
+        ensures end { (more : List ℕ) → end_from self.old (bytes.now ++ more)
+            ≡ result + end_from self.new (drop result bytes.now ++ more) }
         ensures all { is_over self.new ≡ false → result ≡ length bytes.now }
         ensures some { is_over self.old ≡ false → bytes.now ≢ [] → 0 < result }
     {

@@ -6,12 +6,13 @@ use Rattle.clap.specs.Words.{Row, first_of, one_of, subcommand_of}
 use Rattle.tx_program.specs.Entries.{texts, explanation}
 use Rattle.tx_program.specs.Grammar.{program_words}
 use Rattle.tx_program.specs.declared.command.Command.{Command}
-use Rattle.tx_program.specs.declared.command.Command.TheVariants.{Pipe, Run, Check, Codes, Audit, Grade, Draw, Explain}
+use Rattle.tx_program.specs.declared.command.Command.TheVariants.{Pipe, Run, Check, Codes, Audit, Change, Grade, Draw, Explain}
 
 -- a limit is at most 62, and a spare number at most 15
 abbrev pub IsInRange : Command → Type 0
 IsInRange (Run plan script (Some (cert, limit, spare))) = (limit ≤ 62) × (spare ≤ 15)
 IsInRange (Audit plan limit spare cert counter) = (limit ≤ 62) × (spare ≤ 15)
+IsInRange (Change old new limit spare cert mixture counter) = (limit ≤ 62) × (spare ≤ 15)
 IsInRange (Check plan cert limit spare) = (limit ≤ 62) × (spare ≤ 15)
 IsInRange (Draw plan (Some (code, Some (limit, spare)))) = (limit ≤ 62) × (spare ≤ 15)
 IsInRange other = Unit {0}
@@ -40,6 +41,12 @@ Asks name found (Check plan cert limit spare) =
 Asks name found (Codes plan) = (name ≡ codes "codes") × Names found (codes "plan") plan
 Asks name found (Audit plan limit spare cert counter) =
     (name ≡ codes "audit") × Names found (codes "plan") plan × Gives found (codes "limit") limit × Gives found (codes "spare") spare × (first_of (codes "cert") found ≡ option_map string_bytes cert)
+    × (first_of (codes "counter") found ≡ option_map string_bytes counter)
+Asks name found (Change old new limit spare cert mixture counter) =
+    (name ≡ codes "change") × Names found (codes "old") old × Names found (codes "new") new
+    × Gives found (codes "limit") limit × Gives found (codes "spare") spare
+    × (first_of (codes "cert") found ≡ option_map string_bytes cert)
+    × (first_of (codes "mixture") found ≡ option_map string_bytes mixture)
     × (first_of (codes "counter") found ≡ option_map string_bytes counter)
 Asks name found (Grade plan) = (name ≡ codes "grade") × Names found (codes "plan") plan
 Asks name found (Draw plan None) =

@@ -359,18 +359,18 @@ pub static TABLE: [Entry; 63] = [
         "F2",
         "LOOP",
         "The lists lead back to an exchange that the walk has passed.",
-        "Take one group of the loop out of the list of the exchange that stands before it in the walk.",
+        "Take one group of the loop out of the list of the exchange that stands before it in the walk. In a change, each list of the walk is the old one or the new one: if both plans are safe, change in two steps, by a plan in which no call goes so.",
     ],
     [
         "F3",
         "SHORT",
         "An exchange has too few groups for the spare number.",
-        "Add a group to its list, or ask for a smaller k.",
+        "Add a group to its list, or ask for a smaller k. In a change it is the old list or the new one that is short.",
     ],
     [
         "F4",
         "LONG",
         "A call can pass more transits than the limit.",
-        "Let an exchange of the walk lead on directly, or ask for a greater L.",
+        "Let an exchange of the walk lead on directly, or ask for a greater L. In a change, do as for F2.",
     ],
 ];

@@ -44,6 +44,17 @@ pub enum Command {
         cert: Option<String>,
         counter: Option<String>,
     },
+    /// `change OLD NEW --limit L --spare K`: the certificate goes to a file, if one is named, and
+    /// so do the mixture and the counter script.
+    Change {
+        old: String,
+        new: String,
+        limit: u8,
+        spare: u8,
+        cert: Option<String>,
+        mixture: Option<String>,
+        counter: Option<String>,
+    },
     /// `grade PLAN`: with which limits and spare numbers the plan is safe.
     Grade {
         plan: String,
@@ -103,7 +114,8 @@ fn check_of(alloc: Global, plan: String, matches: &ArgMatches<'_>) -> Result<Com
     requires { Names (rows_of (found_of matches.now)) (codes "plan") plan }
     ensures range { IfOk result IsInRange }
     ensures asked { IfOk result (Asks (codes "check") (rows_of (found_of matches.now))) }
-    ensures refused { IfErr result (IsRefused (Some (codes "check", rows_of (found_of matches.now)))) }
+    ensures refused { IfErr result
+        (IsRefused (Some (codes "check", rows_of (found_of matches.now)))) }
 {
     let cert = text(alloc, matches, "cert")?;
     match (cert, bounds(matches)) {
@@ -122,7 +134,8 @@ fn audit_of(alloc: Global, plan: String, matches: &ArgMatches<'_>) -> Result<Com
     requires { Names (rows_of (found_of matches.now)) (codes "plan") plan }
     ensures range { IfOk result IsInRange }
     ensures asked { IfOk result (Asks (codes "audit") (rows_of (found_of matches.now))) }
-    ensures refused { IfErr result (IsRefused (Some (codes "audit", rows_of (found_of matches.now)))) }
+    ensures refused { IfErr result
+        (IsRefused (Some (codes "audit", rows_of (found_of matches.now)))) }
 {
     let cert = text(alloc, matches, "cert")?;
     let counter = text(alloc, matches, "counter")?;
@@ -138,12 +151,39 @@ fn audit_of(alloc: Global, plan: String, matches: &ArgMatches<'_>) -> Result<Com
     }
 }
 
+/// The words of `change`.
+fn change_of(alloc: Global, matches: &ArgMatches<'_>) -> Result<Command, Refusal>
+    ensures range { IfOk result IsInRange }
+    ensures asked { IfOk result (Asks (codes "change") (rows_of (found_of matches.now))) }
+    ensures refused { IfErr result
+        (IsRefused (Some (codes "change", rows_of (found_of matches.now)))) }
+{
+    let old = text(alloc, matches, "old")?;
+    let new = text(alloc, matches, "new")?;
+    let cert = text(alloc, matches, "cert")?;
+    let mixture = text(alloc, matches, "mixture")?;
+    let counter = text(alloc, matches, "counter")?;
+    match (old, new, bounds(matches)) {
+        (Some(old), Some(new), Some((limit, spare))) => Ok(Command::Change {
+            old,
+            new,
+            limit,
+            spare,
+            cert,
+            mixture,
+            counter,
+        }),
+        _ => Err(Refusal::Incomplete),
+    }
+}
+
 /// The words of `run` behind the plan.
 fn run_of(alloc: Global, plan: String, matches: &ArgMatches<'_>) -> Result<Command, Refusal>
     requires { Names (rows_of (found_of matches.now)) (codes "plan") plan }
     ensures range { IfOk result IsInRange }
     ensures asked { IfOk result (Asks (codes "run") (rows_of (found_of matches.now))) }
-    ensures refused { IfErr result (IsRefused (Some (codes "run", rows_of (found_of matches.now)))) }
+    ensures refused { IfErr result
+        (IsRefused (Some (codes "run", rows_of (found_of matches.now)))) }
 {
     let Some(script) = text(alloc, matches, "script")? else {
         return Err(Refusal::Incomplete);
@@ -169,7 +209,8 @@ fn draw_of(alloc: Global, plan: String, matches: &ArgMatches<'_>) -> Result<Comm
     requires { Names (rows_of (found_of matches.now)) (codes "plan") plan }
     ensures range { IfOk result IsInRange }
     ensures asked { IfOk result (Asks (codes "draw") (rows_of (found_of matches.now))) }
-    ensures refused { IfErr result (IsRefused (Some (codes "draw", rows_of (found_of matches.now)))) }
+    ensures refused { IfErr result
+        (IsRefused (Some (codes "draw", rows_of (found_of matches.now)))) }
 {
     let code = text(alloc, matches, "code")?;
     let routes = match (code, is_given(matches, "limit"), is_given(matches, "spare")) {
@@ -188,7 +229,8 @@ fn draw_of(alloc: Global, plan: String, matches: &ArgMatches<'_>) -> Result<Comm
 fn explain_of(alloc: Global, matches: &ArgMatches<'_>) -> Result<Command, Refusal>
     ensures range { IfOk result IsInRange }
     ensures asked { IfOk result (Asks (codes "explain") (rows_of (found_of matches.now))) }
-    ensures refused { IfErr result (IsRefused (Some (codes "explain", rows_of (found_of matches.now)))) }
+    ensures refused { IfErr result
+        (IsRefused (Some (codes "explain", rows_of (found_of matches.now)))) }
 {
     let Some(word) = text(alloc, matches, "code")? else {
         return Ok(Command::Explain { entry: None });
@@ -228,8 +270,10 @@ fn command_of(alloc: Global, name: &str, matches: &ArgMatches<'_>) -> Result<Com
     ensures asked { IfOk result (Asks name.now (rows_of (found_of matches.now))) }
     ensures refused { IfErr result (IsRefused (Some (name.now, rows_of (found_of matches.now)))) }
 {
-    if name == "explain" {
-        return explain_of(alloc, matches);
+    match name {
+        "change" => return change_of(alloc, matches),
+        "explain" => return explain_of(alloc, matches),
+        _ => {}
     }
     match text(alloc, matches, "plan")? {
         Some(plan) => plan_command(alloc, name, plan, matches),
@@ -255,7 +299,8 @@ fn in_its_words(
     kind: ErrorKind,
     message: &str,
 ) -> Result<WordsFault, AllocError>
-    ensures { IfOk result (λ fault. (command : Option (List ℕ × List Row)) → IsRefusalIn command fault) }
+    ensures { IfOk result
+        (λ fault. (command : Option (List ℕ × List Row)) → IsRefusalIn command fault) }
 {
     let e = grammar.error(kind, message)?;
     Ok(WordsFault::of_clap(e))
@@ -263,7 +308,8 @@ fn in_its_words(
 
 /// Why the words are refused. What has no fault of its own is told in the words of the library.
 fn words_fault(grammar: &mut clap::Command<'_>, refusal: Refusal) -> Result<WordsFault, AllocError>
-    ensures { IfOk result (λ fault. (command : Option (List ℕ × List Row)) → IsRefused command refusal → IsRefusalIn command fault) }
+    ensures { IfOk result (λ fault. (command : Option (List ℕ × List Row))
+        → IsRefused command refusal → IsRefusalIn command fault) }
 {
     match refusal {
         Refusal::Together => Ok(WordsFault::Together),

@@ -1,6 +1,6 @@
 // The words that the program takes, with what it tells of them when asked for help.
 ghost use Rattle.std.specs.Prelude.{◌≡◌, false, Ok, Some, IfOk, codes};
-ghost use Rattle.clap.specs.Words.{AddsSubcommand, App, app_of, new_rule, rule_of, with_rule, with_subcommand};
+ghost use Rattle.clap.specs.Words.{AddsSubcommand, App, app_of, new_rule, rule_of, with_rule};
 ghost use Rattle.clap.specs.declared.builder.action.ArgAction.TheVariants.{Set};
 ghost use Rattle.clap.specs.declared.builder.command.Command.{Command};
 ghost use Rattle.tx_program.specs.Grammar as grammar;
@@ -207,6 +207,44 @@ fn audit_grammar<'a>(alloc: Global) -> Result<clap::Command<'a>, AllocError>
     )
 }
 
+fn change_grammar<'a>(alloc: Global) -> Result<clap::Command<'a>, AllocError>
+    ensures { IfOk result (λ c. app_of c ≡ grammar.change_words) }
+{
+    let change = Ok(clap::Command::new(alloc, "change").about(
+        "Say whether a plan can be changed into another one of the same network, list by list and in any order, so that it is safe at every moment: YES, or NO with what is wrong",
+    ));
+    let change = with_file(change, alloc, "old", "OLD", "The plan that is in force");
+    let change = with_file(
+        change,
+        alloc,
+        "new",
+        "NEW",
+        "The plan that is to be: the same exchanges, codes, lines and groups, with other routes and bars",
+    );
+    let change = with_bounds(change, alloc, true);
+    let change = with_option(
+        change,
+        alloc,
+        "cert",
+        "CERT",
+        "After YES, write a certificate of both plans to this file",
+    );
+    let change = with_option(
+        change,
+        alloc,
+        "mixture",
+        "PLAN",
+        "After NO, write a plan of old and new lists to this file that shows the first finding that has a walk",
+    );
+    with_option(
+        change,
+        alloc,
+        "counter",
+        "SCRIPT",
+        "After NO, write a script to this file that shows the same finding in that plan, if there is one",
+    )
+}
+
 fn grade_grammar<'a>(alloc: Global) -> Result<clap::Command<'a>, AllocError>
     ensures { IfOk result (λ c. app_of c ≡ grammar.grade_words) }
 {
@@ -288,13 +326,14 @@ fn with_command<'a>(
 
 /// The program with the commands that judge a plan.
 fn judging_grammar<'a>(alloc: Global) -> Result<clap::Command<'a>, AllocError>
-    ensures { IfOk result (λ c. app_of c ≡ with_subcommand (with_subcommand (with_subcommand grammar.top_words grammar.audit_words.top) grammar.grade_words.top) grammar.check_words.top) }
+    ensures { IfOk result (λ c. app_of c ≡ grammar.judging_words) }
 {
+    let program = with_command(
+        with_command(top_grammar(alloc), audit_grammar(alloc)),
+        grade_grammar(alloc),
+    );
     with_command(
-        with_command(
-            with_command(top_grammar(alloc), audit_grammar(alloc)),
-            grade_grammar(alloc),
-        ),
+        with_command(program, change_grammar(alloc)),
         check_grammar(alloc),
     )
 }

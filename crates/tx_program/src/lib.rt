@@ -3,6 +3,7 @@
 #![tactic(auto)]
 
 mod audited;
+mod changed;
 mod code_table;
 mod command;
 mod command_fault;
@@ -13,6 +14,7 @@ mod explanation;
 mod fault;
 mod folder;
 mod grammar;
+mod kept;
 mod new_file;
 mod opened;
 mod perform;

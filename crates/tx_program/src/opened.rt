@@ -4,6 +4,7 @@ ghost use Rattle.tx_program.specs.declared.command.Command.TheVariants.{Run, Dra
 ghost use Rattle.tx_program.specs.Commands.{IsInRange};
 
 use crate::folder::Folder;
+use crate::kept::Keep;
 use crate::{Command, Entry};
 use std::io::Read;
 use tx_jobs::JobFault;
@@ -26,15 +27,6 @@ impl Bounds {
     {
         Bounds { limit, spare }
     }
-}
-
-/// Where what shows the verdict of an audit is to be kept.
-#[derive(Clone, Copy)]
-pub(crate) struct Keep<'a> {
-    /// The file of the certificate.
-    pub cert: Option<&'a str>,
-    /// The file of the counter script.
-    pub counter: Option<&'a str>,
 }
 
 /// What is done over a plan alone.
@@ -76,6 +68,12 @@ pub(crate) enum Opened<'a, I: Read + Drop, R: Read + Drop> {
         bounds: Bounds,
         keep: Keep<'a>,
     },
+    Change {
+        old: R,
+        new: R,
+        bounds: Bounds,
+        keep: Keep<'a>,
+    },
     Plan {
         plan: R,
         job: PlanJob<'a>,
@@ -114,7 +112,8 @@ fn open_both<F: Folder>(
 }
 
 impl<'a, I: Read + Drop, R: Read + Drop> Opened<'a, I, R> {
-    /// Opens the files of a command, in the order plan, certificate, script.
+    /// Opens the files of a command, in the order plan, certificate, script; of a change, the old
+    /// plan and then the new one.
     pub(crate) fn new<F: Folder<Input = R>>(
         command: &'a Command,
         folder: &F,
@@ -146,6 +145,18 @@ impl<'a, I: Read + Drop, R: Read + Drop> Opened<'a, I, R> {
                 cert,
                 counter,
             } => Opened::audit(folder, plan, Bounds::of(*limit, *spare), cert, counter),
+            Command::Change {
+                old,
+                new,
+                limit,
+                spare,
+                cert,
+                mixture,
+                counter,
+            } => {
+                let bounds = Bounds::of(*limit, *spare);
+                Opened::change(folder, old, new, bounds, cert, mixture, counter)
+            }
         }
     }
 
@@ -237,8 +248,32 @@ impl<'a, I: Read + Drop, R: Read + Drop> Opened<'a, I, R> {
         let plan = open(folder, plan.as_str())?;
         let keep = Keep {
             cert: name_of(cert),
+            mixture: None,
             counter: name_of(counter),
         };
         Ok(Opened::Audit { plan, bounds, keep })
+    }
+
+    fn change<F: Folder<Input = R>>(
+        folder: &F,
+        old: &String,
+        new: &String,
+        bounds: Bounds,
+        cert: &'a Option<String>,
+        mixture: &'a Option<String>,
+        counter: &'a Option<String>,
+    ) -> Result<Opened<'a, I, R>, JobFault> {
+        let (old, new) = open_both(folder, old.as_str(), new.as_str())?;
+        let keep = Keep {
+            cert: name_of(cert),
+            mixture: name_of(mixture),
+            counter: name_of(counter),
+        };
+        Ok(Opened::Change {
+            old,
+            new,
+            bounds,
+            keep,
+        })
     }
 }

@@ -3,6 +3,7 @@ ghost use Rattle.std.specs.Prelude.{◌≡◌, ◌≤◌, IfSome, option_map};
 ghost use Rattle.tx_program.specs.Commands.{IsInRange};
 
 use crate::audited::audit_file;
+use crate::changed::change_files;
 use crate::command_fault::CommandFault;
 use crate::ends::Output;
 use crate::folder::Folder;
@@ -60,6 +61,12 @@ fn do_job<A: Allocator + Copy, F: Folder, I: Read + Drop, O: Write + Drop>(
         Opened::Audit { plan, bounds, keep } => {
             audit_file(alloc, plan, bounds, keep, folder, output)?
         }
+        Opened::Change {
+            old,
+            new,
+            bounds,
+            keep,
+        } => change_files(alloc, old, new, bounds, keep, folder, output)?,
         Opened::Explain { entry } => explain(entry, output)?,
     };
     Ok(status)

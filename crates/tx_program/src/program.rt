@@ -1,8 +1,8 @@
 // The program, from its words to its exit status.
 ghost use Rattle.std.specs.Prelude.{◌≡◌, ◌⊎◌};
 ghost use Rattle.tx_program.specs.Commands.{IsInRange};
-ghost use Rattle.tx_jobs.specs.JobFaults.{status_of};
 ghost use Rattle.tx_program.specs.Statuses.{AskNothing, IsRefusedWith};
+ghost use Rattle.tx_program.specs.inner.Stopped.{status_of_command};
 ghost use Rattle.tx_program.specs.Faults.{status_of as words_status};
 
 use crate::command_fault::CommandFault;
@@ -12,7 +12,7 @@ use crate::tell::tell_words;
 use crate::{Command, WordsFault, read_command};
 use std::alloc::{Allocator, Global};
 use std::io::{Read, Write};
-use tx_jobs::{JobFault, write_fault};
+use tx_jobs::{JobFault, write_change_fault, write_fault};
 use tx_text::{ToWrite, write_bytes};
 
 /// The ends of the program: a folder of files, standard input, standard output and standard error.
@@ -67,7 +67,7 @@ fn refuse_words<F: Folder, I: Read + Drop, O: Write + Drop, E: Write + Drop>(
     drop(output);
     let status = fault.status();
     if told.is_err() && status == 0 {
-        return tell_fault(&JobFault::Write, errors);
+        return tell_fault(&CommandFault::Job(JobFault::Write), errors);
     }
     status
 }
@@ -90,26 +90,21 @@ pub fn run_command<
     } = ends;
     match perform(alloc, command, folder, input, output) {
         Ok(status) => status,
-        Err(CommandFault::Job(fault)) => tell_fault(&fault, errors),
-        Err(CommandFault::NoSuchCode) => refuse_code(errors),
+        Err(fault) => tell_fault(&fault, errors),
     }
 }
 
-/// Tells that a plan has no code of the figures that were to be drawn, and answers the exit status.
-fn refuse_code<E: Write + Drop>(errors: E) -> u8
-    ensures { result ≡ 64 }
+/// Tells why a command was not done by one line on standard error, and answers the exit status.
+fn tell_fault<E: Write + Drop>(fault: &CommandFault, errors: E) -> u8
+    ensures { result ≡ status_of_command fault.now }
 {
-    let _ = write_bytes(
-        b"telexplan: no such code in the plan\n",
-        &mut ToWrite::new(errors),
-    );
-    64
-}
-
-/// Tells a fault by its line, and answers its exit status.
-fn tell_fault<E: Write + Drop>(fault: &JobFault, errors: E) -> u8
-    ensures { result ≡ status_of fault.now }
-{
-    let _ = write_fault(fault, &mut ToWrite::new(errors));
+    let mut errors = ToWrite::new(errors);
+    let _ = match fault {
+        CommandFault::Job(fault) => write_fault(fault, &mut errors),
+        CommandFault::Change(fault) => write_change_fault(fault, &mut errors),
+        CommandFault::NoSuchCode => {
+            write_bytes(b"telexplan: no such code in the plan\n", &mut errors)
+        }
+    };
     fault.status()
 }

@@ -1,8 +1,10 @@
 // A run that stopped.
 use crate::run_cause::RunCause;
+use thiserror::Error;
 
 /// Where and why a run stopped: `event` is one more than the number of events, refused ones included, whose reply and tickets were written whole.
-#[derive(Clone, Copy, PartialEq, Eq)]
+#[derive(Clone, Copy, Debug, PartialEq, Eq, Error)]
+#[error("event {event}: {cause}")]
 pub struct RunFault {
     pub event: u64,
     pub cause: RunCause,

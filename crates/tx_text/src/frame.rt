@@ -9,36 +9,48 @@ ghost use Rattle.tx_text.specs.declared.frame.LineForm.TheVariants.{Plain};
 use crate::line_fault::LineFault;
 use crate::line_words::{Words, is_blank};
 use crate::split::words;
+use std::fmt::Display;
+use thiserror::Error;
 
 /// What is wrong with the form of a text.
-#[derive(Clone, Copy, PartialEq, Eq)]
+#[derive(Clone, Copy, Debug, PartialEq, Eq, Error)]
 pub enum FormFault {
     /// The first line with words is not the header, or no line has words.
+    #[error("the header is missing")]
     NoHeader,
     /// The text ends without END, or in the middle of a line with words that is not the one word END.
+    #[error("the text ends without END, or in the middle of a line")]
     NoEnd,
     /// A line behind END has words.
+    #[error("words stand behind END")]
     AfterEnd,
 }
 
 /// What is wrong with a text beside the words of its lines.
-#[derive(Clone, Copy, PartialEq, Eq)]
+#[derive(Clone, Copy, Debug, PartialEq, Eq, Error)]
 pub enum FrameFault {
     /// A line could not be read.
+    #[error(transparent)]
     Line(LineFault),
     /// Header or END.
+    #[error(transparent)]
     Form(FormFault),
 }
 
 /// What is wrong with a text: its frame, or the words of a line.
-#[derive(Clone, Copy, PartialEq, Eq)]
+#[derive(Clone, Copy, Debug, PartialEq, Eq, Error)]
+#[error_bound(W: Display)]
 pub enum FaultKind<W> {
+    #[error(transparent)]
     Frame(FrameFault),
+    #[error(transparent)]
     Word(W),
 }
 
 /// A fault of a text, with the number of its line, from 1.
-#[derive(Clone, Copy, PartialEq, Eq)]
+#[derive(Clone, Copy, Debug, PartialEq, Eq, Error)]
+#[error_bound(W: Display)]
+#[error("line {line}: {kind}")]
 pub struct FaultAt<W> {
     pub line: u64,
     pub kind: FaultKind<W>,
@@ -56,7 +68,8 @@ pub enum FramePart {
 }
 
 /// A fault of the frame, with the number of its line, from 1.
-#[derive(Clone, Copy)]
+#[derive(Clone, Copy, Debug, Error)]
+#[error("line {line}: {fault}")]
 pub struct FrameStop {
     pub line: u64,
     pub fault: FrameFault,

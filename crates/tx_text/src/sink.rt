@@ -6,8 +6,11 @@ ghost use Rattle.tx_text.specs.declared.sink.WriteFault.{WriteFault};
 ghost use Rattle.tx_text.specs.Ends.{moved, StopsIn};
 ghost use Rattle.tx_text.specs.Wrote.{Wrote};
 
+use thiserror::Error;
+
 /// A sink failed.
-#[derive(Clone, Copy)]
+#[derive(Clone, Copy, Debug, Error)]
+#[error("a write failed")]
 pub struct WriteFault;
 
 /// Where bytes go.

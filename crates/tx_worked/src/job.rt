@@ -2,21 +2,20 @@
 ghost use Rattle.std.specs.Prelude.{◌≤◌, IfSome};
 
 use crate::cases::{End, Ends, Job, ROOM, Refusing, Task, Told, tell, tell_broken};
+use crate::evidences::{do_audit, do_change};
+use crate::fault::Fault;
 use itoa::Buffer;
 use std::alloc::{Allocator, Global};
-use tx_audit::write_counter;
-use tx_cert::{Cert, write_cert};
 use tx_jobs::{
-    CounterScript, Drawn, Evidence, JobFault, check_status, codes_status, draw_job, evidence_job,
-    grade_status, pipe_job, run_checked_status, run_job,
+    Drawn, JobFault, check_status, codes_status, draw_job, grade_status, pipe_job,
+    run_checked_status, run_job,
 };
-use tx_plan::Plan;
-use tx_text::{MemorySink, MemorySource, WriteFault};
+use tx_text::{MemorySink, MemorySource};
 
 /// What a whole job does, beside which others are judged: its exit status or its fault, and what it writes.
 #[derive(Clone, Copy)]
 pub(crate) struct Whole<'a> {
-    pub answer: Result<u8, JobFault>,
+    pub answer: Result<u8, Fault>,
     pub text: &'a [u8],
 }
 
@@ -24,7 +23,7 @@ pub(crate) struct Whole<'a> {
 /// memory came that was to be refused.
 #[derive(Clone, Copy)]
 pub(crate) struct Did {
-    pub answer: Result<u8, JobFault>,
+    pub answer: Result<u8, Fault>,
     pub written: usize,
     pub is_front: bool,
     pub came: bool,
@@ -38,7 +37,7 @@ impl Did {
 
     /// Whether it stopped with a fault, and wrote a front of what the whole job writes.
     pub(crate) fn stopped(&self, fault: JobFault) -> bool {
-        self.is_front && self.answer == Err(fault)
+        self.is_front && self.answer.is_err_and(|it| it.is(fault))
     }
 }
 
@@ -46,57 +45,6 @@ impl Did {
 fn status<T: Copy>(answer: Result<T, JobFault>) -> Result<u8, JobFault> {
     match answer {
         Ok(_) => Ok(0),
-        Err(fault) => Err(fault),
-    }
-}
-
-/// The exit status of an audit that wrote something behind its report.
-fn status_behind(status: u8, written: Result<(), WriteFault>) -> Result<u8, JobFault> {
-    match written {
-        Ok(()) => Ok(status),
-        Err(WriteFault) => Err(JobFault::Write),
-    }
-}
-
-/// Writes the certificate of a plan.
-fn keep_cert<A: Allocator>(
-    plan: Plan<A>,
-    cert: Cert<A>,
-    out: &mut MemorySink,
-) -> Result<(), WriteFault> {
-    let written = write_cert(&cert, &plan, out);
-    drop(cert);
-    drop(plan);
-    written
-}
-
-/// Writes a counter script.
-fn keep_script<A: Allocator>(
-    script: CounterScript<A>,
-    out: &mut MemorySink,
-) -> Result<(), WriteFault> {
-    let written = write_counter(&script.plan, script.events.as_slice(), out);
-    let CounterScript { plan, events } = script;
-    drop(events);
-    drop(plan);
-    written
-}
-
-/// Audits a plan, and writes behind the report what shows its verdict.
-fn do_audit<A: Allocator + Copy>(
-    alloc: A,
-    plan: &mut MemorySource<'_>,
-    limit: u8,
-    spare: u8,
-    out: &mut MemorySink,
-) -> Result<u8, JobFault>
-    requires limit { limit ≤ 62 }
-    requires spare { spare ≤ 15 }
-{
-    match evidence_job(alloc, plan, limit, spare, true, out) {
-        Ok(Evidence::Sound(plan, cert)) => status_behind(0, keep_cert(plan, cert, out)),
-        Ok(Evidence::Unsound(Some(script))) => status_behind(1, keep_script(script, out)),
-        Ok(Evidence::Unsound(None)) => Ok(1),
         Err(fault) => Err(fault),
     }
 }
@@ -173,8 +121,8 @@ fn do_job<A: Allocator + Copy>(
     }
 }
 
-/// Does a task, and answers its exit status.
-pub(crate) fn do_task<A: Allocator + Copy>(
+/// Does a task that is no change, and answers its exit status.
+fn do_other<A: Allocator + Copy>(
     alloc: A,
     task: Task<'_>,
     ends: Ends,
@@ -187,6 +135,28 @@ pub(crate) fn do_task<A: Allocator + Copy>(
     let mut second = ends.source(End::Second, task.second);
     let mut third = ends.source(End::Third, task.third);
     do_job(alloc, task.job, &mut first, &mut second, &mut third, out)
+}
+
+/// Does a task, and answers its exit status.
+fn do_task<A: Allocator + Copy>(
+    alloc: A,
+    task: Task<'_>,
+    ends: Ends,
+    out: &mut MemorySink,
+) -> Result<u8, Fault> {
+    if let Job::Change { limit, spare } = task.job {
+        let mut old = ends.source(End::First, task.first);
+        let mut new = ends.source(End::Second, task.second);
+        let did = do_change(alloc, &mut old, &mut new, limit.min(62), spare.min(15), out);
+        return match did {
+            Ok(status) => Ok(status),
+            Err(fault) => Err(Fault::Change(fault)),
+        };
+    }
+    match do_other(alloc, task, ends, out) {
+        Ok(status) => Ok(status),
+        Err(fault) => Err(Fault::Job(fault)),
+    }
 }
 
 /// Does a task into a room, and tells what it did beside what is to be written. The allocator is the same for each task, so that each job is built once.
@@ -216,7 +186,7 @@ pub(crate) fn done(alloc: Global, task: Task<'_>, ends: Ends, whole: &[u8]) -> D
             did
         }
         Err(_) => Did {
-            answer: Err(JobFault::NoMemory),
+            answer: Err(Fault::Job(JobFault::NoMemory)),
             written: 0,
             is_front: false,
             came: false,

@@ -2,6 +2,7 @@
 use crate::cases::{
     End, Ends, Refusing, Task, Told, calls_left, sources, tell, tell_broken, tell_count, with_last,
 };
+use crate::fault::Fault;
 use crate::job::{Whole, done};
 use crate::runs::{Ran, Script, WholeRun, run_beside, run_text, told_cause};
 use crate::stretches::{Happens, Stretches};
@@ -23,7 +24,7 @@ fn happens(ran: &Ran, bytes: Option<u64>) -> Happens {
         Err(fault) => Happens {
             event: Some(fault.event),
             bytes,
-            fault: Some(told_cause(fault.cause)),
+            fault: Some(Fault::Job(told_cause(fault.cause))),
         },
     }
 }

@@ -8,7 +8,10 @@
 //!
 //! - `pipe` has a plan and a script in one text, `run` in two; `both` has them in one, which is played in both ways. `codes`, `grade` and `audit L K` have a plan,
 //!   `check L K` a plan and a certificate, `checked L K` (a run after a Yes) these and a script. An audit writes behind its report the certificate that it
-//!   found, or the script of the first finding that has one. Each is played by sources of 1, 2, 7 and 4,096 bytes a call, which has to make no difference.
+//!   found, or the script of the first finding that has one. `change L K` has an old plan and a
+//!   new one, and writes behind its report the certificate, or the mixture of the first finding
+//!   that has a walk, and its script.
+//!   Each is played by sources of 1, 2, 7 and 4,096 bytes a call, which has to make no difference.
 //!   `draw`, `draw CODE` and `draw CODE L K` have a plan.
 //! - `pictures` and `pictures L K` have a plan, which is drawn, and each of its codes, with the walk of the code's first finding where there are numbers.
 //! - `each-end` before such a kind also refuses each request for memory, gives each smaller room, and makes each call of each source fail. The lines with
@@ -22,15 +25,19 @@
 //! - `cert` has a plan and a certificate, and `plan` a plan, which are written and read back. A new certificate of the plan is written before.
 //! - `program` plays the program at its ends, over the files beside the folder `cases`: `cases/end_case.rt` has what stands in its head. `arguments` tells how it
 //!   refuses its arguments.
-//! - `family` judges the ranking over a family of plans (`walks`), and `twins` plays the engine beside the plain network (`twins`). The calls of the crates below
-//!   have the kinds of `tests`.
+//! - `family` judges the ranking over a family of plans, and `pairs` the change of each into each.
+//!   `twins` plays the engine beside the plain network. The calls of the crates below have the kinds
+//!   of `tests`.
 #![tactic(auto)]
 
 mod cases;
+mod changes;
 mod checked;
 mod driven;
 mod end_cases;
 mod end_play;
+mod evidences;
+mod fault;
 mod job;
 mod listings;
 mod pictures;

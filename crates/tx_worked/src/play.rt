@@ -13,7 +13,6 @@ use crate::whole_runs::{Part, play_run};
 use crate::written::{play_cert, play_plan};
 use memchr::memmem;
 use std::alloc::Global;
-use tx_jobs::write_fault;
 use tx_text::MemorySink;
 
 /// Plays a case of texts by its kind: as a job, or by writing and reading back, or over both networks.
@@ -103,7 +102,7 @@ fn try_plain(alloc: Global, run: Task<'_>, job: &[u8], out: &mut Told) {
 fn tell_whole(whole: Whole<'_>, out: &mut Told) {
     tell(whole.text, out);
     if let Err(fault) = whole.answer {
-        let _ = write_fault(&fault, out);
+        fault.tell(out);
     }
 }
 

@@ -3,6 +3,7 @@ use crate::cases::{
     Case, Head, Kind, Told, cases_of, head_of, next_case, spell, tell, tell_broken, tell_count,
     tell_differing,
 };
+use crate::changes::play_pairs;
 use crate::end_cases::{play_arguments, play_program};
 use crate::play::play_texts;
 use crate::tests::play_call;
@@ -57,6 +58,7 @@ impl<'a> Player<'a> {
             Some(Kind::Program) => play_program(self.rt, case.head, out),
             Some(Kind::Arguments) => play_arguments(alloc, head.first, out),
             Some(Kind::Family) => play_family(alloc, texts, out),
+            Some(Kind::Pairs) => play_pairs(alloc, texts, out),
             Some(Kind::Twins) => play_twins(alloc, head, texts, &mut self.tallies, out),
             None => tell_broken(b"no such kind of case", 0, out),
         }

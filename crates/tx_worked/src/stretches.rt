@@ -1,12 +1,13 @@
 // Lists of what happens at each number, told by stretches of numbers at which the same happens.
 use crate::cases::{Told, tell, tell_count};
-use tx_jobs::{JobFault, write_fault};
+use crate::fault::Fault;
+
 /// What happens at a number: the event and the bytes, where they are told, and the fault.
 #[derive(Clone, Copy, PartialEq, Eq)]
 pub(crate) struct Happens {
     pub event: Option<u64>,
     pub bytes: Option<u64>,
-    pub fault: Option<JobFault>,
+    pub fault: Option<Fault>,
 }
 
 /// Numbers in a row at which the same happens.
@@ -29,9 +30,7 @@ impl Stretch {
             tell_count(b"", bytes, b" bytes, ", out);
         }
         match self.happens.fault {
-            Some(fault) => {
-                let _ = write_fault(&fault, out);
-            }
+            Some(fault) => fault.tell(out),
             None => tell(b"done\n", out),
         }
     }

@@ -33,6 +33,8 @@ pub enum Kind {
     Arguments,
     /// A family of plans, whose ranking is judged by brute force.
     Family,
+    /// A family of plans, each of which is changed into each, judged by brute force.
+    Pairs,
     /// A plan, over which the engine is played beside the plain network.
     Twins,
 }
@@ -58,6 +60,7 @@ pub enum JobKind {
     Grade,
     Check,
     Audit,
+    Change,
     Checked,
     Draw,
 }
@@ -75,13 +78,14 @@ pub enum Driven {
     Starting,
 }
 
-static TEXTS: [(&str, TextKind); 17] = [
+static TEXTS: [(&str, TextKind); 18] = [
     ("pipe", TextKind::Job(JobKind::Pipe)),
     ("run", TextKind::Job(JobKind::Run)),
     ("codes", TextKind::Job(JobKind::Codes)),
     ("grade", TextKind::Job(JobKind::Grade)),
     ("check", TextKind::Job(JobKind::Check)),
     ("audit", TextKind::Job(JobKind::Audit)),
+    ("change", TextKind::Job(JobKind::Change)),
     ("checked", TextKind::Job(JobKind::Checked)),
     ("draw", TextKind::Job(JobKind::Draw)),
     ("both", TextKind::Both),
@@ -95,10 +99,11 @@ static TEXTS: [(&str, TextKind); 17] = [
     ("starting", TextKind::Driven(Driven::Starting)),
 ];
 
-static OTHERS: [(&str, Kind); 4] = [
+static OTHERS: [(&str, Kind); 5] = [
     ("program", Kind::Program),
     ("arguments", Kind::Arguments),
     ("family", Kind::Family),
+    ("pairs", Kind::Pairs),
     ("twins", Kind::Twins),
 ];
 
@@ -185,6 +190,7 @@ pub fn job_of(kind: JobKind, head: Head<'_>) -> Job {
         JobKind::Grade => Job::Grade,
         JobKind::Check => Job::Check { limit, spare },
         JobKind::Audit => Job::Audit { limit, spare },
+        JobKind::Change => Job::Change { limit, spare },
         JobKind::Checked => Job::Checked { limit, spare },
         JobKind::Draw => drawing_of(head.first, head.second, head.third),
     }

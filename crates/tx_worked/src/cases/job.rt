@@ -11,6 +11,8 @@ pub enum Job {
     Check { limit: u8, spare: u8 },
     /// An audit, with its certificate or its counter script behind the report.
     Audit { limit: u8, spare: u8 },
+    /// A change of plan, with its certificate, or its mixture and script, behind the report.
+    Change { limit: u8, spare: u8 },
     /// A run after a Yes of the checker.
     Checked { limit: u8, spare: u8 },
     /// The picture of a plan.
@@ -53,6 +55,7 @@ pub fn job_name(job: Job) -> &'static [u8] {
         Job::Grade => b"grade",
         Job::Check { .. } => b"check",
         Job::Audit { .. } => b"audit",
+        Job::Change { .. } => b"change",
         Job::Checked { .. } => b"checked",
         Job::Draw | Job::DrawCode { .. } | Job::DrawFinding { .. } => b"draw",
     }
@@ -68,7 +71,7 @@ pub fn sources(job: Job) -> u8 {
         | Job::Draw
         | Job::DrawCode { .. }
         | Job::DrawFinding { .. } => 1,
-        Job::Run | Job::Check { .. } => 2,
+        Job::Run | Job::Check { .. } | Job::Change { .. } => 2,
         Job::Checked { .. } => 3,
     }
 }

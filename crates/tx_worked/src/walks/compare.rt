@@ -25,6 +25,12 @@ pub enum Difference {
     FirstScript,
     /// The grade.
     Grade,
+    /// The two plans of a change are told to be of two networks.
+    Networks,
+    /// What a finding of a change shows is no mixture.
+    NoMixture,
+    /// The audit of the mixture that a finding of a change shows.
+    Mixture,
 }
 
 /// Whether a walk is one for a code, with what is wanted wrong.
@@ -50,7 +56,7 @@ fn is_wrong(
 }
 
 /// Whether a finding is the one that is wanted: its walk is one for its code, with this wrong.
-fn shows(plan: &Plan, finding: &Finding, wanted: Wanted, limit: u8, spare: u8) -> bool {
+pub fn shows(plan: &Plan, finding: &Finding, wanted: Wanted, limit: u8, spare: u8) -> bool {
     match (finding, wanted) {
         (Finding::Ambiguous(shorter, longer), Wanted::Ambiguous(first, second)) => {
             *shorter == first && *longer == second

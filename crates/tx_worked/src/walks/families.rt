@@ -84,7 +84,7 @@ fn count_lists_of(line: &[u8], has_two: bool) -> u64 {
 }
 
 /// How many ways a line gives, with the text behind it.
-fn count_ways(line: &[u8], behind: &[u8]) -> u64 {
+pub fn count_ways(line: &[u8], behind: &[u8]) -> u64 {
     match kind_of(line) {
         LineKind::Either => count_passages(behind),
         LineKind::Routes => count_lists_of(line, true),

@@ -11,19 +11,20 @@ use crate::walks::replay::Replay;
 use crate::walks::scripts::{Judged, ScriptTally, scripts_differ};
 use crate::walks::stop::{WalksDiffer, tell_stop};
 use crate::walks::survey::Survey;
+use crate::walks::surveys::survey_codes;
 use crate::walks::tally::{PlanTally, tell_tally};
-use crate::walks::walks::{Steps, note_all_walks};
+use crate::walks::walks::Steps;
 use crate::walks::wanted::{Wanted, put_wanted};
 use std::alloc::Global;
 use tx_cert::Cert;
 use tx_check::{Verdict, check};
-use tx_plan::{CodeId, Plan};
+use tx_plan::Plan;
 use tx_plantext::read_plan;
 use tx_rank::{Finding, Ranking, rank};
 use tx_text::NoMemory;
 
 /// The limits 0 to 2 are tried, and the spare numbers 0 to 2.
-const NUMBERS: u8 = 3;
+pub const NUMBERS: u8 = 3;
 
 /// What the walks of a plan show, and what a run of its events: one of each kind serves all plans of a family.
 #[derive(Drop)]
@@ -161,39 +162,6 @@ fn judge_numbers(
         tally.add_found(surveys);
     } else {
         tally.add_failed(wanted);
-    }
-    Ok(())
-}
-
-/// Looks at all walks for a code.
-fn survey_of(
-    alloc: Global,
-    plan: &Plan,
-    code: CodeId,
-    steps: &mut Steps,
-) -> Result<Survey, NoMemory> {
-    let mut survey = Survey::new(alloc, plan, code)?;
-    match note_all_walks(plan, steps, &mut survey) {
-        Ok(()) => Ok(survey),
-        Err(fault) => {
-            drop(survey);
-            Err(fault)
-        }
-    }
-}
-
-/// Looks at all walks for each code.
-fn survey_codes(
-    alloc: Global,
-    plan: &Plan,
-    steps: &mut Steps,
-    surveys: &mut Vec<Survey>,
-) -> Result<(), NoMemory> {
-    surveys.clear();
-    for place in 0..plan.codes() {
-        if let Some(code) = plan.code_at(place) {
-            surveys.push(survey_of(alloc, plan, code, steps)?)?;
-        }
     }
     Ok(())
 }

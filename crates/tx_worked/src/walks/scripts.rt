@@ -155,7 +155,7 @@ fn runs_and_shows(
 }
 
 /// Whether a finding has the events that it has to have, or rightly none.
-fn is_right(
+pub fn is_right(
     alloc: Global,
     plan: &Plan,
     finding: &Finding,

@@ -1,4 +1,4 @@
-// Why the plans of a family are judged no further.
+// Why the plans of a family, or their pairs, are judged no further.
 use crate::cases::{Stop, Told, tell, tell_count};
 use crate::walks::compare::Difference;
 
@@ -21,6 +21,9 @@ fn said(difference: Difference) -> (&'static [u8], u64) {
         Difference::ScriptAt(place) => (b"script ", place as u64),
         Difference::FirstScript => (b"first script ", 0),
         Difference::Grade => (b"grade ", 0),
+        Difference::Networks => (b"networks ", 0),
+        Difference::NoMixture => (b"no mixture ", 0),
+        Difference::Mixture => (b"mixture ", 0),
     }
 }
 

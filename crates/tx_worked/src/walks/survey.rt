@@ -17,18 +17,20 @@ pub struct Survey {
     pub nearest: Vec<Option<usize>>,
     /// For each exchange, the steps of the longest part of a walk from it to the home; 0 for the home.
     pub heights: Vec<Option<usize>>,
+    /// For each exchange, how many groups it lists.
+    pub groups: Vec<usize>,
 }
 
-/// Takes in a count for an exchange, where it is the greater.
-fn note_greater(counts: &mut [Option<usize>], exchange: ExchangeId, count: usize) {
-    if let Some(known) = counts.get_mut(exchange.index()) {
+/// Takes in a count for the exchange at a place, where it is the greater.
+fn note_greater(counts: &mut [Option<usize>], place: usize, count: usize) {
+    if let Some(known) = counts.get_mut(place) {
         *known = Some(known.unwrap_or(0).max(count));
     }
 }
 
-/// Takes in a count for an exchange, where it is the lesser.
-fn note_lesser(counts: &mut [Option<usize>], exchange: ExchangeId, count: usize) {
-    if let Some(known) = counts.get_mut(exchange.index()) {
+/// Takes in a count for the exchange at a place, where it is the lesser.
+fn note_lesser(counts: &mut [Option<usize>], place: usize, count: usize) {
+    if let Some(known) = counts.get_mut(place) {
         *known = Some(known.unwrap_or(count).min(count));
     }
 }
@@ -36,11 +38,22 @@ fn note_lesser(counts: &mut [Option<usize>], exchange: ExchangeId, count: usize)
 /// Takes in how far a walk that ends at the home goes from each exchange that it passes.
 fn note_heights(heights: &mut [Option<usize>], trail: &Trail<'_>) {
     let mut left = trail.steps.len();
-    note_greater(heights, trail.start, left);
+    note_greater(heights, trail.start.index(), left);
     for (_, exchange) in trail.steps {
         left = left.saturating_sub(1);
-        note_greater(heights, *exchange, left);
+        note_greater(heights, exchange.index(), left);
     }
+}
+
+/// How many groups each exchange lists for a code.
+fn list_lengths(alloc: Global, plan: &Plan, code: CodeId) -> Result<Vec<usize>, NoMemory> {
+    let mut lengths = Vec::new(alloc);
+    for place in 0..plan.exchanges() {
+        if let Some(exchange) = plan.exchange_at(place) {
+            lengths.push(plan.list(exchange, code).len())?;
+        }
+    }
+    Ok(lengths)
 }
 
 impl Survey {
@@ -48,7 +61,7 @@ impl Survey {
     pub fn new(alloc: Global, plan: &Plan, code: CodeId) -> Result<Survey, NoMemory> {
         let home = plan.home(code);
         let mut heights = vec![in alloc; None; plan.exchanges()]?;
-        note_greater(&mut heights, home, 0);
+        note_greater(&mut heights, home.index(), 0);
         Ok(Survey {
             code,
             home,
@@ -56,13 +69,14 @@ impl Survey {
             away: vec![in alloc; false; plan.exchanges()]?,
             nearest: vec![in alloc; None; plan.exchanges()]?,
             heights,
+            groups: list_lengths(alloc, plan, code)?,
         })
     }
 
     /// Takes in a walk.
     pub fn note(&mut self, trail: &Trail<'_>) {
         let steps = trail.steps.len();
-        note_lesser(&mut self.nearest, trail.end(), steps);
+        note_lesser(&mut self.nearest, trail.end().index(), steps);
         if trail.is_loop() {
             self.has_loop = true;
         }
@@ -80,6 +94,28 @@ impl Survey {
         match self.away.get(usize::from(limit).saturating_add(1)) {
             Some(away) => *away,
             None => false,
+        }
+    }
+
+    /// Takes in what the walks of another plan of the network show for the code: what some walk of
+    /// the one or of the other shows, and the shorter lists.
+    pub fn join(&mut self, other: &Survey) {
+        self.has_loop |= other.has_loop;
+        for (known, away) in self.away.iter_mut().zip(&other.away) {
+            *known |= *away;
+        }
+        for (place, steps) in other.nearest.iter().enumerate() {
+            if let Some(steps) = *steps {
+                note_lesser(&mut self.nearest, place, steps);
+            }
+        }
+        for (place, steps) in other.heights.iter().enumerate() {
+            if let Some(steps) = *steps {
+                note_greater(&mut self.heights, place, steps);
+            }
+        }
+        for (known, groups) in self.groups.iter_mut().zip(&other.groups) {
+            *known = (*known).min(*groups);
         }
     }
 }

@@ -8,7 +8,7 @@ use crate::walks::wanted::Wanted;
 #[derive(Clone, Copy, Default)]
 pub struct PlanTally {
     pub plans: u64,
-    rankings: u64,
+    pub rankings: u64,
     found: u64,
     /// The ranks of all that was found, added up.
     ranks: u64,
@@ -23,7 +23,7 @@ pub struct PlanTally {
 }
 
 /// Adds so many to a count.
-fn add(count: &mut u64, more: usize) {
+pub fn add(count: &mut u64, more: usize) {
     *count = count.saturating_add(more as u64);
 }
 
@@ -62,11 +62,9 @@ impl PlanTally {
     }
 }
 
-/// What stands before each count of a family.
-static BEFORE: [&str; 11] = [
-    "",
-    " plans, ",
-    " rankings\n- ",
+/// What stands before each count of what was found.
+static BEFORE: [&str; 8] = [
+    "\n- ",
     " found, with ranks of ",
     " in all\n- ",
     " fail, by ",
@@ -74,14 +72,11 @@ static BEFORE: [&str; 11] = [
     " loops, ",
     " short walks of ",
     " steps in all, ",
-    " long walks\n- ",
 ];
 
-/// Tells what there was in a family.
-pub fn tell_tally(tally: &PlanTally, out: &mut Told) {
+/// Tells what was found.
+pub fn tell_answers(tally: &PlanTally, out: &mut Told) {
     let counts = [
-        tally.plans,
-        tally.rankings,
         tally.found,
         tally.ranks,
         tally.failed,
@@ -90,10 +85,23 @@ pub fn tell_tally(tally: &PlanTally, out: &mut Told) {
         tally.shorts,
         tally.steps,
         tally.longs,
-        tally.scripts.findings,
     ];
     for (before, count) in BEFORE.iter().zip(&counts) {
         tell_count(before.as_bytes(), *count, b"", out);
     }
-    tell(b" loops and walks judged by their events\n", out);
+    tell(b" long walks\n- ", out);
+}
+
+/// Tells what there was in a family.
+pub fn tell_tally(tally: &PlanTally, out: &mut Told) {
+    tell_count(b"", tally.plans, b" plans, ", out);
+    tell_count(b"", tally.rankings, b" rankings", out);
+    tell_answers(tally, out);
+    let judged = tally.scripts.findings;
+    tell_count(
+        b"",
+        judged,
+        b" loops and walks judged by their events\n",
+        out,
+    );
 }

@@ -16,6 +16,13 @@ pub enum Wanted {
     Long(CodeId),
 }
 
+impl Wanted {
+    /// Whether it has a walk.
+    pub fn has_walk(self) -> bool {
+        !matches!(self, Wanted::Ambiguous(_, _))
+    }
+}
+
 /// Whether a code begins another one.
 fn begins(plan: &Plan, shorter: CodeId, longer: CodeId) -> bool {
     let figures = plan.code_figures(longer);
@@ -60,7 +67,7 @@ fn add_shorts(
 ) -> Result<(), NoMemory> {
     for (place, nearest) in survey.nearest.iter().enumerate() {
         if let (Some(exchange), Some(steps)) = (plan.exchange_at(place), *nearest) {
-            let groups = plan.list(exchange, survey.code).len();
+            let groups = survey.groups.get(place).copied().unwrap_or(0);
             if exchange != survey.home && groups <= usize::from(spare) {
                 wanted.push(Wanted::Short(survey.code, exchange, steps))?;
             }

@@ -1,0 +1,24 @@
+-- What a ranking of a change came to is right.
+use Rattle.std.proofs.Common.{◌≢◌, ℕ, [], length, ap, ◌∙◌}
+use Rattle.std.specs.Prelude.{◌↔◌}
+use Rattle.std.specs.List.{AllByRecursion}
+use Rattle.tx_plan.specs.Plan.{Plan}
+use Rattle.tx_cert.specs.Certificate.{Certificate, IsCertificateOf}
+use Rattle.tx_rank.specs.declared.ranking.Ranking.{Ranking}
+use Rattle.tx_rank.specs.declared.ranking.Ranking.TheVariants.{Found, Fails}
+use Rattle.tx_rank.specs.Grades.{CanBeCertified}
+use Rattle.tx_rank.specs.Rankings.{IsFound, OnFound, OnFails}
+use Rattle.tx_plan.specs.Mixtures.{SameNetwork, EachMixture}
+use Rattle.tx_change.specs.ChangeFindings.{AreChangeFindings}
+use Rattle.tx_change.specs.Shown.{IsShown}
+use Rattle.tx_change.specs.ChangeAnswers.{IsCleared, IsRightChange}
+
+-- a certificate of a plan is one of each plan of its network
+pub certificate_along : (p q : Plan) (t : Certificate) → SameNetwork p q → IsCertificateOf p t → IsCertificateOf q t
+certificate_along p q t same h = record { codes = h.codes ∙ ap length same.codes; exchanges = h.exchanges ∙ ap length same.exchanges; rules = h.rules }
+
+pub is_right_change : (A : Type 0) (old new : Plan) (limit spare : ℕ) (r : Ranking A) → (IsFound r ↔ EachMixture old new (λ m. CanBeCertified m limit spare)) → OnFails (λ findings. findings ≢ []) r
+    → OnFails (AllByRecursion (IsShown old new limit spare)) r → OnFails (AreChangeFindings old new limit spare) r
+    → OnFound (IsCleared old new limit spare) r → IsRightChange old new limit spare r
+is_right_change A old new limit spare (Found cert) exactly some shown listed cleared = cleared
+is_right_change A old new limit spare (Fails findings) exactly some shown listed cleared = record { some = some; listed = listed; shown = shown; uncertified = λ each. exactly.1 each }

@@ -1,0 +1,31 @@
+-- The mixture of the first finding that has a walk, and its events.
+use Rattle.std.proofs.Common.{◌≡◌, ℕ, List, Option, Some, None, sym, subst}
+use Rattle.std.specs.Prelude.{is_some}
+use Rattle.std.specs.List.{AllByRecursion}
+use Rattle.std.specs.Option.{option_map, IfSome}
+use Rattle.tx_plan.specs.Plan.{Plan}
+use Rattle.tx_state.specs.declared.event.Event.{Event}
+use Rattle.tx_state.proofs.Lists.{find_mem}
+use Rattle.tx_rank.specs.declared.finding.Finding.{Finding}
+use Rattle.tx_rank.specs.Findings.{IsTrueOf}
+use Rattle.tx_rank.proofs.Ways.{all_among}
+use Rattle.tx_script.specs.Events.{IsWritable}
+use Rattle.tx_audit.specs.Counter.{counter_of, has_counter}
+use Rattle.tx_audit.specs.Breaks.{Shows}
+use Rattle.tx_change.specs.Shown.{shown_by, IsShown}
+use Rattle.tx_change.specs.MixtureShown.{has_walk, first_walked, ShowsMixture}
+
+module _ {A : Type 0} (old new : Plan) (limit spare : ℕ) where
+  -- the first finding that has a walk is shown, as all are
+  pub walked_shown : (findings : List (Finding A)) (f : Finding A) → AllByRecursion (IsShown old new limit spare) findings → first_walked findings ≡ Some f → IsShown old new limit spare f
+  walked_shown findings f all e = all_among (IsShown old new limit spare) findings f all (find_mem has_walk findings f e).0
+
+  -- and so it is true of the mixture that is made
+  pub true_there : (f : Finding A) (m : Plan) → m ≡ shown_by old new spare f → IsShown old new limit spare f → IsTrueOf m limit spare f
+  true_there f m e shown = subst (λ p. IsTrueOf p limit spare f) (sym e) shown.1
+
+  pub shows_mixture : {V : Type 0} (items : V → List Event) (f : Finding A) (m : Plan) (o : Option V) → m ≡ shown_by old new spare f → IsShown old new limit spare f
+      → option_map items o ≡ counter_of m f → is_some o ≡ has_counter m f → IfSome o (λ v. Shows m limit spare f (items v)) → IfSome o (λ v. AllByRecursion (IsWritable m) (items v))
+      → ShowsMixture old new limit spare f m (option_map items o)
+  shows_mixture items f m None plan shown counter which shows writable = record { plan = plan; shown = shown; counter = counter; which = which; shows = shows; writable = writable }
+  shows_mixture items f m (Some v) plan shown counter which shows writable = record { plan = plan; shown = shown; counter = counter; which = which; shows = shows; writable = writable }

@@ -1,0 +1,106 @@
+// The report of a change.
+ghost use Rattle.std.specs.Prelude.{◌≡◌, ◌≤◌, []};
+ghost use Rattle.tx_text.specs.Wrote.{Wrote};
+ghost use Rattle.tx_plan.specs.Mixtures.{SameNetwork, AreCommon};
+ghost use Rattle.tx_cert.specs.Certificate.{IsCertificateOf, ranks_of};
+ghost use Rattle.tx_rank.specs.Rankings.{OnFound};
+ghost use Rattle.tx_audit.specs.Audits.{mark_after};
+ghost use Rattle.tx_audit.specs.Ranked.{findings_of};
+ghost use Rattle.tx_change.specs.ChangeReport.{change_report};
+ghost use Rattle.tx_change.specs.ChangeAnswers.{IsCleared, ChangeAnswers};
+
+use crate::change_report::write_change;
+use crate::changing::change;
+use std::alloc::Allocator;
+use tx_audit::AuditFault;
+use tx_cert::Cert;
+use tx_check::{Verdict, check};
+use tx_plan::Plan;
+use tx_rank::{Finding, Ranking};
+use tx_state::{common_ranks_certify, live_change_is_sound};
+use tx_text::{Sink, WriteFault};
+
+/// Writes the report on a change of a plan into another one of the same network, list by list, for
+/// at most `limit` transits (0 to 62) and `spare` groups to spare (0 to 15). YES exactly where
+/// every mixture of both can be certified; then one certificate certifies them all, and the checker
+/// says Yes to it for both plans. Else what is wrong, with walks that show it.
+pub fn report_change<A: Allocator + Copy, W: Sink>(
+    alloc: A,
+    old: &Plan<A>,
+    new: &Plan<A>,
+    limit: u8,
+    spare: u8,
+    out: &mut W,
+) -> Result<Ranking<A>, AuditFault>
+    requires network { SameNetwork old.now new.now }
+    requires limit { limit ≤ 62 }
+    requires spare { spare ≤ 15 }
+    ensures answers { ChangeAnswers old.now new.now limit spare (W.taken out.old) (W.taken out.new)
+        (out.new ≡ out.old) result }
+    ensures mark { W.failed out.new ≡ mark_after (W.failed out.old) result }
+{
+    match change(alloc, old, new, limit, spare) {
+        Ok(ranking) => match report_ranking(old, new, &ranking, limit, spare, out) {
+            Ok(()) => Ok(ranking),
+            Err(WriteFault) => Err(AuditFault::Write),
+        },
+        Err(_) => Err(AuditFault::NoMemory),
+    }
+}
+
+/// Reports what a ranking came to; a certificate after the checker said Yes to it for both plans.
+fn report_ranking<A: Allocator, W: Sink>(
+    old: &Plan<A>,
+    new: &Plan<A>,
+    ranking: &Ranking<A>,
+    limit: u8,
+    spare: u8,
+    out: &mut W,
+) -> Result<(), WriteFault>
+    requires network { SameNetwork old.now new.now }
+    requires limit { limit ≤ 62 }
+    requires spare { spare ≤ 15 }
+    requires fits { OnFound (IsCertificateOf old.now) ranking.now }
+    requires common { OnFound (λ cert. AreCommon old.now new.now (ranks_of cert) limit spare)
+        ranking.now }
+    ensures cleared { OnFound (IsCleared old.now new.now limit spare) ranking.now }
+    ensures wrote { Wrote (W.taken out.old) (W.taken out.new) (W.failed out.old) (W.failed out.new)
+        (change_report old.now limit spare (findings_of ranking.now)) result }
+{
+    match ranking {
+        Ranking::Found(cert) => confirm(old, new, cert, limit, spare, out),
+        Ranking::Fails(findings) => write_change(old, findings, limit, spare, out),
+    }
+}
+
+/// Asks the checker, who says Yes to a certificate that was found, for both plans, and reports it.
+fn confirm<A: Allocator, W: Sink>(
+    old: &Plan<A>,
+    new: &Plan<A>,
+    cert: &Cert<A>,
+    limit: u8,
+    spare: u8,
+    out: &mut W,
+) -> Result<(), WriteFault>
+    requires network { SameNetwork old.now new.now }
+    requires limit { limit ≤ 62 }
+    requires spare { spare ≤ 15 }
+    requires fits { IsCertificateOf old.now cert.now }
+    requires common { AreCommon old.now new.now (ranks_of cert.now) limit spare }
+    ensures cleared { IsCleared old.now new.now limit spare cert.now }
+    ensures wrote { Wrote (W.taken out.old) (W.taken out.new) (W.failed out.old) (W.failed out.new)
+        (change_report {A = A} old.now limit spare []) result }
+{
+    common_ranks_certify();
+    live_change_is_sound();
+    match check(old, cert, limit, spare) {
+        Verdict::Yes => match check(new, cert, limit, spare) {
+            Verdict::Yes => {
+                let none: [Finding<A>; 0] = [];
+                write_change(old, &none, limit, spare, out)
+            }
+            Verdict::No(_) => unreachable!(),
+        },
+        Verdict::No(_) => unreachable!(),
+    }
+}

@@ -1,0 +1,100 @@
+// The job of `change OLD NEW --limit L --spare K` where what shows the verdict is to be kept.
+ghost use Rattle.std.specs.Prelude.{◌≡◌, ◌≤◌};
+ghost use Rattle.std.specs.List.{AllByRecursion};
+ghost use Rattle.tx_text.specs.Calls.{CallsAtMost, source_calls};
+ghost use Rattle.tx_plan.specs.Mixtures.{SameNetwork};
+ghost use Rattle.tx_change.specs.Shown.{IsShown};
+ghost use Rattle.tx_jobs.specs.ChangeFaults.{change_mark_after};
+ghost use Rattle.tx_jobs.specs.JobEnds.{input, output};
+ghost use Rattle.tx_jobs.specs.ChangeJobs.{OnUnsoundChange};
+ghost use Rattle.tx_jobs.specs.ChangeEvidences.{ChangeEvidenceAnswers, IsChangeEvidenceOf, IsMixtureOf};
+
+use crate::change::{Changed, change_job};
+use crate::change_fault::ChangeFault;
+use crate::job_fault::JobFault;
+use crate::mixture::{ChangeEvidence, Mixture};
+use std::alloc::Allocator;
+use tx_change::first_mixture;
+use tx_plan::Plan;
+use tx_rank::Finding;
+use tx_text::{Sink, Source};
+
+/// Reads an old plan and then a new one, and writes the report on the change of the one into the
+/// other, list by list, for at most `limit` transits (0 to 62) and `spare` groups to spare (0 to
+/// 15). Answers what shows the verdict: after a Yes the certificate, and after a No, if it is asked
+/// for, the mixture of the first finding that has a walk. `Err` is the fault of the first call that
+/// failed. Where there is no memory for that mixture, the report was written.
+pub fn change_evidence_job<A: Allocator + Copy, P: Source, Q: Source, W: Sink>(
+    alloc: A,
+    old: &mut P,
+    new: &mut Q,
+    limit: u8,
+    spare: u8,
+    with_mixture: bool,
+    out: &mut W,
+) -> Result<ChangeEvidence<A>, ChangeFault>
+    requires limit { limit ≤ 62 }
+    requires spare { spare ≤ 15 }
+    ensures answers { ChangeEvidenceAnswers with_mixture limit spare
+        (input P.rest P.failed P.called old.old old.new)
+        (input Q.rest Q.failed Q.called new.old new.new) (output W.taken out.old out.new) result }
+    ensures mark { W.failed out.new ≡ change_mark_after (W.failed out.old) result }
+    ensures old_calls { CallsAtMost P.called source_calls old.old old.new }
+    ensures new_calls { CallsAtMost Q.called source_calls new.old new.new }
+{
+    match change_job(alloc, old, new, limit, spare, out) {
+        Ok(changed) => change_evidence_of(alloc, changed, limit, spare, with_mixture),
+        Err(fault) => Err(fault),
+    }
+}
+
+/// What shows the verdict on a change.
+fn change_evidence_of<A: Allocator + Copy>(
+    alloc: A,
+    changed: Changed<A>,
+    limit: u8,
+    spare: u8,
+    with_mixture: bool,
+) -> Result<ChangeEvidence<A>, ChangeFault>
+    requires network { OnUnsoundChange (λ p q findings. SameNetwork p q) changed }
+    requires each { OnUnsoundChange (λ p q findings.
+        AllByRecursion (IsShown p q limit spare) findings) changed }
+    ensures { IsChangeEvidenceOf with_mixture limit spare changed result }
+{
+    match changed {
+        Changed::Sound(plan, cert) => Ok(ChangeEvidence::Sound(plan, cert)),
+        Changed::Unsound(old, new, findings) => {
+            if with_mixture {
+                mixture_of(alloc, old, new, findings, limit, spare)
+            } else {
+                drop(findings);
+                drop(new);
+                drop(old);
+                Ok(ChangeEvidence::Unsound(None))
+            }
+        }
+    }
+}
+
+/// The mixture of the first finding that has a walk.
+fn mixture_of<A: Allocator + Copy>(
+    alloc: A,
+    old: Plan<A>,
+    new: Plan<A>,
+    findings: Vec<Finding<A>, A>,
+    limit: u8,
+    spare: u8,
+) -> Result<ChangeEvidence<A>, ChangeFault>
+    requires network { SameNetwork old new }
+    requires each { AllByRecursion (IsShown old new limit spare) findings.items }
+    ensures { IsMixtureOf old new limit spare findings.items result }
+{
+    let mixture = first_mixture(alloc, old, &new, findings.as_slice(), limit, spare);
+    drop(findings);
+    drop(new);
+    match mixture {
+        Ok(Some(shown)) => Ok(ChangeEvidence::Unsound(Some(Mixture::of(shown)))),
+        Ok(None) => Ok(ChangeEvidence::Unsound(None)),
+        Err(_) => Err(ChangeFault::Job(JobFault::NoMemory)),
+    }
+}

@@ -1,0 +1,45 @@
+// Why the job of a change stopped.
+ghost use Rattle.std.specs.Prelude.{◌≡◌};
+ghost use Rattle.tx_jobs.specs.ChangeFaults.{status_of_change, new_plan_fault};
+
+use crate::job_fault::JobFault;
+use thiserror::Error;
+use tx_change::Difference;
+use tx_plantext::PlanFault;
+
+/// Why the job of a change stopped before its end. `write_change_fault` says it in full.
+#[derive(Clone, Copy, Debug, PartialEq, Eq, Error)]
+pub enum ChangeFault {
+    /// As other jobs stop. A plan that is refused is the old one.
+    #[error(transparent)]
+    Job(JobFault),
+    /// The new plan's text is refused.
+    #[error("new plan {0}")]
+    NewPlan(PlanFault),
+    /// The plans are of two networks: the first entry that differs.
+    #[error("the plans are of two networks")]
+    TwoNetworks(Difference),
+}
+
+impl ChangeFault {
+    /// The exit status: 2 for a refused new plan and for two networks, otherwise that of the job's
+    /// fault.
+    pub fn status(&self) -> u8
+        ensures { result ≡ status_of_change self.now }
+    {
+        match self {
+            ChangeFault::Job(fault) => fault.status(),
+            ChangeFault::NewPlan(_) | ChangeFault::TwoNetworks(_) => 2,
+        }
+    }
+
+    /// A failure to read and a want of memory are told as such.
+    pub(crate) fn of_new_plan(fault: PlanFault) -> ChangeFault
+        ensures { result ≡ new_plan_fault fault }
+    {
+        match JobFault::of_plan(fault) {
+            JobFault::Plan(fault) => ChangeFault::NewPlan(fault),
+            other => ChangeFault::Job(other),
+        }
+    }
+}

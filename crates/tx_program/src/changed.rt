@@ -1,0 +1,93 @@
+// The change of one file into another one, and the files of what shows the verdict on it.
+use crate::command_fault::CommandFault;
+use crate::ends::Output;
+use crate::folder::Folder;
+use crate::kept::{Keep, Kept, keep_file};
+use crate::opened::Bounds;
+use std::alloc::Allocator;
+use std::io::{Read, Write};
+use tx_jobs::{ChangeEvidence, JobFault, Mixture, change_evidence_job};
+
+/// `change OLD NEW --limit L --spare K [--cert OUT] [--mixture OUT] [--counter OUT]`.
+pub(crate) fn change_files<A: Allocator + Copy, R: Read + Drop, F: Folder, O: Write + Drop>(
+    alloc: A,
+    old: R,
+    new: R,
+    bounds: Bounds,
+    files: Keep<'_>,
+    folder: &F,
+    output: &Output<O, A>,
+) -> Result<u8, CommandFault> {
+    let evidence = report(alloc, old, new, bounds, files, output)?;
+    let status = evidence.status();
+    let kept = keep_evidence(alloc, &evidence, files, folder, output);
+    drop(evidence);
+    kept?;
+    Ok(status)
+}
+
+/// Writes the report of the change, and answers what shows its verdict.
+fn report<A: Allocator + Copy, R: Read + Drop, O: Write + Drop>(
+    alloc: A,
+    old: R,
+    new: R,
+    bounds: Bounds,
+    files: Keep<'_>,
+    output: &Output<O, A>,
+) -> Result<ChangeEvidence<A>, CommandFault> {
+    let with_mixture = files.mixture.is_some() || files.counter.is_some();
+    let mut old = output.source(alloc, old)?;
+    let mut new = output.source(alloc, new)?;
+    let evidence = change_evidence_job(
+        alloc,
+        &mut old,
+        &mut new,
+        bounds.limit,
+        bounds.spare,
+        with_mixture,
+        &mut output.sink(),
+    )?;
+    Ok(evidence)
+}
+
+/// Keeps the certificate after a Yes, and the mixture after a No that has one.
+fn keep_evidence<A: Allocator + Copy, F: Folder, O: Write + Drop>(
+    alloc: A,
+    evidence: &ChangeEvidence<A>,
+    files: Keep<'_>,
+    folder: &F,
+    report: &Output<O, A>,
+) -> Result<(), JobFault> {
+    match evidence {
+        ChangeEvidence::Sound(plan, cert) => {
+            keep_file(alloc, Kept::Cert(plan, cert), files.cert, folder, report)
+        }
+        ChangeEvidence::Unsound(Some(mixture)) => {
+            keep_mixture(alloc, mixture, files, folder, report)
+        }
+        ChangeEvidence::Unsound(None) => Ok(()),
+    }
+}
+
+/// Keeps the mixture, and then the script, if it has one.
+fn keep_mixture<A: Allocator + Copy, F: Folder, O: Write + Drop>(
+    alloc: A,
+    mixture: &Mixture<A>,
+    files: Keep<'_>,
+    folder: &F,
+    report: &Output<O, A>,
+) -> Result<(), JobFault> {
+    keep_file(
+        alloc,
+        Kept::Mixture(mixture.plan()),
+        files.mixture,
+        folder,
+        report,
+    )?;
+    match mixture {
+        Mixture::Scripted(script) => {
+            keep_file(alloc, Kept::Script(script), files.counter, folder, report)
+        }
+        Mixture::Unscripted(_) => Ok(()),
+    }
+}
