@@ -7,6 +7,7 @@ mod Evidenced
 mod ChangeTold
 mod ChangeEvidenced
 mod Grading
+mod MendTold
 mod DrawnCode
 pub mod Before
 pub mod Choices

@@ -2,10 +2,12 @@
 ghost use Rattle.std.specs.Prelude.{◌≡◌};
 ghost use Rattle.tx_jobs.specs.JobFaults.{status_of, plan_fault, cert_fault, script_fault, run_fault};
 ghost use Rattle.tx_jobs.specs.AuditJobs.{audit_fault};
+ghost use Rattle.tx_jobs.specs.MendJobs.{mend_fault};
 
 use thiserror::Error;
 use tx_audit::AuditFault;
 use tx_cert::{CertFault, CertWord};
+use tx_mend_report::MendFault;
 use tx_plan::PlanRefusal;
 use tx_plantext::{PlanFault, PlanWord};
 use tx_script::{RunCause, RunFault, ScriptFault};
@@ -76,6 +78,15 @@ impl JobFault {
             AuditFault::Plan(fault) => JobFault::of_plan(fault),
             AuditFault::Write => JobFault::Write,
             AuditFault::NoMemory => JobFault::NoMemory,
+        }
+    }
+
+    pub(crate) fn of_mend(fault: MendFault) -> JobFault
+        ensures { result ≡ mend_fault fault }
+    {
+        match fault {
+            MendFault::Write => JobFault::Write,
+            MendFault::NoMemory => JobFault::NoMemory,
         }
     }
 

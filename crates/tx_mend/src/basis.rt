@@ -1,4 +1,4 @@
-// What mended lists are made of.
+// What full lists are made of.
 ghost use Rattle.std.specs.Prelude.{◌≡◌, ◌≤◌, map, length};
 ghost use Rattle.tx_mend.specs.LeastRanks.{places, outgoing};
 ghost use Rattle.tx_mend.specs.inner.CodeRanks.{code_ranks};
@@ -8,7 +8,7 @@ use crate::outgoing::Outgoing;
 use std::alloc::Allocator;
 use tx_plan::Plan;
 
-/// What mended lists are made of: the plan, the groups that each exchange may seize, and what the
+/// What full lists are made of: the plan, the groups that each exchange may seize, and what the
 /// mending of each code goes by.
 #[derive(Drop)]
 pub struct Basis<'a, A: Allocator> {

@@ -152,7 +152,7 @@ fn list_by_ranks<A: Allocator>(
     }
 }
 
-/// The mended list of an exchange for a code.
+/// The full list of an exchange for a code.
 pub fn full_list<A: Allocator>(
     basis: &Basis<'_, A>,
     code: CodeId,

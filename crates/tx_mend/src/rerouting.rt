@@ -1,4 +1,4 @@
-// The mended routes.
+// The routes of all full lists.
 ghost use Rattle.std.specs.Prelude.{◌≡◌, ◌<◌, ◌+◌, ◌++◌, ◌==◌, ◌&&◌, [], false, length, IfOk, OnOk};
 ghost use Rattle.std.specs.List.{list_any, flat_map};
 ghost use Rattle.tx_mend.specs.Mended.{route_if};
@@ -29,7 +29,7 @@ fn add_route<A: Allocator>(
     routes.add(Pair { exchange, code }, list)
 }
 
-/// Adds the mended lists of the pairs that have a route, in order of the routes.
+/// Adds the full lists of the pairs that have a route, in order of the routes.
 fn add_present<A: Allocator>(basis: &Basis<'_, A>, routes: &mut Routes<A>) -> Result<(), NoMemory>
     requires { routes.old ≡ [] }
     ensures { OnOk result (routes.new
@@ -50,7 +50,7 @@ fn add_present<A: Allocator>(basis: &Basis<'_, A>, routes: &mut Routes<A>) -> Re
     Ok(())
 }
 
-/// Adds the mended lists of the other pairs of a code, in order of the exchanges.
+/// Adds the full lists of the other pairs of a code, in order of the exchanges.
 fn add_absent<A: Allocator>(
     basis: &Basis<'_, A>,
     code: CodeId,
@@ -74,7 +74,7 @@ fn add_absent<A: Allocator>(
     Ok(())
 }
 
-/// The mended routes.
+/// The routes of all full lists.
 pub fn full_routes<A: Allocator + Copy>(
     alloc: A,
     basis: &Basis<'_, A>,

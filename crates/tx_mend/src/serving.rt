@@ -86,7 +86,7 @@ pub fn add_unranked<A: Allocator>(
     Ok(())
 }
 
-/// Each code with the origins that can't be served for it.
+/// Each code with the origins that cannot be served for it.
 pub fn unserved_of<A: Allocator + Copy>(
     alloc: A,
     basis: &Basis<'_, A>,

@@ -6,8 +6,9 @@ use tx_audit::write_counter;
 use tx_cert::{Cert, write_cert};
 use tx_jobs::{
     ChangeEvidence, ChangeFault, CounterScript, Evidence, JobFault, Mixture, change_evidence_job,
-    evidence_job,
+    evidence_job, mend_job,
 };
+use tx_mend::Mending;
 use tx_plan::Plan;
 use tx_plantext::write_plan;
 use tx_text::{MemorySink, MemorySource, WriteFault};
@@ -111,6 +112,47 @@ pub(crate) fn do_change<A: Allocator + Copy>(
             Ok(status) => Ok(status),
             Err(fault) => Err(ChangeFault::Job(fault)),
         },
+        Err(fault) => Err(fault),
+    }
+}
+
+/// Writes a mended plan, and behind it its certificate.
+fn keep_mended<A: Allocator>(
+    plan: Plan<A>,
+    cert: Cert<A>,
+    out: &mut MemorySink,
+) -> Result<(), WriteFault> {
+    match write_plan(&plan, out) {
+        Ok(()) => keep_cert(plan, cert, out),
+        Err(fault) => {
+            drop(cert);
+            drop(plan);
+            Err(fault)
+        }
+    }
+}
+
+/// Mends a plan, and writes behind the report the mended plan and its certificate.
+pub(crate) fn do_mend<A: Allocator + Copy>(
+    alloc: A,
+    plan: &mut MemorySource<'_>,
+    limit: u8,
+    spare: u8,
+    out: &mut MemorySink,
+) -> Result<u8, JobFault>
+    requires limit { limit ≤ 62 }
+    requires spare { spare ≤ 15 }
+{
+    match mend_job(alloc, plan, limit, spare, out) {
+        Ok(Mending::Mended(plan, before, cert)) => {
+            drop(before);
+            status_behind(0, keep_mended(plan, cert, out))
+        }
+        Ok(Mending::NoRouting(plan, unserved, _)) => {
+            drop(unserved);
+            drop(plan);
+            Ok(1)
+        }
         Err(fault) => Err(fault),
     }
 }

@@ -2,7 +2,7 @@
 ghost use Rattle.std.specs.Prelude.{◌≤◌, IfSome};
 
 use crate::cases::{End, Ends, Job, ROOM, Refusing, Task, Told, tell, tell_broken};
-use crate::evidences::{do_audit, do_change};
+use crate::evidences::{do_audit, do_change, do_mend};
 use crate::fault::Fault;
 use itoa::Buffer;
 use std::alloc::{Allocator, Global};
@@ -91,6 +91,7 @@ fn do_plan_job<A: Allocator + Copy>(
         Job::Codes => codes_status(alloc, plan, out),
         Job::Grade => grade_status(alloc, plan, out),
         Job::Audit { limit, spare } => do_audit(alloc, plan, limit.min(62), spare.min(15), out),
+        Job::Mend { limit, spare } => do_mend(alloc, plan, limit.min(62), spare.min(15), out),
         _ => match do_draw(alloc, job, plan, out) {
             Ok(Drawn::Picture) => Ok(0),
             Ok(Drawn::NoSuchCode) => Ok(64),

@@ -61,6 +61,7 @@ pub enum JobKind {
     Check,
     Audit,
     Change,
+    Mend,
     Checked,
     Draw,
 }
@@ -78,7 +79,7 @@ pub enum Driven {
     Starting,
 }
 
-static TEXTS: [(&str, TextKind); 18] = [
+static TEXTS: [(&str, TextKind); 19] = [
     ("pipe", TextKind::Job(JobKind::Pipe)),
     ("run", TextKind::Job(JobKind::Run)),
     ("codes", TextKind::Job(JobKind::Codes)),
@@ -86,6 +87,7 @@ static TEXTS: [(&str, TextKind); 18] = [
     ("check", TextKind::Job(JobKind::Check)),
     ("audit", TextKind::Job(JobKind::Audit)),
     ("change", TextKind::Job(JobKind::Change)),
+    ("mend", TextKind::Job(JobKind::Mend)),
     ("checked", TextKind::Job(JobKind::Checked)),
     ("draw", TextKind::Job(JobKind::Draw)),
     ("both", TextKind::Both),
@@ -191,6 +193,7 @@ pub fn job_of(kind: JobKind, head: Head<'_>) -> Job {
         JobKind::Check => Job::Check { limit, spare },
         JobKind::Audit => Job::Audit { limit, spare },
         JobKind::Change => Job::Change { limit, spare },
+        JobKind::Mend => Job::Mend { limit, spare },
         JobKind::Checked => Job::Checked { limit, spare },
         JobKind::Draw => drawing_of(head.first, head.second, head.third),
     }

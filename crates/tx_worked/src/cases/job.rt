@@ -13,6 +13,8 @@ pub enum Job {
     Audit { limit: u8, spare: u8 },
     /// A change of plan, with its certificate, or its mixture and script, behind the report.
     Change { limit: u8, spare: u8 },
+    /// A plan that is mended, with the mended plan and its certificate behind the report.
+    Mend { limit: u8, spare: u8 },
     /// A run after a Yes of the checker.
     Checked { limit: u8, spare: u8 },
     /// The picture of a plan.
@@ -56,6 +58,7 @@ pub fn job_name(job: Job) -> &'static [u8] {
         Job::Check { .. } => b"check",
         Job::Audit { .. } => b"audit",
         Job::Change { .. } => b"change",
+        Job::Mend { .. } => b"mend",
         Job::Checked { .. } => b"checked",
         Job::Draw | Job::DrawCode { .. } | Job::DrawFinding { .. } => b"draw",
     }
@@ -68,6 +71,7 @@ pub fn sources(job: Job) -> u8 {
         | Job::Codes
         | Job::Grade
         | Job::Audit { .. }
+        | Job::Mend { .. }
         | Job::Draw
         | Job::DrawCode { .. }
         | Job::DrawFinding { .. } => 1,

@@ -1,0 +1,32 @@
+-- What `mend PLAN` answers.
+use Rattle.std.specs.Prelude.{◌≡◌, ◌⊎◌, ℕ, Result, Ok, Err}
+use Rattle.std.specs.Io.KnownBytes.{append_known}
+use Rattle.tx_plan.specs.Plan.{Plan}
+use Rattle.tx_mend.specs.declared.mending.Mending.{Mending}
+use Rattle.tx_mend_report.specs.declared.reporting.MendFault.{MendFault}
+use Rattle.tx_mend_report.specs.declared.reporting.MendFault.TheVariants.{Write as MendWrite, NoMemory as MendNoMemory}
+use Rattle.tx_mend_report.specs.MendAnswers.{IsRightMending, mend_report, MendToldInPart}
+use Rattle.tx_jobs.specs.declared.job_fault.JobFault.{JobFault}
+use Rattle.tx_jobs.specs.declared.job_fault.JobFault.TheVariants.{Write, NoMemory}
+use Rattle.tx_jobs.specs.JobEnds.{Input, Output}
+use Rattle.tx_jobs.specs.Jobs.{PlanRead, PlanRefused}
+
+-- why there is no whole report, as a job tells it
+abbrev pub mend_fault : MendFault → JobFault
+mend_fault MendWrite = Write
+mend_fault MendNoMemory = NoMemory
+
+-- the mending of the plan is right, and its report was written
+abbrev pub ToldMending : {A : Type 0} → Plan → (limit spare : ℕ) → Output
+    → Result (Mending A) JobFault → Type 0
+ToldMending p limit spare out (Ok m) = IsRightMending p limit spare m
+    × (out.new ≡ append_known out.old (mend_report limit spare m))
+ToldMending {A} p limit spare out (Err Write) = MendToldInPart A p limit spare out.old out.new
+ToldMending p limit spare out (Err NoMemory) = out.silent
+ToldMending p limit spare out (Err other) = ⊥
+
+-- `mend PLAN --limit L --spare K`
+abbrev pub MendJobAnswers : {A : Type 0} → (limit spare : ℕ) → Input → Output
+    → Result (Mending A) JobFault → Type 0
+MendJobAnswers limit spare plan out result =
+    PlanRead plan (λ p. ToldMending p limit spare out result) ⊎ PlanRefused plan out.silent result

@@ -1,0 +1,61 @@
+// The job of `mend PLAN --limit L --spare K`.
+ghost use Rattle.std.specs.Prelude.{◌≡◌, ◌≤◌};
+ghost use Rattle.tx_text.specs.Calls.{CallsAtMost, source_calls};
+ghost use Rattle.tx_jobs.specs.JobFaults.{mark_after};
+ghost use Rattle.tx_jobs.specs.JobEnds.{input, output};
+ghost use Rattle.tx_jobs.specs.MendJobs.{MendJobAnswers, ToldMending};
+
+use crate::job_fault::JobFault;
+use std::alloc::Allocator;
+use tx_mend::Mending;
+use tx_mend_report::report_mend;
+use tx_plan::Plan;
+use tx_plantext::read_plan_from;
+use tx_text::{Sink, Source};
+
+/// Reads a plan, and writes the report of its mending for at most `limit` transits (0 to 62) and
+/// `spare` groups to spare (0 to 15). Answers the mended plan with its certificate, or what no
+/// routes can serve.
+///
+/// Nothing is written where the plan is refused or memory is wanting.
+pub fn mend_job<A: Allocator + Copy, P: Source, W: Sink>(
+    alloc: A,
+    plan: &mut P,
+    limit: u8,
+    spare: u8,
+    out: &mut W,
+) -> Result<Mending<A>, JobFault>
+    requires limit { limit ≤ 62 }
+    requires spare { spare ≤ 15 }
+    ensures answers { MendJobAnswers limit spare
+        (input P.rest P.failed P.called plan.old plan.new) (output W.taken out.old out.new) result }
+    ensures mark { W.failed out.new ≡ mark_after (W.failed out.old) result }
+    ensures calls { CallsAtMost P.called source_calls plan.old plan.new }
+{
+    match read_plan_from(alloc, plan) {
+        Ok(plan) => {
+            plan.rules();
+            tell_mending(alloc, plan, limit, spare, out)
+        }
+        Err(fault) => Err(JobFault::of_plan(fault)),
+    }
+}
+
+/// Mends a plan, and writes the report.
+fn tell_mending<A: Allocator + Copy, W: Sink>(
+    alloc: A,
+    plan: Plan<A>,
+    limit: u8,
+    spare: u8,
+    out: &mut W,
+) -> Result<Mending<A>, JobFault>
+    requires limit { limit ≤ 62 }
+    requires spare { spare ≤ 15 }
+    ensures told { ToldMending plan limit spare (output W.taken out.old out.new) result }
+    ensures mark { W.failed out.new ≡ mark_after (W.failed out.old) result }
+{
+    match report_mend(alloc, plan, limit, spare, out) {
+        Ok(mending) => Ok(mending),
+        Err(fault) => Err(JobFault::of_mend(fault)),
+    }
+}
