@@ -6,6 +6,7 @@ pub mod CheckJobs
 pub mod DrawJobs
 pub mod AuditJobs
 pub mod GradeJobs
+pub mod TraceJobs
 pub mod Writables
 pub mod Evidences
 pub mod CheckedJobs

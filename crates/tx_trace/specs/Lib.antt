@@ -1,0 +1,5 @@
+pub mod Ways
+pub mod Heights
+pub mod TraceText
+pub mod Traces
+pub mod inner

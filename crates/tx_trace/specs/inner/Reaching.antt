@@ -1,0 +1,24 @@
+-- The network as calls for one code see it that start at one exchange, and what is known of ranks
+-- in it.
+use Rattle.std.specs.Prelude.{◌≡◌, ℕ, ◌<◌, ◌==◌, Bool, List, length, Option, Some, slice_get}
+use Rattle.tx_plan.specs.Plan.{Plan}
+use Rattle.tx_cert.specs.Certificate.{Certificate}
+use Rattle.tx_rank.specs.Walks.{Net, net_of}
+use Rattle.tx_rank.specs.Heights.{IsReached}
+use Rattle.tx_trace.specs.Ways.{is_in}
+use Rattle.tx_trace.specs.Heights.{rank_from}
+use Rattle.tx_trace.specs.Traces.{rank_told}
+
+-- the network of a plan for the code c, where calls start at x alone
+abbrev pub net_from : Plan → (c x : ℕ) → Net
+net_from p c x = record (net_of p c) { is_origin = λ y. y == x }
+
+-- each exchange that such calls come to has its rank
+abbrev pub AreRanksFrom : Plan → (c x : ℕ) → Option Certificate → Type 0
+AreRanksFrom p c x cert =
+    (y : ℕ) → IsReached (net_from p c x) y → rank_told cert c y ≡ rank_from p c x y
+
+-- each exchange has a mark, which says whether it stands in the list
+pub record AreMarksOf (p : Plan) (xs : List ℕ) (marks : List Bool) : Type 0 where
+  pub long : length marks ≡ length p.exchanges
+  pub each : (y : ℕ) → y < length p.exchanges → slice_get marks y ≡ Some (is_in y xs)
