@@ -13,7 +13,7 @@ use std::alloc::Allocator;
 use tx_plan::{CodeId, ExchangeId, Plan};
 use tx_plantext::read_plan_from;
 use tx_text::{Sink, Source, WriteFault};
-use tx_trace::{trace, write_trace};
+use tx_trace::{trace_calls, write_trace};
 
 /// Reads a plan, and writes how calls for the code of some figures go from the exchange of a name.
 ///
@@ -76,7 +76,7 @@ fn trace_code<A: Allocator + Copy, W: Sink>(
         result }
     ensures mark { W.failed out.new ≡ mark_after (W.failed out.old) result }
 {
-    match trace(alloc, plan, code, exchange) {
+    match trace_calls(alloc, plan, code, exchange) {
         Ok(trace) => match write_trace(plan, &trace, out) {
             Ok(()) => Ok(Traced::Trace),
             Err(WriteFault) => Err(JobFault::Write),

@@ -1,5 +1,5 @@
 -- Where the groups of a list lead, and marks of exchanges.
-use Rattle.std.proofs.Common.{◌≡◌, ◌≢◌, ℕ, ◌+◌, ◌<◌, Bool, true, false, eqb, eqb-true, ◌||◌, List, [], ◌∷◌, ◌++◌, length, cond, inl, inr, Option, Some, None, refl, sym, ap, subst, ◌∙◌, arith}
+use Rattle.std.proofs.Common.{◌≡◌, ◌≢◌, ℕ, zero, suc, ◌<◌, Bool, true, false, eqb, eqb-true, ◌||◌, List, [], ◌∷◌, ◌++◌, length, cond, inl, inr, Option, Some, None, refl, sym, ap, subst, ◌∙◌, arith}
 use Rattle.std.specs.Prelude.{slice_get, replicate}
 use Rattle.std.specs.List.{list_any, filter_map, cons_option}
 use Rattle.std.proofs.lemmas.Bool.{eqb-false, eq-eqb, ne_eqb, or_cases, false≢true}
@@ -78,32 +78,24 @@ or_true : (a b : Bool) → b ≡ true → (a || (b || false)) ≡ true
 or_true true b e = refl
 or_true false b e = ap (λ k. k || false) e
 
-module _ (p : Plan) where
-  pub marks_push : (xs : List ℕ) (y : ℕ) (marks : List Bool) → AreMarksOf p xs marks → y < length p.exchanges → AreMarksOf p (xs ++ y ∷ []) (set marks y true)
-  marks_push xs y marks m within =
-      record {
-        long = length-set marks y true ∙ m.long;
-        each = λ z h. elim (eqb y z) as (λ b. eqb y z ≡ b → slice_get (set marks y true) z ≡ Some (is_in z (xs ++ y ∷ []))) [
-          | true ↦ λ e.
-              let same = eqb-true y z e in
-              ap (slice_get (set marks y true)) (sym same) ∙ set_same marks y (is_in y xs) true (m.each y within) ∙ ap (λ k. Some k) (sym (is_in-push z xs y ∙ or_true (is_in z xs) (eqb y z) e))
-          | false ↦ λ e.
-              set_other marks y z true (eqb-false y z e) ∙ m.each z h ∙ ap (λ k. Some k) (sym (is_in-push z xs y ∙ or_false (is_in z xs) (eqb y z) e))
-        ] refl;
-      }
+pub marks_push : (xs : List ℕ) (y : ℕ) (marks : List Bool) → AreMarksOf xs marks → y < length marks → AreMarksOf (xs ++ y ∷ []) (set marks y true)
+marks_push xs y marks m within = λ z h.
+    let l = length-set marks y true in
+    elim (eqb y z) as (λ b. eqb y z ≡ b → slice_get (set marks y true) z ≡ Some (is_in z (xs ++ y ∷ []))) [
+      | true ↦ λ e.
+          let same = eqb-true y z e in
+          ap (slice_get (set marks y true)) (sym same) ∙ set_same marks y (is_in y xs) true (m y within) ∙ ap (λ k. Some k) (sym (is_in-push z xs y ∙ or_true (is_in z xs) (eqb y z) e))
+      | false ↦ λ e. set_other marks y z true (eqb-false y z e) ∙ m z (omega (arith, h, l)) ∙ ap (λ k. Some k) (sym (is_in-push z xs y ∙ or_false (is_in z xs) (eqb y z) e))
+    ] refl
 
-  none_marked : (k z : ℕ) → z < k → slice_get (replicate k false) z ≡ Some false
-  none_marked zero z h = absurd (omega arith)
-  none_marked (suc k) zero h = refl
-  none_marked (suc k) (suc z) h = none_marked k z (omega (arith, h))
+none_marked : (k z : ℕ) → z < k → slice_get (replicate k false) z ≡ Some false
+none_marked zero z h = absurd (omega arith)
+none_marked (suc k) zero h = refl
+none_marked (suc k) (suc z) h = none_marked k z (omega (arith, h))
 
-  pub no_marks : (k : ℕ) (marks : List Bool) → marks ≡ replicate k false → k ≡ length p.exchanges → AreMarksOf p [] marks
-  no_marks k marks e n =
-      record {
-        long = ap length e ∙ length-replicate k false ∙ n;
-        each = λ z h. ap (λ l. slice_get l z) e ∙ none_marked k z (omega (arith, h, n));
-      }
+pub no_marks : (k : ℕ) (marks : List Bool) → marks ≡ replicate k false → AreMarksOf [] marks
+no_marks k marks e = λ z h. let l = ap length e ∙ length-replicate k false in ap (λ l. slice_get l z) e ∙ none_marked k z (omega (arith, h, l))
 
-  -- what was read of a mark
-  pub mark_read : (xs : List ℕ) (marks : List Bool) (y : ℕ) (b : Bool) → AreMarksOf p xs marks → y < length p.exchanges → slice_get marks y ≡ Some b → b ≡ is_in y xs
-  mark_read xs marks y b m h at = let e = m.each y h in cc
+-- what was read of a mark
+pub mark_read : (xs : List ℕ) (marks : List Bool) (y : ℕ) (b : Bool) → AreMarksOf xs marks → y < length marks → slice_get marks y ≡ Some b → b ≡ is_in y xs
+mark_read xs marks y b m h at = let e = m y h in cc

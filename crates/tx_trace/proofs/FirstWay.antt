@@ -2,13 +2,13 @@
 use Rattle.std.proofs.Common.{◌≡◌, ℕ, zero, suc, ◌+◌, ◌-◌, ◌<◌, ◌≤◌, Bool, true, false, cond, List, [], ◌∷◌, ◌++◌, length, Option, Some, None, refl, sym, ap, subst, ◌∙◌, arith, append-nil}
 use Rattle.std.specs.Option.{option_to_list}
 use Rattle.std.proofs.lemmas.List.{length_push}
-use Rattle.std.proofs.Math.ListN.{set}
+use Rattle.std.proofs.Math.ListN.{set, length-set}
 use Rattle.tx_plan.specs.Plan.{Plan}
 use Rattle.tx_rank.specs.Walks.{end_of, before_end, passed}
 use Rattle.tx_rank.proofs.Ways.{end_push, before_push}
 use Rattle.tx_trace.specs.Ways.{is_in, first_step, next_step, one_on, way_within, first_way}
 use Rattle.tx_trace.specs.inner.Reaching.{AreMarksOf}
-use Rattle.tx_trace.proofs.Ends.{marks_push, no_marks}
+use Rattle.tx_trace.proofs.Ends.{marks_push}
 
 passed_end : (x : ℕ) (steps : List (ℕ × ℕ)) → passed x steps ≡ before_end x steps ++ end_of x steps ∷ []
 passed_end x [] = refl
@@ -23,16 +23,17 @@ pub record IsGoing (p : Plan) (c x last : ℕ) (way : List (ℕ × ℕ)) (marks 
   pub few : length way ≤ length p.exchanges
   pub at : last ≡ end_of x way
   pub within : last < length p.exchanges
-  pub marks : AreMarksOf p (before_end x way) marks
+  pub long : length marks ≡ length p.exchanges
+  pub marked : AreMarksOf (before_end x way) marks
 
 module _ (p : Plan) (c x : ℕ) where
   -- a mark tells whether the way has come back
   pub next_by : (way : List (ℕ × ℕ)) (b : Bool) (step : Option (ℕ × ℕ)) → b ≡ is_in (end_of x way) (before_end x way) → step ≡ first_step p c (end_of x way) → cond b None step ≡ next_step p c x way
   next_by way b step e f = λ i. cond (e i) None (f i)
 
-  pub going_none : (last k : ℕ) (way : List (ℕ × ℕ)) (marks : List Bool) → way ≡ [] → last ≡ x → last < length p.exchanges → AreMarksOf p [] marks → IsGoing p c x last way marks
-  going_none last k way marks e l h m =
-      subst (λ w. IsGoing p c x last w marks) (sym e) (record { is = refl; few = omega arith; at = l; within = h; marks = m })
+  pub going_none : (last : ℕ) (way : List (ℕ × ℕ)) (marks : List Bool) → way ≡ [] → last ≡ x → last < length p.exchanges → length marks ≡ length p.exchanges → AreMarksOf [] marks → IsGoing p c x last way marks
+  going_none last way marks e l h n m =
+      subst (λ w. IsGoing p c x last w marks) (sym e) (record { is = refl; few = omega arith; at = l; within = h; long = n; marked = m })
 
   pub going_on : (last : ℕ) (way : List (ℕ × ℕ)) (marks : List Bool) (s : ℕ × ℕ) → IsGoing p c x last way marks → length way < length p.exchanges → Some s ≡ next_step p c x way → s.1 < length p.exchanges → IsGoing p c x s.1 (way ++ s ∷ []) (set marks last true)
   going_on last way marks s g more e h =
@@ -42,7 +43,10 @@ module _ (p : Plan) (c x : ℕ) where
         few = omega arith;
         at = sym (end_push x way s);
         within = h;
-        marks = subst (λ l. AreMarksOf p l (set marks last true)) (ap (λ y. before_end x way ++ y ∷ []) g.at ∙ sym (before_longer x way s)) (marks_push p (before_end x way) last marks g.marks g.within);
+        long = length-set marks last true ∙ g.long;
+        marked =
+            let fits : last < length marks = let w = g.within in let n = g.long in omega arith in
+            subst (λ l. AreMarksOf l (set marks last true)) (ap (λ y. before_end x way ++ y ∷ []) g.at ∙ sym (before_longer x way s)) (marks_push (before_end x way) last marks g.marked fits);
       }
 
   -- a way that has no next step stays

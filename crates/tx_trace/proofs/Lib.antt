@@ -1,6 +1,6 @@
 pub mod Ends
 pub mod FirstWay
-pub mod Meeting
+pub mod Rounds
 pub mod Heights
 pub mod Ranking
 pub mod Texts

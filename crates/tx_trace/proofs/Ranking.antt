@@ -20,13 +20,16 @@ use Rattle.tx_trace.specs.Heights.{height}
 use Rattle.tx_trace.specs.inner.Reaching.{net_from, AreRanksFrom}
 use Rattle.tx_trace.proofs.Heights.{is_net_from, heights_certify, passed_below, height_fits, height_is}
 
+abbrev shorts : {A : Type 0} → ℕ → List Walk → List (Finding A)
+shorts code ws = map (Short code) ws
+
 -- where ranks certify a code, nothing is found
 module _ {A : Type 0} (n : Net) (net : IsNet n) (ranks : ℕ → Option ℕ) (limit spare : ℕ) (c : Certifies n ranks limit spare) (code : ℕ) where
   pub none_found : (fs : List (Finding A)) → AreFindingsOfCode n code limit spare fs → fs ≡ []
   none_found fs (looped w l e) = absurd (certified_no_loop n ranks limit spare c w.start w.steps l)
   none_found fs (straight none shorts s long l e) = e ∙ nothing shorts long s.each l
     where
-      nothing : (ws : List Walk) (long : Option Walk) → ((w : Walk) → Among w ws → IsShort n spare w.start w.steps) → IsLongIfAny n limit long → map (Short {A = A} code) ws ++ long_findings code long ≡ []
+      nothing : (ws : List Walk) (long : Option Walk) → ((w : Walk) → Among w ws → IsShort n spare w.start w.steps) → IsLongIfAny n limit long → shorts {A = A} code ws ++ long_findings code long ≡ []
       nothing [] None each l = refl
       nothing [] (Some w) each l = absurd (certified_no_long n ranks limit spare c net.listed w.start w.steps l)
       nothing (w ∷ ws) long each l = absurd (certified_no_short n ranks limit spare c w.start w.steps (each w (inl refl)))

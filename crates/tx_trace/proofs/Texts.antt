@@ -1,5 +1,6 @@
 -- The lines of a trace, one after another.
-use Rattle.std.proofs.Common.{◌≡◌, ◌≢◌, ℕ, ◌+◌, ◌<◌, Bool, true, false, eqb, List, [], ◌∷◌, ◌++◌, length, take, get_or, cond, inl, inr, Option, Some, None, Ok, refl, sym, ap, subst, ◌∙◌, arith, append-nil}
+use Rattle.std.proofs.Common.{◌≡◌, ◌≢◌, ℕ, ◌+◌, ◌<◌, Bool, true, false, eqb, List, [], ◌∷◌, ◌++◌, length, take, get_or, cond, inl, inr, Option, Some, None, Ok, refl, sym, ap, subst, ◌∙◌, arith, append_assoc, append-nil, codes}
+use Rattle.std.specs.Prelude.{decimal}
 use Rattle.std.specs.List.{flat_map, enumerate_from}
 use Rattle.std.specs.Option.{option_map_or}
 use Rattle.std.proofs.lemmas.Bool.{eqb-false}
@@ -8,7 +9,7 @@ use Rattle.std.proofs.lemmas.List.Concat.{flat_map-append}
 use Rattle.std.proofs.lemmas.List.FromFn.{get_or-enumerate_from}
 use Rattle.tx_text.specs.Wrote.{Wrote}
 use Rattle.tx_text.proofs.Wrote.{wrote_then, text_is}
-use Rattle.tx_plan.specs.Plan.{Plan, home_of}
+use Rattle.tx_plan.specs.Plan.{Plan, home_of, exchange_name, group_name}
 use Rattle.tx_plan.specs.Circuits.{other_end}
 use Rattle.tx_plan.specs.Routes.{route_list}
 use Rattle.tx_plan.specs.Among.{Among}
@@ -17,7 +18,7 @@ use Rattle.tx_rank.proofs.Looks.{among_at}
 use Rattle.tx_trace.specs.declared.tracing.Trace.{Trace}
 use Rattle.tx_trace.specs.Ways.{all_met}
 use Rattle.tx_trace.specs.Heights.{rank_from}
-use Rattle.tx_trace.specs.TraceText.{home_line, place_text, place_line, list_lines, met_lines}
+use Rattle.tx_trace.specs.TraceText.{rank_text, home_line, place_text, place_line, list_lines, met_lines}
 use Rattle.tx_trace.specs.Traces.{rank_told, IsTraceOf}
 use Rattle.tx_trace.proofs.Ends.{among_ends}
 
@@ -29,6 +30,18 @@ texts_more text xs i x a b c f g h low is v w =
     let more : flat_map text (take (i + 1) xs) ≡ before ++ text x =
     ap (flat_map text) (take_more xs i x low) ∙ flat_map-append text (take i xs) (get_or xs i x ∷ []) ∙ ap (λ l. before ++ l) (append-nil (text (get_or xs i x))) ∙ ap (λ y. before ++ text y) (sym is) in
     text_is a c f h (flat_map text (take (i + 1) xs)) (before ++ text x) (Ok tt) more (wrote_then a b c f g h before (text x) (Ok tt) v w)
+
+-- the line of a group, as far as the rank
+abbrev pub place_front : Plan → (y place g z : ℕ) → List ℕ
+place_front p y place g z = codes "LIST " ++ (exchange_name p y ++ (codes " " ++ (decimal place ++ (codes " " ++ (group_name p g ++ (codes " " ++ (exchange_name p z ++ [])))))))
+
+place_cut : (a b c d e f g h rest : List ℕ) → a ++ (b ++ (c ++ (d ++ (e ++ (f ++ (g ++ (h ++ rest))))))) ≡ (a ++ (b ++ (c ++ (d ++ (e ++ (f ++ (g ++ (h ++ [])))))))) ++ rest
+place_cut a b c d e f g h rest = simp (append_assoc, append-nil)
+
+pub place_is : (p : Plan) (ranks : ℕ → Option ℕ) (y place g z : ℕ) → Some z ≡ other_end p g y → place_line p ranks y place g ≡ place_front p y place g z ++ (rank_text (ranks z) ++ codes "\n")
+place_is p ranks y place g z e =
+    ap (λ (o : Option ℕ). option_map_or (place_text p ranks y place g) o []) (sym e)
+    ∙ place_cut (codes "LIST ") (exchange_name p y) (codes " ") (decimal place) (codes " ") (group_name p g) (codes " ") (exchange_name p z) (rank_text (ranks z) ++ codes "\n")
 
 -- the group at a place, with its number
 pub numbered : (xs : List ℕ) (i x : ℕ) → i < length xs → x ≡ get_or xs i x → (i + 1, x) ≡ get_or (enumerate_from 1 xs) i (i + 1, x)
@@ -47,7 +60,7 @@ module _ (p : Plan) (c : ℕ) (told ranks : ℕ → Option ℕ) where
   place_same y place g same =
       elim (other_end p g y) as (λ o. other_end p g y ≡ o → option_map_or (place_text p told y place g) o [] ≡ option_map_or (place_text p ranks y place g) o []) [
         | None ↦ λ e. refl
-        | Some z ↦ λ e. let r = same z e in let f : (ℕ → Option ℕ) → List ℕ = λ k. place_text p k y place g z in told_same z y place g r
+        | Some z ↦ λ e. told_same z y place g (same z e)
       ] refl
     where
       told_same : (z y place g : ℕ) → told z ≡ ranks z → place_text p told y place g z ≡ place_text p ranks y place g z

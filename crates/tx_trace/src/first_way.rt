@@ -42,7 +42,7 @@ fn next_step<A: Allocator>(
     requires last { last < length plan.now.exchanges }
     requires long { length passed.now ≡ length plan.now.exchanges }
     ensures next { (x : ℕ) (way : List (ℕ × ℕ)) → last ≡ end_of x way
-        → AreMarksOf plan.now (before_end x way) passed.now → result ≡ next_step plan.now code x way }
+        → AreMarksOf (before_end x way) passed.now → result ≡ next_step plan.now code x way }
     ensures within { IfSome result (λ s. s.1 < length plan.now.exchanges) }
 {
     if passed[last.index()] {
@@ -68,7 +68,7 @@ pub fn first_way<A: Allocator + Copy>(
     while way.len() < plan.exchanges() {
         match next_step(plan, code, &passed, last) {
             Some(step) => {
-                way.push(step)?;
+                way.push((step.0, step.1))?;
                 passed[last.index()] = true;
                 last = step.1;
             }

@@ -11,4 +11,4 @@ mod trace_text;
 mod tracing;
 
 pub use trace_text::write_trace;
-pub use tracing::{Trace, trace};
+pub use tracing::{Trace, trace_calls};

@@ -1,7 +1,6 @@
 // The exchanges that calls may come to.
 ghost use Rattle.std.specs.Prelude.{◌≡◌, ◌<◌, length, IfOk};
 ghost use Rattle.std.specs.List.{fold};
-ghost use Rattle.tx_plan.specs.Plan.{Plan};
 ghost use Rattle.tx_trace.specs.Ways.{far_ends, meet, all_met};
 ghost use Rattle.tx_trace.specs.inner.Reaching.{AreMarksOf};
 
@@ -16,11 +15,10 @@ fn meet<A: Allocator>(
     marks: &mut [bool],
     met: &mut Vec<ExchangeId, A>,
 ) -> Result<(), NoMemory>
-    requires { exchange < length marks.old }
-    ensures marks { IfOk result (λ _. (p : Plan) → AreMarksOf p met.old.items marks.old
-        → AreMarksOf p met.new.items marks.new) }
-    ensures met { IfOk result (λ _. (p : Plan) → AreMarksOf p met.old.items marks.old
-        → met.new.items ≡ meet met.old.items exchange) }
+    requires within { exchange < length marks.old }
+    requires marks { AreMarksOf met.old.items marks.old }
+    ensures marks { IfOk result (λ _. AreMarksOf met.new.items marks.new) }
+    ensures met { IfOk result (λ _. met.new.items ≡ meet met.old.items exchange) }
 {
     if marks[exchange.index()] {
         return Ok(());
@@ -39,8 +37,9 @@ fn meet_ends<A: Allocator>(
     met: &mut Vec<ExchangeId, A>,
 ) -> Result<(), NoMemory>
     requires code { code < length plan.now.codes }
-    requires marks { AreMarksOf plan.now met.old.items marks.old }
-    ensures marks { IfOk result (λ _. AreMarksOf plan.now met.new.items marks.new) }
+    requires long { length marks.old ≡ length plan.now.exchanges }
+    requires marks { AreMarksOf met.old.items marks.old }
+    ensures marks { IfOk result (λ _. AreMarksOf met.new.items marks.new) }
     ensures met { IfOk result (λ _. met.new.items
         ≡ fold meet met.old.items (far_ends plan.now code exchange)) }
 {

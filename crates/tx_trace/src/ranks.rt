@@ -21,6 +21,7 @@ pub fn ranks_from<A: Allocator + Copy>(
     requires start { start < length plan.now.exchanges }
     ensures { IfOk result (AreRanksFrom plan.now code start) }
 {
+    plan.rules();
     let routes = RoutesFrom { plan, code, start };
     let mut cert = Cert::new(alloc, plan)?;
     let mut findings = Vec::new(alloc);

@@ -110,8 +110,9 @@ fn write_all_met<A: Allocator, W: Sink>(
         (flat_map (met_lines plan.now trace.now.code (rank_told trace.now.ranks trace.now.code))
         trace.now.met.items) result }
 {
-    for i in 0..trace.met.len() {
-        write_met(plan, trace, trace.met[i], sink)?;
+    let met = trace.met.as_slice();
+    for i in 0..met.len() {
+        write_met(plan, trace, met[i], sink)?;
     }
     Ok(())
 }

@@ -38,7 +38,7 @@ impl<A: Allocator> Trace<A> {
 }
 
 /// Finds how calls for a code go from an exchange. `Err` is want of memory.
-pub fn trace<A: Allocator + Copy>(
+pub fn trace_calls<A: Allocator + Copy>(
     alloc: A,
     plan: &Plan<A>,
     code: CodeId,

@@ -18,7 +18,6 @@ abbrev pub AreRanksFrom : Plan → (c x : ℕ) → Option Certificate → Type 0
 AreRanksFrom p c x cert =
     (y : ℕ) → IsReached (net_from p c x) y → rank_told cert c y ≡ rank_from p c x y
 
--- each exchange has a mark, which says whether it stands in the list
-pub record AreMarksOf (p : Plan) (xs : List ℕ) (marks : List Bool) : Type 0 where
-  pub long : length marks ≡ length p.exchanges
-  pub each : (y : ℕ) → y < length p.exchanges → slice_get marks y ≡ Some (is_in y xs)
+-- each mark says whether its place stands in the list
+abbrev pub AreMarksOf : List ℕ → List Bool → Type 0
+AreMarksOf xs marks = (y : ℕ) → y < length marks → slice_get marks y ≡ Some (is_in y xs)
