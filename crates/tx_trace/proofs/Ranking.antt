@@ -20,8 +20,8 @@ use Rattle.tx_trace.specs.Heights.{height}
 use Rattle.tx_trace.specs.inner.Reaching.{net_from, AreRanksFrom}
 use Rattle.tx_trace.proofs.Heights.{is_net_from, heights_certify, passed_below, height_fits, height_is}
 
-abbrev shorts : {A : Type 0} → ℕ → List Walk → List (Finding A)
-shorts code ws = map (Short code) ws
+abbrev short_findings : (A : Type 0) → ℕ → List Walk → List (Finding A)
+short_findings A code ws = map (Short code) ws
 
 -- where ranks certify a code, nothing is found
 module _ {A : Type 0} (n : Net) (net : IsNet n) (ranks : ℕ → Option ℕ) (limit spare : ℕ) (c : Certifies n ranks limit spare) (code : ℕ) where
@@ -29,7 +29,7 @@ module _ {A : Type 0} (n : Net) (net : IsNet n) (ranks : ℕ → Option ℕ) (li
   none_found fs (looped w l e) = absurd (certified_no_loop n ranks limit spare c w.start w.steps l)
   none_found fs (straight none shorts s long l e) = e ∙ nothing shorts long s.each l
     where
-      nothing : (ws : List Walk) (long : Option Walk) → ((w : Walk) → Among w ws → IsShort n spare w.start w.steps) → IsLongIfAny n limit long → shorts {A = A} code ws ++ long_findings code long ≡ []
+      nothing : (ws : List Walk) (long : Option Walk) → ((w : Walk) → Among w ws → IsShort n spare w.start w.steps) → IsLongIfAny n limit long → short_findings A code ws ++ long_findings code long ≡ []
       nothing [] None each l = refl
       nothing [] (Some w) each l = absurd (certified_no_long n ranks limit spare c net.listed w.start w.steps l)
       nothing (w ∷ ws) long each l = absurd (certified_no_short n ranks limit spare c w.start w.steps (each w (inl refl)))

@@ -56,16 +56,15 @@ put_back k new rest e = rw (← e) (take-append_seam new rest)
 
 -- ---- round after round
 
-module _ (p : Plan) (c x : ℕ) where
-  pub round_met : (i y : ℕ) (met new : List ℕ) → met ≡ met_before p c x i → slice_get met i ≡ Some y → new ≡ fold meet met (far_ends p c y) → new ≡ met_before p c x (i + 1)
-  round_met i y met new e at f =
-      let z : suc i ≡ i + 1 = omega arith in
-      f ∙ ap (λ o. fold meet met (option_map_or (far_ends p c) o [])) (sym at) ∙ ap (meet_from p c i) e ∙ ap (met_before p c x) z
+module _ (p : Plan) (c i : ℕ) (met : List ℕ) where
+  pub meet_from-at : (y : ℕ) → slice_get met i ≡ Some y → meet_from p c i met ≡ fold meet met (far_ends p c y)
+  meet_from-at y at = ap (λ o. fold meet met (option_map_or (far_ends p c) o [])) at
 
-  pub round_past : (i : ℕ) (met : List ℕ) → met ≡ met_before p c x i → slice_get met i ≡ None → met ≡ met_before p c x (i + 1)
-  round_past i met e at =
-      let z : suc i ≡ i + 1 = omega arith in
-      ap (λ o. fold meet met (option_map_or (far_ends p c) o [])) (sym at) ∙ ap (meet_from p c i) e ∙ ap (met_before p c x) z
+  pub meet_from-past : slice_get met i ≡ None → meet_from p c i met ≡ met
+  meet_from-past at = ap (λ o. fold meet met (option_map_or (far_ends p c) o [])) at
+
+pub round_more : (p : Plan) (c x i : ℕ) (met new : List ℕ) → met ≡ met_before p c x i → new ≡ meet_from p c i met → new ≡ met_before p c x (i + 1)
+round_more p c x i met new e f = f ∙ ap (meet_from p c i) e ∙ ap (met_before p c x) (let z : suc i ≡ i + 1 = omega arith in z)
 
 -- ---- where calls come
 

@@ -31,6 +31,9 @@ texts_more text xs i x a b c f g h low is v w =
     ap (flat_map text) (take_more xs i x low) ∙ flat_map-append text (take i xs) (get_or xs i x ∷ []) ∙ ap (λ l. before ++ l) (append-nil (text (get_or xs i x))) ∙ ap (λ y. before ++ text y) (sym is) in
     text_is a c f h (flat_map text (take (i + 1) xs)) (before ++ text x) (Ok tt) more (wrote_then a b c f g h before (text x) (Ok tt) v w)
 
+pub way_cut : (a b rest : List ℕ) → a ++ (b ++ rest) ≡ (a ++ (b ++ [])) ++ rest
+way_cut a b rest = simp (append_assoc, append-nil)
+
 -- the line of a group, as far as the rank
 abbrev pub place_front : Plan → (y place g z : ℕ) → List ℕ
 place_front p y place g z = codes "LIST " ++ (exchange_name p y ++ (codes " " ++ (decimal place ++ (codes " " ++ (group_name p g ++ (codes " " ++ (exchange_name p z ++ [])))))))

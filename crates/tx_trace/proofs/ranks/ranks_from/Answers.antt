@@ -8,7 +8,7 @@ use Rattle.tx_trace.proofs.Ranking.{ranked_from, unranked_from, mine_all}
 use Rattle.tx_trace.proofs.ranks.ranks_from.Goals as goal
 
 pub rank_code-requires-clause-blank : goal.rank_code-requires-clause-blank
-rank_code-requires-clause-blank g c = λ x. ap (λ t. rank_at t c.args.code x) c.in_ok-cert.ensures ∙ none_ranked _ _ c.args.code x
+rank_code-requires-clause-blank g c = λ x. ap (λ t. rank_at t c.args.code x) c.in_ok-cert.ensures ∙ none_ranked (length c.args.plan.now.codes) (length c.args.plan.now.exchanges) c.args.code x
 
 pub returns-then-is_empty : goal.returns-then-is_empty
 returns-then-is_empty g c =
