@@ -59,12 +59,6 @@ module _ (p : Plan) (c : ℕ) where
   pub among_ends : (y z : ℕ) → LeadsTo p c y z → Among z (far_ends p c y)
   among_ends y z l = subst (Among z) (sym (far_ends-away y l.away)) (among_filter_map (λ g. other_end p g y) z l.group (route_list p y c) l.listed l.leads)
 
--- ---- what stands in a list
-
-pub is_in-among : (y : ℕ) (xs : List ℕ) → is_in y xs ≡ true → Among y xs
-is_in-among y [] h = absurd (false≢true h)
-is_in-among y (x ∷ xs) h = elim (or_cases (eqb x y) (is_in y xs) h) [ inl a ↦ inl (eqb-true x y a) | inr b ↦ inr (is_in-among y xs b) ]
-
 -- ---- marks
 
 is_in-push : (z : ℕ) (xs : List ℕ) (y : ℕ) → is_in z (xs ++ y ∷ []) ≡ (is_in z xs || (eqb y z || false))
@@ -87,14 +81,6 @@ marks_push xs y marks m within = λ z h.
           ap (slice_get (set marks y true)) (sym same) ∙ set_same marks y (is_in y xs) true (m y within) ∙ ap (λ k. Some k) (sym (is_in-push z xs y ∙ or_true (is_in z xs) (eqb y z) e))
       | false ↦ λ e. set_other marks y z true (eqb-false y z e) ∙ m z (omega (arith, h, l)) ∙ ap (λ k. Some k) (sym (is_in-push z xs y ∙ or_false (is_in z xs) (eqb y z) e))
     ] refl
-
-none_marked : (k z : ℕ) → z < k → slice_get (replicate k false) z ≡ Some false
-none_marked zero z h = absurd (omega arith)
-none_marked (suc k) zero h = refl
-none_marked (suc k) (suc z) h = none_marked k z (omega (arith, h))
-
-pub no_marks : (k : ℕ) (marks : List Bool) → marks ≡ replicate k false → AreMarksOf [] marks
-no_marks k marks e = λ z h. let l = ap length e ∙ length-replicate k false in ap (λ l. slice_get l z) e ∙ none_marked k z (omega (arith, h, l))
 
 -- what was read of a mark
 pub mark_read : (xs : List ℕ) (marks : List Bool) (y : ℕ) (b : Bool) → AreMarksOf xs marks → y < length marks → slice_get marks y ≡ Some b → b ≡ is_in y xs

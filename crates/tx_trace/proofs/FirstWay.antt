@@ -27,14 +27,6 @@ pub record IsGoing (p : Plan) (c x last : ℕ) (way : List (ℕ × ℕ)) (marks 
   pub marked : AreMarksOf (before_end x way) marks
 
 module _ (p : Plan) (c x : ℕ) where
-  -- a mark tells whether the way has come back
-  pub next_by : (way : List (ℕ × ℕ)) (b : Bool) (step : Option (ℕ × ℕ)) → b ≡ is_in (end_of x way) (before_end x way) → step ≡ first_step p c (end_of x way) → cond b None step ≡ next_step p c x way
-  next_by way b step e f = λ i. cond (e i) None (f i)
-
-  pub going_none : (last : ℕ) (way : List (ℕ × ℕ)) (marks : List Bool) → way ≡ [] → last ≡ x → last < length p.exchanges → length marks ≡ length p.exchanges → AreMarksOf [] marks → IsGoing p c x last way marks
-  going_none last way marks e l h n m =
-      subst (λ w. IsGoing p c x last w marks) (sym e) (record { is = refl; few = omega arith; at = l; within = h; long = n; marked = m })
-
   pub going_on : (last : ℕ) (way : List (ℕ × ℕ)) (marks : List Bool) (s : ℕ × ℕ) → IsGoing p c x last way marks → length way < length p.exchanges → Some s ≡ next_step p c x way → s.1 < length p.exchanges → IsGoing p c x s.1 (way ++ s ∷ []) (set marks last true)
   going_on last way marks s g more e h =
       let long = length_push way s in

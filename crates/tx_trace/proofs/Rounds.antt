@@ -22,9 +22,6 @@ use Rattle.tx_trace.proofs.Ends.{LeadsTo, leads_to, far_ends-home, far_ends-away
 
 -- ---- one exchange
 
-pub meet-met : (met : List ℕ) (y : ℕ) → true ≡ is_in y met → meet met y ≡ met
-meet-met met y e = ap (λ b. cond b met (met ++ y ∷ [])) (sym e)
-
 pub meet-new : (met : List ℕ) (y : ℕ) → false ≡ is_in y met → meet met y ≡ met ++ y ∷ []
 meet-new met y e = ap (λ b. cond b met (met ++ y ∷ [])) (sym e)
 
@@ -49,22 +46,6 @@ module _ (p : Plan) (c x : ℕ) where
 
   pub met-home : (met : List ℕ) → x ≡ home_of p c → met ≡ fold meet met (far_ends p c x)
   met-home met e = ap (fold meet met) (sym (far_ends-home p c x e))
-
--- marks that were lent are back
-pub put_back : (k : ℕ) (new rest : List Bool) → length new ≡ k → take k (new ++ rest) ≡ new
-put_back k new rest e = rw (← e) (take-append_seam new rest)
-
--- ---- round after round
-
-module _ (p : Plan) (c i : ℕ) (met : List ℕ) where
-  pub meet_from-at : (y : ℕ) → slice_get met i ≡ Some y → meet_from p c i met ≡ fold meet met (far_ends p c y)
-  meet_from-at y at = ap (λ o. fold meet met (option_map_or (far_ends p c) o [])) at
-
-  pub meet_from-past : slice_get met i ≡ None → meet_from p c i met ≡ met
-  meet_from-past at = ap (λ o. fold meet met (option_map_or (far_ends p c) o [])) at
-
-pub round_more : (p : Plan) (c x i : ℕ) (met new : List ℕ) → met ≡ met_before p c x i → new ≡ meet_from p c i met → new ≡ met_before p c x (i + 1)
-round_more p c x i met new e f = f ∙ ap (meet_from p c i) e ∙ ap (met_before p c x) (let z : suc i ≡ i + 1 = omega arith in z)
 
 -- ---- where calls come
 
