@@ -1,12 +1,12 @@
 -- The first way, step by step.
-use Rattle.std.proofs.Common.{◌≡◌, ℕ, zero, suc, ◌+◌, ◌-◌, ◌<◌, ◌≤◌, Bool, true, false, cond, List, [], ◌∷◌, ◌++◌, length, Option, Some, None, refl, sym, ap, subst, ◌∙◌, arith, append-nil}
+use Rattle.std.proofs.Common.{◌≡◌, ℕ, zero, suc, ◌+◌, ◌-◌, ◌<◌, ◌≤◌, Bool, true, List, [], ◌∷◌, ◌++◌, length, Some, None, refl, sym, ap, subst, ◌∙◌, arith, append-nil}
 use Rattle.std.specs.Option.{option_to_list}
 use Rattle.std.proofs.lemmas.List.{length_push}
 use Rattle.std.proofs.Math.ListN.{set, length-set}
 use Rattle.tx_plan.specs.Plan.{Plan}
 use Rattle.tx_rank.specs.Walks.{end_of, before_end, passed}
 use Rattle.tx_rank.proofs.Ways.{end_push, before_push}
-use Rattle.tx_trace.specs.Ways.{is_in, first_step, next_step, one_on, way_within, first_way}
+use Rattle.tx_trace.specs.Ways.{next_step, one_on, way_within, first_way}
 use Rattle.tx_trace.specs.inner.Reaching.{AreMarksOf}
 use Rattle.tx_trace.proofs.Ends.{marks_push}
 

@@ -1,4 +1,4 @@
-use Rattle.std.proofs.Common.{◌≡◌, ◌<◌, ◌++◌, ◌∷◌, [], ℕ, List, length, true, sym, subst, arith}
+use Rattle.std.proofs.Common.{◌<◌, ◌++◌, ◌∷◌, [], ℕ, List, length, true, sym, subst, arith}
 use Rattle.std.proofs.Math.ListN.{set}
 use Rattle.tx_rank.specs.Walks.{before_end}
 use Rattle.tx_trace.specs.inner.Reaching.{AreMarksOf}

@@ -1,4 +1,4 @@
-use Rattle.std.proofs.Common.{◌<◌, ◌≤◌, ◌+◌, ℕ, length, arith}
+use Rattle.std.proofs.Common.{◌+◌, ℕ, arith}
 use Rattle.std.specs.List.{enumerate_from}
 use Rattle.std.proofs.lemmas.List.FromFn.{length-enumerate_from}
 use Rattle.tx_text.proofs.Wrote.{wrote_none, texts_stopped, texts_done}
