@@ -16,7 +16,7 @@ use Rattle.tx_rank.proofs.Ranks.{Falls, once_down}
 use Rattle.tx_rank.proofs.Unmended.{all_distinct}
 use Rattle.tx_trace.specs.Ways.{far_ends}
 use Rattle.tx_trace.specs.Heights.{greater, greatest, one_above, height_within, height}
-use Rattle.tx_trace.specs.inner.Reaching.{net_from}
+use Rattle.tx_trace.specs.Ranked.{net_from}
 use Rattle.tx_trace.proofs.Ends.{LeadsTo, leads_to, among_ends}
 
 -- ---- the greatest of some numbers
@@ -28,7 +28,7 @@ pub record IsGreater (a b : Option ℕ) (q : ℕ) : Type 0 where
   pub other : b ≡ Some second
   pub is : q ≡ max first second
 
-greater_parts : (a b : Option ℕ) (q : ℕ) → greater a b ≡ Some q → IsGreater a b q
+pub greater_parts : (a b : Option ℕ) (q : ℕ) → greater a b ≡ Some q → IsGreater a b q
 greater_parts None b q h = absurd (let bad : ⊥ = cc in bad)
 greater_parts (Some a) None q h = absurd (let bad : ⊥ = cc in bad)
 greater_parts (Some a) (Some b) q h = record { first = a; second = b; one = refl; other = refl; is = let e : max a b ≡ q = cc in sym e }
@@ -40,7 +40,7 @@ pub record IsKnown (a : Option ℕ) (m : ℕ) : Type 0 where
   pub few : value ≤ m
 
 module _ (f : ℕ → Option ℕ) where
-  greatest_known : (ys : List ℕ) (m : ℕ) → ((y : ℕ) → Among y ys → IsKnown (f y) m) → IsKnown (greatest (map f ys)) m
+  pub greatest_known : (ys : List ℕ) (m : ℕ) → ((y : ℕ) → Among y ys → IsKnown (f y) m) → IsKnown (greatest (map f ys)) m
   greatest_known [] m each = record { value = 0; known = refl; few = omega arith }
   greatest_known (y ∷ ys) m each =
       let a = each y (inl refl) in
@@ -48,7 +48,7 @@ module _ (f : ℕ → Option ℕ) where
       record { value = max a.value b.value; known = λ i. greater (a.known i) (b.known i); few = let u = a.few in let v = b.few in omega arith }
 
   -- where the greatest is known, each is
-  each_known : (ys : List ℕ) (q y : ℕ) → greatest (map f ys) ≡ Some q → Among y ys → IsKnown (f y) q
+  pub each_known : (ys : List ℕ) (q y : ℕ) → greatest (map f ys) ≡ Some q → Among y ys → IsKnown (f y) q
   each_known [] q y h m = absurd m
   each_known (z ∷ ys) q y h (inl k) =
       let g = greater_parts (f z) (greatest (map f ys)) q h in
@@ -67,18 +67,18 @@ module _ (f : ℕ → Option ℕ) where
       let i = g.is in
       omega arith
 
-  one_above_is : (ys : List ℕ) (y q : ℕ) → Among y ys → greatest (map f ys) ≡ Some q → one_above (map f ys) ≡ Some (suc q)
+  pub one_above_is : (ys : List ℕ) (y q : ℕ) → Among y ys → greatest (map f ys) ≡ Some q → one_above (map f ys) ≡ Some (suc q)
   one_above_is [] y q m h = absurd m
   one_above_is (z ∷ ys) y q m h = ap (option_map suc) h
 
-  record IsOneAbove (ys : List ℕ) (r : ℕ) : Type 0 where
-    some : ℕ
-    among : Among some ys
-    value : ℕ
-    greatest : greatest (map f ys) ≡ Some value
-    is : r ≡ suc value
+  pub record IsOneAbove (ys : List ℕ) (r : ℕ) : Type 0 where
+    pub some : ℕ
+    pub among : Among some ys
+    pub value : ℕ
+    pub greatest : greatest (map f ys) ≡ Some value
+    pub is : r ≡ suc value
 
-  one_above_parts : (ys : List ℕ) (r : ℕ) → one_above (map f ys) ≡ Some r → IsOneAbove ys r
+  pub one_above_parts : (ys : List ℕ) (r : ℕ) → one_above (map f ys) ≡ Some r → IsOneAbove ys r
   one_above_parts [] r h = absurd (let bad : ⊥ = cc in bad)
   one_above_parts (z ∷ ys) r h =
       elim (greatest (map f (z ∷ ys))) as (λ o. greatest (map f (z ∷ ys)) ≡ o → option_map suc o ≡ Some r → IsOneAbove (z ∷ ys) r) [
@@ -86,35 +86,35 @@ module _ (f : ℕ → Option ℕ) where
         | Some q ↦ λ e k. record { some = z; among = inl refl; value = q; greatest = e; is = let s : suc q ≡ r = cc in sym s }
       ] refl h
 
-greatest_grows : (f g : ℕ → Option ℕ) (ys : List ℕ) (q : ℕ) → ((y r : ℕ) → f y ≡ Some r → g y ≡ Some r) → greatest (map f ys) ≡ Some q → greatest (map g ys) ≡ Some q
+pub greatest_grows : (f g : ℕ → Option ℕ) (ys : List ℕ) (q : ℕ) → ((y : ℕ) → Among y ys → (r : ℕ) → f y ≡ Some r → g y ≡ Some r) → greatest (map f ys) ≡ Some q → greatest (map g ys) ≡ Some q
 greatest_grows f g [] q h e = e
 greatest_grows f g (y ∷ ys) q h e =
     let k = greater_parts (f y) (greatest (map f ys)) q e in
-    let a = h y k.first k.one in
-    let b = greatest_grows f g ys k.second h k.other in
+    let a = h y (inl refl) k.first k.one in
+    let b = greatest_grows f g ys k.second (λ z m. h z (inr m)) k.other in
     (λ i. greater (a i) (b i)) ∙ ap (λ n. Some n) (sym k.is)
 
 -- ---- heights
 
 module _ (p : Plan) (c : ℕ) where
-  abbrev within : ℕ → ℕ → Option ℕ
+  abbrev pub within : ℕ → ℕ → Option ℕ
   within = height_within p c
 
   height-home : (k : ℕ) → within k (home_of p c) ≡ Some 0
   height-home zero = ap (λ b. cond b (Some 0) None) (eq-eqb (home_of p c) (home_of p c) refl)
   height-home (suc k) = ap (λ b. cond b (Some 0) (one_above (map (within k) (far_ends p c (home_of p c))))) (eq-eqb (home_of p c) (home_of p c) refl)
 
-  height-nowhere : (y : ℕ) → y ≢ home_of p c → within 0 y ≡ None
+  pub height-nowhere : (y : ℕ) → y ≢ home_of p c → within 0 y ≡ None
   height-nowhere y n = ap (λ b. cond b (Some 0) None) (ne_eqb y (home_of p c) n)
 
-  height-away : (k y : ℕ) → y ≢ home_of p c → within (suc k) y ≡ one_above (map (within k) (far_ends p c y))
+  pub height-away : (k y : ℕ) → y ≢ home_of p c → within (suc k) y ≡ one_above (map (within k) (far_ends p c y))
   height-away k y n = ap (λ b. cond b (Some 0) (one_above (map (within k) (far_ends p c y)))) (ne_eqb y (home_of p c) n)
 
   -- the home has height 0
-  home_zero : (k y r : ℕ) → eqb y (home_of p c) ≡ true → within k y ≡ Some r → r ≡ 0
+  pub home_zero : (k y r : ℕ) → eqb y (home_of p c) ≡ true → within k y ≡ Some r → r ≡ 0
   home_zero k y r e h = let at = ap (within k) (eqb-true y (home_of p c) e) in let z = height-home k in let same : 0 ≡ r = cc in sym same
 
-  home_again : (k y r : ℕ) → eqb y (home_of p c) ≡ true → r ≡ 0 → within k y ≡ Some r
+  pub home_again : (k y r : ℕ) → eqb y (home_of p c) ≡ true → r ≡ 0 → within k y ≡ Some r
   home_again k y r e z = ap (within k) (eqb-true y (home_of p c) e) ∙ height-home k ∙ ap (λ n. Some n) (sym z)
 
   height_few : (k y r : ℕ) → within k y ≡ Some r → r ≤ k
@@ -133,7 +133,7 @@ module _ (p : Plan) (c : ℕ) where
             omega arith
       ] refl
 
-  height_grows : (k y r : ℕ) → within k y ≡ Some r → within (suc k) y ≡ Some r
+  pub height_grows : (k y r : ℕ) → within k y ≡ Some r → within (suc k) y ≡ Some r
   height_grows zero y r h =
       elim (eqb y (home_of p c)) as (λ b. eqb y (home_of p c) ≡ b → within 1 y ≡ Some r) [
         | true ↦ λ e. home_again 1 y r e (home_zero 0 y r e h)
@@ -146,7 +146,7 @@ module _ (p : Plan) (c : ℕ) where
             let away = eqb-false y (home_of p c) e in
             let ends = far_ends p c y in
             let o = one_above_parts (within k) ends r (sym (height-away k y away) ∙ h) in
-            let more = greatest_grows (within k) (within (suc k)) ends o.value (λ z s i. height_grows k z s i) o.greatest in
+            let more = greatest_grows (within k) (within (suc k)) ends o.value (λ z m s i. height_grows k z s i) o.greatest in
             height-away (suc k) y away ∙ one_above_is (within (suc k)) ends o.some o.value o.among more ∙ ap (λ n. Some n) (sym o.is)
       ] refl
 
@@ -155,7 +155,7 @@ module _ (p : Plan) (c : ℕ) where
   height_leads zero y r h away = absurd (let n = height-nowhere y away in let bad : ⊥ = cc in bad)
   height_leads (suc k) y r h away = let o = one_above_parts (within k) (far_ends p c y) r (sym (height-away k y away) ∙ h) in (o.some, o.among)
 
-  height_lower : (k y r z : ℕ) → within k y ≡ Some r → y ≢ home_of p c → Among z (far_ends p c y) → (s : ℕ) × (within k z ≡ Some s) × (s < r)
+  pub height_lower : (k y r z : ℕ) → within k y ≡ Some r → y ≢ home_of p c → Among z (far_ends p c y) → (s : ℕ) × (within k z ≡ Some s) × (s < r)
   height_lower zero y r z h away m = absurd (let n = height-nowhere y away in let bad : ⊥ = cc in bad)
   height_lower (suc k) y r z h away m =
       let o = one_above_parts (within k) (far_ends p c y) r (sym (height-away k y away) ∙ h) in

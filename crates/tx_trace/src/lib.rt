@@ -4,11 +4,13 @@
 
 mod far;
 mod first_way;
+mod law;
 mod meeting;
 mod ranks;
 mod routes_from;
 mod trace_text;
 mod tracing;
 
+pub use law::heights_are_ranks;
 pub use trace_text::write_trace;
 pub use tracing::{Trace, trace_calls};

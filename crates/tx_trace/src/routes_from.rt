@@ -1,6 +1,6 @@
 // The routes of one code of a plan, for calls that start at one exchange.
 ghost use Rattle.std.specs.Prelude.{◌<◌, length};
-ghost use Rattle.tx_trace.specs.inner.Reaching.{net_from};
+ghost use Rattle.tx_trace.specs.Ranked.{net_from};
 
 use crate::far::far;
 use std::alloc::Allocator;

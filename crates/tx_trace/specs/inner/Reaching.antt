@@ -1,17 +1,12 @@
--- The network as calls for one code see it that start at one exchange, and what is known of ranks
--- in it.
-use Rattle.std.specs.Prelude.{◌≡◌, ℕ, ◌<◌, ◌==◌, Bool, List, length, Option, Some, slice_get}
+-- What is known of marks, and of the ranks that a trace keeps.
+use Rattle.std.specs.Prelude.{◌≡◌, ℕ, ◌<◌, Bool, List, length, Option, Some, slice_get}
 use Rattle.tx_plan.specs.Plan.{Plan}
 use Rattle.tx_cert.specs.Certificate.{Certificate}
-use Rattle.tx_rank.specs.Walks.{Net, net_of}
 use Rattle.tx_rank.specs.Heights.{IsReached}
 use Rattle.tx_trace.specs.Ways.{is_in}
 use Rattle.tx_trace.specs.Heights.{rank_from}
+use Rattle.tx_trace.specs.Ranked.{net_from}
 use Rattle.tx_trace.specs.Traces.{rank_told}
-
--- the network of a plan for the code c, where calls start at x alone
-abbrev pub net_from : Plan → (c x : ℕ) → Net
-net_from p c x = record (net_of p c) { is_origin = λ y. y == x }
 
 -- each exchange that such calls come to has its rank
 abbrev pub AreRanksFrom : Plan → (c x : ℕ) → Option Certificate → Type 0

@@ -3,7 +3,7 @@ use Rattle.std.proofs.lemmas.Bool.{eqb-false}
 use Rattle.tx_cert.specs.Certificate.{rank_at}
 use Rattle.tx_cert.proofs.Ranks.{none_ranked}
 use Rattle.tx_rank.proofs.Listing.{none_of}
-use Rattle.tx_trace.specs.inner.Reaching.{net_from}
+use Rattle.tx_trace.specs.Ranked.{net_from}
 use Rattle.tx_trace.proofs.Ranking.{ranked_from, unranked_from, mine_all}
 use Rattle.tx_trace.proofs.ranks.ranks_from.Goals as goal
 
