@@ -23,13 +23,15 @@ ToldTrace text out (Err other) = ⊥
 
 -- the trace of a code from an exchange; or the plan has no such exchange, or no such code, and
 -- nothing was written
-abbrev pub TracedNamed : Plan → (exchange code : Option ℕ) → Output → Result Traced JobFault → Type 0
+abbrev pub TracedNamed :
+    Plan → (exchange code : Option ℕ) → Output → Result Traced JobFault → Type 0
 TracedNamed p None code out result = (result ≡ Ok NoSuchExchange) × out.silent
 TracedNamed p (Some x) None out result = (result ≡ Ok NoSuchCode) × out.silent
 TracedNamed p (Some x) (Some c) out result = ToldTrace (trace_text p c x) out result
 
 -- `trace PLAN EXCHANGE CODE`, by the words for the exchange and for the code
-abbrev pub TraceJobAnswers : (exchange code : List ℕ) → Input → Output → Result Traced JobFault → Type 0
+abbrev pub TraceJobAnswers :
+    (exchange code : List ℕ) → Input → Output → Result Traced JobFault → Type 0
 TraceJobAnswers exchange code plan out result =
     PlanRead plan (λ p. TracedNamed p (exchange_named p exchange) (code_named p code) out result)
     ⊎ PlanRefused plan out.silent result

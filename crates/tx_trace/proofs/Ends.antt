@@ -11,7 +11,7 @@ use Rattle.tx_plan.specs.Circuits.{other_end}
 use Rattle.tx_plan.specs.Among.{Among}
 use Rattle.tx_rank.proofs.Turns.{set_same, set_other}
 use Rattle.tx_trace.specs.Ways.{is_in, far_ends}
-use Rattle.tx_trace.specs.inner.Reaching.{AreMarksOf}
+use Rattle.tx_trace.specs.inner.Marked.{AreMarksOf}
 
 -- ---- far ends
 

@@ -7,7 +7,7 @@ use Rattle.tx_plan.specs.Plan.{Plan}
 use Rattle.tx_rank.specs.Walks.{end_of, before_end, passed}
 use Rattle.tx_rank.proofs.Ways.{end_push, before_push}
 use Rattle.tx_trace.specs.Ways.{next_step, one_on, way_within, first_way}
-use Rattle.tx_trace.specs.inner.Reaching.{AreMarksOf}
+use Rattle.tx_trace.specs.inner.Marked.{AreMarksOf}
 use Rattle.tx_trace.proofs.Ends.{marks_push}
 
 passed_end : (x : ℕ) (steps : List (ℕ × ℕ)) → passed x steps ≡ before_end x steps ++ end_of x steps ∷ []

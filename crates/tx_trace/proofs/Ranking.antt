@@ -18,7 +18,7 @@ use Rattle.tx_rank.proofs.Ways.{end_passed}
 use Rattle.tx_rank.proofs.Walked.{certified_no_loop, certified_no_short, certified_no_long}
 use Rattle.tx_trace.specs.Heights.{height}
 use Rattle.tx_trace.specs.Ranked.{net_from}
-use Rattle.tx_trace.specs.inner.Reaching.{AreRanksFrom}
+use Rattle.tx_trace.specs.inner.Marked.{AreRanksFrom}
 use Rattle.tx_trace.proofs.Heights.{is_net_from, heights_certify, passed_below, height_fits, height_is}
 
 abbrev short_findings : (A : Type 0) → ℕ → List Walk → List (Finding A)

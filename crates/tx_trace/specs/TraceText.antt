@@ -1,5 +1,6 @@
 -- The trace of calls for a code from an exchange, as it is written.
-use Rattle.std.specs.Prelude.{ℕ, ◌==◌, if◌then◌else◌, List, [], ◌++◌, Option, Some, None, codes, decimal}
+use Rattle.std.specs.Prelude.{ℕ, ◌==◌, if◌then◌else◌, List, [], ◌++◌, codes, decimal}
+use Rattle.std.specs.Prelude.{Option, Some, None}
 use Rattle.std.specs.List.{flat_map, enumerate_from}
 use Rattle.std.specs.Option.{option_map_or}
 use Rattle.tx_plan.specs.Plan.{Plan, exchange_name, figures_of, group_name, home_of}
@@ -8,12 +9,12 @@ use Rattle.tx_plan.specs.Routes.{route_list, is_barred}
 use Rattle.tx_trace.specs.Ways.{first_way, all_met}
 use Rattle.tx_trace.specs.Heights.{rank_from}
 
--- what was asked
+-- what was asked, as in `TRACE 24 FROM NORTH`
 abbrev pub head_line : Plan → (c x : ℕ) → List ℕ
 head_line p c x =
     codes "TRACE " ++ (figures_of p c ++ (codes " FROM " ++ (exchange_name p x ++ codes "\n")))
 
--- where a bar keeps calls for the code from starting at x
+-- that a bar keeps calls for the code from starting at x, as in `BARRED NORTH 24`; else nothing
 abbrev pub bar_line : Plan → (c x : ℕ) → List ℕ
 bar_line p c x =
     if is_barred p x c
@@ -24,11 +25,12 @@ bar_line p c x =
 abbrev pub step_text : Plan → ℕ × ℕ → List ℕ
 step_text p s = codes " " ++ (group_name p s.0 ++ (codes " " ++ exchange_name p s.1))
 
--- where a way starts, and its steps
+-- where a way starts, and its steps, as in `FIRST NORTH NOSO1 SOUTH`
 abbrev pub way_line : Plan → ℕ → List (ℕ × ℕ) → List ℕ
-way_line p x way = codes "FIRST " ++ (exchange_name p x ++ (flat_map (step_text p) way ++ codes "\n"))
+way_line p x way =
+    codes "FIRST " ++ (exchange_name p x ++ (flat_map (step_text p) way ++ codes "\n"))
 
--- the home
+-- the home, as in `HOME SOUTH`
 abbrev pub home_line : Plan → ℕ → List ℕ
 home_line p y = codes "HOME " ++ (exchange_name p y ++ codes "\n")
 
@@ -37,11 +39,13 @@ abbrev pub rank_text : Option ℕ → List ℕ
 rank_text None = []
 rank_text (Some r) = codes " RANK " ++ decimal r
 
--- a group in the list of y: its place, its name, where it leads, and the rank of that exchange
+-- a group in the list of y: its place, its name, where it leads, and the rank of that exchange, as
+-- in `LIST NORTH 1 NOSO1 SOUTH RANK 0`
 abbrev pub place_text : Plan → (ranks : ℕ → Option ℕ) → (y place g z : ℕ) → List ℕ
 place_text p ranks y place g z =
     codes "LIST " ++ (exchange_name p y ++ (codes " " ++ (decimal place ++ (codes " "
-    ++ (group_name p g ++ (codes " " ++ (exchange_name p z ++ (rank_text (ranks z) ++ codes "\n"))))))))
+    ++ (group_name p g ++ (codes " " ++ (exchange_name p z
+    ++ (rank_text (ranks z) ++ codes "\n"))))))))
 
 abbrev pub place_line : Plan → (ranks : ℕ → Option ℕ) → (y place g : ℕ) → List ℕ
 place_line p ranks y place g = option_map_or (place_text p ranks y place g) (other_end p g y) []

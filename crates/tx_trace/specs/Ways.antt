@@ -1,5 +1,6 @@
 -- The ways that calls for a code take from an exchange.
-use Rattle.std.specs.Prelude.{ℕ, zero, suc, Bool, ◌==◌, if◌then◌else◌, List, [], ◌∷◌, ◌++◌, length, slice_get, Option, None, option_and_then}
+use Rattle.std.specs.Prelude.{ℕ, zero, suc, Bool, ◌==◌, if◌then◌else◌, List, [], ◌∷◌, ◌++◌}
+use Rattle.std.specs.Prelude.{length, slice_get, Option, None, option_and_then}
 use Rattle.std.specs.List.{list_any, filter_map, fold}
 use Rattle.std.specs.Option.{option_map, option_map_or, option_to_list}
 use Rattle.tx_plan.specs.Plan.{Plan, home_of}
@@ -25,7 +26,8 @@ step_by p y g = option_map (λ z. (g, z)) (other_end p g y)
 -- the step by the first group that y tries; none from the home, and none without a list
 abbrev pub first_step : Plan → (c y : ℕ) → Option (ℕ × ℕ)
 first_step p c y =
-    if y == home_of p c then None else option_and_then (step_by p y) (slice_get (route_list p y c) 0)
+    if y == home_of p c then None
+    else option_and_then (step_by p y) (slice_get (route_list p y c) 0)
 
 -- the step by which such a way from x goes on; none once it has come back to an exchange
 abbrev pub next_step : Plan → (c x : ℕ) → List (ℕ × ℕ) → Option (ℕ × ℕ)

@@ -1,1 +1,1 @@
-pub mod Reaching
+pub mod Marked

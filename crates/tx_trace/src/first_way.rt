@@ -3,7 +3,7 @@ ghost use Rattle.std.specs.Prelude.{◌≡◌, ◌<◌, ℕ, List, length, IfOk}
 ghost use Rattle.std.specs.Option.{IfSome};
 ghost use Rattle.tx_rank.specs.Walks.{end_of, before_end};
 ghost use Rattle.tx_trace.specs.Ways.{first_step, next_step, first_way};
-ghost use Rattle.tx_trace.specs.inner.Reaching.{AreMarksOf};
+ghost use Rattle.tx_trace.specs.inner.Marked.{AreMarksOf};
 
 use crate::far::far;
 use std::alloc::Allocator;

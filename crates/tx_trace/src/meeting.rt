@@ -2,7 +2,7 @@
 ghost use Rattle.std.specs.Prelude.{◌≡◌, ◌<◌, length, IfOk};
 ghost use Rattle.std.specs.List.{fold};
 ghost use Rattle.tx_trace.specs.Ways.{far_ends, meet, meet_from, all_met};
-ghost use Rattle.tx_trace.specs.inner.Reaching.{AreMarksOf};
+ghost use Rattle.tx_trace.specs.inner.Marked.{AreMarksOf};
 
 use crate::far::far;
 use std::alloc::Allocator;

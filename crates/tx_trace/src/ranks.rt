@@ -1,6 +1,6 @@
 // The ranks of the exchanges that calls come to from one.
 ghost use Rattle.std.specs.Prelude.{◌<◌, length, IfOk};
-ghost use Rattle.tx_trace.specs.inner.Reaching.{AreRanksFrom};
+ghost use Rattle.tx_trace.specs.inner.Marked.{AreRanksFrom};
 
 use crate::routes_from::RoutesFrom;
 use std::alloc::Allocator;

@@ -1,7 +1,7 @@
 use Rattle.std.proofs.Common.{◌<◌, ◌++◌, ◌∷◌, [], ℕ, List, length, true, sym, subst, arith}
 use Rattle.std.proofs.Math.ListN.{set}
 use Rattle.tx_rank.specs.Walks.{before_end}
-use Rattle.tx_trace.specs.inner.Reaching.{AreMarksOf}
+use Rattle.tx_trace.specs.inner.Marked.{AreMarksOf}
 use Rattle.tx_trace.proofs.FirstWay.{IsGoing, going_on, ended}
 use Rattle.tx_trace.proofs.first_way.first_way.Goals as goal
 

@@ -2,7 +2,7 @@ use Rattle.std.proofs.Common.{◌≡◌, ◌++◌, ◌∷◌, [], ℕ, List, Som
 use Rattle.std.specs.Prelude.{slice_get}
 use Rattle.std.proofs.lemmas.Option.{slice_get-get_or}
 use Rattle.std.proofs.Math.ListN.{set}
-use Rattle.tx_trace.specs.inner.Reaching.{AreMarksOf}
+use Rattle.tx_trace.specs.inner.Marked.{AreMarksOf}
 use Rattle.tx_trace.proofs.Ends.{marks_push, mark_read}
 use Rattle.tx_trace.proofs.Rounds.{meet-new}
 use Rattle.tx_trace.proofs.meeting.meet.Goals as goal
