@@ -8,6 +8,7 @@ pub mod AuditJobs
 pub mod ChangeFaults
 pub mod ChangeJobs
 pub mod GradeJobs
+pub mod TraceJobs
 pub mod Writables
 pub mod Evidences
 pub mod ChangeEvidences
