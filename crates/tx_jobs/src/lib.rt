@@ -27,6 +27,8 @@ mod run;
 mod run_checked;
 mod shown;
 mod simulate;
+mod trace;
+mod traced;
 
 pub use audit::audit_job;
 pub use audit_evidence::evidence_job;
@@ -50,3 +52,5 @@ pub use pipe::pipe_job;
 pub use reaching::reached;
 pub use run::run_job;
 pub use run_checked::{run_checked_job, run_checked_status};
+pub use trace::trace_job;
+pub use traced::Traced;

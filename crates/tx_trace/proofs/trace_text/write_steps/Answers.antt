@@ -1,0 +1,24 @@
+use Rattle.std.proofs.Common.{codes, Err, refl}
+use Rattle.std.specs.List.{flat_map}
+use Rattle.tx_text.proofs.Wrote.{wrote_none, wrote_then, wrote_first, texts_stopped, texts_done}
+use Rattle.tx_trace.specs.TraceText.{step_text}
+use Rattle.tx_trace.proofs.Texts.{texts_more}
+use Rattle.tx_trace.proofs.trace_text.write_steps.Goals as goal
+
+pub returns-in_err-write_step : goal.returns-in_err-write_step
+returns-in_err-write_step g c =
+    let fault = c.in_err-write_step.field-0.0 in
+    wrote_first _ _ _ _ (flat_map (step_text c.args.plan.now) c.args.way.now) (codes "\n") _ fault
+    (texts_stopped (step_text c.args.plan.now) c.args.way.now c.loop-i.i c.index-way-i.result _ _ _ _ _ _ (Err fault) fault c.loop-i-test.true c.index-way-i.is c.loop-i.invariant c.in_err-write_step.ensures refl)
+    c.from_residual.ensures.0
+
+pub returns : goal.returns
+returns g c =
+    wrote_then _ _ _ _ _ _ (flat_map (step_text c.args.plan.now) c.args.way.now) (codes "\n") _
+    (texts_done (step_text c.args.plan.now) c.args.way.now c.loop-i.i _ _ _ _ c.loop-i-test.false c.loop-i.invariant) c.write_text.ensures
+
+pub loop-i-preserved : goal.loop-i-preserved
+loop-i-preserved g c = texts_more (step_text c.args.plan.now) c.args.way.now c.loop-i.i c.index-way-i.result _ _ _ _ _ _ c.loop-i-test.true c.index-way-i.is c.loop-i.invariant c.in_ok-write_step.ensures
+
+pub loop-i-init : goal.loop-i-init
+loop-i-init g c = wrote_none _ _

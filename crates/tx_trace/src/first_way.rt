@@ -1,0 +1,79 @@
+// The way of a call while all is free.
+ghost use Rattle.std.specs.Prelude.{◌≡◌, ◌<◌, ℕ, List, length, IfOk};
+ghost use Rattle.std.specs.Option.{IfSome};
+ghost use Rattle.tx_rank.specs.Walks.{end_of, before_end};
+ghost use Rattle.tx_trace.specs.Ways.{first_step, next_step, first_way};
+ghost use Rattle.tx_trace.specs.inner.Marked.{AreMarksOf};
+
+use crate::far::far;
+use std::alloc::Allocator;
+use tx_plan::{CodeId, ExchangeId, GroupId, Plan};
+use tx_text::NoMemory;
+
+/// The step by the first group of an exchange's list, if it has one. The home has none.
+fn first_step<A: Allocator>(
+    plan: &Plan<A>,
+    code: CodeId,
+    exchange: ExchangeId,
+) -> Option<(GroupId, ExchangeId)>
+    requires { code < length plan.now.codes }
+    ensures step { result ≡ first_step plan.now code exchange }
+    ensures within { IfSome result (λ s. s.1 < length plan.now.exchanges) }
+{
+    if exchange == plan.home(code) {
+        return None;
+    }
+    let list = plan.list(exchange, code);
+    if list.is_empty() {
+        return None;
+    }
+    let group = list[0];
+    Some((group, far(plan, code, exchange, group)))
+}
+
+/// The step by which a way goes on from its last exchange, unless it has passed that before.
+fn next_step<A: Allocator>(
+    plan: &Plan<A>,
+    code: CodeId,
+    passed: &[bool],
+    last: ExchangeId,
+) -> Option<(GroupId, ExchangeId)>
+    requires code { code < length plan.now.codes }
+    requires last { last < length plan.now.exchanges }
+    requires long { length passed.now ≡ length plan.now.exchanges }
+    ensures next { (x : ℕ) (way : List (ℕ × ℕ)) → last ≡ end_of x way
+        → AreMarksOf (before_end x way) passed.now → result ≡ next_step plan.now code x way }
+    ensures within { IfSome result (λ s. s.1 < length plan.now.exchanges) }
+{
+    if passed[last.index()] {
+        return None;
+    }
+    first_step(plan, code, last)
+}
+
+/// The way by first groups: to the home, to an exchange without a list, or to where it comes back.
+pub fn first_way<A: Allocator + Copy>(
+    alloc: A,
+    plan: &Plan<A>,
+    code: CodeId,
+    start: ExchangeId,
+) -> Result<Vec<(GroupId, ExchangeId), A>, NoMemory>
+    requires code { code < length plan.now.codes }
+    requires start { start < length plan.now.exchanges }
+    ensures { IfOk result (λ way. way.items ≡ first_way plan.now code start) }
+{
+    let mut passed = vec![in alloc; false; plan.exchanges()]?;
+    let mut way = Vec::new(alloc);
+    let mut last = start;
+    while way.len() < plan.exchanges() {
+        match next_step(plan, code, &passed, last) {
+            Some(step) => {
+                way.push((step.0, step.1))?;
+                passed[last.index()] = true;
+                last = step.1;
+            }
+            None => return Ok(way),
+        }
+    }
+    Ok(way)
+}

@@ -1,0 +1,17 @@
+// What a height says of ranks and of ways.
+ghost use Rattle.std.specs.Prelude.{◌≡◌, ◌↔◌, ℕ, ◌<◌, length, Some, IsSome};
+ghost use Rattle.tx_plan.specs.Plan.{Plan};
+ghost use Rattle.tx_plan.specs.Rules.{IsPlan};
+ghost use Rattle.tx_rank.specs.Walks.{net_of};
+ghost use Rattle.tx_rank.specs.Heights.{IsHeight};
+ghost use Rattle.tx_trace.specs.Heights.{height};
+ghost use Rattle.tx_trace.specs.Ranked.{CanBeRankedFrom};
+
+/// An exchange has a height exactly where some ranks certify the code for calls that start there,
+/// and it is the number of steps of the longest way to the home.
+pub fn heights_are_ranks()
+    ensures ranked { (p : Plan) (c x : ℕ) → IsPlan p → c < length p.codes → x < length p.exchanges
+        → IsSome (height p c x) ↔ CanBeRankedFrom p c x }
+    ensures longest { (p : Plan) (c x h : ℕ) → IsPlan p → c < length p.codes
+        → height p c x ≡ Some h → IsHeight (net_of p c) x h }
+{}

@@ -1,0 +1,97 @@
+// The exchanges that calls may come to.
+ghost use Rattle.std.specs.Prelude.{◌≡◌, ◌<◌, length, IfOk};
+ghost use Rattle.std.specs.List.{fold};
+ghost use Rattle.tx_trace.specs.Ways.{far_ends, meet, meet_from, all_met};
+ghost use Rattle.tx_trace.specs.inner.Marked.{AreMarksOf};
+
+use crate::far::far;
+use std::alloc::Allocator;
+use tx_plan::{CodeId, ExchangeId, Plan};
+use tx_text::NoMemory;
+
+/// Adds an exchange, if it was not met yet.
+fn meet<A: Allocator>(
+    exchange: ExchangeId,
+    marks: &mut [bool],
+    met: &mut Vec<ExchangeId, A>,
+) -> Result<(), NoMemory>
+    requires within { exchange < length marks.old }
+    requires marks { AreMarksOf met.old.items marks.old }
+    ensures marks { IfOk result (λ _. AreMarksOf met.new.items marks.new) }
+    ensures met { IfOk result (λ _. met.new.items ≡ meet met.old.items exchange) }
+{
+    if marks[exchange.index()] {
+        return Ok(());
+    }
+    met.push(exchange)?;
+    marks[exchange.index()] = true;
+    Ok(())
+}
+
+/// Adds the exchanges to which the groups of one lead. The home leads nowhere.
+fn meet_ends<A: Allocator>(
+    plan: &Plan<A>,
+    code: CodeId,
+    exchange: ExchangeId,
+    marks: &mut [bool],
+    met: &mut Vec<ExchangeId, A>,
+) -> Result<(), NoMemory>
+    requires code { code < length plan.now.codes }
+    requires long { length marks.old ≡ length plan.now.exchanges }
+    requires marks { AreMarksOf met.old.items marks.old }
+    ensures marks { IfOk result (λ _. AreMarksOf met.new.items marks.new) }
+    ensures met { IfOk result (λ _. met.new.items
+        ≡ fold meet met.old.items (far_ends plan.now code exchange)) }
+{
+    if exchange == plan.home(code) {
+        return Ok(());
+    }
+    let list = plan.list(exchange, code);
+    for i in 0..list.len() {
+        let to = far(plan, code, exchange, list[i]);
+        meet(to, marks, met)?;
+    }
+    Ok(())
+}
+
+/// The exchange at a place adds those to which its groups lead.
+fn meet_from<A: Allocator>(
+    plan: &Plan<A>,
+    code: CodeId,
+    place: usize,
+    marks: &mut [bool],
+    met: &mut Vec<ExchangeId, A>,
+) -> Result<(), NoMemory>
+    requires code { code < length plan.now.codes }
+    requires long { length marks.old ≡ length plan.now.exchanges }
+    requires marks { AreMarksOf met.old.items marks.old }
+    ensures marks { IfOk result (λ _. AreMarksOf met.new.items marks.new) }
+    ensures met { IfOk result (λ _. met.new.items ≡ meet_from plan.now code place met.old.items) }
+{
+    if place >= met.len() {
+        return Ok(());
+    }
+    let exchange = met[place];
+    meet_ends(plan, code, exchange, marks, met)
+}
+
+/// The exchanges that calls for the code may come to from one, in the order in which they are met
+/// by breadth.
+pub fn all_met<A: Allocator + Copy>(
+    alloc: A,
+    plan: &Plan<A>,
+    code: CodeId,
+    start: ExchangeId,
+) -> Result<Vec<ExchangeId, A>, NoMemory>
+    requires code { code < length plan.now.codes }
+    requires start { start < length plan.now.exchanges }
+    ensures { IfOk result (λ met. met.items ≡ all_met plan.now code start) }
+{
+    let mut marks = vec![in alloc; false; plan.exchanges()]?;
+    let mut met = Vec::new(alloc);
+    meet(start, &mut marks, &mut met)?;
+    for place in 0..plan.exchanges() {
+        meet_from(plan, code, place, &mut marks, &mut met)?;
+    }
+    Ok(met)
+}

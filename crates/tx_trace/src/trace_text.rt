@@ -1,0 +1,203 @@
+// The writer of traces.
+ghost use Rattle.std.specs.Prelude.{◌≡◌, ◌++◌, codes, Option, ℕ};
+ghost use Rattle.std.specs.List.{flat_map};
+ghost use Rattle.tx_text.specs.Wrote.{Wrote};
+ghost use Rattle.tx_trace.specs.TraceText.{head_line, bar_line, step_text, way_line, home_line};
+ghost use Rattle.tx_trace.specs.TraceText.{rank_text, place_line, list_lines, met_lines};
+ghost use Rattle.tx_trace.specs.TraceText.{trace_text};
+ghost use Rattle.tx_trace.specs.Traces.{IsTraceOf, rank_told};
+
+use crate::tracing::Trace;
+use itoa::Buffer;
+use std::alloc::Allocator;
+use tx_plan::{CodeId, ExchangeId, GroupId, Plan};
+use tx_text::{Sink, WriteFault, write_text};
+
+/// Writes a trace: what was asked, the way while all is free, and for each exchange that is met its
+/// list, or that it is the home.
+pub fn write_trace<A: Allocator, W: Sink>(
+    plan: &Plan<A>,
+    trace: &Trace<A>,
+    sink: &mut W,
+) -> Result<(), WriteFault>
+    requires { IsTraceOf plan.now trace.now }
+    ensures { Wrote (W.taken sink.old) (W.taken sink.new) (W.failed sink.old) (W.failed sink.new)
+        (trace_text plan.now trace.now.code trace.now.exchange) result }
+{
+    write_head(plan, trace.code, trace.exchange, sink)?;
+    write_bar(plan, trace.code, trace.exchange, sink)?;
+    write_way(plan, trace.exchange, &trace.first, sink)?;
+    write_all_met(plan, trace, sink)
+}
+
+fn write_head<A: Allocator, W: Sink>(
+    plan: &Plan<A>,
+    code: CodeId,
+    exchange: ExchangeId,
+    sink: &mut W,
+) -> Result<(), WriteFault>
+    ensures { Wrote (W.taken sink.old) (W.taken sink.new) (W.failed sink.old) (W.failed sink.new)
+        (head_line plan.now code exchange) result }
+{
+    let figures = plan.code_figures(code);
+    let name = plan.exchange_name(exchange);
+    write_text(&[b"TRACE ", figures, b" FROM ", name, b"\n"], sink)
+}
+
+/// Writes that calls for the code may not start at the exchange, if a bar says so.
+fn write_bar<A: Allocator, W: Sink>(
+    plan: &Plan<A>,
+    code: CodeId,
+    exchange: ExchangeId,
+    sink: &mut W,
+) -> Result<(), WriteFault>
+    ensures { Wrote (W.taken sink.old) (W.taken sink.new) (W.failed sink.old) (W.failed sink.new)
+        (bar_line plan.now code exchange) result }
+{
+    if !plan.is_barred(exchange, code) {
+        return Ok(());
+    }
+    let figures = plan.code_figures(code);
+    let name = plan.exchange_name(exchange);
+    write_text(&[b"BARRED ", name, b" ", figures, b"\n"], sink)
+}
+
+fn write_way<A: Allocator, W: Sink>(
+    plan: &Plan<A>,
+    start: ExchangeId,
+    way: &[(GroupId, ExchangeId)],
+    sink: &mut W,
+) -> Result<(), WriteFault>
+    ensures { Wrote (W.taken sink.old) (W.taken sink.new) (W.failed sink.old) (W.failed sink.new)
+        (way_line plan.now start way.now) result }
+{
+    write_text(&[b"FIRST ", plan.exchange_name(start)], sink)?;
+    write_steps(plan, way, sink)
+}
+
+/// Writes the steps of a way, and the end of the line.
+fn write_steps<A: Allocator, W: Sink>(
+    plan: &Plan<A>,
+    way: &[(GroupId, ExchangeId)],
+    sink: &mut W,
+) -> Result<(), WriteFault>
+    ensures { Wrote (W.taken sink.old) (W.taken sink.new) (W.failed sink.old) (W.failed sink.new)
+        (flat_map (step_text plan.now) way.now ++ codes "\n") result }
+{
+    for i in 0..way.len() {
+        write_step(plan, way[i], sink)?;
+    }
+    write_text(&[b"\n"], sink)
+}
+
+fn write_step<A: Allocator, W: Sink>(
+    plan: &Plan<A>,
+    step: (GroupId, ExchangeId),
+    sink: &mut W,
+) -> Result<(), WriteFault>
+    ensures { Wrote (W.taken sink.old) (W.taken sink.new) (W.failed sink.old) (W.failed sink.new)
+        (step_text plan.now step) result }
+{
+    let group = plan.group_name(step.0);
+    write_text(&[b" ", group, b" ", plan.exchange_name(step.1)], sink)
+}
+
+fn write_all_met<A: Allocator, W: Sink>(
+    plan: &Plan<A>,
+    trace: &Trace<A>,
+    sink: &mut W,
+) -> Result<(), WriteFault>
+    ensures { Wrote (W.taken sink.old) (W.taken sink.new) (W.failed sink.old) (W.failed sink.new)
+        (flat_map (met_lines plan.now trace.now.code (rank_told trace.now.ranks trace.now.code))
+        trace.now.met.items) result }
+{
+    let met = trace.met.as_slice();
+    for i in 0..met.len() {
+        write_met(plan, trace, met[i], sink)?;
+    }
+    Ok(())
+}
+
+/// Writes the list of an exchange, or that it is the home.
+fn write_met<A: Allocator, W: Sink>(
+    plan: &Plan<A>,
+    trace: &Trace<A>,
+    exchange: ExchangeId,
+    sink: &mut W,
+) -> Result<(), WriteFault>
+    ensures { Wrote (W.taken sink.old) (W.taken sink.new) (W.failed sink.old) (W.failed sink.new)
+        (met_lines plan.now trace.now.code (rank_told trace.now.ranks trace.now.code) exchange)
+        result }
+{
+    if exchange == plan.home(trace.code) {
+        write_home(plan, exchange, sink)
+    } else {
+        write_list(plan, trace, exchange, sink)
+    }
+}
+
+fn write_home<A: Allocator, W: Sink>(
+    plan: &Plan<A>,
+    exchange: ExchangeId,
+    sink: &mut W,
+) -> Result<(), WriteFault>
+    ensures { Wrote (W.taken sink.old) (W.taken sink.new) (W.failed sink.old) (W.failed sink.new)
+        (home_line plan.now exchange) result }
+{
+    write_text(&[b"HOME ", plan.exchange_name(exchange), b"\n"], sink)
+}
+
+/// Writes a line for each group of a list.
+fn write_list<A: Allocator, W: Sink>(
+    plan: &Plan<A>,
+    trace: &Trace<A>,
+    exchange: ExchangeId,
+    sink: &mut W,
+) -> Result<(), WriteFault>
+    ensures { Wrote (W.taken sink.old) (W.taken sink.new) (W.failed sink.old) (W.failed sink.new)
+        (list_lines plan.now trace.now.code (rank_told trace.now.ranks trace.now.code) exchange)
+        result }
+{
+    let list = plan.list(exchange, trace.code);
+    for i in 0..list.len() {
+        write_place(plan, trace, exchange, i + 1, list[i], sink)?;
+    }
+    Ok(())
+}
+
+/// Writes the line of the group that stands so many in the list of an exchange.
+fn write_place<A: Allocator, W: Sink>(
+    plan: &Plan<A>,
+    trace: &Trace<A>,
+    exchange: ExchangeId,
+    place: usize,
+    group: GroupId,
+    sink: &mut W,
+) -> Result<(), WriteFault>
+    ensures { Wrote (W.taken sink.old) (W.taken sink.new) (W.failed sink.old) (W.failed sink.new)
+        (place_line plan.now (rank_told trace.now.ranks trace.now.code) exchange place group)
+        result }
+{
+    let Some(to) = plan.other_end(group, exchange) else {
+        return Ok(());
+    };
+    let mut buffer = Buffer::new();
+    let place = buffer.format(place).as_bytes();
+    let name = plan.exchange_name(exchange);
+    let group = plan.group_name(group);
+    let far = plan.exchange_name(to);
+    write_text(&[b"LIST ", name, b" ", place, b" ", group, b" ", far], sink)?;
+    write_rank(trace.rank(to), sink)
+}
+
+/// Writes a rank, if there is one, and the end of the line.
+fn write_rank<W: Sink>(rank: Option<u16>, sink: &mut W) -> Result<(), WriteFault>
+    ensures { Wrote (W.taken sink.old) (W.taken sink.new) (W.failed sink.old) (W.failed sink.new)
+        (rank_text rank ++ codes "\n") result }
+{
+    let Some(rank) = rank else {
+        return write_text(&[b"\n"], sink);
+    };
+    let mut buffer = Buffer::new();
+    write_text(&[b" RANK ", buffer.format(rank).as_bytes(), b"\n"], sink)
+}
