@@ -35,7 +35,8 @@ fn write_head<W: Sink>(limit: u8, spare: u8, sink: &mut W) -> Result<(), WriteFa
     write_text(&[b"AUDIT LIMIT ", limit, b" SPARE ", spare, b"\n"], sink)
 }
 
-pub(crate) fn write_verdict<W: Sink>(count: usize, sink: &mut W) -> Result<(), WriteFault>
+/// Writes YES, or NO with the number of findings.
+pub fn write_verdict<W: Sink>(count: usize, sink: &mut W) -> Result<(), WriteFault>
     ensures { Wrote (W.taken sink.old) (W.taken sink.new) (W.failed sink.old) (W.failed sink.new) (verdict_line count) result }
 {
     if count == 0 {
@@ -46,7 +47,8 @@ pub(crate) fn write_verdict<W: Sink>(count: usize, sink: &mut W) -> Result<(), W
     write_text(&[b"VERDICT NO ", count, b"\n"], sink)
 }
 
-pub(crate) fn write_findings<A: Allocator, W: Sink>(
+/// Writes a line for each finding.
+pub fn write_findings<A: Allocator, W: Sink>(
     plan: &Plan<A>,
     findings: &[Finding<A>],
     sink: &mut W,
@@ -97,7 +99,7 @@ fn write_walk<A: Allocator, W: Sink>(
 }
 
 /// Writes the steps of a walk, and the end of the line.
-fn write_steps<A: Allocator, W: Sink>(
+pub fn write_steps<A: Allocator, W: Sink>(
     plan: &Plan<A>,
     steps: &[(GroupId, ExchangeId)],
     sink: &mut W,
