@@ -40,7 +40,7 @@ use Rattle.tx_state.proofs.Playing.{Groups, AllUp, Plays, plays_none, plays_firs
 use Rattle.tx_state.proofs.OneCall.{alone, on_way, IsPlaced, routed_there, key_step, nc_step, blocks}
 use Rattle.tx_audit.proofs.Choices.{first_in_none, none_of}
 use Rattle.tx_audit.proofs.Listed.{listed_once, listed_few, listed_known}
-use Rattle.tx_audit.proofs.Walking.{IsOn, IfMore, walk_plays}
+use Rattle.tx_audit.proofs.Walking.{IsOn, IfMore, step_of, walk_plays}
 use Rattle.tx_audit.proofs.Starting.{caller, code_itself}
 use Rattle.tx_audit.proofs.Sizes.{steps_few, walk_few}
 use Rattle.tx_rank.proofs.PassedOnce.{before_once}
@@ -79,12 +79,17 @@ on_start : (p : Plan) (x : ℕ) (steps : List (ℕ × ℕ)) → IfMore steps (Is
 on_start p x [] = tt
 on_start p x (s ∷ steps) = record { each = λ h m. elim m [ ]; back = λ h m e. elim m [ ] }
 
+far_steps : (hops : List Hop) → map (λ s. s.1) (map step_of hops) ≡ map (λ h. h.far) hops
+far_steps [] = refl
+far_steps (h ∷ hops) = ap (λ l. h.far ∷ l) (far_steps hops)
+
 -- the call has gone along a walk for the code c
 pub record Gone (p : Plan) (c x : ℕ) (steps : List (ℕ × ℕ)) : Type 0 where
   pub line : Line
   pub first : first_line p x ≡ Some line
   pub home : home_of p line.code ≡ x
   pub hops : List Hop
+  pub way : map step_of hops ≡ steps
   pub fars : map (λ h. h.far) hops ≡ map (λ s. s.1) steps
   pub blocked : Groups
   pub up : AllUp blocked
@@ -94,7 +99,7 @@ pub record Gone (p : Plan) (c x : ℕ) (steps : List (ℕ × ℕ)) : Type 0 wher
   pub plays : Plays p (opening 0 0) (Key line (figures_of p c) ∷ walk_events p c x steps) (alone (on_way line (figures_of p c) hops Standing) blocked count)
 
 module _ (p : Plan) (ok : IsPlan p) (c : ℕ) (within : c < length p.codes) (x : ℕ) (steps : List (ℕ × ℕ)) where
-  gone : IsWalk (net_of p c) x steps → AllDiffer (before_end x steps) → turns_on_one p steps ≡ false → Gone p c x steps
+  pub gone : IsWalk (net_of p c) x steps → AllDiffer (before_end x steps) → turns_on_one p steps ≡ false → Gone p c x steps
   gone w once free =
       let o = and_parts (is_origin p x) (not (is_barred p x c)) w.origin in
       let k = caller p ok x o.0 in
@@ -108,7 +113,8 @@ module _ (p : Plan) (ok : IsPlan p) (c : ℕ) (within : c < length p.codes) (x :
         first = k.first;
         home = k.home;
         hops = r.gone;
-        fars = r.fars;
+        way = r.way;
+        fars = sym (far_steps r.gone) ∙ ap (map (λ s. s.1)) r.way;
         blocked = r.blocked;
         up = r.up;
         placed = r.placed;

@@ -24,6 +24,10 @@ use Rattle.tx_audit.specs.Counter.{listed_before, step_events, walk_events, is_s
 use Rattle.tx_audit.proofs.Choices.{IsLoose, count_some, loose_new, loose_other, choose}
 use Rattle.tx_audit.proofs.Listed.{listed_once, listed_known, listed_may, both_ways_from, known_from, not_before, before_once, before_all}
 
+-- a hop as a step of a walk: by its group to its exchange
+abbrev pub step_of : Hop → ℕ × ℕ
+step_of h = (h.circuit.group, h.far)
+
 -- a hop of a call that stands at x and has passed these exchanges before
 pub record IsPast (p : Plan) (x : ℕ) (past : List ℕ) (h : Hop) : Type 0 where
   pub from : ℕ
@@ -160,7 +164,7 @@ module _ (p : Plan) (ok : IsPlan p) (code : ℕ) where
       pub blocked : Groups
       pub up : AllUp blocked
       pub placed : IsPlaced p line keyed gone code (end_of x steps)
-      pub fars : map (λ h. h.far) gone ≡ map (λ h. h.far) hops ++ map (λ s. s.1) steps
+      pub way : map step_of gone ≡ map step_of hops ++ steps
       pub plays : Plays p (alone (on_way line keyed hops Standing) b n) (walk_events p code x steps) (alone (on_way line keyed gone Standing) blocked (n + length (walk_events p code x steps)))
 
     free_next : (last : Option Circuit) (g z : ℕ) (steps : List (ℕ × ℕ)) → TurnsFree p last ((g, z) ∷ steps) → turns_on_one p ((g, 0) ∷ steps) ≡ false
@@ -204,7 +208,7 @@ module _ (p : Plan) (ok : IsPlan p) (code : ℕ) where
           blocked = more.blocked;
           up = more.up;
           placed = more.placed;
-          fars = more.fars ∙ ap (λ l. l ++ map (λ s. s.1) steps) (map_push (λ h. h.far) hops (hop one.circuit z)) ∙ append_assoc (map (λ h. h.far) hops) (z ∷ []) (map (λ s. s.1) steps);
+          way = more.way ∙ ap (λ l. l ++ steps) (map_push step_of hops (hop one.circuit z)) ∙ append_assoc (map step_of hops) ((one.circuit.group, z) ∷ []) steps ∙ ap (λ k. map step_of hops ++ (k, z) ∷ steps) one.group;
           plays = subst (λ k. Plays p (alone (on_way line keyed hops Standing) b n) (es ++ rest) (alone (on_way line keyed more.gone Standing) more.blocked k)) end
               (plays_then p (alone (on_way line keyed hops Standing) b n) (alone (on_way line keyed (hops ++ hop one.circuit z ∷ []) Standing) one.blocked (n + length es)) (alone (on_way line keyed more.gone Standing) more.blocked ((n + length es) + length rest)) es rest one.plays more.plays);
         }
@@ -236,7 +240,7 @@ module _ (p : Plan) (ok : IsPlan p) (code : ℕ) where
           blocked = b;
           up = up;
           placed = placed;
-          fars = sym (append-nil (map (λ h. h.far) hops));
+          way = sym (append-nil (map step_of hops));
           plays = subst (λ k. Plays p (alone (on_way line keyed hops Standing) b n) [] (alone (on_way line keyed hops Standing) b k)) (let e : n ≡ n + 0 = omega arith in e) (plays_none p (alone (on_way line keyed hops Standing) b n));
         }
     walk_plays ((g, z) ∷ steps) x past hops last b n placed goes once apart on free up few =

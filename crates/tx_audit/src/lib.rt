@@ -23,6 +23,6 @@ pub use checked_run::run_checked;
 pub use counters::counter;
 pub use first::first_counter;
 pub use grade_text::write_grade;
-pub use report::{write_findings, write_verdict};
+pub use report::{write_findings, write_steps, write_verdict};
 pub use script_writer::write_counter;
 pub use simulating::simulate;

@@ -99,7 +99,7 @@ fn write_walk<A: Allocator, W: Sink>(
 }
 
 /// Writes the steps of a walk, and the end of the line.
-fn write_steps<A: Allocator, W: Sink>(
+pub fn write_steps<A: Allocator, W: Sink>(
     plan: &Plan<A>,
     steps: &[(GroupId, ExchangeId)],
     sink: &mut W,

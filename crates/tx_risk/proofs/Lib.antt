@@ -1,0 +1,13 @@
+pub mod Ways
+pub mod Listed
+pub mod Clear
+pub mod Failed
+pub mod Through
+pub mod LeftLists
+pub mod LeftNets
+pub mod Measuring
+pub mod Descending
+pub mod AddedCuts
+pub mod AddedOutages
+pub mod Unhit
+pub mod Marking

@@ -1,0 +1,6 @@
+pub mod Risks
+pub mod Served
+pub mod NamedRisks
+pub mod Outages
+pub mod Survivals
+pub mod inner

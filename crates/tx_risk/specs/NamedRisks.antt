@@ -1,0 +1,28 @@
+-- Named risks: groups that go together, as those of one cable.
+use Rattle.std.specs.Prelude.{◌≡◌, ◌≢◌, ℕ, ◌<◌, true, List, [], length, slice_get}
+use Rattle.std.specs.List.{AllByRecursion}
+use Rattle.std.specs.Option.{option_map_or}
+use Rattle.tx_text.specs.Words.{is_name}
+use Rattle.tx_plan.specs.Plan.{Plan}
+use Rattle.tx_plan.specs.Rules.{EachPair}
+
+-- a name, and groups by their places
+pub record NamedRisk : Type 0 where
+  pub name : List ℕ
+  pub groups : List ℕ
+
+-- the groups of the risk at a place
+abbrev pub named_groups : List NamedRisk → ℕ → List ℕ
+named_groups risks i = option_map_or (λ r. r.groups) (slice_get risks i) []
+
+-- one or more groups of the plan, none twice
+pub record IsNamedRisk (p : Plan) (r : NamedRisk) : Type 0 where
+  pub name : is_name r.name ≡ true
+  pub some : r.groups ≢ []
+  pub known : AllByRecursion (λ g. g < length p.groups) r.groups
+  pub differ : EachPair (λ g h. g ≢ h) r.groups
+
+-- no name twice
+pub record AreRisksFor (p : Plan) (risks : List NamedRisk) : Type 0 where
+  pub each : AllByRecursion (IsNamedRisk p) risks
+  pub differ : EachPair (λ r s. r.name ≢ s.name) risks

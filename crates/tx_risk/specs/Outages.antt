@@ -1,0 +1,89 @@
+-- Outages: what each group, each exchange and each named risk cuts off if it goes alone.
+use Rattle.std.specs.Prelude.{◌≡◌, ◌↔◌, ℕ, zero, suc, ◌+◌, ◌-◌, ◌<◌, ◌≤◌, Bool, true, false, not, ◌&&◌, ◌==◌, nat_lt, if◌then◌else◌, List, [], ◌++◌, map, length}
+use Rattle.std.specs.List.{list_any}
+use Rattle.tx_plan.specs.Plan.{Plan, home_of}
+use Rattle.tx_plan.specs.Rules.{EachPair}
+use Rattle.tx_plan.specs.Routes.{is_origin_for}
+use Rattle.tx_plan.specs.Among.{Among}
+use Rattle.tx_rank.specs.Walks.{Net}
+use Rattle.tx_risk.specs.declared.outage.Outage.{Outage}
+use Rattle.tx_risk.specs.declared.outage.Outage.TheVariants.{Group, Exchange, Named}
+use Rattle.tx_risk.specs.declared.cut.Cut.{Cut}
+use Rattle.tx_risk.specs.Risks.{Risk, groups_of, net_without, IsCut, LeadsHome}
+use Rattle.tx_risk.specs.NamedRisks.{NamedRisk, named_groups}
+
+-- which groups go with it: the one group; all groups of which the exchange is an end; those of the
+-- named risk
+abbrev pub risk_of : Plan → List NamedRisk → Outage → Risk
+risk_of p risks (Group g) = λ h. h == g
+risk_of p risks (Exchange x) = groups_of p x
+risk_of p risks (Named i) = λ h. list_any (λ g. g == h) (named_groups risks i)
+
+-- the exchange is the one that fails
+abbrev pub fails_at : Outage → ℕ → Bool
+fails_at (Exchange x) y = y == x
+fails_at other y = false
+
+-- Calls for the code may start at x, and they are in question: not those that start at an exchange
+-- that fails, nor those for a code that is at home there.
+abbrev pub is_asked : Plan → Outage → (code x : ℕ) → Bool
+is_asked p o code x =
+    is_origin_for p x code && (not (fails_at o x) && not (fails_at o (home_of p code)))
+
+module _ {A : Type 0} where
+  -- WHAT IS CUT OFF: where calls start, and a shortest way from there to a dead end; stray, if a
+  -- way home is left too.
+  pub record IsCutAs (n : Net) (o : Outage) (code : ℕ) (c : Cut A) : Type 0 where
+    pub outage : c.outage ≡ o
+    pub of_code : c.code ≡ code
+    pub cut : IsCut n c.walk.start c.walk.steps
+    pub shortest : (steps : List (ℕ × ℕ)) → IsCut n c.walk.start steps
+        → length c.walk.steps ≤ length steps
+    pub stray : c.stray ≡ true ↔ LeadsHome n c.walk.start
+
+  abbrev pub start_at : Cut A → ℕ
+  start_at c = c.walk.start
+
+  -- of one code: one for each exchange in question from where there is a cut, in order of the
+  -- exchanges
+  pub record AreCutsOfCode (p : Plan) (risk : Risk) (o : Outage) (code : ℕ)
+      (cuts : List (Cut A)) : Type 0 where
+    pub each : (c : Cut A) → Among c cuts → IsCutAs (net_without p risk code) o code c
+    pub asked : (c : Cut A) → Among c cuts → is_asked p o code (start_at c) ≡ true
+    pub order : EachPair (λ x y. x < y) (map start_at cuts)
+    pub all : (x : ℕ) (steps : List (ℕ × ℕ)) → is_asked p o code x ≡ true
+        → IsCut (net_without p risk code) x steps → Among x (map start_at cuts)
+
+  -- of the codes before c, in order of the codes
+  abbrev pub AreCutsBelow : Plan → Risk → Outage → (c : ℕ) → List (Cut A) → Type 0
+  AreCutsBelow p risk o zero cuts = cuts ≡ []
+  AreCutsBelow p risk o (suc c) cuts =
+      (front : List (Cut A)) × (last : List (Cut A)) × (cuts ≡ front ++ last)
+      × AreCutsBelow p risk o c front × AreCutsOfCode p risk o c last
+
+  -- of all codes
+  abbrev pub AreCutsOf : Plan → List NamedRisk → Outage → List (Cut A) → Type 0
+  AreCutsOf p risks o cuts = AreCutsBelow p (risk_of p risks o) o (length p.codes) cuts
+
+-- ALL OUTAGES, in order: the groups, the exchanges, the named risks
+abbrev pub outage_at : Plan → ℕ → Outage
+outage_at p i =
+    if nat_lt i (length p.groups) then Group i
+    else if nat_lt i (length p.groups + length p.exchanges) then Exchange (i - length p.groups)
+    else Named (i - (length p.groups + length p.exchanges))
+
+-- how many there are
+abbrev pub outages : Plan → List NamedRisk → ℕ
+outages p risks = (length p.groups + length p.exchanges) + length risks
+
+module _ {A : Type 0} where
+  -- what the first outages cut off, in order
+  abbrev pub AreCutsOfFirst : Plan → List NamedRisk → (i : ℕ) → List (Cut A) → Type 0
+  AreCutsOfFirst p risks zero cuts = cuts ≡ []
+  AreCutsOfFirst p risks (suc i) cuts =
+      (front : List (Cut A)) × (last : List (Cut A)) × (cuts ≡ front ++ last)
+      × AreCutsOfFirst p risks i front × AreCutsOf p risks (outage_at p i) last
+
+  -- THE ANSWER: what each outage cuts off
+  abbrev pub AreAllCuts : Plan → List NamedRisk → List (Cut A) → Type 0
+  AreAllCuts p risks cuts = AreCutsOfFirst p risks (outages p risks) cuts

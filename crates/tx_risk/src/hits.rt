@@ -1,0 +1,112 @@
+// Which codes an outage may cut off at all.
+ghost use Rattle.std.specs.Prelude.{◌≡◌, ◌<◌, ◌+◌, ◌==◌, ℕ, false, length, IfOk};
+ghost use Rattle.std.specs.List.{list_any};
+ghost use Rattle.tx_plan.specs.Among.{Among};
+ghost use Rattle.tx_risk.specs.inner.Marked.{marked};
+ghost use Rattle.tx_risk.specs.inner.Hits.{AreEnds, IsMissed};
+
+use crate::cutting::is_failing;
+use crate::left::{are_marked, is_marked};
+use crate::outage::Outage;
+use std::alloc::Allocator;
+use tx_plan::{CodeId, ExchangeId, GroupId, Plan};
+use tx_text::NoMemory;
+
+/// Whether an exchange is among these.
+fn has_end(ends: &[ExchangeId], exchange: ExchangeId) -> bool
+    ensures { result ≡ list_any (λ x. x == exchange) ends.now }
+{
+    ends.iter().any(|end| *end == exchange)
+}
+
+/// Adds an exchange, unless it is there.
+fn add_end<A: Allocator>(
+    ends: &mut Vec<ExchangeId, A>,
+    exchange: ExchangeId,
+) -> Result<(), NoMemory>
+    ensures stays { IfOk result (λ _. (x : ℕ) → Among x ends.old.items → Among x ends.new.items) }
+    ensures added { IfOk result (λ _. Among exchange ends.new.items) }
+{
+    if has_end(ends, exchange) {
+        return Ok(());
+    }
+    ends.push(exchange)?;
+    Ok(())
+}
+
+/// Adds both ends of the group at a place, if it is marked.
+fn add_ends<A: Allocator>(
+    plan: &Plan<A>,
+    gone: &[bool],
+    place: usize,
+    ends: &mut Vec<ExchangeId, A>,
+) -> Result<(), NoMemory>
+    requires { place < 65536 }
+    ensures { IfOk result (λ _. AreEnds plan.now (marked gone.now) place ends.old.items
+        → AreEnds plan.now (marked gone.now) (place + 1) ends.new.items) }
+{
+    let group = GroupId::of(place);
+    if !is_marked(gone, group) {
+        return Ok(());
+    }
+    let both = plan.ends(group);
+    add_end(ends, both.0)?;
+    add_end(ends, both.1)?;
+    Ok(())
+}
+
+/// The exchanges that are ends of marked groups.
+pub fn ends_of<A: Allocator + Copy>(
+    alloc: A,
+    plan: &Plan<A>,
+    gone: &[bool],
+) -> Result<Vec<ExchangeId, A>, NoMemory>
+    ensures { IfOk result (λ ends. AreEnds plan.now (marked gone.now) (length plan.now.groups)
+        ends.items) }
+{
+    plan.rules();
+    let mut ends = Vec::new(alloc);
+    for place in 0..plan.groups() {
+        add_ends(plan, gone, place, &mut ends)?;
+    }
+    Ok(ends)
+}
+
+/// Whether nothing is left of the list of an exchange that has one, and does not fail.
+fn is_emptied<A: Allocator>(
+    plan: &Plan<A>,
+    gone: &[bool],
+    outage: &Outage,
+    exchange: ExchangeId,
+    code: CodeId,
+) -> bool
+    ensures { result ≡ false → IsMissed plan.now (marked gone.now) outage.now code exchange }
+{
+    let list = plan.list(exchange, code);
+    if list.is_empty() {
+        return false;
+    }
+    if is_failing(outage, exchange) {
+        return false;
+    }
+    are_marked(gone, list)
+}
+
+/// Whether nothing is left of a list for the code, of an exchange among these.
+pub fn is_hit<A: Allocator>(
+    plan: &Plan<A>,
+    gone: &[bool],
+    ends: &[ExchangeId],
+    outage: &Outage,
+    code: CodeId,
+) -> bool
+    ensures { result ≡ false → (x : ℕ) → Among x ends.now
+        → IsMissed plan.now (marked gone.now) outage.now code x }
+{
+    for i in 0..ends.len() {
+        if is_emptied(plan, gone, outage, ends[i], code) {
+            return true;
+        }
+    }
+    false
+}

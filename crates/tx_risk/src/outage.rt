@@ -1,0 +1,13 @@
+// What may fail.
+use tx_plan::{ExchangeId, GroupId};
+
+/// What fails alone.
+#[derive(Clone, Copy)]
+pub enum Outage {
+    /// One group.
+    Group(GroupId),
+    /// An exchange, with all groups of which it is an end.
+    Exchange(ExchangeId),
+    /// The groups of the named risk at a place.
+    Named(usize),
+}

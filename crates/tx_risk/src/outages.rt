@@ -1,0 +1,156 @@
+// What the outages of a plan cut off.
+ghost use Rattle.std.specs.Prelude.{◌≡◌, ◌<◌, ◌==◌, ℕ, length, true, IfOk};
+ghost use Rattle.tx_rank.specs.Judged.{AreOrigins};
+ghost use Rattle.std.specs.List.{list_any};
+ghost use Rattle.tx_risk.specs.NamedRisks.{AreRisksFor, named_groups};
+ghost use Rattle.tx_risk.specs.Outages.{risk_of, outage_at, AreCutsOfCode, AreCutsOf, AreAllCuts};
+ghost use Rattle.tx_rank.specs.Grades.{CanBeCertified};
+ghost use Rattle.tx_risk.specs.inner.Hits.{AreEnds, TakesItsGroups};
+ghost use Rattle.tx_risk.specs.inner.Cutting.{Adds};
+ghost use Rattle.tx_risk.specs.inner.Marked.{marked};
+
+use crate::cut::Cut;
+use crate::cutting::add_cuts;
+use crate::hits::{ends_of, is_hit};
+use crate::left::Left;
+use crate::named_risk::NamedRisk;
+use crate::outage::Outage;
+use std::alloc::Allocator;
+use tx_plan::{CodeId, ExchangeId, GroupId, Plan};
+use tx_rank::origins_of;
+use tx_text::NoMemory;
+
+/// Whether a group goes with an outage.
+fn goes_with<A: Allocator>(
+    plan: &Plan<A>,
+    risks: &[NamedRisk<A>],
+    outage: &Outage,
+    group: GroupId,
+) -> bool
+    ensures { result ≡ risk_of plan.now risks.now outage.now group }
+{
+    match outage {
+        Outage::Group(gone) => group == *gone,
+        Outage::Exchange(exchange) => plan.other_end(group, *exchange).is_some(),
+        Outage::Named(place) => is_named(risks, *place, group),
+    }
+}
+
+/// Whether a group is one of the named risk at a place.
+fn is_named<A: Allocator>(risks: &[NamedRisk<A>], place: usize, group: GroupId) -> bool
+    ensures { result ≡ list_any (λ g. g == group) (named_groups risks.now place) }
+{
+    match risks.get(place) {
+        Some(risk) => risk.has(group),
+        None => false,
+    }
+}
+
+/// Marks the groups that go with an outage.
+fn marks_of<A: Allocator + Copy>(
+    alloc: A,
+    plan: &Plan<A>,
+    risks: &[NamedRisk<A>],
+    outage: &Outage,
+) -> Result<Vec<bool, A>, NoMemory>
+    requires { (g : ℕ) → risk_of plan.now risks.now outage.now g ≡ true
+        → g < length plan.now.groups }
+    ensures { IfOk result (λ marks. (g : ℕ)
+        → marked marks.items g ≡ risk_of plan.now risks.now outage.now g) }
+{
+    plan.rules();
+    let mut marks = Vec::with_capacity(alloc, plan.groups())?;
+    for place in 0..plan.groups() {
+        marks.push_reserved(goes_with(plan, risks, outage, GroupId::of(place)));
+    }
+    Ok(marks)
+}
+
+/// Adds what an outage cuts off of one code: nothing, unless some list of the code is hit.
+fn add_code<A: Allocator + Copy>(
+    alloc: A,
+    plan: &Plan<A>,
+    gone: &[bool],
+    ends: &[ExchangeId],
+    origins: &[bool],
+    outage: &Outage,
+    code: CodeId,
+    cuts: &mut Vec<Cut<A>, A>,
+) -> Result<(), NoMemory>
+    requires origins { AreOrigins plan.now origins.now }
+    requires code { code < length plan.now.codes }
+    requires certified { (limit : ℕ) × (spare : ℕ) × CanBeCertified plan.now limit spare }
+    requires takes { TakesItsGroups plan.now (marked gone.now) outage.now }
+    requires ends { AreEnds plan.now (marked gone.now) (length plan.now.groups) ends.now }
+    ensures { IfOk result (λ _. Adds (AreCutsOfCode plan.now (marked gone.now) outage.now code)
+        cuts.old.items cuts.new.items) }
+{
+    plan.rules();
+    if !is_hit(plan, gone, ends, outage, code) {
+        return Ok(());
+    }
+    let left = Left { plan, gone, code };
+    add_cuts(alloc, &left, origins, outage, cuts)
+}
+
+/// Adds all that an outage cuts off.
+fn add_outage<A: Allocator + Copy>(
+    alloc: A,
+    plan: &Plan<A>,
+    risks: &[NamedRisk<A>],
+    origins: &[bool],
+    outage: &Outage,
+    cuts: &mut Vec<Cut<A>, A>,
+) -> Result<(), NoMemory>
+    requires origins { AreOrigins plan.now origins.now }
+    requires certified { (limit : ℕ) × (spare : ℕ) × CanBeCertified plan.now limit spare }
+    requires known { (g : ℕ) → risk_of plan.now risks.now outage.now g ≡ true
+        → g < length plan.now.groups }
+    ensures { IfOk result (λ _. Adds (AreCutsOf plan.now risks.now outage.now) cuts.old.items
+        cuts.new.items) }
+{
+    let gone = marks_of(alloc, plan, risks, outage)?;
+    let ends = ends_of(alloc, plan, &gone)?;
+    plan.rules();
+    for place in 0..plan.codes() {
+        let code = CodeId::of(place);
+        add_code(alloc, plan, &gone, &ends, origins, outage, code, cuts)?;
+    }
+    Ok(())
+}
+
+/// The outage at a place: of the groups, then the exchanges, then the named risks.
+fn outage_at<A: Allocator>(plan: &Plan<A>, place: usize) -> Outage
+    ensures { result ≡ outage_at plan.now place }
+{
+    plan.rules();
+    let exchanges = plan.groups() + plan.exchanges();
+    if place < plan.groups() {
+        Outage::Group(GroupId::of(place))
+    } else if place < exchanges {
+        Outage::Exchange(ExchangeId::of(place - plan.groups()))
+    } else {
+        Outage::Named(place - exchanges)
+    }
+}
+
+/// What each group, each exchange and each named risk cuts off if it fails alone.
+pub fn all_cuts<A: Allocator + Copy>(
+    alloc: A,
+    plan: &Plan<A>,
+    risks: &[NamedRisk<A>],
+) -> Result<Vec<Cut<A>, A>, NoMemory>
+    requires risks { AreRisksFor plan.now risks.now }
+    requires certified { (limit : ℕ) × (spare : ℕ) × CanBeCertified plan.now limit spare }
+    ensures { IfOk result (λ cuts. AreAllCuts plan.now risks.now cuts.items) }
+{
+    let origins = origins_of(alloc, plan)?;
+    let mut cuts = Vec::new(alloc);
+    plan.rules();
+    let count = plan.groups() + plan.exchanges() + risks.len();
+    for place in 0..count {
+        let outage = outage_at(plan, place);
+        add_outage(alloc, plan, risks, &origins, &outage, &mut cuts)?;
+    }
+    Ok(cuts)
+}

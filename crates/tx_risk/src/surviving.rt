@@ -1,0 +1,51 @@
+// Outages of a plan that has a grade.
+ghost use Rattle.std.specs.Prelude.{◌≢◌, ℕ, [], IfOk};
+ghost use Rattle.std.specs.List.{AllByRecursion};
+ghost use Rattle.tx_plan.specs.Certified.{Ranks, IsCertified};
+ghost use Rattle.tx_rank.specs.Findings.{IsTrueOf};
+ghost use Rattle.tx_rank.specs.Grades.{AreUnmended};
+ghost use Rattle.tx_risk.specs.NamedRisks.{AreRisksFor};
+ghost use Rattle.tx_risk.specs.Outages.{AreAllCuts};
+ghost use Rattle.tx_risk.specs.Survivals.{AreTried, OnTried, OnUngraded};
+
+use crate::cut::Cut;
+use crate::named_risk::NamedRisk;
+use crate::outages::all_cuts;
+use std::alloc::{Allocator, Global};
+use tx_plan::Plan;
+use tx_rank::{Finding, Grade, grade};
+use tx_text::NoMemory;
+
+/// What the outages of a plan cut off, or why the plan has no grade.
+#[derive(Drop)]
+pub enum Survival<A: Allocator = Global> {
+    /// What each outage cuts off, by outages in order: groups, exchanges, named risks.
+    Tried(Vec<Cut<A>, A>),
+    /// What is wrong with the plan, whatever limit and spare number it is to have.
+    Ungraded(Vec<Finding<A>, A>),
+}
+
+/// Tells what each group, each exchange and each named risk cuts off if it fails alone; or why the
+/// plan has no grade. `Err` is want of memory.
+pub fn survive<A: Allocator + Copy>(
+    alloc: A,
+    plan: &Plan<A>,
+    risks: &[NamedRisk<A>],
+) -> Result<Survival<A>, NoMemory>
+    requires { AreRisksFor plan.now risks.now }
+
+    // All outages are tried wherever any ranks certify the plan.
+    ensures wherever { IfOk result (λ s. (ranks : Ranks) (limit spare : ℕ)
+        → IsCertified plan.now ranks limit spare → AreTried s) }
+    ensures cuts { IfOk result (OnTried (AreAllCuts plan.now risks.now)) }
+
+    ensures fails { IfOk result (OnUngraded (λ findings. findings ≢ [])) }
+    ensures each { IfOk result (OnUngraded (λ findings. (limit spare : ℕ)
+        → AllByRecursion (IsTrueOf plan.now limit spare) findings)) }
+    ensures listed { IfOk result (OnUngraded (AreUnmended plan.now)) }
+{
+    match grade(alloc, plan)? {
+        Grade::Graded(..) => Ok(Survival::Tried(all_cuts(alloc, plan, risks)?)),
+        Grade::Ungraded(findings) => Ok(Survival::Ungraded(findings)),
+    }
+}

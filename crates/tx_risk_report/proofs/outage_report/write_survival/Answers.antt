@@ -1,0 +1,8 @@
+use Rattle.tx_risk_report.proofs.outage_report.write_survival.Goals as goal
+
+pub returns-in-Tried : goal.returns-in-Tried
+returns-in-Tried g c = rw c.in-Tried.is (rw c.deref.ensures.value at c.write_tried.ensures)
+
+pub returns-in-Ungraded : goal.returns-in-Ungraded
+returns-in-Ungraded g c =
+    rw c.in-Ungraded.is (rw c.deref-in-Ungraded.ensures.value at c.write_none.ensures)

@@ -1,0 +1,8 @@
+//! The report of outages, and events that show whom a risk cuts off.
+#![tactic(auto)]
+
+mod law;
+mod outage_report;
+
+pub use law::cut_is_shown;
+pub use outage_report::write_survival;

@@ -1,0 +1,205 @@
+// The writer of what outages cut off.
+ghost use Rattle.std.specs.Prelude.{◌≡◌, ◌<◌, ◌++◌, [], if◌then◌else◌, None, Some, length, slice_get};
+ghost use Rattle.tx_text.specs.Wrote.{Wrote};
+ghost use Rattle.tx_audit.specs.GradeText.{findings_text};
+ghost use Rattle.tx_risk.specs.declared.cut.Cut.{Cut};
+ghost use Rattle.tx_risk_report.specs.inner.Before.{outage_before};
+ghost use Rattle.tx_risk_report.specs.OutageReport.{head_line, risk_name, outage_line, same_outage, is_same_as, start_text, cut_line, cuts_text, tried_text, survival_text};
+
+use itoa::Buffer;
+use std::alloc::Allocator;
+use tx_audit::{write_findings, write_steps, write_verdict};
+use tx_plan::{CodeId, Plan};
+use tx_rank::{Finding, Walk};
+use tx_risk::{Cut, NamedRisk, Outage, Survival};
+use tx_text::{Sink, WriteFault, write_text};
+
+/// Writes how many outages were tried, what each cuts off, and the verdict; or that the plan has no
+/// grade, and why.
+pub fn write_survival<A: Allocator, W: Sink>(
+    plan: &Plan<A>,
+    risks: &[NamedRisk<A>],
+    survival: &Survival<A>,
+    sink: &mut W,
+) -> Result<(), WriteFault>
+    ensures { Wrote (W.taken sink.old) (W.taken sink.new) (W.failed sink.old) (W.failed sink.new)
+        (survival_text plan.now risks.now survival.now) result }
+{
+    match survival {
+        Survival::Tried(cuts) => write_tried(plan, risks, cuts, sink),
+        Survival::Ungraded(findings) => write_none(plan, findings, sink),
+    }
+}
+
+fn write_none<A: Allocator, W: Sink>(
+    plan: &Plan<A>,
+    findings: &[Finding<A>],
+    sink: &mut W,
+) -> Result<(), WriteFault>
+    ensures { Wrote (W.taken sink.old) (W.taken sink.new) (W.failed sink.old) (W.failed sink.new)
+        (findings_text plan.now findings.now) result }
+{
+    write_text(&[b"GRADE NONE\n"], sink)?;
+    write_findings(plan, findings, sink)?;
+    write_verdict(findings.len(), sink)
+}
+
+fn write_tried<A: Allocator, W: Sink>(
+    plan: &Plan<A>,
+    risks: &[NamedRisk<A>],
+    cuts: &[Cut<A>],
+    sink: &mut W,
+) -> Result<(), WriteFault>
+    ensures { Wrote (W.taken sink.old) (W.taken sink.new) (W.failed sink.old) (W.failed sink.new)
+        (tried_text plan.now risks.now cuts.now) result }
+{
+    plan.rules();
+    write_head(plan.groups() + plan.exchanges() + risks.len(), sink)?;
+    write_cuts(plan, risks, cuts, sink)?;
+    write_verdict(cuts.len(), sink)
+}
+
+fn write_head<W: Sink>(count: usize, sink: &mut W) -> Result<(), WriteFault>
+    ensures { Wrote (W.taken sink.old) (W.taken sink.new) (W.failed sink.old) (W.failed sink.new)
+        (head_line count) result }
+{
+    let mut buffer = Buffer::new();
+    let count = buffer.format(count).as_bytes();
+    write_text(&[b"SURVIVE RISKS ", count, b"\n"], sink)
+}
+
+/// The name of the risk at a place.
+fn name_of<A: Allocator>(risks: &[NamedRisk<A>], place: usize) -> &[u8]
+    ensures { result.now ≡ risk_name risks.now place }
+{
+    match risks.get(place) {
+        Some(risk) => risk.name.bytes(),
+        None => &[],
+    }
+}
+
+fn write_outage<A: Allocator, W: Sink>(
+    plan: &Plan<A>,
+    risks: &[NamedRisk<A>],
+    outage: &Outage,
+    sink: &mut W,
+) -> Result<(), WriteFault>
+    ensures { Wrote (W.taken sink.old) (W.taken sink.new) (W.failed sink.old) (W.failed sink.new)
+        (outage_line plan.now risks.now outage.now) result }
+{
+    match outage {
+        Outage::Group(group) => write_text(&[b"GROUP ", plan.group_name(*group), b"\n"], sink),
+        Outage::Exchange(exchange) => {
+            write_text(&[b"EXCHANGE ", plan.exchange_name(*exchange), b"\n"], sink)
+        }
+        Outage::Named(place) => write_text(&[b"RISK ", name_of(risks, *place), b"\n"], sink),
+    }
+}
+
+/// Whether the same fails.
+fn is_same(before: &Outage, outage: &Outage) -> bool
+    ensures { result ≡ same_outage before.now outage.now }
+{
+    match before {
+        Outage::Group(group) => match outage {
+            Outage::Group(other) => *group == *other,
+            _ => false,
+        },
+        Outage::Exchange(exchange) => match outage {
+            Outage::Exchange(other) => *exchange == *other,
+            _ => false,
+        },
+        Outage::Named(place) => match outage {
+            Outage::Named(other) => *place == *other,
+            _ => false,
+        },
+    }
+}
+
+/// Whether the cut at a place is of the same outage as the one before it.
+fn is_same_as_before<A: Allocator>(cuts: &[Cut<A>], place: usize) -> bool
+    requires { place < length cuts.now }
+    ensures { (c : Cut A) → slice_get cuts.now place ≡ Some c
+        → result ≡ is_same_as (outage_before None cuts.now place) c.outage }
+{
+    if place == 0 {
+        return false;
+    }
+    is_same(&cuts[place - 1].outage, &cuts[place].outage)
+}
+
+fn write_cuts<A: Allocator, W: Sink>(
+    plan: &Plan<A>,
+    risks: &[NamedRisk<A>],
+    cuts: &[Cut<A>],
+    sink: &mut W,
+) -> Result<(), WriteFault>
+    ensures { Wrote (W.taken sink.old) (W.taken sink.new) (W.failed sink.old) (W.failed sink.new)
+        (cuts_text plan.now risks.now None cuts.now) result }
+{
+    for i in 0..cuts.len() {
+        write_cut(plan, risks, is_same_as_before(cuts, i), &cuts[i], sink)?;
+    }
+    Ok(())
+}
+
+/// Writes a cut, behind what fails, unless the same fails as before.
+fn write_cut<A: Allocator, W: Sink>(
+    plan: &Plan<A>,
+    risks: &[NamedRisk<A>],
+    same: bool,
+    cut: &Cut<A>,
+    sink: &mut W,
+) -> Result<(), WriteFault>
+    ensures { Wrote (W.taken sink.old) (W.taken sink.new) (W.failed sink.old) (W.failed sink.new)
+        ((if same then [] else outage_line plan.now risks.now cut.now.outage)
+        ++ cut_line plan.now cut.now) result }
+{
+    if same {
+        return write_line(plan, cut, sink);
+    }
+    write_outage(plan, risks, &cut.outage, sink)?;
+    write_line(plan, cut, sink)
+}
+
+/// Writes whom it cuts off, with the walk.
+fn write_line<A: Allocator, W: Sink>(
+    plan: &Plan<A>,
+    cut: &Cut<A>,
+    sink: &mut W,
+) -> Result<(), WriteFault>
+    ensures { Wrote (W.taken sink.old) (W.taken sink.new) (W.failed sink.old) (W.failed sink.new)
+        (cut_line plan.now cut.now) result }
+{
+    if cut.stray {
+        return write_walk(b"STRAY ", plan, cut.code, &cut.walk, sink);
+    }
+    write_walk(b"CUT ", plan, cut.code, &cut.walk, sink)
+}
+
+/// Writes the head of a line, a code, where calls start, and the walk from there.
+fn write_walk<A: Allocator, W: Sink>(
+    head: &[u8],
+    plan: &Plan<A>,
+    code: CodeId,
+    walk: &Walk<A>,
+    sink: &mut W,
+) -> Result<(), WriteFault>
+    ensures { Wrote (W.taken sink.old) (W.taken sink.new) (W.failed sink.old) (W.failed sink.new)
+        (head.now ++ start_text plan.now code walk.now) result }
+{
+    let code = plan.code_figures(code);
+    let start = plan.exchange_name(walk.start);
+    write_text(
+        &[
+            head,
+            code,
+            b" ",
+            start,
+            b" VIA ",
+            plan.exchange_name(walk.start),
+        ],
+        sink,
+    )?;
+    write_steps(plan, walk.steps.as_slice(), sink)
+}

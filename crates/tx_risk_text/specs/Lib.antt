@@ -1,0 +1,2 @@
+pub mod RiskText
+pub mod RiskFaults

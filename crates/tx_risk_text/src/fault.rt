@@ -1,0 +1,63 @@
+// What is wrong with a text of risks.
+ghost use Rattle.std.specs.Prelude.{◌≡◌};
+ghost use Rattle.tx_risk_text.specs.RiskFaults.{word_row, frame_row, fault_row};
+
+use tx_text::{FaultAt, FaultKind, FormFault, FrameFault, LineFault};
+
+/// What is wrong with the words of a line. Of several the first in this order is told.
+#[derive(Clone, Copy, PartialEq, Eq)]
+pub enum RiskWord {
+    /// Q1: the first word is none of a text of risks.
+    UnknownWord,
+    /// Q2: no name, or no groups.
+    WrongCount,
+    /// Q3: the name of the risk is no name.
+    BadName,
+    /// Q4: a risk of the name was declared before.
+    Duplicate,
+    /// Q5: the plan has no such group.
+    UnknownName,
+    /// Q6: a group stands there twice.
+    RepeatedGroup,
+    /// Q10: no memory was left.
+    NoMemory,
+}
+
+/// What is wrong with a text of risks, and the line of it, counted from 1.
+pub type RiskFault = FaultAt<RiskWord>;
+
+/// The code and the name of a fault, as `Q4` and `Duplicate`.
+pub fn code_and_name(kind: FaultKind<RiskWord>) -> (&'static [u8], &'static [u8])
+    ensures { (result.0.now, result.1.now) ≡ fault_row kind }
+{
+    match kind {
+        FaultKind::Frame(fault) => frame_row(fault),
+        FaultKind::Word(word) => word_row(word),
+    }
+}
+
+fn frame_row(fault: FrameFault) -> (&'static [u8], &'static [u8])
+    ensures { (result.0.now, result.1.now) ≡ frame_row fault }
+{
+    match fault {
+        FrameFault::Form(FormFault::NoHeader) => (b"Q7", b"NoHeader"),
+        FrameFault::Form(FormFault::NoEnd) => (b"Q8", b"NoEnd"),
+        FrameFault::Form(FormFault::AfterEnd) => (b"Q9", b"AfterEnd"),
+        FrameFault::Line(LineFault::Read) => (b"Q11", b"ReadFault"),
+        FrameFault::Line(LineFault::Text(fault)) => fault.code_and_name(),
+    }
+}
+
+fn word_row(word: RiskWord) -> (&'static [u8], &'static [u8])
+    ensures { (result.0.now, result.1.now) ≡ word_row word }
+{
+    match word {
+        RiskWord::UnknownWord => (b"Q1", b"UnknownWord"),
+        RiskWord::WrongCount => (b"Q2", b"WrongCount"),
+        RiskWord::BadName => (b"Q3", b"BadName"),
+        RiskWord::Duplicate => (b"Q4", b"Duplicate"),
+        RiskWord::UnknownName => (b"Q5", b"UnknownName"),
+        RiskWord::RepeatedGroup => (b"Q6", b"RepeatedGroup"),
+        RiskWord::NoMemory => (b"Q10", b"NoMemory"),
+    }
+}
