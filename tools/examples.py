@@ -293,7 +293,7 @@ def lines_quoted(page):
 
 def codes_explained():
     """The program's table of codes: a code, its name, what it means and what to do."""
-    return re.findall(r'\[\s*"(.*?)",\s*"(.*?)",\s*"(.*?)",\s*"(.*?)",?\s*\]', read("crates/tx_program/src/code_table.rt").decode())
+    return re.findall(r'\[\s*"(.*?)",\s*"(.*?)",\s*"(.*?)",\s*"(.*?)",?\s*\]', read("crates/tx_explain/src/code_table.rt").decode())
 
 
 def codes_defined():
@@ -339,7 +339,7 @@ def check_pages(tell):
     if not is_shown:
         tell("docs/FORMATS.md: the table of codes is missing")
     for it in sorted(codes_defined() ^ {row[:2] for row in codes_explained()}):
-        tell(f"crates/tx_program: {' '.join(it)} stands in the table or in the definitions alone")
+        tell(f"crates/tx_explain: {' '.join(it)} stands in the table or in the definitions alone")
 
 
 # WHAT THE PAGES NAME

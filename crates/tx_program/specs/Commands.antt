@@ -3,7 +3,7 @@ use Rattle.std.specs.Prelude.{◌≡◌, ◌≤◌, ℕ, List, Option, None, Som
 use Rattle.std.specs.Borrow.{Bor}
 use Rattle.std.specs.Str.Parse.{IsNumeral, digits_value, without_leading_plus}
 use Rattle.clap.specs.Words.{Row, first_of, one_of, subcommand_of}
-use Rattle.tx_program.specs.Entries.{texts, explanation}
+use Rattle.tx_explain.specs.Entries.{texts, explanation}
 use Rattle.tx_program.specs.Grammar.{program_words}
 use Rattle.tx_program.specs.declared.command.Command.{Command}
 use Rattle.tx_program.specs.declared.command.Command.TheVariants.{Pipe, Run, Check, Codes, Audit, Change, Grade, Draw, Explain}

@@ -9,10 +9,10 @@ ghost use Rattle.tx_program.specs.inner.Refused.{IsRefused};
 use crate::fault::WordsFault;
 use crate::grammar::grammar;
 use crate::refusal::Refusal;
-use crate::{Entry, entry_of};
 use clap::ArgMatches;
 use clap::error::ErrorKind;
 use std::alloc::{AllocError, Global};
+use tx_explain::{Entry, entry_of};
 
 /// What the words ask for.
 #[derive(Debug, Drop)]

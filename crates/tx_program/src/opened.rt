@@ -3,10 +3,11 @@ ghost use Rattle.std.specs.Prelude.{◌≡◌, ◌≤◌};
 ghost use Rattle.tx_program.specs.declared.command.Command.TheVariants.{Run, Draw};
 ghost use Rattle.tx_program.specs.Commands.{IsInRange};
 
+use crate::Command;
 use crate::folder::Folder;
 use crate::kept::Keep;
-use crate::{Command, Entry};
 use std::io::Read;
+use tx_explain::Entry;
 use tx_jobs::JobFault;
 
 /// How many transits a call may pass, and how many groups of a list are to spare.

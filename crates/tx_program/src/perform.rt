@@ -2,15 +2,16 @@
 ghost use Rattle.std.specs.Prelude.{◌≡◌, ◌≤◌, IfSome, option_map};
 ghost use Rattle.tx_program.specs.Commands.{IsInRange};
 
+use crate::Command;
 use crate::audited::audit_file;
 use crate::changed::change_files;
 use crate::command_fault::CommandFault;
 use crate::ends::Output;
 use crate::folder::Folder;
 use crate::opened::{Bounds, Opened, PlanJob};
-use crate::{Command, Entry, write_explanation};
 use std::alloc::Allocator;
 use std::io::{Read, Write};
+use tx_explain::{Entry, write_explanation};
 use tx_jobs::{
     Drawn, JobFault, check_status, codes_status, draw_job, grade_status, pipe_job,
     run_checked_status, run_job,

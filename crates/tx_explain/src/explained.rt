@@ -1,5 +1,5 @@
 // Every code that is printed is explained.
-ghost use Rattle.tx_program.specs.Explained.{PlanFaultsAreExplained, CertFaultsAreExplained, ScriptFaultsAreExplained, RefusalsAreExplained, CheckFaultsAreExplained, FindingsAreExplained};
+ghost use Rattle.tx_explain.specs.Explained.{PlanFaultsAreExplained, CertFaultsAreExplained, ScriptFaultsAreExplained, RefusalsAreExplained, CheckFaultsAreExplained, FindingsAreExplained};
 
 use std::alloc::Allocator;
 

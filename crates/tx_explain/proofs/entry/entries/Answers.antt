@@ -1,6 +1,6 @@
 use Rattle.std.proofs.Common.{refl}
-use Rattle.tx_program.specs.Entries.{table}
-use Rattle.tx_program.proofs.entry.entries.Goals as goal
+use Rattle.tx_explain.specs.Entries.{table}
+use Rattle.tx_explain.proofs.entry.entries.Goals as goal
 
 pub returns-clause-all : goal.returns-clause-all
 unfolding table

@@ -1,7 +1,7 @@
 use Rattle.tx_text.proofs.Writing.{on_err, stops_read}
-use Rattle.tx_program.specs.Entries.{texts}
-use Rattle.tx_program.specs.Written.{entry_line}
-use Rattle.tx_program.proofs.explanation.write_lines.Goals as goal
+use Rattle.tx_explain.specs.Entries.{texts}
+use Rattle.tx_explain.specs.Written.{entry_line}
+use Rattle.tx_explain.proofs.explanation.write_lines.Goals as goal
 
 pub returns-in_err-write_line-clause-err : goal.returns-in_err-write_line-clause-err
 returns-in_err-write_line-clause-err g c =

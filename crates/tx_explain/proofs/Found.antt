@@ -2,8 +2,8 @@
 use Rattle.std.proofs.Common.{◌≡◌, ◌∙◌, ℕ, Bool, true, false, List, [], ◌∷◌, ◌++◌, Option, None, Some, map, find, option_map, if◌then◌else◌, refl, sym, ap}
 use Rattle.std.specs.Borrow.{Bor}
 use Rattle.std.specs.List.{flat_map}
-use Rattle.tx_program.specs.Entries.{texts, table}
-use Rattle.tx_program.specs.Written.{entry_line}
+use Rattle.tx_explain.specs.Entries.{texts, table}
+use Rattle.tx_explain.specs.Written.{entry_line}
 
 module _ {A B : Type 0} (f : A → B) (p : B → Bool) where
   chosen : (b : Bool) (x : A) (o : Option A) (q : Option B) → option_map f o ≡ q → option_map f (if b then Some x else o) ≡ (if b then Some (f x) else q)

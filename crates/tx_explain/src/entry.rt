@@ -1,6 +1,6 @@
 // The entries of the table.
 ghost use Rattle.std.specs.Prelude.{◌≡◌, Some, map, find, option_map, bytes_eq};
-ghost use Rattle.tx_program.specs.Entries.{texts, table, explanation};
+ghost use Rattle.tx_explain.specs.Entries.{texts, table, explanation};
 
 use crate::code_table::{Entry, TABLE};
 

@@ -1,7 +1,7 @@
 -- The table of codes, and what it says of one.
 use Rattle.std.specs.Prelude.{ℕ, List, [], Option, map, find, get_or, bytes_eq}
 use Rattle.std.specs.Borrow.{Bor}
-use Rattle.tx_program.specs.declared.code_table.TheConstants.{TABLE}
+use Rattle.tx_explain.specs.declared.code_table.TheConstants.{TABLE}
 
 -- a code, its name, what it means, and what to do about it
 abbrev pub Texts : Type 0

@@ -1,7 +1,7 @@
 use Rattle.std.proofs.Common.{◌∙◌, sym, ap, find, option_map, bytes_eq}
-use Rattle.tx_program.specs.Entries.{texts}
-use Rattle.tx_program.proofs.Found.{found, mapped_twice}
-use Rattle.tx_program.proofs.entry.entry_of.Goals as goal
+use Rattle.tx_explain.specs.Entries.{texts}
+use Rattle.tx_explain.proofs.Found.{found, mapped_twice}
+use Rattle.tx_explain.proofs.entry.entry_of.Goals as goal
 
 pub returns : goal.returns
 returns c =

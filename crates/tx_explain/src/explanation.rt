@@ -3,8 +3,8 @@ ghost use Rattle.std.specs.Prelude.{◌≡◌, true, OnOk, OnErr};
 ghost use Rattle.std.specs.Io.KnownBytes.{append_known};
 ghost use Rattle.std.specs.List.{flat_map};
 ghost use Rattle.tx_text.specs.Ends.{StopsIn};
-ghost use Rattle.tx_program.specs.Entries.{texts};
-ghost use Rattle.tx_program.specs.Written.{entry_line, entry_text, explanation_text};
+ghost use Rattle.tx_explain.specs.Entries.{texts};
+ghost use Rattle.tx_explain.specs.Written.{entry_line, entry_text, explanation_text};
 
 use crate::code_table::Entry;
 use crate::entry::entries;

@@ -1,9 +1,9 @@
 use Rattle.std.proofs.Common.{◌≡◌, take}
 use Rattle.std.specs.Io.KnownBytes.{append_known}
 use Rattle.std.specs.List.{flat_map}
-use Rattle.tx_program.specs.Entries.{texts}
-use Rattle.tx_program.specs.Written.{entry_line}
-use Rattle.tx_program.proofs.explanation.write_lines.Given as goal
+use Rattle.tx_explain.specs.Entries.{texts}
+use Rattle.tx_explain.specs.Written.{entry_line}
+use Rattle.tx_explain.proofs.explanation.write_lines.Given as goal
 
 abbrev pub invariant-loop-i : goal.invariant-loop-i
 invariant-loop-i g l = record {

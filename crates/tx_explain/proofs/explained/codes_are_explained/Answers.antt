@@ -1,5 +1,5 @@
-use Rattle.tx_program.proofs.Printed.{plans, certificates, scripts, refusals, checks, findings}
-use Rattle.tx_program.proofs.explained.codes_are_explained.Goals as goal
+use Rattle.tx_explain.proofs.Printed.{plans, certificates, scripts, refusals, checks, findings}
+use Rattle.tx_explain.proofs.explained.codes_are_explained.Goals as goal
 
 pub returns-clause-plans : goal.returns-clause-plans
 returns-clause-plans g c = plans

@@ -17,7 +17,7 @@ use Rattle.tx_check.specs.declared.fault.CheckFault.{CheckFault}
 use Rattle.tx_check.specs.Verdicts.{fault_words}
 use Rattle.tx_rank.specs.declared.finding.Finding.{Finding}
 use Rattle.tx_audit.specs.Report.{finding_line}
-use Rattle.tx_program.specs.Entries.{explanation}
+use Rattle.tx_explain.specs.Entries.{explanation}
 
 -- the table has the code, by this name
 abbrev pub IsExplained : List ℕ × List ℕ → Type 0

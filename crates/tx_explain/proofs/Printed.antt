@@ -12,8 +12,8 @@ use Rattle.tx_script.specs.declared.script_word.ScriptWord.TheVariants as script
 use Rattle.tx_state.specs.declared.refusal.Refusal.TheVariants as refusal
 use Rattle.tx_check.specs.declared.fault.CheckFault.TheVariants as fault
 use Rattle.tx_rank.specs.declared.finding.Finding.TheVariants as finding
-use Rattle.tx_program.specs.Entries.{table}
-use Rattle.tx_program.specs.Explained.{PlanFaultsAreExplained, CertFaultsAreExplained, ScriptFaultsAreExplained, RefusalsAreExplained, CheckFaultsAreExplained, FindingsAreExplained}
+use Rattle.tx_explain.specs.Entries.{table}
+use Rattle.tx_explain.specs.Explained.{PlanFaultsAreExplained, CertFaultsAreExplained, ScriptFaultsAreExplained, RefusalsAreExplained, CheckFaultsAreExplained, FindingsAreExplained}
 
 pub plans : PlanFaultsAreExplained
 unfolding table

@@ -2,7 +2,7 @@
 use Rattle.std.specs.Prelude.{ℕ, List, ◌++◌, Option, Some, None, codes}
 use Rattle.std.specs.List.{flat_map}
 use Rattle.std.specs.Borrow.{Bor}
-use Rattle.tx_program.specs.Entries.{Texts, texts, table}
+use Rattle.tx_explain.specs.Entries.{Texts, texts, table}
 
 -- a line of the list of all codes
 abbrev pub entry_line : Texts → List ℕ
