@@ -2,6 +2,8 @@
 //! for them over a folder of files and its standard ends.
 #![tactic(auto)]
 
+mod arguments;
+mod asked;
 mod audited;
 mod changed;
 mod command;
@@ -11,15 +13,18 @@ mod fault;
 mod folder;
 mod grammar;
 mod kept;
+mod mended;
 mod new_file;
 mod opened;
 mod perform;
 mod program;
+mod reading;
 mod refusal;
 mod tell;
 
-pub use command::{Command, read_command};
+pub use command::Command;
 pub use fault::WordsFault;
 pub use folder::Folder;
 pub use program::{Ends, run_command, run_words};
+pub use reading::read_command;
 pub use tell::{refuse_arguments, tell_words};

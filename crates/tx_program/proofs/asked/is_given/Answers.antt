@@ -2,7 +2,7 @@ use Rattle.std.proofs.Common.{◌∙◌, ◌≡◌, Option, Some, None, ap, is_s
 use Rattle.std.specs.Prelude.{option_map}
 use Rattle.clap.specs.Words.{found_of}
 use Rattle.clap.proofs.WalkLemmas.{first_value-rows}
-use Rattle.tx_program.proofs.command.is_given.Goals as goal
+use Rattle.tx_program.proofs.asked.is_given.Goals as goal
 
 pub returns : goal.returns
 returns c =

@@ -2,7 +2,7 @@ use Rattle.std.proofs.Common.{◌≡◌, IfOk, subst}
 use Rattle.clap.specs.Words.{app_of, rule_of, with_rule}
 use Rattle.tx_program.specs.Grammar as grammar
 use Rattle.tx_program.proofs.Grammars.{needs}
-use Rattle.tx_program.proofs.grammar.with_bounds.Goals as goal
+use Rattle.tx_program.proofs.arguments.with_bounds.Goals as goal
 
 pub returns : goal.returns
 returns c = λ app is.

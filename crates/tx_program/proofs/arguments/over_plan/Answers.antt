@@ -1,6 +1,6 @@
 use Rattle.std.proofs.Common.{◌≡◌, rules}
 use Rattle.clap.specs.Words.{app_of, new_app}
-use Rattle.tx_program.proofs.grammar.over_plan.Goals as goal
+use Rattle.tx_program.proofs.arguments.over_plan.Goals as goal
 
 pub returns : goal.returns
 returns c =

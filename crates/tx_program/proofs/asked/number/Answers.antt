@@ -1,7 +1,7 @@
 use Rattle.std.proofs.Common.{refl}
 use Rattle.clap.specs.Words.{found_of, one_text}
 use Rattle.tx_program.proofs.Reading.{given_by}
-use Rattle.tx_program.proofs.command.number.Goals as goal
+use Rattle.tx_program.proofs.asked.number.Goals as goal
 
 pub returns-in-Some-clause-given : goal.returns-in-Some-clause-given
 returns-in-Some-clause-given c =
