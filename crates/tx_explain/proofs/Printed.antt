@@ -12,8 +12,9 @@ use Rattle.tx_script.specs.declared.script_word.ScriptWord.TheVariants as script
 use Rattle.tx_state.specs.declared.refusal.Refusal.TheVariants as refusal
 use Rattle.tx_check.specs.declared.fault.CheckFault.TheVariants as fault
 use Rattle.tx_rank.specs.declared.finding.Finding.TheVariants as finding
+use Rattle.tx_risk_text.specs.declared.fault.RiskWord.TheVariants as risk
 use Rattle.tx_explain.specs.Entries.{table}
-use Rattle.tx_explain.specs.Explained.{PlanFaultsAreExplained, CertFaultsAreExplained, ScriptFaultsAreExplained, RefusalsAreExplained, CheckFaultsAreExplained, FindingsAreExplained}
+use Rattle.tx_explain.specs.Explained.{PlanFaultsAreExplained, CertFaultsAreExplained, ScriptFaultsAreExplained, RiskFaultsAreExplained, RefusalsAreExplained, CheckFaultsAreExplained, FindingsAreExplained, MendingsAreExplained}
 
 pub plans : PlanFaultsAreExplained
 unfolding table
@@ -71,6 +72,23 @@ scripts (Word script.WrongCount) other = refl
 scripts (Word script.BadNumber) other = refl
 scripts (Word script.UnknownName) other = refl
 
+pub risks : RiskFaultsAreExplained
+unfolding table
+risks (Frame (Form NoHeader)) = refl
+risks (Frame (Form NoEnd)) = refl
+risks (Frame (Form AfterEnd)) = refl
+risks (Frame (Line Read)) = refl
+risks (Frame (Line (Text LineTooLong))) = refl
+risks (Frame (Line (Text BadByte))) = refl
+risks (Frame (Line (Text TextNoMemory))) = refl
+risks (Word risk.UnknownWord) = refl
+risks (Word risk.WrongCount) = refl
+risks (Word risk.BadName) = refl
+risks (Word risk.Duplicate) = refl
+risks (Word risk.UnknownName) = refl
+risks (Word risk.RepeatedGroup) = refl
+risks (Word risk.NoMemory) = refl
+
 pub refusals : RefusalsAreExplained
 unfolding table
 refusals refusal.UnknownCall = refl
@@ -102,3 +120,10 @@ findings A p (finding.Ambiguous a b) = record { row = (codes "F1", codes "AMBIGU
 findings A p (finding.Loop code w) = record { row = (codes "F2", codes "LOOP"); rest = _; explained = refl; begins = refl }
 findings A p (finding.Short code w) = record { row = (codes "F3", codes "SHORT"); rest = _; explained = refl; begins = refl }
 findings A p (finding.Long code w) = record { row = (codes "F4", codes "LONG"); rest = _; explained = refl; begins = refl }
+
+pub mendings : MendingsAreExplained
+unfolding table
+mendings = record {
+  pair = λ p q. record { row = (codes "F1", codes "AMBIGUOUS"); rest = _; explained = refl; begins = refl };
+  unserved = λ p k. record { row = (codes "F5", codes "UNSERVED"); rest = _; explained = refl; begins = refl };
+}

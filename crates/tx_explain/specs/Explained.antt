@@ -17,6 +17,9 @@ use Rattle.tx_check.specs.declared.fault.CheckFault.{CheckFault}
 use Rattle.tx_check.specs.Verdicts.{fault_words}
 use Rattle.tx_rank.specs.declared.finding.Finding.{Finding}
 use Rattle.tx_audit.specs.Report.{finding_line}
+use Rattle.tx_mend_report.specs.MendText.{pair_line, unserved_line}
+use Rattle.tx_risk_text.specs.declared.fault.RiskWord.{RiskWord}
+use Rattle.tx_risk_text.specs.RiskFaults.{fault_row as risk_row}
 use Rattle.tx_explain.specs.Entries.{explanation}
 
 -- the table has the code, by this name
@@ -40,6 +43,9 @@ CertFaultsAreExplained = (kind : FaultKind CertWord) → IsExplained (cert_row k
 abbrev pub ScriptFaultsAreExplained : Type 0
 ScriptFaultsAreExplained = (kind : FaultKind ScriptWord) → kind ≢ Frame (Line Read) → IsExplained (script_row kind)
 
+abbrev pub RiskFaultsAreExplained : Type 0
+RiskFaultsAreExplained = (kind : FaultKind RiskWord) → IsExplained (risk_row kind)
+
 abbrev pub RefusalsAreExplained : Type 0
 RefusalsAreExplained = (refusal : Refusal) → is_some (explanation (refusal_text refusal)) ≡ true
 
@@ -49,3 +55,8 @@ CheckFaultsAreExplained = (p : Plan) (fault : CheckFault) → (code : List ℕ) 
 
 abbrev pub FindingsAreExplained : Type 0 → Type 0
 FindingsAreExplained A = (p : Plan) (finding : Finding A) → BeginsExplained (finding_line p finding)
+
+-- what the report of a mending tells after a NO: the ambiguous pair, and whom no lists can serve
+pub record MendingsAreExplained : Type 0 where
+  pub pair : (p : Plan) (q : ℕ × ℕ) → BeginsExplained (pair_line p (Some q))
+  pub unserved : (p : Plan) (k : ℕ × ℕ) → BeginsExplained (unserved_line p k)

@@ -3,8 +3,9 @@
 /// A code, its name, what it means, and what to do about it.
 pub type Entry = [&'static str; 4];
 
-/// All codes: of any text (X), a plan (P), a certificate (C), a script (S), a refused event (M), a check (K) and a finding (F).
-pub static TABLE: [Entry; 63] = [
+/// All codes: of any text (X), a plan (P), a certificate (C), a script (S), a text of risks (Q), a
+/// refused event (M), a check (K) and a finding (F).
+pub static TABLE: [Entry; 75] = [
     [
         "X1",
         "LineTooLong",
@@ -236,6 +237,67 @@ pub static TABLE: [Entry; 63] = [
         "The events before it were run. Drop the words.",
     ],
     [
+        "Q1",
+        "UnknownWord",
+        "The first word of the line is not RISK.",
+        "Correct the word.",
+    ],
+    [
+        "Q2",
+        "WrongCount",
+        "The risk has no name or no groups, or words stand behind END on its line.",
+        "Write RISK, a name, and one or more groups.",
+    ],
+    [
+        "Q3",
+        "BadName",
+        "The name of the risk is no name.",
+        "Write 1 to 8 capitals and figures, a letter first.",
+    ],
+    [
+        "Q4",
+        "Duplicate",
+        "A risk of this name is declared already.",
+        "Give one of the two another name.",
+    ],
+    [
+        "Q5",
+        "UnknownName",
+        "The plan has no such group.",
+        "Correct the word, or see whether the risks are of another plan.",
+    ],
+    [
+        "Q6",
+        "RepeatedGroup",
+        "A group stands twice in a risk.",
+        "Drop one.",
+    ],
+    [
+        "Q7",
+        "NoHeader",
+        "The first line with words is not RISKS 1.",
+        "Begin the text with it, or see whether this file is a text of risks.",
+    ],
+    [
+        "Q8",
+        "NoEnd",
+        "The text ends without END, or in the middle of a line.",
+        "See whether the file was cut off.",
+    ],
+    ["Q9", "AfterEnd", "Words stand behind END.", "Drop them."],
+    [
+        "Q10",
+        "NoMemory",
+        "No memory was left.",
+        "Give the program more memory. It tells this as telexplan: no memory.",
+    ],
+    [
+        "Q11",
+        "ReadFault",
+        "The source of the text failed.",
+        "See whether the file can be read. The program tells this as telexplan: read fault.",
+    ],
+    [
         "M1",
         "UnknownCall",
         "No open call has this number.",
@@ -359,18 +421,24 @@ pub static TABLE: [Entry; 63] = [
         "F2",
         "LOOP",
         "The lists lead back to an exchange that the walk has passed.",
-        "Take one group of the loop out of the list of the exchange that stands before it in the walk. In a change, each list of the walk is the old one or the new one: if both plans are safe, change in two steps, by a plan in which no call goes so.",
+        "Take one group of the loop out of the list of the exchange that stands before it in the walk, or let telexplan mend find lists. In a change, each list of the walk is the old one or the new one: if both plans are safe, change in two steps, by a plan in which no call goes so.",
     ],
     [
         "F3",
         "SHORT",
         "An exchange has too few groups for the spare number.",
-        "Add a group to its list, or ask for a smaller k. In a change it is the old list or the new one that is short.",
+        "Add a group to its list, let telexplan mend find one, or ask for a smaller k. In a change it is the old list or the new one that is short.",
     ],
     [
         "F4",
         "LONG",
         "A call can pass more transits than the limit.",
-        "Let an exchange of the walk lead on directly, or ask for a greater L. In a change, do as for F2.",
+        "Let an exchange of the walk lead on directly, let telexplan mend find lists, or ask for a greater L. In a change, do as for F2.",
+    ],
+    [
+        "F5",
+        "UNSERVED",
+        "Calls for the code may start at the exchange, and no lists over the groups of the plan can serve it.",
+        "Add groups on the way to the home of the code, or ask for a greater L or a smaller k. Or bar such calls.",
     ],
 ];
