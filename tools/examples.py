@@ -49,7 +49,7 @@ class Example:
         bar = words.index("|") if "|" in words else -1
         self.input = words[1:bar] if bar > 0 else []
         self.words = words[bar + 2 :]
-        made = [b for a, b in zip(self.words, self.words[1:]) if a in ("--counter", "--mixture") or (a == "--cert" and self.words[0] != "run")]
+        made = [b for a, b in zip(self.words, self.words[1:]) if a in ("--counter", "--mixture", "--plan") or (a == "--cert" and self.words[0] != "run")]
         self.made = made
         self.files = [it for it in self.words if it.startswith("examples/") and it not in made]
 
