@@ -9,4 +9,5 @@ mod pairs;
 mod shown;
 mod tally;
 
+pub(crate) use mixtures::are_alike;
 pub(crate) use pairs::play_pairs;

@@ -33,13 +33,23 @@ fn note_walks(
     Ok(())
 }
 
+/// Takes in all walks for a code from an exchange of which nothing but the last exchange repeats.
+pub fn note_walks_from(
+    plan: &Plan,
+    start: ExchangeId,
+    steps: &mut Steps,
+    survey: &mut Survey,
+) -> Result<(), NoMemory> {
+    steps.clear();
+    note_walks(plan, start, steps, plan.exchanges(), survey)
+}
+
 /// Takes in all walks for a code of which nothing but the last exchange repeats. None of them has more steps than there are exchanges.
 pub fn note_all_walks(plan: &Plan, steps: &mut Steps, survey: &mut Survey) -> Result<(), NoMemory> {
     for place in 0..plan.exchanges() {
         if let Some(origin) = plan.exchange_at(place) {
             if plan.is_origin_for(origin, survey.code) {
-                steps.clear();
-                note_walks(plan, origin, steps, plan.exchanges(), survey)?;
+                note_walks_from(plan, origin, steps, survey)?;
             }
         }
     }
