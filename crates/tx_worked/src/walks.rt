@@ -25,7 +25,7 @@ pub(crate) use lists::put_words;
 pub(crate) use replay::Replay;
 pub(crate) use scripts::is_right;
 pub(crate) use stop::{WalksDiffer, tell_stop};
-pub(crate) use survey::{Survey, note_lesser};
+pub(crate) use survey::{Survey, count_at, note_lesser};
 pub(crate) use surveys::{survey_codes, survey_starts};
 pub(crate) use tally::{PlanTally, add, tell_answers};
 pub(crate) use trail::Trail;

@@ -5,7 +5,9 @@ use crate::changes::are_alike;
 use crate::mends::lists::Asked;
 use crate::mends::serving::RoutingWork;
 use crate::mends::tally::MendTally;
-use crate::walks::{Difference, Survey, Wanted, ambiguous, put_code, ranks_differ, survey_codes};
+use crate::walks::{
+    Difference, Survey, Wanted, ambiguous, count_at, put_code, ranks_differ, survey_codes,
+};
 use std::alloc::Global;
 use tx_cert::Cert;
 use tx_change::first_difference;
@@ -98,15 +100,13 @@ fn are_routes_of(plan: &Plan, routes: &Routes) -> bool {
 
 /// Whether a walk of those that a survey has seen comes to an exchange.
 fn is_reached(survey: &Survey, exchange: ExchangeId) -> bool {
-    matches!(survey.nearest.get(exchange.index()), Some(Some(_)))
+    count_at(&survey.nearest, exchange.index()).is_some()
 }
 
 /// Whether the rank of an exchange in a mended plan, if a call comes there, is its least one.
 fn is_least(asked: Asked<'_>, survey: &Survey, exchange: ExchangeId) -> bool {
-    match survey.heights.get(exchange.index()) {
-        Some(Some(height)) => asked.rank(survey.code, exchange) == Some(*height),
-        _ => true,
-    }
+    let height = count_at(&survey.heights, exchange.index());
+    height.is_none() || height == asked.rank(survey.code, exchange)
 }
 
 /// How the list of an exchange in a mended plan, or its rank, differs from what it has to be.
@@ -128,7 +128,7 @@ fn list_differs(
     if !keeps && !is_least(asked, survey, exchange) {
         return Ok(Some(Difference::RankAt(code, exchange)));
     }
-    tally.add_list(asked.plan.list(exchange, code), list);
+    tally.add_list(asked.plan.list(exchange, code), list.as_slice());
     Ok(None)
 }
 

@@ -96,7 +96,7 @@ impl<'a> Asked<'a> {
     ) -> Result<(), NoMemory> {
         for place in 0..self.plan.groups() {
             if let Some(group) = self.plan.group_at(place) {
-                if self.is_wanting(code, exchange, group, far, list) {
+                if self.is_wanting(code, exchange, group, far, list.as_slice()) {
                     list.push(group)?;
                 }
             }

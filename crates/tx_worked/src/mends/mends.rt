@@ -71,8 +71,8 @@ fn answer_differs(
 {
     let asked = Asked {
         plan,
-        surveys: &work.surveys,
-        codes: &work.codes,
+        surveys: work.surveys.as_slice(),
+        codes: work.codes.as_slice(),
         limit,
         spare,
     };

@@ -1,7 +1,7 @@
 // What the routings of a network serve.
 ghost use Rattle.std.specs.Prelude.{◌≤◌};
 
-use crate::walks::{NUMBERS, Survey, Wanted, note_lesser, put_code};
+use crate::walks::{NUMBERS, Survey, Wanted, count_at, note_lesser, put_code};
 use std::alloc::Global;
 use tx_plan::{CodeId, ExchangeId, Plan};
 use tx_rank::{Finding, Ranking, rank};
@@ -19,10 +19,7 @@ pub struct Served {
 impl Served {
     /// The least rank of an exchange.
     pub fn rank(&self, exchange: ExchangeId) -> Option<usize> {
-        match self.ranks.get(exchange.index()) {
-            Some(rank) => *rank,
-            None => None,
-        }
+        count_at(&self.ranks, exchange.index())
     }
 }
 
@@ -82,8 +79,8 @@ fn note_ranks(
     for (place, survey) in starts.iter().enumerate() {
         put_code(routing, survey, limit, spare, wanted)?;
         if wanted.is_empty() {
-            if let Some(Some(height)) = survey.heights.get(place) {
-                note_lesser(ranks, place, *height);
+            if let Some(height) = count_at(&survey.heights, place) {
+                note_lesser(ranks, place, height);
             }
         }
     }

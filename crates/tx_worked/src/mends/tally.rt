@@ -48,7 +48,9 @@ impl MendTally {
     pub fn add_refused(&mut self, is_ambiguous: bool, unserved: usize) {
         add(&mut self.mendings, 1);
         add(&mut self.refused, 1);
-        add(&mut self.ambiguous, usize::from(is_ambiguous));
+        if is_ambiguous {
+            add(&mut self.ambiguous, 1);
+        }
         add(&mut self.unserved, unserved);
     }
 }
