@@ -44,8 +44,10 @@ pub fn put_unserved(
     unserved.clear();
     for i in 0..asked.plan.codes() {
         for j in 0..asked.plan.exchanges() {
-            if let (Some(code), Some(exchange)) = (asked.plan.code_at(i), asked.plan.exchange_at(j))
-            {
+            if let (Some(code), Some(exchange)) = (
+                asked.plan.code_at(i),
+                asked.plan.exchange_at(j),
+            ) {
                 if asked.plan.is_origin_for(exchange, code)
                     && asked.rank(code, exchange).is_none()
                 {
@@ -252,9 +254,7 @@ pub fn mending_differs(
     match mending {
         Mending::Mended(mended, before, cert) => {
             let differs = if can_be {
-                mended_differs(
-                    alloc, asked, &mended, &before, &cert, answers, work, tally,
-                )
+                mended_differs(alloc, asked, &mended, &before, &cert, answers, work, tally)
             } else {
                 Ok(Some(Difference::Found))
             };

@@ -42,13 +42,7 @@ impl<'a> Asked<'a> {
     }
 
     /// Whether a group leads from an exchange to a rank below this one.
-    fn leads_below(
-        &self,
-        code: CodeId,
-        exchange: ExchangeId,
-        group: GroupId,
-        rank: usize,
-    ) -> bool {
+    fn leads_below(&self, code: CodeId, exchange: ExchangeId, group: GroupId, rank: usize) -> bool {
         match self.rank_across(code, exchange, group) {
             Some(far) => far < rank,
             None => false,

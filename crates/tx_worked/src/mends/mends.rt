@@ -82,14 +82,7 @@ fn answer_differs(
         return Ok(Some(Difference::Routings));
     }
     let mending = mending_of(alloc, work.text.as_slice(), limit, spare)?;
-    Ok(mending_differs(
-        alloc,
-        asked,
-        mending,
-        answers,
-        &mut work.routing,
-        tally,
-    )?)
+    Ok(mending_differs(alloc, asked, mending, answers, &mut work.routing, tally)?)
 }
 
 /// Judges the mending of the plan in hand for a limit and a spare number.
@@ -141,12 +134,7 @@ fn judge_plan(
     tally: &mut MendTally,
 ) -> Result<(), Stop> {
     make_routings(alloc, plan, work, tally)?;
-    survey_codes(
-        alloc,
-        plan,
-        &mut work.routing.steps,
-        &mut work.surveys,
-    )?;
+    survey_codes(alloc, plan, &mut work.routing.steps, &mut work.surveys)?;
     tally.plans = tally.plans.saturating_add(1);
     for limit in 0..NUMBERS {
         for spare in 0..NUMBERS {

@@ -6,10 +6,7 @@ use tx_text::{NoMemory, words};
 
 /// Whether a line of a plan says something of its network.
 fn is_of_network(line: &[u8]) -> bool {
-    !matches!(
-        next_word(&mut words(line)),
-        b"PLAN" | b"ROUTE" | b"END"
-    )
+    !matches!(next_word(&mut words(line)), b"PLAN" | b"ROUTE" | b"END")
 }
 
 /// Makes the lines of a plan that say its network: all but the header, the routes and END.

@@ -138,9 +138,7 @@ impl CodeServed {
         for limit in 0..NUMBERS {
             for spare in 0..NUMBERS {
                 if let Some(served) = self.numbers.get_mut(place_of(limit, spare)) {
-                    note_numbers(
-                        alloc, routing, code, starts, limit, spare, wanted, served,
-                    )?;
+                    note_numbers(alloc, routing, code, starts, limit, spare, wanted, served)?;
                 }
             }
         }

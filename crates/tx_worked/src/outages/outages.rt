@@ -5,7 +5,7 @@ use crate::outages::judge::{HIGH, survival_differs};
 use crate::outages::tally::{OutageTally, tell_outages};
 use crate::outages::wanted::{WantedCut, put_cuts};
 use crate::walks::{
-    Difference, Steps, Survey, Wanted, WalksDiffer, count_plans, put_plan, put_wanted,
+    Difference, Steps, Survey, WalksDiffer, Wanted, count_plans, put_plan, put_wanted,
     survey_codes, tell_stop,
 };
 use std::alloc::Global;

@@ -64,11 +64,7 @@ fn add_code(left: Left<'_>, wanted: &mut Vec<WantedCut>) -> Result<(), NoMemory>
 }
 
 /// Makes the list of what is cut off by all that fails, in order.
-pub fn put_cuts(
-    plan: &Plan,
-    all: &[Failing],
-    wanted: &mut Vec<WantedCut>,
-) -> Result<(), NoMemory> {
+pub fn put_cuts(plan: &Plan, all: &[Failing], wanted: &mut Vec<WantedCut>) -> Result<(), NoMemory> {
     wanted.clear();
     for failing in all {
         for place in 0..plan.codes() {
