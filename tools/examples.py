@@ -293,18 +293,19 @@ def lines_quoted(page):
 
 def codes_explained():
     """The program's table of codes: a code, its name, what it means and what to do."""
-    return re.findall(r'\[\s*"(.*?)",\s*"(.*?)",\s*"(.*?)",\s*"(.*?)",?\s*\]', read("crates/tx_program/src/code_table.rt").decode())
+    return re.findall(r'\[\s*"(.*?)",\s*"(.*?)",\s*"(.*?)",\s*"(.*?)",?\s*\]', read("crates/tx_explain/src/code_table.rt").decode())
 
 
 def codes_defined():
     """The codes and names of the definitions."""
     text = lambda crate, name: read(f"crates/{crate}/specs/{name}.antt").decode()
     rows = set()
-    for crate, name in [("tx_text", "Rows"), ("tx_plantext", "PlanFaults"), ("tx_cert", "CertFaults"), ("tx_script", "ScriptFaults")]:
-        rows.update(re.findall(r'\(codes "([PCSX]\d+)", codes "(\w+)"\)', text(crate, name)))
+    for crate, name in [("tx_text", "Rows"), ("tx_plantext", "PlanFaults"), ("tx_cert", "CertFaults"), ("tx_script", "ScriptFaults"), ("tx_risk_text", "RiskFaults")]:
+        rows.update(re.findall(r'\(codes "([PCSQX]\d+)", codes "(\w+)"\)', text(crate, name)))
     rows.update((b, a) for a, b in re.findall(r'refusal_text (\w+) = codes "(M\d+)"', text("tx_tickets", "Texts")))
     rows.update((b, a) for a, b in re.findall(r'fault_words p \((\w+)[ \w]*\) = codes "(K\d)"', text("tx_check", "Verdicts")))
     rows.update(re.findall(r'finding_line p \(\w+[ \w]*\) = codes "(F\d) (\w+) ', text("tx_audit", "Report")))
+    rows.update(re.findall(r'codes "(F\d) (\w+) ', text("tx_mend_report", "MendText")))
     return rows
 
 
@@ -339,7 +340,7 @@ def check_pages(tell):
     if not is_shown:
         tell("docs/FORMATS.md: the table of codes is missing")
     for it in sorted(codes_defined() ^ {row[:2] for row in codes_explained()}):
-        tell(f"crates/tx_program: {' '.join(it)} stands in the table or in the definitions alone")
+        tell(f"crates/tx_explain: {' '.join(it)} stands in the table or in the definitions alone")
 
 
 # WHAT THE PAGES NAME

@@ -8,6 +8,7 @@ mod ChangeTold
 mod ChangeEvidenced
 mod Grading
 mod MendTold
+mod Surviving
 mod DrawnCode
 pub mod Before
 pub mod Choices

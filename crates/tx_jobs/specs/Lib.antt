@@ -10,6 +10,8 @@ pub mod ChangeJobs
 pub mod GradeJobs
 pub mod MendJobs
 pub mod TraceJobs
+pub mod SurviveFaults
+pub mod SurviveJobs
 pub mod Writables
 pub mod Evidences
 pub mod ChangeEvidences

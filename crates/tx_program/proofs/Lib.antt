@@ -1,4 +1,2 @@
-mod Printed
 pub mod Reading
 pub mod Grammars
-pub mod Found

@@ -3,16 +3,17 @@ use Rattle.std.specs.Prelude.{◌≡◌, ◌≤◌, ℕ, List, Option, None, Som
 use Rattle.std.specs.Borrow.{Bor}
 use Rattle.std.specs.Str.Parse.{IsNumeral, digits_value, without_leading_plus}
 use Rattle.clap.specs.Words.{Row, first_of, one_of, subcommand_of}
-use Rattle.tx_program.specs.Entries.{texts, explanation}
+use Rattle.tx_explain.specs.Entries.{texts, explanation}
 use Rattle.tx_program.specs.Grammar.{program_words}
 use Rattle.tx_program.specs.declared.command.Command.{Command}
-use Rattle.tx_program.specs.declared.command.Command.TheVariants.{Pipe, Run, Check, Codes, Audit, Change, Grade, Draw, Explain}
+use Rattle.tx_program.specs.declared.command.Command.TheVariants.{Pipe, Run, Check, Codes, Audit, Change, Mend, Survive, Grade, Trace, Draw, Explain}
 
 -- a limit is at most 62, and a spare number at most 15
 abbrev pub IsInRange : Command → Type 0
 IsInRange (Run plan script (Some (cert, limit, spare))) = (limit ≤ 62) × (spare ≤ 15)
 IsInRange (Audit plan limit spare cert counter) = (limit ≤ 62) × (spare ≤ 15)
 IsInRange (Change old new limit spare cert mixture counter) = (limit ≤ 62) × (spare ≤ 15)
+IsInRange (Mend plan limit spare mended cert) = (limit ≤ 62) × (spare ≤ 15)
 IsInRange (Check plan cert limit spare) = (limit ≤ 62) × (spare ≤ 15)
 IsInRange (Draw plan (Some (code, Some (limit, spare)))) = (limit ≤ 62) × (spare ≤ 15)
 IsInRange other = Unit {0}
@@ -48,7 +49,18 @@ Asks name found (Change old new limit spare cert mixture counter) =
     × (first_of (codes "cert") found ≡ option_map string_bytes cert)
     × (first_of (codes "mixture") found ≡ option_map string_bytes mixture)
     × (first_of (codes "counter") found ≡ option_map string_bytes counter)
+Asks name found (Mend plan limit spare mended cert) =
+    (name ≡ codes "mend") × Names found (codes "old") plan
+    × Gives found (codes "limit") limit × Gives found (codes "spare") spare
+    × (first_of (codes "plan") found ≡ option_map string_bytes mended)
+    × (first_of (codes "cert") found ≡ option_map string_bytes cert)
+Asks name found (Survive plan risks) =
+    (name ≡ codes "survive") × Names found (codes "plan") plan
+    × (first_of (codes "risks") found ≡ option_map string_bytes risks)
 Asks name found (Grade plan) = (name ≡ codes "grade") × Names found (codes "plan") plan
+Asks name found (Trace plan exchange code) =
+    (name ≡ codes "trace") × Names found (codes "plan") plan
+    × Names found (codes "exchange") exchange × Names found (codes "code") code
 Asks name found (Draw plan None) =
     (name ≡ codes "draw") × Names found (codes "plan") plan × (first_of (codes "code") found ≡ None) × (first_of (codes "limit") found ≡ None) × (first_of (codes "spare") found ≡ None)
 Asks name found (Draw plan (Some (code, None))) =

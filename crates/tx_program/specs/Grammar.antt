@@ -44,6 +44,21 @@ codes_words = plan_words (codes "codes")
 abbrev pub audit_words : App
 audit_words = with_rule (with_rule (with_rule (with_rule (plan_words (codes "audit")) (needed limit)) (needed spare)) (option (codes "cert"))) (option (codes "counter"))
 
+-- a command with a plan, and an option that names another one, so the plan goes by another id
+abbrev pub mend_words : App
+mend_words =
+    with_rule (with_rule (with_rule (with_rule (with_rule
+    (new_app (codes "mend")) (file (codes "old"))) (needed limit)) (needed spare))
+    (option (codes "plan"))) (option (codes "cert"))
+
+abbrev pub survive_words : App
+survive_words = with_rule (plan_words (codes "survive")) (option (codes "risks"))
+
+-- a command with a plan, and with two words that have to be given as it has
+abbrev pub trace_words : App
+trace_words =
+    with_rule (with_rule (plan_words (codes "trace")) (file (codes "exchange"))) (file (codes "code"))
+
 -- a command whose words are two plans
 abbrev pub change_words : App
 change_words =
@@ -58,17 +73,18 @@ draw_words = with_rule (with_rule (with_rule (plan_words (codes "draw")) (option
 abbrev pub explain_words : App
 explain_words = with_rule (new_app (codes "explain")) (record (new_rule (codes "code")) { value_names = 1; action = Some Set })
 
--- the program takes its words from the first on, tells its version, and has eight commands
+-- the program takes its words from the first on, tells its version, and has eleven commands
 abbrev pub top_words : App
 top_words = let app = new_app (codes "telexplan") in record app { top = record app.top { no_binary_name = true; has_version = true } }
 
 -- with those that judge plans
 abbrev pub judging_words : App
 judging_words =
-    with_subcommand (with_subcommand (with_subcommand (with_subcommand
-    top_words audit_words.top) grade_words.top) change_words.top) check_words.top
+    with_subcommand (with_subcommand (with_subcommand (with_subcommand (with_subcommand (with_subcommand
+    top_words audit_words.top) grade_words.top) mend_words.top) change_words.top)
+    survive_words.top) check_words.top
 
 abbrev pub program_words : App
 program_words =
-    with_subcommand (with_subcommand (with_subcommand (with_subcommand
-    judging_words run_words.top) codes_words.top) draw_words.top) explain_words.top
+    with_subcommand (with_subcommand (with_subcommand (with_subcommand (with_subcommand
+    judging_words run_words.top) codes_words.top) trace_words.top) draw_words.top) explain_words.top

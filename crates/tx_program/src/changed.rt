@@ -35,7 +35,7 @@ fn report<A: Allocator + Copy, R: Read + Drop, O: Write + Drop>(
     files: Keep<'_>,
     output: &Output<O, A>,
 ) -> Result<ChangeEvidence<A>, CommandFault> {
-    let with_mixture = files.mixture.is_some() || files.counter.is_some();
+    let with_mixture = files.plan.is_some() || files.counter.is_some();
     let mut old = output.source(alloc, old)?;
     let mut new = output.source(alloc, new)?;
     let evidence = change_evidence_job(
@@ -79,8 +79,8 @@ fn keep_mixture<A: Allocator + Copy, F: Folder, O: Write + Drop>(
 ) -> Result<(), JobFault> {
     keep_file(
         alloc,
-        Kept::Mixture(mixture.plan()),
-        files.mixture,
+        Kept::Plan(mixture.plan()),
+        files.plan,
         folder,
         report,
     )?;

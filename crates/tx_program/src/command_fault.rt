@@ -3,7 +3,7 @@ ghost use Rattle.std.specs.Prelude.{◌≡◌};
 ghost use Rattle.tx_program.specs.inner.Stopped.{status_of_command};
 
 use thiserror::Error;
-use tx_jobs::{ChangeFault, JobFault};
+use tx_jobs::{ChangeFault, JobFault, SurviveFault};
 
 /// Why a command was not done.
 #[derive(Clone, Copy, Debug, Error)]
@@ -14,7 +14,13 @@ pub(crate) enum CommandFault {
     /// The job of a change stopped.
     #[error(transparent)]
     Change(#[from] ChangeFault),
-    /// The plan has no code of the figures that were to be drawn.
+    /// The job of outages stopped.
+    #[error(transparent)]
+    Survive(#[from] SurviveFault),
+    /// The plan has no exchange of the name that was asked for.
+    #[error("the plan has no such exchange")]
+    NoSuchExchange,
+    /// The plan has no code of the figures that were asked for.
     #[error("the plan has no such code")]
     NoSuchCode,
 }
@@ -27,7 +33,8 @@ impl CommandFault {
         match self {
             CommandFault::Job(fault) => fault.status(),
             CommandFault::Change(fault) => fault.status(),
-            CommandFault::NoSuchCode => 64,
+            CommandFault::Survive(fault) => fault.status(),
+            CommandFault::NoSuchExchange | CommandFault::NoSuchCode => 64,
         }
     }
 }

@@ -1,133 +1,14 @@
 // The words that the program takes, with what it tells of them when asked for help.
-ghost use Rattle.std.specs.Prelude.{◌≡◌, false, Ok, Some, IfOk, codes};
-ghost use Rattle.clap.specs.Words.{AddsSubcommand, App, app_of, new_rule, rule_of, with_rule};
-ghost use Rattle.clap.specs.declared.builder.action.ArgAction.TheVariants.{Set};
+ghost use Rattle.std.specs.Prelude.{◌≡◌, Ok, IfOk};
+ghost use Rattle.clap.specs.Words.{AddsSubcommand, app_of};
 ghost use Rattle.clap.specs.declared.builder.command.Command.{Command};
 ghost use Rattle.tx_program.specs.Grammar as grammar;
 
-use clap::{Arg, ArgAction, value_parser};
+use crate::arguments::{over_plan, with_bounds, with_file, with_option, word};
 use std::alloc::{AllocError, Global};
 
 /// The version of the program.
 const VERSION: &str = "1.0.0";
-
-/// A command whose first word is a plan.
-fn over_plan<'a>(
-    alloc: Global,
-    name: &'a str,
-    about: &'a str,
-) -> Result<clap::Command<'a>, AllocError>
-    ensures { IfOk result (λ c. app_of c ≡ grammar.plan_words name.now) }
-{
-    let command = Ok(clap::Command::new(alloc, name).about(about));
-    with_file(
-        command,
-        alloc,
-        "plan",
-        "PLAN",
-        "The route plan: exchanges, codes, lines, groups, routes and bars",
-    )
-}
-
-/// A command with one argument more, if it could be made so far.
-fn with_arg<'a>(
-    command: Result<clap::Command<'a>, AllocError>,
-    arg: Arg<'a>,
-) -> Result<clap::Command<'a>, AllocError>
-    requires { arg.global ≡ false }
-    ensures { (app : App) → IfOk command.entry (λ c. app_of c ≡ app) → IfOk result (λ c. app_of c ≡ with_rule app (rule_of arg.entry)) }
-{
-    match command {
-        Ok(made) => made.arg(arg),
-        Err(error) => {
-            drop(arg);
-            Err(error)
-        }
-    }
-}
-
-/// The same with a file, which has to be named.
-fn with_file<'a>(
-    command: Result<clap::Command<'a>, AllocError>,
-    alloc: Global,
-    id: &'a str,
-    shown: &'a str,
-    help: &'a str,
-) -> Result<clap::Command<'a>, AllocError>
-    ensures { (app : App) → IfOk command.entry (λ c. app_of c ≡ app) → IfOk result (λ c. app_of c ≡ with_rule app (grammar.file id.now)) }
-{
-    with_arg(command, word(alloc, id, shown, help).required(true))
-}
-
-/// A word that goes by its place.
-fn word<'a>(alloc: Global, id: &'a str, shown: &'a str, help: &'a str) -> Arg<'a>
-    ensures rule { rule_of result ≡ record (new_rule id.now) { value_names = 1; action = Some Set } }
-    ensures local { result.global ≡ false }
-{
-    Arg::new(alloc, id)
-        .value_name(shown)
-        .help(help)
-        .action(ArgAction::Set)
-}
-
-/// An option with a word.
-fn option<'a>(alloc: Global, id: &'a str, shown: &'a str, help: &'a str) -> Arg<'a>
-    ensures rule { rule_of result ≡ grammar.option id.now }
-    ensures local { result.global ≡ false }
-{
-    word(alloc, id, shown, help).long(id)
-}
-
-/// The same with an option with a word.
-fn with_option<'a>(
-    command: Result<clap::Command<'a>, AllocError>,
-    alloc: Global,
-    id: &'a str,
-    shown: &'a str,
-    help: &'a str,
-) -> Result<clap::Command<'a>, AllocError>
-    ensures { (app : App) → IfOk command.entry (λ c. app_of c ≡ app) → IfOk result (λ c. app_of c ≡ with_rule app (grammar.option id.now)) }
-{
-    with_arg(command, option(alloc, id, shown, help))
-}
-
-fn limit<'a>(alloc: Global) -> Arg<'a>
-    ensures rule { rule_of result ≡ grammar.limit }
-    ensures local { result.global ≡ false }
-{
-    option(
-        alloc,
-        "limit",
-        "L",
-        "At most how many transits a call may pass: 0 to 62",
-    )
-    .value_parser(value_parser!(u8).range(0..=62))
-}
-
-fn spare<'a>(alloc: Global) -> Arg<'a>
-    ensures rule { rule_of result ≡ grammar.spare }
-    ensures local { result.global ≡ false }
-{
-    option(
-        alloc,
-        "spare",
-        "K",
-        "How many groups may be down: 0 to 15. After YES, a call is answered NC only after a second head-on collision, or where more than K groups are listed and each of them is down or has no free circuit",
-    )
-    .value_parser(value_parser!(u8).range(0..=15))
-}
-
-/// The same with a limit and a spare number, which may have to be given.
-fn with_bounds<'a>(
-    command: Result<clap::Command<'a>, AllocError>,
-    alloc: Global,
-    needed: bool,
-) -> Result<clap::Command<'a>, AllocError>
-    ensures { (app : App) → IfOk command.entry (λ c. app_of c ≡ app) → IfOk result (λ c. app_of c ≡ with_rule (with_rule app (record grammar.limit { required = needed })) (record grammar.spare { required = needed })) }
-{
-    let command = with_arg(command, limit(alloc).required(needed));
-    with_arg(command, spare(alloc).required(needed))
-}
 
 fn run_grammar<'a>(alloc: Global) -> Result<clap::Command<'a>, AllocError>
     ensures { IfOk result (λ c. app_of c ≡ grammar.run_words) }
@@ -205,6 +86,71 @@ fn audit_grammar<'a>(alloc: Global) -> Result<clap::Command<'a>, AllocError>
         "SCRIPT",
         "After NO, write a script to this file that shows the first finding that has one",
     )
+}
+
+fn mend_grammar<'a>(alloc: Global) -> Result<clap::Command<'a>, AllocError>
+    ensures { IfOk result (λ c. app_of c ≡ grammar.mend_words) }
+{
+    let mend = Ok(clap::Command::new(alloc, "mend").about(
+        "Find lists with which a plan is safe, wherever there are any: YES with each list that is another one than before, or NO with whom no lists can serve",
+    ));
+    let mend = with_file(
+        mend,
+        alloc,
+        "old",
+        "PLAN",
+        "The route plan: exchanges, codes, lines, groups, routes and bars",
+    );
+    let mend = with_bounds(mend, alloc, true);
+    let mend = with_option(
+        mend,
+        alloc,
+        "plan",
+        "OUT",
+        "After YES, write the plan with these lists to this file",
+    );
+    with_option(
+        mend,
+        alloc,
+        "cert",
+        "CERT",
+        "After YES, write a certificate of that plan to this file",
+    )
+}
+
+fn survive_grammar<'a>(alloc: Global) -> Result<clap::Command<'a>, AllocError>
+    ensures { IfOk result (λ c. app_of c ≡ grammar.survive_words) }
+{
+    let survive = over_plan(
+        alloc,
+        "survive",
+        "Say whom each group, each exchange and each named risk of a plan cuts off if it fails alone: YES for nobody, or NO with a walk for each",
+    );
+    with_option(
+        survive,
+        alloc,
+        "risks",
+        "RISKS",
+        "The named risks, such as cables: lines RISK name group .., between RISKS 1 and END",
+    )
+}
+
+fn trace_grammar<'a>(alloc: Global) -> Result<clap::Command<'a>, AllocError>
+    ensures { IfOk result (λ c. app_of c ≡ grammar.trace_words) }
+{
+    let trace = over_plan(
+        alloc,
+        "trace",
+        "Tell how calls for a code go from an exchange: the way while all is free, and each list that they may come to",
+    );
+    let trace = with_file(
+        trace,
+        alloc,
+        "exchange",
+        "EXCHANGE",
+        "The exchange from which the calls go",
+    );
+    with_file(trace, alloc, "code", "CODE", "Their destination code")
 }
 
 fn change_grammar<'a>(alloc: Global) -> Result<clap::Command<'a>, AllocError>
@@ -332,8 +278,12 @@ fn judging_grammar<'a>(alloc: Global) -> Result<clap::Command<'a>, AllocError>
         with_command(top_grammar(alloc), audit_grammar(alloc)),
         grade_grammar(alloc),
     );
+    let program = with_command(
+        with_command(program, mend_grammar(alloc)),
+        change_grammar(alloc),
+    );
     with_command(
-        with_command(program, change_grammar(alloc)),
+        with_command(program, survive_grammar(alloc)),
         check_grammar(alloc),
     )
 }
@@ -346,8 +296,9 @@ pub(crate) fn grammar<'a>(alloc: Global) -> Result<clap::Command<'a>, AllocError
         with_command(judging_grammar(alloc), run_grammar(alloc)),
         codes_grammar(alloc),
     );
-    with_command(
-        with_command(program, draw_grammar(alloc)),
-        explain_grammar(alloc),
-    )
+    let program = with_command(
+        with_command(program, trace_grammar(alloc)),
+        draw_grammar(alloc),
+    );
+    with_command(program, explain_grammar(alloc))
 }

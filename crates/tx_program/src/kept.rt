@@ -15,8 +15,8 @@ use tx_plantext::write_plan;
 pub(crate) struct Keep<'a> {
     /// The file of the certificate.
     pub cert: Option<&'a str>,
-    /// The file of the mixture. An audit has none.
-    pub mixture: Option<&'a str>,
+    /// The file of the mixture of a change, or of the plan that was mended.
+    pub plan: Option<&'a str>,
     /// The file of the counter script.
     pub counter: Option<&'a str>,
 }
@@ -26,8 +26,8 @@ pub(crate) struct Keep<'a> {
 pub(crate) enum Kept<'a, A: Allocator> {
     /// The certificate of a plan.
     Cert(&'a Plan<A>, &'a Cert<A>),
-    /// A mixture of two plans.
-    Mixture(&'a Plan<A>),
+    /// A mixture of two plans, or a plan that was mended.
+    Plan(&'a Plan<A>),
     /// The script of a call that goes along the walk of a finding.
     Script(&'a CounterScript<A>),
 }
@@ -59,7 +59,7 @@ fn write_kept<A: Allocator + Copy, W: Write + Drop>(
     let mut sink = output.sink();
     let written = match kept {
         Kept::Cert(plan, cert) => write_cert(cert, plan, &mut sink),
-        Kept::Mixture(plan) => write_plan(plan, &mut sink),
+        Kept::Plan(plan) => write_plan(plan, &mut sink),
         Kept::Script(script) => { write_counter(&script.plan, script.events.as_slice(), &mut sink) }
     };
     output.let_out().and(written.or(Err(JobFault::Write)))

@@ -3,10 +3,11 @@ ghost use Rattle.std.specs.Prelude.{◌≡◌, ◌≤◌};
 ghost use Rattle.tx_program.specs.declared.command.Command.TheVariants.{Run, Draw};
 ghost use Rattle.tx_program.specs.Commands.{IsInRange};
 
+use crate::Command;
 use crate::folder::Folder;
 use crate::kept::Keep;
-use crate::{Command, Entry};
 use std::io::Read;
+use tx_explain::Entry;
 use tx_jobs::JobFault;
 
 /// How many transits a call may pass, and how many groups of a list are to spare.
@@ -34,6 +35,13 @@ impl Bounds {
 pub(crate) enum PlanJob<'a> {
     Codes,
     Grade,
+    /// Outages without named risks.
+    Survive,
+    Trace {
+        /// From where the calls go.
+        exchange: &'a [u8],
+        code: &'a [u8],
+    },
     Draw {
         /// The code whose routes are drawn alone.
         code: Option<&'a [u8]>,
@@ -68,11 +76,20 @@ pub(crate) enum Opened<'a, I: Read + Drop, R: Read + Drop> {
         bounds: Bounds,
         keep: Keep<'a>,
     },
+    Mend {
+        plan: R,
+        bounds: Bounds,
+        keep: Keep<'a>,
+    },
     Change {
         old: R,
         new: R,
         bounds: Bounds,
         keep: Keep<'a>,
+    },
+    Survive {
+        plan: R,
+        risks: R,
     },
     Plan {
         plan: R,
@@ -113,7 +130,7 @@ fn open_both<F: Folder>(
 
 impl<'a, I: Read + Drop, R: Read + Drop> Opened<'a, I, R> {
     /// Opens the files of a command, in the order plan, certificate, script; of a change, the old
-    /// plan and then the new one.
+    /// plan and then the new one; of outages, the plan and then the risks.
     pub(crate) fn new<F: Folder<Input = R>>(
         command: &'a Command,
         folder: &F,
@@ -136,6 +153,12 @@ impl<'a, I: Read + Drop, R: Read + Drop> Opened<'a, I, R> {
             } => Opened::check(folder, plan, cert, Bounds::of(*limit, *spare)),
             Command::Codes { plan } => Opened::over_plan(folder, plan, PlanJob::Codes),
             Command::Grade { plan } => Opened::over_plan(folder, plan, PlanJob::Grade),
+            Command::Survive { plan, risks } => Opened::survive(folder, plan, risks),
+            Command::Trace {
+                plan,
+                exchange,
+                code,
+            } => Opened::trace(folder, plan, exchange, code),
             Command::Draw { plan, routes } => Opened::draw(folder, plan, routes),
             Command::Explain { entry } => Ok(Opened::Explain { entry: *entry }),
             Command::Audit {
@@ -145,6 +168,13 @@ impl<'a, I: Read + Drop, R: Read + Drop> Opened<'a, I, R> {
                 cert,
                 counter,
             } => Opened::audit(folder, plan, Bounds::of(*limit, *spare), cert, counter),
+            Command::Mend {
+                plan,
+                limit,
+                spare,
+                mended,
+                cert,
+            } => Opened::mend(folder, plan, Bounds::of(*limit, *spare), mended, cert),
             Command::Change {
                 old,
                 new,
@@ -238,6 +268,33 @@ impl<'a, I: Read + Drop, R: Read + Drop> Opened<'a, I, R> {
         Opened::over_plan(folder, plan, PlanJob::Draw { code, bounds })
     }
 
+    fn survive<F: Folder<Input = R>>(
+        folder: &F,
+        plan: &String,
+        risks: &Option<String>,
+    ) -> Result<Opened<'a, I, R>, JobFault> {
+        match risks {
+            None => Opened::over_plan(folder, plan, PlanJob::Survive),
+            Some(risks) => {
+                let (plan, risks) = open_both(folder, plan.as_str(), risks.as_str())?;
+                Ok(Opened::Survive { plan, risks })
+            }
+        }
+    }
+
+    fn trace<F: Folder<Input = R>>(
+        folder: &F,
+        plan: &String,
+        exchange: &'a String,
+        code: &'a String,
+    ) -> Result<Opened<'a, I, R>, JobFault> {
+        let job = PlanJob::Trace {
+            exchange: exchange.as_bytes(),
+            code: code.as_bytes(),
+        };
+        Opened::over_plan(folder, plan, job)
+    }
+
     fn audit<F: Folder<Input = R>>(
         folder: &F,
         plan: &String,
@@ -248,10 +305,26 @@ impl<'a, I: Read + Drop, R: Read + Drop> Opened<'a, I, R> {
         let plan = open(folder, plan.as_str())?;
         let keep = Keep {
             cert: name_of(cert),
-            mixture: None,
+            plan: None,
             counter: name_of(counter),
         };
         Ok(Opened::Audit { plan, bounds, keep })
+    }
+
+    fn mend<F: Folder<Input = R>>(
+        folder: &F,
+        plan: &String,
+        bounds: Bounds,
+        mended: &'a Option<String>,
+        cert: &'a Option<String>,
+    ) -> Result<Opened<'a, I, R>, JobFault> {
+        let plan = open(folder, plan.as_str())?;
+        let keep = Keep {
+            cert: name_of(cert),
+            plan: name_of(mended),
+            counter: None,
+        };
+        Ok(Opened::Mend { plan, bounds, keep })
     }
 
     fn change<F: Folder<Input = R>>(
@@ -266,7 +339,7 @@ impl<'a, I: Read + Drop, R: Read + Drop> Opened<'a, I, R> {
         let (old, new) = open_both(folder, old.as_str(), new.as_str())?;
         let keep = Keep {
             cert: name_of(cert),
-            mixture: name_of(mixture),
+            plan: name_of(mixture),
             counter: name_of(counter),
         };
         Ok(Opened::Change {

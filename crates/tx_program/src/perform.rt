@@ -2,18 +2,20 @@
 ghost use Rattle.std.specs.Prelude.{◌≡◌, ◌≤◌, IfSome, option_map};
 ghost use Rattle.tx_program.specs.Commands.{IsInRange};
 
+use crate::Command;
 use crate::audited::audit_file;
 use crate::changed::change_files;
 use crate::command_fault::CommandFault;
 use crate::ends::Output;
 use crate::folder::Folder;
+use crate::mended::mend_file;
 use crate::opened::{Bounds, Opened, PlanJob};
-use crate::{Command, Entry, write_explanation};
 use std::alloc::Allocator;
 use std::io::{Read, Write};
+use tx_explain::{Entry, write_explanation};
 use tx_jobs::{
-    Drawn, JobFault, check_status, codes_status, draw_job, grade_status, pipe_job,
-    run_checked_status, run_job,
+    Drawn, JobFault, Traced, check_status, codes_status, draw_job, grade_status, pipe_job,
+    run_checked_status, run_job, survival_status, survive_job, survive_risks_job, trace_job,
 };
 use tx_text::Source;
 
@@ -61,6 +63,10 @@ fn do_job<A: Allocator + Copy, F: Folder, I: Read + Drop, O: Write + Drop>(
         Opened::Audit { plan, bounds, keep } => {
             audit_file(alloc, plan, bounds, keep, folder, output)?
         }
+        Opened::Mend { plan, bounds, keep } => {
+            mend_file(alloc, plan, bounds, keep, folder, output)?
+        }
+        Opened::Survive { plan, risks } => survive_files(alloc, plan, risks, output)?,
         Opened::Change {
             old,
             new,
@@ -150,7 +156,8 @@ fn do_over_plan<A: Allocator + Copy, R: Read + Drop, O: Write + Drop>(
     do_plan_job(alloc, &mut plan, job, output)
 }
 
-/// `codes PLAN`, `grade PLAN`, or `draw PLAN [--code C [--limit L --spare K]]`.
+/// `codes PLAN`, `grade PLAN`, `survive PLAN`, `trace PLAN EXCHANGE CODE`, or
+/// `draw PLAN [--code C [--limit L --spare K]]`.
 fn do_plan_job<A: Allocator + Copy, P: Source, O: Write + Drop>(
     alloc: A,
     plan: &mut P,
@@ -161,6 +168,19 @@ fn do_plan_job<A: Allocator + Copy, P: Source, O: Write + Drop>(
     match job {
         PlanJob::Codes => Ok(codes_status(alloc, plan, &mut sink)?),
         PlanJob::Grade => Ok(grade_status(alloc, plan, &mut sink)?),
+        PlanJob::Survive => {
+            let survival = survive_job(alloc, plan, &mut sink)?;
+            let status = survival_status(&survival);
+            drop(survival);
+            Ok(status)
+        }
+        PlanJob::Trace { exchange, code } => {
+            match trace_job(alloc, plan, exchange, code, &mut sink)? {
+                Traced::Trace => Ok(0),
+                Traced::NoSuchExchange => Err(CommandFault::NoSuchExchange),
+                Traced::NoSuchCode => Err(CommandFault::NoSuchCode),
+            }
+        }
         PlanJob::Draw { code, bounds } => {
             match draw_job(alloc, plan, code, numbers(bounds), &mut sink)? {
                 Drawn::Picture => Ok(0),
@@ -188,6 +208,21 @@ fn check_files<A: Allocator + Copy, R: Read + Drop, O: Write + Drop>(
         bounds.spare,
         &mut output.sink(),
     )
+}
+
+/// `survive PLAN --risks RISKS`.
+fn survive_files<A: Allocator + Copy, R: Read + Drop, O: Write + Drop>(
+    alloc: A,
+    plan: R,
+    risks: R,
+    output: &Output<O, A>,
+) -> Result<u8, CommandFault> {
+    let mut plan = output.source(alloc, plan)?;
+    let mut risks = output.source(alloc, risks)?;
+    let survival = survive_risks_job(alloc, &mut plan, &mut risks, &mut output.sink())?;
+    let status = survival_status(&survival);
+    drop(survival);
+    Ok(status)
 }
 
 /// A limit and a spare number, if there are any.

@@ -12,7 +12,7 @@ use crate::tell::tell_words;
 use crate::{Command, WordsFault, read_command};
 use std::alloc::{Allocator, Global};
 use std::io::{Read, Write};
-use tx_jobs::{JobFault, write_change_fault, write_fault};
+use tx_jobs::{JobFault, write_change_fault, write_fault, write_survive_fault};
 use tx_text::{ToWrite, write_bytes};
 
 /// The ends of the program: a folder of files, standard input, standard output and standard error.
@@ -24,10 +24,12 @@ pub struct Ends<'a, F, I: Drop, O: Drop, E: Drop> {
     pub errors: E,
 }
 
-/// Does what the words after the program's name ask for, and answers the exit status: 0, or 1 after a No (of `codes`: where codes are ambiguous; of `grade`:
-/// where there is none), 2 for a refused text, 3 for a failed read or write (of help too), 4 for want of memory, 64 for refused words, and for a code that is
-/// to be drawn and that the plan has not. A fault is told by one line on standard error, and refused words by what the library of command lines says. The words
-/// are read with `alloc`, and what they ask for is done with `memory`.
+/// Does what the words after the program's name ask for, and answers the exit status: 0, or 1 after
+/// a No (of `codes`: where codes are ambiguous; of `grade` and `survive`: where there is no grade
+/// too), 2 for a refused text, 3 for a failed read or write (of help too), 4 for want of memory, 64
+/// for refused words, and for a code to draw, or an exchange or a code to trace, that the plan has
+/// not. A fault is told by one line on standard error, and refused words by what the library of
+/// command lines says. The words are read with `alloc`, and what they ask for is done with `memory`.
 pub fn run_words<A: Allocator + Copy, F: Folder, I: Read + Drop, O: Write + Drop, E: Write + Drop>(
     alloc: Global,
     memory: A,
@@ -102,6 +104,10 @@ fn tell_fault<E: Write + Drop>(fault: &CommandFault, errors: E) -> u8
     let _ = match fault {
         CommandFault::Job(fault) => write_fault(fault, &mut errors),
         CommandFault::Change(fault) => write_change_fault(fault, &mut errors),
+        CommandFault::Survive(fault) => write_survive_fault(fault, &mut errors),
+        CommandFault::NoSuchExchange => {
+            write_bytes(b"telexplan: no such exchange in the plan\n", &mut errors)
+        }
         CommandFault::NoSuchCode => {
             write_bytes(b"telexplan: no such code in the plan\n", &mut errors)
         }

@@ -1,7 +1,7 @@
 -- Why the words of a command that was found are refused.
 use Rattle.std.specs.Prelude.{◌≡◌, ℕ, true, false, ◌&&◌, ◌||◌, List, Option, None, option_and_then, codes, IsSomeAnd}
 use Rattle.clap.specs.Words.{Row, first_of}
-use Rattle.tx_program.specs.Entries.{explanation}
+use Rattle.tx_explain.specs.Entries.{explanation}
 use Rattle.tx_program.specs.Faults.{has, IsRunInPart}
 use Rattle.tx_program.specs.declared.refusal.Refusal.{Refusal}
 use Rattle.tx_program.specs.declared.refusal.Refusal.TheVariants.{Together, DrawTogether, NoSuchCode}

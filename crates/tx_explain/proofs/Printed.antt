@@ -1,0 +1,129 @@
+-- Each code that is printed is in the table.
+use Rattle.std.proofs.Common.{codes, refl}
+use Rattle.tx_text.specs.declared.text_fault.TextFault.TheVariants.{LineTooLong, BadByte, NoMemory as TextNoMemory}
+use Rattle.tx_text.specs.declared.line_fault.LineFault.TheVariants.{Text, Read}
+use Rattle.tx_text.specs.declared.frame.FormFault.TheVariants.{NoHeader, NoEnd, AfterEnd}
+use Rattle.tx_text.specs.declared.frame.FrameFault.TheVariants.{Line, Form}
+use Rattle.tx_text.specs.declared.frame.FaultKind.TheVariants.{Frame, Word}
+use Rattle.tx_plan.specs.declared.refusal.PlanRefusal.TheVariants as plan
+use Rattle.tx_plantext.specs.declared.fault.PlanWord.TheVariants as plan_word
+use Rattle.tx_cert.specs.declared.fault.CertWord.TheVariants as cert
+use Rattle.tx_script.specs.declared.script_word.ScriptWord.TheVariants as script
+use Rattle.tx_state.specs.declared.refusal.Refusal.TheVariants as refusal
+use Rattle.tx_check.specs.declared.fault.CheckFault.TheVariants as fault
+use Rattle.tx_rank.specs.declared.finding.Finding.TheVariants as finding
+use Rattle.tx_risk_text.specs.declared.fault.RiskWord.TheVariants as risk
+use Rattle.tx_explain.specs.Entries.{table}
+use Rattle.tx_explain.specs.Explained.{PlanFaultsAreExplained, CertFaultsAreExplained, ScriptFaultsAreExplained, RiskFaultsAreExplained, RefusalsAreExplained, CheckFaultsAreExplained, FindingsAreExplained, MendingsAreExplained}
+
+pub plans : PlanFaultsAreExplained
+unfolding table
+plans (Frame (Form NoHeader)) = refl
+plans (Frame (Form NoEnd)) = refl
+plans (Frame (Form AfterEnd)) = refl
+plans (Frame (Line Read)) = refl
+plans (Frame (Line (Text LineTooLong))) = refl
+plans (Frame (Line (Text BadByte))) = refl
+plans (Frame (Line (Text TextNoMemory))) = refl
+plans (Word plan_word.UnknownWord) = refl
+plans (Word (plan_word.Refused plan.WrongCount)) = refl
+plans (Word (plan_word.Refused plan.BadName)) = refl
+plans (Word (plan_word.Refused plan.BadCode)) = refl
+plans (Word (plan_word.Refused plan.BadNumber)) = refl
+plans (Word (plan_word.Refused plan.Duplicate)) = refl
+plans (Word (plan_word.Refused plan.Unknown)) = refl
+plans (Word (plan_word.Refused plan.RangeOrder)) = refl
+plans (Word (plan_word.Refused plan.Overlap)) = refl
+plans (Word (plan_word.Refused plan.SameEnds)) = refl
+plans (Word (plan_word.Refused plan.NotOutgoing)) = refl
+plans (Word (plan_word.Refused plan.RepeatedGroup)) = refl
+plans (Word (plan_word.Refused plan.RouteAtHome)) = refl
+plans (Word (plan_word.Refused plan.TooMany)) = refl
+plans (Word (plan_word.Refused plan.NoMemory)) = refl
+plans (Word (plan_word.Refused plan.BarAtHome)) = refl
+
+pub certificates : CertFaultsAreExplained
+unfolding table
+certificates (Frame (Form NoHeader)) = refl
+certificates (Frame (Form NoEnd)) = refl
+certificates (Frame (Form AfterEnd)) = refl
+certificates (Frame (Line Read)) = refl
+certificates (Frame (Line (Text LineTooLong))) = refl
+certificates (Frame (Line (Text BadByte))) = refl
+certificates (Frame (Line (Text TextNoMemory))) = refl
+certificates (Word cert.UnknownWord) = refl
+certificates (Word cert.WrongCount) = refl
+certificates (Word cert.UnknownName) = refl
+certificates (Word cert.BadNumber) = refl
+certificates (Word cert.Duplicate) = refl
+certificates (Word cert.NoMemory) = refl
+
+pub scripts : ScriptFaultsAreExplained
+unfolding table
+scripts (Frame (Form NoHeader)) other = refl
+scripts (Frame (Form NoEnd)) other = refl
+scripts (Frame (Form AfterEnd)) other = refl
+scripts (Frame (Line Read)) other = absurd (other refl)
+scripts (Frame (Line (Text LineTooLong))) other = refl
+scripts (Frame (Line (Text BadByte))) other = refl
+scripts (Frame (Line (Text TextNoMemory))) other = refl
+scripts (Word script.UnknownWord) other = refl
+scripts (Word script.WrongCount) other = refl
+scripts (Word script.BadNumber) other = refl
+scripts (Word script.UnknownName) other = refl
+
+pub risks : RiskFaultsAreExplained
+unfolding table
+risks (Frame (Form NoHeader)) = refl
+risks (Frame (Form NoEnd)) = refl
+risks (Frame (Form AfterEnd)) = refl
+risks (Frame (Line Read)) = refl
+risks (Frame (Line (Text LineTooLong))) = refl
+risks (Frame (Line (Text BadByte))) = refl
+risks (Frame (Line (Text TextNoMemory))) = refl
+risks (Word risk.UnknownWord) = refl
+risks (Word risk.WrongCount) = refl
+risks (Word risk.BadName) = refl
+risks (Word risk.Duplicate) = refl
+risks (Word risk.UnknownName) = refl
+risks (Word risk.RepeatedGroup) = refl
+risks (Word risk.NoMemory) = refl
+
+pub refusals : RefusalsAreExplained
+unfolding table
+refusals refusal.UnknownCall = refl
+refusals refusal.NotStanding = refl
+refusals refusal.NotCalling = refl
+refusals refusal.NotConnected = refl
+refusals refusal.UnknownLine = refl
+refusals refusal.LineEngaged = refl
+refusals refusal.LineOutOfOrder = refl
+refusals refusal.AlreadySo = refl
+refusals refusal.NotSo = refl
+refusals refusal.NotReleasing = refl
+refusals refusal.UnknownCircuit = refl
+refusals refusal.Exhausted = refl
+
+pub checks : CheckFaultsAreExplained
+unfolding table
+checks p (fault.Ambiguous a b) = (_, _, refl, refl)
+checks p (fault.HomeNotZero c) = (_, _, refl, refl)
+checks p (fault.OriginUnranked c x) = (_, _, refl, refl)
+checks p (fault.TooHigh c x) = (_, _, refl, refl)
+checks p (fault.Short c x) = (_, _, refl, refl)
+checks p (fault.TargetUnranked c x g) = (_, _, refl, refl)
+checks p (fault.NotLower c x g) = (_, _, refl, refl)
+
+pub findings : (A : Type 0) → FindingsAreExplained A
+unfolding table
+findings A p (finding.Ambiguous a b) = record { row = (codes "F1", codes "AMBIGUOUS"); rest = _; explained = refl; begins = refl }
+findings A p (finding.Loop code w) = record { row = (codes "F2", codes "LOOP"); rest = _; explained = refl; begins = refl }
+findings A p (finding.Short code w) = record { row = (codes "F3", codes "SHORT"); rest = _; explained = refl; begins = refl }
+findings A p (finding.Long code w) = record { row = (codes "F4", codes "LONG"); rest = _; explained = refl; begins = refl }
+
+pub mendings : MendingsAreExplained
+unfolding table
+mendings = record {
+  pair = λ p q. record { row = (codes "F1", codes "AMBIGUOUS"); rest = _; explained = refl; begins = refl };
+  unserved = λ p k. record { row = (codes "F5", codes "UNSERVED"); rest = _; explained = refl; begins = refl };
+}

@@ -1,0 +1,62 @@
+-- That the table has each code that is printed.
+use Rattle.std.specs.Prelude.{◌≡◌, ◌≢◌, ℕ, true, List, ◌∷◌, ◌++◌, Some, is_some, option_map, codes}
+use Rattle.tx_text.specs.declared.line_fault.LineFault.TheVariants.{Read}
+use Rattle.tx_text.specs.declared.frame.FrameFault.TheVariants.{Line}
+use Rattle.tx_text.specs.declared.frame.FaultKind.{FaultKind}
+use Rattle.tx_text.specs.declared.frame.FaultKind.TheVariants.{Frame}
+use Rattle.tx_plan.specs.Plan.{Plan}
+use Rattle.tx_plantext.specs.declared.fault.PlanWord.{PlanWord}
+use Rattle.tx_plantext.specs.PlanFaults.{fault_row as plan_row}
+use Rattle.tx_cert.specs.declared.fault.CertWord.{CertWord}
+use Rattle.tx_cert.specs.CertFaults.{fault_row as cert_row}
+use Rattle.tx_script.specs.declared.script_word.ScriptWord.{ScriptWord}
+use Rattle.tx_script.specs.ScriptFaults.{fault_row as script_row}
+use Rattle.tx_state.specs.declared.refusal.Refusal.{Refusal}
+use Rattle.tx_tickets.specs.Texts.{refusal_text}
+use Rattle.tx_check.specs.declared.fault.CheckFault.{CheckFault}
+use Rattle.tx_check.specs.Verdicts.{fault_words}
+use Rattle.tx_rank.specs.declared.finding.Finding.{Finding}
+use Rattle.tx_audit.specs.Report.{finding_line}
+use Rattle.tx_mend_report.specs.MendText.{pair_line, unserved_line}
+use Rattle.tx_risk_text.specs.declared.fault.RiskWord.{RiskWord}
+use Rattle.tx_risk_text.specs.RiskFaults.{fault_row as risk_row}
+use Rattle.tx_explain.specs.Entries.{explanation}
+
+-- the table has the code, by this name
+abbrev pub IsExplained : List ℕ × List ℕ → Type 0
+IsExplained row = option_map (λ t. (t.0, t.1)) (explanation row.0) ≡ Some row
+
+-- a line begins with a code of the table and its name
+pub record BeginsExplained (line : List ℕ) : Type 0 where
+  pub row : List ℕ × List ℕ
+  pub rest : List ℕ
+  pub explained : IsExplained row
+  pub begins : line ≡ row.0 ++ (codes " " ++ (row.1 ++ (codes " " ++ rest)))
+
+abbrev pub PlanFaultsAreExplained : Type 0
+PlanFaultsAreExplained = (kind : FaultKind PlanWord) → IsExplained (plan_row kind)
+
+abbrev pub CertFaultsAreExplained : Type 0
+CertFaultsAreExplained = (kind : FaultKind CertWord) → IsExplained (cert_row kind)
+
+-- a source that failed is no fault of a script
+abbrev pub ScriptFaultsAreExplained : Type 0
+ScriptFaultsAreExplained = (kind : FaultKind ScriptWord) → kind ≢ Frame (Line Read) → IsExplained (script_row kind)
+
+abbrev pub RiskFaultsAreExplained : Type 0
+RiskFaultsAreExplained = (kind : FaultKind RiskWord) → IsExplained (risk_row kind)
+
+abbrev pub RefusalsAreExplained : Type 0
+RefusalsAreExplained = (refusal : Refusal) → is_some (explanation (refusal_text refusal)) ≡ true
+
+-- the first word of what is wrong
+abbrev pub CheckFaultsAreExplained : Type 0
+CheckFaultsAreExplained = (p : Plan) (fault : CheckFault) → (code : List ℕ) × (rest : List (List ℕ)) × (is_some (explanation code) ≡ true) × (fault_words p fault ≡ code ∷ rest)
+
+abbrev pub FindingsAreExplained : Type 0 → Type 0
+FindingsAreExplained A = (p : Plan) (finding : Finding A) → BeginsExplained (finding_line p finding)
+
+-- what the report of a mending tells after a NO: the ambiguous pair, and whom no lists can serve
+pub record MendingsAreExplained : Type 0 where
+  pub pair : (p : Plan) (q : ℕ × ℕ) → BeginsExplained (pair_line p (Some q))
+  pub unserved : (p : Plan) (k : ℕ × ℕ) → BeginsExplained (unserved_line p k)

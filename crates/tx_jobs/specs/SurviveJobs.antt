@@ -1,0 +1,101 @@
+-- What `survive PLAN` answers: what its calls do, one after another.
+use Rattle.std.specs.Prelude.{◌≡◌, ◌==◌, ◌⊎◌, ℕ, List, [], length, if◌then◌else◌, Result, Ok, Err}
+use Rattle.std.specs.Io.KnownBytes.{append_known}
+use Rattle.tx_text.specs.Ends.{StopsIn}
+use Rattle.tx_text.specs.declared.frame.FaultAt.{FaultAt}
+use Rattle.tx_plan.specs.Plan.{Plan}
+use Rattle.tx_plantext.specs.declared.fault.PlanWord.{PlanWord}
+use Rattle.tx_plantext.specs.PlanText.{ReadsPlan}
+use Rattle.tx_risk.specs.NamedRisks.{NamedRisk, AreRisksFor}
+use Rattle.tx_risk.specs.Outages.{AreAllCuts}
+use Rattle.tx_risk.specs.declared.surviving.Survival.{Survival}
+use Rattle.tx_risk.specs.declared.surviving.Survival.TheVariants.{Tried, Ungraded}
+use Rattle.tx_risk_report.specs.OutageReport.{survival_text}
+use Rattle.tx_risk_text.specs.declared.fault.RiskWord.{RiskWord}
+use Rattle.tx_risk_text.specs.RiskText.{ReadsRisks}
+use Rattle.tx_jobs.specs.declared.job_fault.JobFault.{JobFault}
+use Rattle.tx_jobs.specs.declared.job_fault.JobFault.TheVariants.{Write, NoMemory}
+use Rattle.tx_jobs.specs.declared.survive_fault.SurviveFault.{SurviveFault}
+use Rattle.tx_jobs.specs.declared.survive_fault.SurviveFault.TheVariants.{Job, Risks}
+use Rattle.tx_jobs.specs.JobFaults.{plan_fault}
+use Rattle.tx_jobs.specs.SurviveFaults.{risks_fault}
+use Rattle.tx_jobs.specs.JobEnds.{Input, Output}
+use Rattle.tx_jobs.specs.Jobs.{PlanRead, PlanRefused}
+use Rattle.tx_jobs.specs.GradeJobs.{IsUngraded}
+
+-- WHAT OUTAGES COME TO: what each group, each exchange and each named risk cuts off alone; or the
+-- plan has no grade, and why
+abbrev pub IsSurvivalOf : {A : Type 0} → Plan → List NamedRisk → Survival A → Type 0
+IsSurvivalOf p risks (Tried cuts) = AreAllCuts p risks cuts.items
+IsSurvivalOf p risks (Ungraded findings) = IsUngraded p findings.items
+
+-- the outages were tried, but a write failed within the text
+pub record SurvivalToldInPart (A : Type 0) (p : Plan) (risks : List NamedRisk) (out : Output)
+    : Type 0 where
+  pub survival : Survival A
+  pub right : IsSurvivalOf p risks survival
+  pub wrote : StopsIn out.old out.new (survival_text p risks survival)
+
+-- the report was written
+abbrev pub ToldSurvival : {A : Type 0} → Plan → List NamedRisk → Output
+    → Result (Survival A) JobFault → Type 0
+ToldSurvival p risks out (Ok survival) = IsSurvivalOf p risks survival
+    × (out.new ≡ append_known out.old (survival_text p risks survival))
+ToldSurvival {A} p risks out (Err Write) = SurvivalToldInPart A p risks out
+ToldSurvival p risks out (Err NoMemory) = out.silent
+ToldSurvival p risks out (Err other) = ⊥
+
+-- `survive PLAN`: there are no named risks
+abbrev pub SurviveJobAnswers : {A : Type 0} → Input → Output → Result (Survival A) JobFault
+    → Type 0
+SurviveJobAnswers plan out result =
+    PlanRead plan (λ p. ToldSurvival p [] out result) ⊎ PlanRefused plan out.silent result
+
+-- WITH A TEXT OF RISKS
+
+-- the same, once the text was read
+abbrev pub ToldOfRisks : {A : Type 0} → Plan → List NamedRisk → Output
+    → Result (Survival A) SurviveFault → Type 0
+ToldOfRisks p risks out (Ok survival) = ToldSurvival p risks out (Ok survival)
+ToldOfRisks {A} p risks out (Err (Job f)) = ToldSurvival {A} p risks out (Err f)
+ToldOfRisks p risks out (Err (Risks f)) = ⊥
+
+-- the text of risks was read, and then the outages were tried
+pub record RisksRead (p : Plan) (text : Input) (after : List NamedRisk → Type 0) : Type 0 where
+  pub risks : List NamedRisk
+  pub fit : AreRisksFor p risks
+  pub read : ReadsRisks p text.old text.new text.broken text.unread (Ok risks)
+  pub goes_on : after risks
+
+-- the text of risks was refused, and nothing was written
+pub record RisksRefused {X : Type 0} (p : Plan) (text : Input) (untouched : Type 0)
+    (result : Result X SurviveFault) : Type 0 where
+  pub fault : FaultAt RiskWord
+  pub read : ReadsRisks p text.old text.new text.broken text.unread (Err (fault.line, fault.kind))
+  pub told : result ≡ Err (risks_fault fault)
+  pub rest : untouched
+
+abbrev pub RisksAnswers : {A : Type 0} → Plan → Input → Output → Result (Survival A) SurviveFault
+    → Type 0
+RisksAnswers p risks out result =
+    RisksRead p risks (λ rs. ToldOfRisks p rs out result) ⊎ RisksRefused p risks out.silent result
+
+-- the plan was refused, and nothing else was read or written
+pub record RefusedFirst {X : Type 0} (text : Input) (untouched : Type 0)
+    (result : Result X SurviveFault) : Type 0 where
+  pub fault : FaultAt PlanWord
+  pub read : ReadsPlan text.old text.new text.broken text.unread (Err (fault.line, fault.kind))
+  pub told : result ≡ Err (Job (plan_fault fault))
+  pub rest : untouched
+
+-- `survive PLAN --risks FILE`
+abbrev pub SurviveRisksJobAnswers : {A : Type 0} → (plan risks : Input) → Output
+    → Result (Survival A) SurviveFault → Type 0
+SurviveRisksJobAnswers plan risks out result =
+    PlanRead plan (λ p. RisksAnswers p risks out result)
+    ⊎ RefusedFirst plan (risks.unread × out.silent) result
+
+-- THE EXIT STATUS: 0 where nothing is cut off, else 1; 1 too where the plan has no grade
+abbrev pub status_of_survival : {A : Type 0} → Survival A → ℕ
+status_of_survival (Tried cuts) = if length cuts.items == 0 then 0 else 1
+status_of_survival (Ungraded findings) = 1

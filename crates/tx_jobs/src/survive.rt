@@ -1,0 +1,142 @@
+// The jobs of `survive PLAN` and `survive PLAN --risks FILE`.
+ghost use Rattle.std.specs.Prelude.{◌≡◌, []};
+ghost use Rattle.tx_text.specs.Calls.{CallsAtMost, source_calls};
+ghost use Rattle.tx_risk.specs.NamedRisks.{AreRisksFor};
+ghost use Rattle.tx_jobs.specs.JobFaults.{mark_after};
+ghost use Rattle.tx_jobs.specs.SurviveFaults.{survive_mark_after};
+ghost use Rattle.tx_jobs.specs.JobEnds.{input, output};
+ghost use Rattle.tx_jobs.specs.SurviveJobs.{SurviveJobAnswers, SurviveRisksJobAnswers, RisksAnswers, ToldSurvival, status_of_survival};
+
+use crate::job_fault::JobFault;
+use crate::survive_fault::SurviveFault;
+use std::alloc::Allocator;
+use tx_plan::Plan;
+use tx_plantext::read_plan_from;
+use tx_risk::{NamedRisk, Survival, survive};
+use tx_risk_report::write_survival;
+use tx_risk_text::{Risks, read_risks_from};
+use tx_text::{Sink, Source, WriteFault};
+
+/// Reads a plan, and writes whom each of its groups and each of its exchanges cuts off if it fails
+/// alone; or why the plan has no grade. Answers what was found.
+///
+/// Nothing is written where the plan is refused or memory is wanting.
+pub fn survive_job<A: Allocator + Copy, P: Source, W: Sink>(
+    alloc: A,
+    plan: &mut P,
+    out: &mut W,
+) -> Result<Survival<A>, JobFault>
+    ensures answers { SurviveJobAnswers (input P.rest P.failed P.called plan.old plan.new)
+        (output W.taken out.old out.new) result }
+    ensures mark { W.failed out.new ≡ mark_after (W.failed out.old) result }
+    ensures calls { CallsAtMost P.called source_calls plan.old plan.new }
+{
+    match read_plan_from(alloc, plan) {
+        Ok(plan) => {
+            plan.rules();
+            let told = tell_unnamed(alloc, &plan, out);
+            drop(plan);
+            told
+        }
+        Err(fault) => Err(JobFault::of_plan(fault)),
+    }
+}
+
+/// The same with the named risks of a text, which is read after the plan.
+///
+/// Nothing is written where one of the texts is refused or memory is wanting.
+pub fn survive_risks_job<A: Allocator + Copy, P: Source, R: Source, W: Sink>(
+    alloc: A,
+    plan: &mut P,
+    risks: &mut R,
+    out: &mut W,
+) -> Result<Survival<A>, SurviveFault>
+    ensures answers { SurviveRisksJobAnswers
+        (input P.rest P.failed P.called plan.old plan.new)
+        (input R.rest R.failed R.called risks.old risks.new)
+        (output W.taken out.old out.new) result }
+    ensures mark { W.failed out.new ≡ survive_mark_after (W.failed out.old) result }
+    ensures plan_calls { CallsAtMost P.called source_calls plan.old plan.new }
+    ensures risks_calls { CallsAtMost R.called source_calls risks.old risks.new }
+{
+    match read_plan_from(alloc, plan) {
+        Ok(plan) => {
+            plan.rules();
+            let told = tell_named(alloc, &plan, risks, out);
+            drop(plan);
+            told
+        }
+        Err(fault) => Err(SurviveFault::Job(JobFault::of_plan(fault))),
+    }
+}
+
+/// The exit status of what was found: 0 where nothing is cut off, else 1, and 1 where the plan has
+/// no grade.
+pub fn survival_status<A: Allocator>(survival: &Survival<A>) -> u8
+    ensures { result ≡ status_of_survival survival.now }
+{
+    match survival {
+        Survival::Tried(cuts) => { if cuts.is_empty() { 0 } else { 1 } }
+        Survival::Ungraded(_) => 1,
+    }
+}
+
+/// Reports outages without named risks.
+fn tell_unnamed<A: Allocator + Copy, W: Sink>(
+    alloc: A,
+    plan: &Plan<A>,
+    out: &mut W,
+) -> Result<Survival<A>, JobFault>
+    ensures told { ToldSurvival plan.now [] (output W.taken out.old out.new) result }
+    ensures mark { W.failed out.new ≡ mark_after (W.failed out.old) result }
+{
+    let none = Risks::none(alloc);
+    let told = tell_survival(alloc, plan, none.as_slice(), out);
+    drop(none);
+    told
+}
+
+/// Reads the named risks of the plan, and reports outages with them.
+fn tell_named<A: Allocator + Copy, R: Source, W: Sink>(
+    alloc: A,
+    plan: &Plan<A>,
+    risks: &mut R,
+    out: &mut W,
+) -> Result<Survival<A>, SurviveFault>
+    ensures answers { RisksAnswers plan.now (input R.rest R.failed R.called risks.old risks.new)
+        (output W.taken out.old out.new) result }
+    ensures mark { W.failed out.new ≡ survive_mark_after (W.failed out.old) result }
+    ensures calls { CallsAtMost R.called source_calls risks.old risks.new }
+{
+    match read_risks_from(alloc, risks, plan) {
+        Ok(risks) => {
+            let told = tell_survival(alloc, plan, risks.as_slice(), out);
+            drop(risks);
+            match told {
+                Ok(survival) => Ok(survival),
+                Err(fault) => Err(SurviveFault::Job(fault)),
+            }
+        }
+        Err(fault) => Err(SurviveFault::of_risks(fault)),
+    }
+}
+
+/// Tries all outages, and writes the report.
+fn tell_survival<A: Allocator + Copy, W: Sink>(
+    alloc: A,
+    plan: &Plan<A>,
+    risks: &[NamedRisk<A>],
+    out: &mut W,
+) -> Result<Survival<A>, JobFault>
+    requires { AreRisksFor plan.now risks.now }
+    ensures told { ToldSurvival plan.now risks.now (output W.taken out.old out.new) result }
+    ensures mark { W.failed out.new ≡ mark_after (W.failed out.old) result }
+{
+    match survive(alloc, plan, risks) {
+        Ok(survival) => match write_survival(plan, risks, &survival, out) {
+            Ok(()) => Ok(survival),
+            Err(WriteFault) => Err(JobFault::Write),
+        },
+        Err(_) => Err(JobFault::NoMemory),
+    }
+}

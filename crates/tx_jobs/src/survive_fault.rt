@@ -1,0 +1,45 @@
+// Why the job of outages stopped.
+ghost use Rattle.std.specs.Prelude.{◌≡◌};
+ghost use Rattle.tx_jobs.specs.SurviveFaults.{status_of_survive, risks_fault};
+
+use crate::job_fault::JobFault;
+use thiserror::Error;
+use tx_risk_text::{RiskFault, RiskWord};
+use tx_text::{FaultKind, FrameFault, LineFault, TextFault};
+
+/// Why the job of outages stopped before its end. `write_survive_fault` says it in full.
+#[derive(Clone, Copy, Debug, PartialEq, Eq, Error)]
+pub enum SurviveFault {
+    /// As other jobs stop.
+    #[error(transparent)]
+    Job(JobFault),
+    /// The text of risks is refused.
+    #[error("risks {0}")]
+    Risks(RiskFault),
+}
+
+impl SurviveFault {
+    /// The exit status: 2 for a refused text of risks, otherwise that of the job's fault.
+    pub fn status(&self) -> u8
+        ensures { result ≡ status_of_survive self.now }
+    {
+        match self {
+            SurviveFault::Job(fault) => fault.status(),
+            SurviveFault::Risks(_) => 2,
+        }
+    }
+
+    /// A failure to read and a want of memory are told as such.
+    pub(crate) fn of_risks(fault: RiskFault) -> SurviveFault
+        ensures { result ≡ risks_fault fault }
+    {
+        match fault.kind {
+            FaultKind::Frame(FrameFault::Line(LineFault::Read)) => SurviveFault::Job(
+                JobFault::Read,
+            ),
+            FaultKind::Frame(FrameFault::Line(LineFault::Text(TextFault::NoMemory)))
+            | FaultKind::Word(RiskWord::NoMemory) => SurviveFault::Job(JobFault::NoMemory),
+            _ => SurviveFault::Risks(fault),
+        }
+    }
+}
