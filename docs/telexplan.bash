@@ -4,17 +4,19 @@ _telexplan() {
     case ${COMP_WORDS[COMP_CWORD - 1]} in
         --limit) words=$(echo {0..62}) ;;
         --spare) words=$(echo {0..15}) ;;
-        --cert | --mixture | --counter | --code) ;;
+        --cert | --mixture | --plan | --risks | --counter | --code) ;;
         *)
             case $COMP_CWORD:${COMP_WORDS[1]}:$word in
-                1:*) words="audit grade change check run codes draw explain help --help --version" ;;
-                *:help:*) words="audit grade change check run codes draw explain" ;;
+                1:*) words="audit grade mend change survive check run codes trace draw explain help --help --version" ;;
+                *:help:*) words="audit grade mend change survive check run codes trace draw explain" ;;
                 *:explain:*) words="--help $(telexplan explain 2>/dev/null | cut -d ' ' -f 1)" ;;
                 *:audit:-*) words="--limit --spare --cert --counter --help" ;;
+                *:mend:-*) words="--limit --spare --plan --cert --help" ;;
                 *:change:-*) words="--limit --spare --cert --mixture --counter --help" ;;
+                *:survive:-*) words="--risks --help" ;;
                 *:check:-*) words="--limit --spare --help" ;;
                 *:run:-*) words="--cert --limit --spare --help" ;;
-                *:grade:-* | *:codes:-*) words="--help" ;;
+                *:grade:-* | *:codes:-* | *:trace:-*) words="--help" ;;
                 *:draw:-*) words="--code --limit --spare --help" ;;
             esac
             ;;

@@ -49,7 +49,7 @@ class Example:
         bar = words.index("|") if "|" in words else -1
         self.input = words[1:bar] if bar > 0 else []
         self.words = words[bar + 2 :]
-        made = [b for a, b in zip(self.words, self.words[1:]) if a in ("--counter", "--mixture") or (a == "--cert" and self.words[0] != "run")]
+        made = [b for a, b in zip(self.words, self.words[1:]) if a in ("--counter", "--mixture", "--plan") or (a == "--cert" and self.words[0] != "run")]
         self.made = made
         self.files = [it for it in self.words if it.startswith("examples/") and it not in made]
 
@@ -423,12 +423,13 @@ def case_of(example):
         plan, script, cert = texts
         return f"checked{bounds}", b"---\n".join([plan, cert, script])
     drawn = " ".join(["draw"] + [it for it in map(example.option, ["--code", "--limit", "--spare"]) if it])
-    kinds = {"run": "run", "draw": drawn, "codes": "codes", "grade": "grade"} | {it: it + bounds for it in ("check", "audit", "change")}
+    kinds = {"run": "run", "draw": drawn, "codes": "codes", "grade": "grade"} | {it: it + bounds for it in ("check", "audit", "change", "mend")}
+    kinds |= {"survive": "survive" if example.option("--risks") else "survive alone", "trace": " ".join(["trace", *example.words[2:]])}
     return (kinds[verb], b"---\n".join(texts)) if verb in kinds else None
 
 
 def evidence_of(example):
-    """What the player prints behind the report of an audit or of a change: the files that an example makes of the same one."""
+    """What the player prints behind the report of an audit, of a change or of a mending: the files that an example makes of the same one."""
     asked = lambda it: it.words[:1] + it.files + [it.option("--limit"), it.option("--spare")]
     made = [it.made for it in examples() if it.made and asked(it) == asked(example)]
     return b"".join(map(read, made[0])) if made else b""
