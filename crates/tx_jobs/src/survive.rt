@@ -90,9 +90,9 @@ fn tell_unnamed<A: Allocator + Copy, W: Sink>(
     ensures told { ToldSurvival plan.now [] (output W.taken out.old out.new) result }
     ensures mark { W.failed out.new ≡ mark_after (W.failed out.old) result }
 {
-    let none = Risks::none(alloc);
-    let told = tell_survival(alloc, plan, none.as_slice(), out);
-    drop(none);
+    let risks = Risks::none(alloc);
+    let told = tell_survival(alloc, plan, risks.as_slice(), out);
+    drop(risks);
     told
 }
 
