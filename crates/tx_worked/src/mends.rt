@@ -11,6 +11,7 @@ mod mends;
 mod routings;
 mod served;
 mod serving;
+mod starts;
 mod tally;
 
 pub(crate) use mends::play_mends;

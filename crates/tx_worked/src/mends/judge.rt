@@ -4,10 +4,9 @@ ghost use Rattle.std.specs.Prelude.{◌≤◌};
 use crate::changes::are_alike;
 use crate::mends::lists::Asked;
 use crate::mends::serving::RoutingWork;
+use crate::mends::starts::count_at;
 use crate::mends::tally::MendTally;
-use crate::walks::{
-    Difference, Survey, Wanted, ambiguous, count_at, put_code, ranks_differ, survey_codes,
-};
+use crate::walks::{Difference, Survey, Wanted, ambiguous, put_code, ranks_differ, survey_codes};
 use std::alloc::Global;
 use tx_cert::Cert;
 use tx_change::first_difference;

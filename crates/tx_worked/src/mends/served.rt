@@ -1,7 +1,8 @@
 // What the routings of a network serve.
 ghost use Rattle.std.specs.Prelude.{◌≤◌};
 
-use crate::walks::{NUMBERS, Survey, Wanted, count_at, note_lesser, put_code};
+use crate::mends::starts::count_at;
+use crate::walks::{NUMBERS, Survey, Wanted, note_lesser, put_code};
 use std::alloc::Global;
 use tx_plan::{CodeId, ExchangeId, Plan};
 use tx_rank::{Finding, Ranking, rank};

@@ -2,7 +2,8 @@
 use crate::cases::Stop;
 use crate::mends::routings::put_routings;
 use crate::mends::served::CodeServed;
-use crate::walks::{Steps, Survey, Wanted, count_plans, put_plan, survey_starts};
+use crate::mends::starts::put_starts;
+use crate::walks::{Steps, Survey, Wanted, count_plans, put_plan};
 use std::alloc::Global;
 use tx_plan::{CodeId, Plan};
 use tx_plantext::read_plan;
@@ -42,7 +43,7 @@ fn note_routing(
     served: &mut CodeServed,
 ) -> Result<(), NoMemory> {
     work.routings = work.routings.saturating_add(1);
-    survey_starts(alloc, routing, code, &mut work.steps, &mut work.starts)?;
+    put_starts(alloc, routing, code, &mut work.steps, &mut work.starts)?;
     served.note(alloc, routing, code, &work.starts, &mut work.wanted)
 }
 

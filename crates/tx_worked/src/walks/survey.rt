@@ -35,14 +35,6 @@ pub fn note_lesser(counts: &mut [Option<usize>], place: usize, count: usize) {
     }
 }
 
-/// The count for the exchange at a place, if it has one.
-pub fn count_at(counts: &[Option<usize>], place: usize) -> Option<usize> {
-    match counts.get(place) {
-        Some(count) => *count,
-        None => None,
-    }
-}
-
 /// Takes in how far a walk that ends at the home goes from each exchange that it passes.
 fn note_heights(heights: &mut [Option<usize>], trail: &Trail<'_>) {
     let mut left = trail.steps.len();

@@ -1,8 +1,8 @@
 // What the walks for each code of a plan show.
 use crate::walks::survey::Survey;
-use crate::walks::walks::{Steps, note_all_walks, note_walks_from};
+use crate::walks::walks::{Steps, note_all_walks};
 use std::alloc::Global;
-use tx_plan::{CodeId, ExchangeId, Plan};
+use tx_plan::{CodeId, Plan};
 use tx_text::NoMemory;
 
 /// Looks at all walks for a code.
@@ -20,41 +20,6 @@ fn survey_of(
             Err(fault)
         }
     }
-}
-
-/// Looks at all walks for a code from an exchange.
-fn survey_from(
-    alloc: Global,
-    plan: &Plan,
-    code: CodeId,
-    start: ExchangeId,
-    steps: &mut Steps,
-) -> Result<Survey, NoMemory> {
-    let mut survey = Survey::new(alloc, plan, code)?;
-    match note_walks_from(plan, start, steps, &mut survey) {
-        Ok(()) => Ok(survey),
-        Err(fault) => {
-            drop(survey);
-            Err(fault)
-        }
-    }
-}
-
-/// Looks at all walks for a code from each exchange alone.
-pub fn survey_starts(
-    alloc: Global,
-    plan: &Plan,
-    code: CodeId,
-    steps: &mut Steps,
-    surveys: &mut Vec<Survey>,
-) -> Result<(), NoMemory> {
-    surveys.clear();
-    for place in 0..plan.exchanges() {
-        if let Some(start) = plan.exchange_at(place) {
-            surveys.push(survey_from(alloc, plan, code, start, steps)?)?;
-        }
-    }
-    Ok(())
 }
 
 /// Looks at all walks for each code.

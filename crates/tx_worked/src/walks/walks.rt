@@ -8,7 +8,7 @@ use tx_text::NoMemory;
 pub type Steps = Vec<(GroupId, ExchangeId)>;
 
 /// Takes in the walk in hand, and all that go on from it by at most so many steps, until they repeat an exchange or come home.
-fn note_walks(
+pub fn note_walks(
     plan: &Plan,
     start: ExchangeId,
     steps: &mut Steps,
@@ -33,23 +33,13 @@ fn note_walks(
     Ok(())
 }
 
-/// Takes in all walks for a code from an exchange of which nothing but the last exchange repeats.
-pub fn note_walks_from(
-    plan: &Plan,
-    start: ExchangeId,
-    steps: &mut Steps,
-    survey: &mut Survey,
-) -> Result<(), NoMemory> {
-    steps.clear();
-    note_walks(plan, start, steps, plan.exchanges(), survey)
-}
-
 /// Takes in all walks for a code of which nothing but the last exchange repeats. None of them has more steps than there are exchanges.
 pub fn note_all_walks(plan: &Plan, steps: &mut Steps, survey: &mut Survey) -> Result<(), NoMemory> {
     for place in 0..plan.exchanges() {
         if let Some(origin) = plan.exchange_at(place) {
             if plan.is_origin_for(origin, survey.code) {
-                note_walks_from(plan, origin, steps, survey)?;
+                steps.clear();
+                note_walks(plan, origin, steps, plan.exchanges(), survey)?;
             }
         }
     }
