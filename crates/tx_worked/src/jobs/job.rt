@@ -2,8 +2,8 @@
 ghost use Rattle.std.specs.Prelude.{◌≤◌, IfSome};
 
 use crate::cases::{End, Ends, Job, ROOM, Refusing, Task, Told, tell, tell_broken};
-use crate::evidences::{do_audit, do_change, do_mend, do_survive, do_survive_alone};
-use crate::fault::Fault;
+use crate::jobs::evidences::{do_audit, do_change, do_mend, do_survive, do_survive_alone};
+use crate::jobs::fault::Fault;
 use itoa::Buffer;
 use std::alloc::{Allocator, Global};
 use tx_jobs::{
