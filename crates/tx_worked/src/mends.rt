@@ -8,6 +8,7 @@
 mod judge;
 mod lists;
 mod mends;
+mod order;
 mod routings;
 mod served;
 mod serving;

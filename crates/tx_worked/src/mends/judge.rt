@@ -1,8 +1,9 @@
 // What a mending answers beside what all routings of the network show.
 ghost use Rattle.std.specs.Prelude.{◌≤◌};
 
-use crate::changes::are_alike;
+use crate::changes::{are_alike, is_ranked};
 use crate::mends::lists::Asked;
+use crate::mends::order::{Routed, are_in_order};
 use crate::mends::serving::RoutingWork;
 use crate::mends::starts::count_at;
 use crate::mends::tally::MendTally;
@@ -23,6 +24,7 @@ pub struct Answers {
     /// What the walks of the mended plan show for each code.
     surveys: Vec<Survey>,
     list: Vec<GroupId>,
+    routed: Vec<Routed>,
 }
 
 impl Answers {
@@ -31,6 +33,7 @@ impl Answers {
             unserved: Vec::new(alloc),
             surveys: Vec::new(alloc),
             list: Vec::new(alloc),
+            routed: Vec::new(alloc),
         }
     }
 }
@@ -175,6 +178,23 @@ fn lists_differ(
     Ok(None)
 }
 
+/// Whether a plan has ranks, and the checker says Yes to its certificate.
+fn is_certified(
+    alloc: Global,
+    plan: &Plan,
+    cert: &Cert,
+    limit: u8,
+    spare: u8,
+) -> Result<bool, NoMemory>
+    requires limit { limit ≤ 62 }
+    requires spare { spare ≤ 15 }
+{
+    match check(plan, cert, limit, spare) {
+        Verdict::Yes => is_ranked(alloc, plan, limit, spare),
+        Verdict::No(_) => Ok(false),
+    }
+}
+
 /// How a mended plan, its certificate, or the routes that it is told to have had, differ from what
 /// they have to be.
 fn mended_differs(
@@ -196,9 +216,11 @@ fn mended_differs(
     if !are_routes_of(asked.plan, before) {
         return Ok(Some(Difference::Before));
     }
-    match check(mended, cert, asked.limit, asked.spare) {
-        Verdict::Yes => {}
-        Verdict::No(_) => return Ok(Some(Difference::Refused)),
+    if !is_certified(alloc, mended, cert, asked.limit, asked.spare)? {
+        return Ok(Some(Difference::Refused));
+    }
+    if !are_in_order(asked.plan, mended, &mut answers.routed)? {
+        return Ok(Some(Difference::Order));
     }
     survey_codes(alloc, mended, &mut work.steps, &mut answers.surveys)?;
     tally.add_mended(&answers.surveys);

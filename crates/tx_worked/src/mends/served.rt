@@ -44,7 +44,7 @@ fn is_for(finding: &Finding, code: CodeId) -> bool {
 }
 
 /// Whether an audit of a routing finds nothing wrong with a code.
-fn is_ranked(
+fn is_right(
     alloc: Global,
     routing: &Plan,
     code: CodeId,
@@ -104,7 +104,7 @@ fn note_numbers(
 {
     note_ranks(routing, starts, limit, spare, wanted, &mut served.ranks)?;
     if !served.is_ranked {
-        served.is_ranked = is_ranked(alloc, routing, code, limit, spare)?;
+        served.is_ranked = is_right(alloc, routing, code, limit, spare)?;
     }
     Ok(())
 }

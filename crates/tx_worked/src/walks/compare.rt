@@ -39,6 +39,8 @@ pub enum Difference {
     Before,
     /// The list of an exchange for a code.
     ListAt(CodeId, ExchangeId),
+    /// The order of the routes of a mended plan.
+    Order,
     /// The cut at this place.
     CutAt(usize),
 }

@@ -28,6 +28,7 @@ fn said(difference: Difference) -> (&'static [u8], u64) {
         Difference::Unserved => (b"unserved ", 0),
         Difference::Before => (b"before ", 0),
         Difference::ListAt(_, exchange) => (b"list ", exchange.index() as u64),
+        Difference::Order => (b"order ", 0),
         Difference::CutAt(place) => (b"cut ", place as u64),
     }
 }
