@@ -109,17 +109,35 @@ fn note_numbers(
     Ok(())
 }
 
+/// What no routings serve, with a limit and a spare number.
+fn none_served(alloc: Global, plan: &Plan) -> Result<Served, NoMemory> {
+    Ok(Served {
+        is_ranked: false,
+        ranks: vec![in alloc; None; plan.exchanges()]?,
+    })
+}
+
+/// Adds that for each limit and each spare number.
+fn put_none(alloc: Global, plan: &Plan, numbers: &mut Vec<Served>) -> Result<(), NoMemory> {
+    for _ in 0..NUMBERS {
+        for _ in 0..NUMBERS {
+            numbers.push(none_served(alloc, plan)?)?;
+        }
+    }
+    Ok(())
+}
+
 impl CodeServed {
     /// What no routings serve.
     pub fn new(alloc: Global, plan: &Plan) -> Result<CodeServed, NoMemory> {
         let mut numbers = Vec::new(alloc);
-        for _ in 0..NUMBERS * NUMBERS {
-            numbers.push(Served {
-                is_ranked: false,
-                ranks: vec![in alloc; None; plan.exchanges()]?,
-            })?;
+        match put_none(alloc, plan, &mut numbers) {
+            Ok(()) => Ok(CodeServed { numbers }),
+            Err(fault) => {
+                drop(numbers);
+                Err(fault)
+            }
         }
-        Ok(CodeServed { numbers })
     }
 
     /// What they do with a limit and a spare number.
