@@ -1,10 +1,11 @@
 -- Each code that is printed is in the table.
-use Rattle.std.proofs.Common.{codes, refl}
+use Rattle.std.proofs.Common.{ℕ, Some, codes, refl}
 use Rattle.tx_text.specs.declared.text_fault.TextFault.TheVariants.{LineTooLong, BadByte, NoMemory as TextNoMemory}
 use Rattle.tx_text.specs.declared.line_fault.LineFault.TheVariants.{Text, Read}
 use Rattle.tx_text.specs.declared.frame.FormFault.TheVariants.{NoHeader, NoEnd, AfterEnd}
 use Rattle.tx_text.specs.declared.frame.FrameFault.TheVariants.{Line, Form}
 use Rattle.tx_text.specs.declared.frame.FaultKind.TheVariants.{Frame, Word}
+use Rattle.tx_plan.specs.Plan.{Plan}
 use Rattle.tx_plan.specs.declared.refusal.PlanRefusal.TheVariants as plan
 use Rattle.tx_plantext.specs.declared.fault.PlanWord.TheVariants as plan_word
 use Rattle.tx_cert.specs.declared.fault.CertWord.TheVariants as cert
@@ -12,9 +13,10 @@ use Rattle.tx_script.specs.declared.script_word.ScriptWord.TheVariants as script
 use Rattle.tx_state.specs.declared.refusal.Refusal.TheVariants as refusal
 use Rattle.tx_check.specs.declared.fault.CheckFault.TheVariants as fault
 use Rattle.tx_rank.specs.declared.finding.Finding.TheVariants as finding
+use Rattle.tx_mend_report.specs.MendText.{pair_line, unserved_line}
 use Rattle.tx_risk_text.specs.declared.fault.RiskWord.TheVariants as risk
 use Rattle.tx_explain.specs.Entries.{table}
-use Rattle.tx_explain.specs.Explained.{PlanFaultsAreExplained, CertFaultsAreExplained, ScriptFaultsAreExplained, RiskFaultsAreExplained, RefusalsAreExplained, CheckFaultsAreExplained, FindingsAreExplained, MendingsAreExplained}
+use Rattle.tx_explain.specs.Explained.{BeginsExplained, PlanFaultsAreExplained, CertFaultsAreExplained, ScriptFaultsAreExplained, RiskFaultsAreExplained, RefusalsAreExplained, CheckFaultsAreExplained, FindingsAreExplained, MendingsAreExplained}
 
 pub plans : PlanFaultsAreExplained
 unfolding table
@@ -121,9 +123,13 @@ findings A p (finding.Loop code w) = record { row = (codes "F2", codes "LOOP"); 
 findings A p (finding.Short code w) = record { row = (codes "F3", codes "SHORT"); rest = _; explained = refl; begins = refl }
 findings A p (finding.Long code w) = record { row = (codes "F4", codes "LONG"); rest = _; explained = refl; begins = refl }
 
-pub mendings : MendingsAreExplained
+pairs : (p : Plan) (q : ℕ × ℕ) → BeginsExplained (pair_line p (Some q))
 unfolding table
-mendings = record {
-  pair = λ p q. record { row = (codes "F1", codes "AMBIGUOUS"); rest = _; explained = refl; begins = refl };
-  unserved = λ p k. record { row = (codes "F5", codes "UNSERVED"); rest = _; explained = refl; begins = refl };
-}
+pairs p q = record { row = (codes "F1", codes "AMBIGUOUS"); rest = _; explained = refl; begins = refl }
+
+unserved : (p : Plan) (k : ℕ × ℕ) → BeginsExplained (unserved_line p k)
+unfolding table
+unserved p k = record { row = (codes "F5", codes "UNSERVED"); rest = _; explained = refl; begins = refl }
+
+pub mendings : MendingsAreExplained
+mendings = record { pair = pairs; unserved = unserved }

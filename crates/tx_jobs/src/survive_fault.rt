@@ -34,9 +34,9 @@ impl SurviveFault {
         ensures { result ≡ risks_fault fault }
     {
         match fault.kind {
-            FaultKind::Frame(FrameFault::Line(LineFault::Read)) => SurviveFault::Job(
-                JobFault::Read,
-            ),
+            FaultKind::Frame(FrameFault::Line(LineFault::Read)) => {
+                SurviveFault::Job(JobFault::Read)
+            }
             FaultKind::Frame(FrameFault::Line(LineFault::Text(TextFault::NoMemory)))
             | FaultKind::Word(RiskWord::NoMemory) => SurviveFault::Job(JobFault::NoMemory),
             _ => SurviveFault::Risks(fault),

@@ -1,5 +1,2 @@
 pub mod Statuses
-pub mod Grammar
-pub mod Commands
-pub mod Faults
 pub mod inner

@@ -3,10 +3,10 @@ use Rattle.std.specs.Prelude.{◌≡◌, ◌≢◌, ℕ, ◌⊎◌, List, []}
 use Rattle.std.specs.Borrow.{Bor}
 use Rattle.std.specs.declared.io.ErrorKind.{ErrorKind}
 use Rattle.std.specs.declared.io.ErrorKind.TheVariants.{OutOfMemory}
-use Rattle.tx_program.specs.Commands.{AskFor}
-use Rattle.tx_program.specs.Faults.{IsRefusalOf, status_of}
-use Rattle.tx_program.specs.declared.command.Command.{Command}
-use Rattle.tx_program.specs.declared.fault.WordsFault.{WordsFault}
+use Rattle.tx_commands.specs.Commands.{AskFor}
+use Rattle.tx_commands.specs.Faults.{IsRefusalOf, status_of}
+use Rattle.tx_commands.specs.declared.command.Command.{Command}
+use Rattle.tx_commands.specs.declared.fault.WordsFault.{WordsFault}
 
 -- of arguments that could not be taken as words: 4 for want of memory, else 64
 abbrev pub status_of_arguments : ErrorKind → ℕ

@@ -1,12 +1,12 @@
 // Commands whose files are open.
 ghost use Rattle.std.specs.Prelude.{◌≡◌, ◌≤◌};
-ghost use Rattle.tx_program.specs.declared.command.Command.TheVariants.{Run, Draw};
-ghost use Rattle.tx_program.specs.Commands.{IsInRange};
+ghost use Rattle.tx_commands.specs.declared.command.Command.TheVariants.{Run, Draw};
+ghost use Rattle.tx_commands.specs.Commands.{IsInRange};
 
-use crate::Command;
 use crate::folder::Folder;
 use crate::kept::Keep;
 use std::io::Read;
+use tx_commands::Command;
 use tx_explain::Entry;
 use tx_jobs::JobFault;
 

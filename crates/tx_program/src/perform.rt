@@ -1,8 +1,7 @@
 // What is done for a command.
 ghost use Rattle.std.specs.Prelude.{◌≡◌, ◌≤◌, IfSome, option_map};
-ghost use Rattle.tx_program.specs.Commands.{IsInRange};
+ghost use Rattle.tx_commands.specs.Commands.{IsInRange};
 
-use crate::Command;
 use crate::audited::audit_file;
 use crate::changed::change_files;
 use crate::command_fault::CommandFault;
@@ -12,6 +11,7 @@ use crate::mended::mend_file;
 use crate::opened::{Bounds, Opened, PlanJob};
 use std::alloc::Allocator;
 use std::io::{Read, Write};
+use tx_commands::Command;
 use tx_explain::{Entry, write_explanation};
 use tx_jobs::{
     Drawn, JobFault, Traced, check_status, codes_status, draw_job, grade_status, pipe_job,

@@ -1,17 +1,17 @@
 // The program, from its words to its exit status.
 ghost use Rattle.std.specs.Prelude.{◌≡◌, ◌⊎◌};
-ghost use Rattle.tx_program.specs.Commands.{IsInRange};
+ghost use Rattle.tx_commands.specs.Commands.{IsInRange};
 ghost use Rattle.tx_program.specs.Statuses.{AskNothing, IsRefusedWith};
 ghost use Rattle.tx_program.specs.inner.Stopped.{status_of_command};
-ghost use Rattle.tx_program.specs.Faults.{status_of as words_status};
+ghost use Rattle.tx_commands.specs.Faults.{status_of as words_status};
 
 use crate::command_fault::CommandFault;
 use crate::folder::Folder;
 use crate::perform::perform;
 use crate::tell::tell_words;
-use crate::{Command, WordsFault, read_command};
 use std::alloc::{Allocator, Global};
 use std::io::{Read, Write};
+use tx_commands::{Command, WordsFault, read_command};
 use tx_jobs::{JobFault, write_change_fault, write_fault, write_survive_fault};
 use tx_text::{ToWrite, write_bytes};
 

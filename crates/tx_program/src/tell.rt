@@ -3,9 +3,9 @@ ghost use Rattle.std.specs.Prelude.{◌≡◌};
 ghost use Rattle.std.specs.IoError.{error_kind};
 ghost use Rattle.tx_program.specs.Statuses.{status_of_arguments};
 
-use crate::WordsFault;
 use std::io;
 use std::io::Write;
+use tx_commands::WordsFault;
 
 /// Prints a request's help to the output, and why words are refused to the errors.
 pub fn tell_words<O: Write, E: Write>(

@@ -31,8 +31,9 @@ use Rattle.tx_audit.specs.Counter.{walk_events}
 use Rattle.tx_audit.proofs.Choices.{first_in_none, none_of}
 use Rattle.tx_audit.proofs.Listed.{listed_known}
 use Rattle.tx_audit.proofs.Showing.{Gone, gone}
-use Rattle.tx_audit.proofs.Passing.{before_once, no_turn}
+use Rattle.tx_audit.proofs.Passing.{no_turn}
 use Rattle.tx_rank.specs.Walks.{IsWalk}
+use Rattle.tx_rank.proofs.PassedOnce.{before_once}
 use Rattle.tx_risk.specs.Risks.{Risk, net_without, IsCut}
 use Rattle.tx_risk.proofs.LeftLists.{left_goes}
 use Rattle.tx_risk.proofs.Ways.{is_among}

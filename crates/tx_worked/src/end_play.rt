@@ -1,5 +1,5 @@
 // Plays the program at its ends.
-ghost use Rattle.tx_program.specs.Commands.{IsInRange};
+ghost use Rattle.tx_commands.specs.Commands.{IsInRange};
 
 use crate::cases::{EndCase, Log, Refusing, What};
 use crate::stage::Stage;

@@ -1,0 +1,28 @@
+-- What a parse of words found, as the commands that it asks for.
+use Rattle.std.proofs.Common.{◌≡◌, ◌∙◌, ℕ, ◌<◌, ◌^◌, true, List, Option, None, Some, refl, sym, ap, subst}
+use Rattle.std.specs.Str.Parse.{IsNumeral, digits_value, without_leading_plus}
+use Rattle.clap.specs.Words.{App, HasMatchesOf, Row, Text, found_of, is_simple, one_text, rows_of, subcommand_of, subcommand_rows_of}
+use Rattle.clap.specs.declared.parser.matches.ArgMatches.{ArgMatches}
+use Rattle.clap.proofs.WalkLemmas.{one_text-rows}
+use Rattle.clap.proofs.OnLiterals.{clap_on_literals}
+use Rattle.tx_commands.specs.Grammar.{program_words}
+use Rattle.tx_commands.specs.Commands.{Gives}
+
+-- a number that was read was given
+pub given_by : (m : ArgMatches) (id : List ℕ) (n : ℕ) (one : Option (List ℕ)) → one_text (found_of m) id ≡ one
+    → (one_text (found_of m) id ≡ None → ◌≡◌ {A = Option ℕ} (Some n) None)
+    → ((t : List ℕ) → one_text (found_of m) id ≡ Some t → (IsNumeral 10 (without_leading_plus t) × (digits_value 10 (without_leading_plus t) < 2 ^ 8)) × (n ≡ digits_value 10 (without_leading_plus t)))
+    → Gives (rows_of (found_of m)) id n
+given_by m id n None e none value = let bad = none e in cc
+given_by m id n (Some t) e none value = let v = value t e in record { text = t; given = sym (one_text-rows (found_of m) id) ∙ e; numeral = v.0.0; value = v.1 }
+
+-- the library says what it finds for words like the program's
+simple : is_simple program_words ≡ true
+unfolding clap_on_literals
+simple = refl
+
+-- what holds of the command that was found holds of the one that the library's walk finds
+pub found_by : (P : Option (Text × List Row) → Type 0) (app : App) (words : List Text) (m : ArgMatches) → app ≡ program_words → HasMatchesOf app words m → P (subcommand_rows_of m) → P (subcommand_of program_words words)
+found_by P app words m is has found =
+    let h = has (ap is_simple is ∙ simple) in
+    subst P (h.1 ∙ ap (λ (a : App). subcommand_of a words) is) found

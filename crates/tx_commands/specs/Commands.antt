@@ -1,0 +1,80 @@
+-- What words ask for.
+use Rattle.std.specs.Prelude.{◌≡◌, ◌≤◌, ℕ, List, Option, None, Some, map, option_map, option_and_then, codes, string_bytes, String}
+use Rattle.std.specs.Borrow.{Bor}
+use Rattle.std.specs.Str.Parse.{IsNumeral, digits_value, without_leading_plus}
+use Rattle.clap.specs.Words.{Row, first_of, one_of, subcommand_of}
+use Rattle.tx_explain.specs.Entries.{texts, explanation}
+use Rattle.tx_commands.specs.Grammar.{program_words}
+use Rattle.tx_commands.specs.declared.command.Command.{Command}
+use Rattle.tx_commands.specs.declared.command.Command.TheVariants.{Pipe, Run, Check, Codes, Audit, Change, Mend, Survive, Grade, Trace, Draw, Explain}
+
+-- a limit is at most 62, and a spare number at most 15
+abbrev pub IsInRange : Command → Type 0
+IsInRange (Run plan script (Some (cert, limit, spare))) = (limit ≤ 62) × (spare ≤ 15)
+IsInRange (Audit plan limit spare cert counter) = (limit ≤ 62) × (spare ≤ 15)
+IsInRange (Change old new limit spare cert mixture counter) = (limit ≤ 62) × (spare ≤ 15)
+IsInRange (Mend plan limit spare mended cert) = (limit ≤ 62) × (spare ≤ 15)
+IsInRange (Check plan cert limit spare) = (limit ≤ 62) × (spare ≤ 15)
+IsInRange (Draw plan (Some (code, Some (limit, spare)))) = (limit ≤ 62) × (spare ≤ 15)
+IsInRange other = Unit {0}
+
+-- the words of a command name this file
+abbrev pub Names : {Z : Type 0} → List Row → List ℕ → String Z → Type 0
+Names found id name = first_of id found ≡ Some (string_bytes name)
+
+-- the words of a command give this number
+pub record Gives (found : List Row) (id : List ℕ) (n : ℕ) : Type 0 where
+  pub text : List ℕ
+  pub given : one_of id found ≡ Some text
+  pub numeral : IsNumeral 10 (without_leading_plus text)
+  pub value : n ≡ digits_value 10 (without_leading_plus text)
+
+-- what was found behind the name of a command asks for this
+abbrev pub Asks : List ℕ → List Row → Command → Type 0
+Asks name found Pipe = ⊥
+Asks name found (Run plan script None) =
+    (name ≡ codes "run") × Names found (codes "plan") plan × Names found (codes "script") script × (first_of (codes "cert") found ≡ None)
+    × (first_of (codes "limit") found ≡ None) × (first_of (codes "spare") found ≡ None)
+Asks name found (Run plan script (Some (cert, limit, spare))) =
+    (name ≡ codes "run") × Names found (codes "plan") plan × Names found (codes "script") script × Names found (codes "cert") cert × Gives found (codes "limit") limit × Gives found (codes "spare") spare
+Asks name found (Check plan cert limit spare) =
+    (name ≡ codes "check") × Names found (codes "plan") plan × Names found (codes "cert") cert × Gives found (codes "limit") limit × Gives found (codes "spare") spare
+Asks name found (Codes plan) = (name ≡ codes "codes") × Names found (codes "plan") plan
+Asks name found (Audit plan limit spare cert counter) =
+    (name ≡ codes "audit") × Names found (codes "plan") plan × Gives found (codes "limit") limit × Gives found (codes "spare") spare × (first_of (codes "cert") found ≡ option_map string_bytes cert)
+    × (first_of (codes "counter") found ≡ option_map string_bytes counter)
+Asks name found (Change old new limit spare cert mixture counter) =
+    (name ≡ codes "change") × Names found (codes "old") old × Names found (codes "new") new
+    × Gives found (codes "limit") limit × Gives found (codes "spare") spare
+    × (first_of (codes "cert") found ≡ option_map string_bytes cert)
+    × (first_of (codes "mixture") found ≡ option_map string_bytes mixture)
+    × (first_of (codes "counter") found ≡ option_map string_bytes counter)
+Asks name found (Mend plan limit spare mended cert) =
+    (name ≡ codes "mend") × Names found (codes "old") plan
+    × Gives found (codes "limit") limit × Gives found (codes "spare") spare
+    × (first_of (codes "plan") found ≡ option_map string_bytes mended)
+    × (first_of (codes "cert") found ≡ option_map string_bytes cert)
+Asks name found (Survive plan risks) =
+    (name ≡ codes "survive") × Names found (codes "plan") plan
+    × (first_of (codes "risks") found ≡ option_map string_bytes risks)
+Asks name found (Grade plan) = (name ≡ codes "grade") × Names found (codes "plan") plan
+Asks name found (Trace plan exchange code) =
+    (name ≡ codes "trace") × Names found (codes "plan") plan
+    × Names found (codes "exchange") exchange × Names found (codes "code") code
+Asks name found (Draw plan None) =
+    (name ≡ codes "draw") × Names found (codes "plan") plan × (first_of (codes "code") found ≡ None) × (first_of (codes "limit") found ≡ None) × (first_of (codes "spare") found ≡ None)
+Asks name found (Draw plan (Some (code, None))) =
+    (name ≡ codes "draw") × Names found (codes "plan") plan × Names found (codes "code") code × (first_of (codes "limit") found ≡ None) × (first_of (codes "spare") found ≡ None)
+Asks name found (Draw plan (Some (code, Some (limit, spare)))) =
+    (name ≡ codes "draw") × Names found (codes "plan") plan × Names found (codes "code") code × Gives found (codes "limit") limit × Gives found (codes "spare") spare
+Asks name found (Explain None) = (name ≡ codes "explain") × (first_of (codes "code") found ≡ None)
+Asks name found (Explain (Some entry)) = (name ≡ codes "explain") × (option_and_then explanation (first_of (codes "code") found) ≡ Some (texts entry.now))
+
+-- the command that was found, with its files and options, asks for this
+abbrev pub IsFoundIn : Option (List ℕ × List Row) → Command → Type 0
+IsFoundIn None command = ⊥
+IsFoundIn (Some (name, found)) command = Asks name found command
+
+-- the words ask for this: the library finds one of the program's commands in them
+abbrev pub AskFor : List (Bor (List ℕ)) → Command → Type 0
+AskFor words command = IsFoundIn (subcommand_of program_words (map (λ w. w.now) words)) command

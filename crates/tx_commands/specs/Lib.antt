@@ -1,0 +1,4 @@
+pub mod Grammar
+pub mod Commands
+pub mod Faults
+pub mod inner

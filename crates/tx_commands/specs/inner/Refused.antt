@@ -1,0 +1,26 @@
+-- Why the words of a command that was found are refused.
+use Rattle.std.specs.Prelude.{◌≡◌, ℕ, true, false, ◌&&◌, ◌||◌, List, Option, None, option_and_then, codes, IsSomeAnd}
+use Rattle.clap.specs.Words.{Row, first_of}
+use Rattle.tx_explain.specs.Entries.{explanation}
+use Rattle.tx_commands.specs.Faults.{has, IsRunInPart}
+use Rattle.tx_commands.specs.declared.refusal.Refusal.{Refusal}
+use Rattle.tx_commands.specs.declared.refusal.Refusal.TheVariants.{Together, DrawTogether, NoSuchCode}
+
+-- `draw` has a limit or a spare number, and not both with a code
+pub record IsDrawInPart (name : List ℕ) (found : List Row) : Type 0 where
+  pub draw : name ≡ codes "draw"
+  pub some : (has found (codes "limit") || has found (codes "spare")) ≡ true
+  pub not_all : (has found (codes "code") && (has found (codes "limit") && has found (codes "spare"))) ≡ false
+
+-- `explain` has a word that the table has not
+pub record IsNoCode (name : List ℕ) (found : List Row) : Type 0 where
+  pub explain : name ≡ codes "explain"
+  pub given : has found (codes "code") ≡ true
+  pub unknown : option_and_then explanation (first_of (codes "code") found) ≡ None
+
+-- The words that were found are refused for this. That a word is missing, and want of memory, are left open.
+abbrev pub IsRefused : Option (List ℕ × List Row) → Refusal → Type 0
+IsRefused command Together = IsSomeAnd command (λ c. IsRunInPart c.0 c.1)
+IsRefused command DrawTogether = IsSomeAnd command (λ c. IsDrawInPart c.0 c.1)
+IsRefused command NoSuchCode = IsSomeAnd command (λ c. IsNoCode c.0 c.1)
+IsRefused command other = Unit {0}

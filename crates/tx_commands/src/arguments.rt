@@ -1,0 +1,126 @@
+// Commands with their arguments, as the library of command lines takes them.
+ghost use Rattle.std.specs.Prelude.{◌≡◌, false, Some, IfOk};
+ghost use Rattle.clap.specs.Words.{App, app_of, new_rule, rule_of, with_rule};
+ghost use Rattle.clap.specs.declared.builder.action.ArgAction.TheVariants.{Set};
+ghost use Rattle.tx_commands.specs.Grammar as grammar;
+
+use clap::{Arg, ArgAction, value_parser};
+use std::alloc::{AllocError, Global};
+
+/// A command whose first word is a plan.
+pub(crate) fn over_plan<'a>(
+    alloc: Global,
+    name: &'a str,
+    about: &'a str,
+) -> Result<clap::Command<'a>, AllocError>
+    ensures { IfOk result (λ c. app_of c ≡ grammar.plan_words name.now) }
+{
+    let command = Ok(clap::Command::new(alloc, name).about(about));
+    with_file(
+        command,
+        alloc,
+        "plan",
+        "PLAN",
+        "The route plan: exchanges, codes, lines, groups, routes and bars",
+    )
+}
+
+/// A command with one argument more, if it could be made so far.
+fn with_arg<'a>(
+    command: Result<clap::Command<'a>, AllocError>,
+    arg: Arg<'a>,
+) -> Result<clap::Command<'a>, AllocError>
+    requires { arg.global ≡ false }
+    ensures { (app : App) → IfOk command.entry (λ c. app_of c ≡ app) → IfOk result (λ c. app_of c ≡ with_rule app (rule_of arg.entry)) }
+{
+    match command {
+        Ok(made) => made.arg(arg),
+        Err(error) => {
+            drop(arg);
+            Err(error)
+        }
+    }
+}
+
+/// The same with a file, which has to be named.
+pub(crate) fn with_file<'a>(
+    command: Result<clap::Command<'a>, AllocError>,
+    alloc: Global,
+    id: &'a str,
+    shown: &'a str,
+    help: &'a str,
+) -> Result<clap::Command<'a>, AllocError>
+    ensures { (app : App) → IfOk command.entry (λ c. app_of c ≡ app) → IfOk result (λ c. app_of c ≡ with_rule app (grammar.file id.now)) }
+{
+    with_arg(command, word(alloc, id, shown, help).required(true))
+}
+
+/// A word that goes by its place.
+pub(crate) fn word<'a>(alloc: Global, id: &'a str, shown: &'a str, help: &'a str) -> Arg<'a>
+    ensures rule { rule_of result ≡ record (new_rule id.now) { value_names = 1; action = Some Set } }
+    ensures local { result.global ≡ false }
+{
+    Arg::new(alloc, id)
+        .value_name(shown)
+        .help(help)
+        .action(ArgAction::Set)
+}
+
+/// An option with a word.
+fn option<'a>(alloc: Global, id: &'a str, shown: &'a str, help: &'a str) -> Arg<'a>
+    ensures rule { rule_of result ≡ grammar.option id.now }
+    ensures local { result.global ≡ false }
+{
+    word(alloc, id, shown, help).long(id)
+}
+
+/// The same with an option with a word.
+pub(crate) fn with_option<'a>(
+    command: Result<clap::Command<'a>, AllocError>,
+    alloc: Global,
+    id: &'a str,
+    shown: &'a str,
+    help: &'a str,
+) -> Result<clap::Command<'a>, AllocError>
+    ensures { (app : App) → IfOk command.entry (λ c. app_of c ≡ app) → IfOk result (λ c. app_of c ≡ with_rule app (grammar.option id.now)) }
+{
+    with_arg(command, option(alloc, id, shown, help))
+}
+
+fn limit<'a>(alloc: Global) -> Arg<'a>
+    ensures rule { rule_of result ≡ grammar.limit }
+    ensures local { result.global ≡ false }
+{
+    option(
+        alloc,
+        "limit",
+        "L",
+        "At most how many transits a call may pass: 0 to 62",
+    )
+    .value_parser(value_parser!(u8).range(0..=62))
+}
+
+fn spare<'a>(alloc: Global) -> Arg<'a>
+    ensures rule { rule_of result ≡ grammar.spare }
+    ensures local { result.global ≡ false }
+{
+    option(
+        alloc,
+        "spare",
+        "K",
+        "How many groups may be down: 0 to 15. After YES, a call is answered NC only after a second head-on collision, or where more than K groups are listed and each of them is down or has no free circuit",
+    )
+    .value_parser(value_parser!(u8).range(0..=15))
+}
+
+/// The same with a limit and a spare number, which may have to be given.
+pub(crate) fn with_bounds<'a>(
+    command: Result<clap::Command<'a>, AllocError>,
+    alloc: Global,
+    needed: bool,
+) -> Result<clap::Command<'a>, AllocError>
+    ensures { (app : App) → IfOk command.entry (λ c. app_of c ≡ app) → IfOk result (λ c. app_of c ≡ with_rule (with_rule app (record grammar.limit { required = needed })) (record grammar.spare { required = needed })) }
+{
+    let command = with_arg(command, limit(alloc).required(needed));
+    with_arg(command, spare(alloc).required(needed))
+}

@@ -1,0 +1,267 @@
+// What the words of each command ask for.
+ghost use Rattle.std.specs.Prelude.{◌≡◌, ◌≤◌, Some, IfOk, IfErr, IfSome, codes, option_map, string_bytes};
+ghost use Rattle.clap.specs.Words.{first_of, found_of, rows_of};
+ghost use Rattle.tx_commands.specs.Commands.{IsInRange, Names, Gives, Asks};
+ghost use Rattle.tx_commands.specs.Faults.{has};
+ghost use Rattle.tx_commands.specs.inner.Refused.{IsRefused};
+
+use crate::command::Command;
+use crate::refusal::Refusal;
+use clap::ArgMatches;
+use std::alloc::{AllocError, Global};
+use tx_explain::entry_of;
+
+/// The word of an id.
+pub(crate) fn text(
+    alloc: Global,
+    matches: &ArgMatches<'_>,
+    id: &str,
+) -> Result<Option<String>, AllocError>
+    ensures { IfOk result (λ word. first_of id.now (rows_of (found_of matches.now)) ≡ option_map string_bytes word) }
+{
+    match matches.get_str(id) {
+        Some(word) => Ok(Some(String::from_str(alloc, word)?)),
+        None => Ok(None),
+    }
+}
+
+/// Whether a word stands for an id.
+fn is_given(matches: &ArgMatches<'_>, id: &str) -> bool
+    ensures { result ≡ has (rows_of (found_of matches.now)) id.now }
+{
+    matches.get_str(id).is_some()
+}
+
+/// The number of an option, tested once more against its range.
+fn number(matches: &ArgMatches<'_>, id: &str, most: u8) -> Option<u8>
+    ensures range { IfSome result (λ n. n ≤ most) }
+    ensures given { IfSome result (Gives (rows_of (found_of matches.now)) id.now) }
+{
+    match matches.get_one::<u8>(id) {
+        Some(n) if n <= most => Some(n),
+        _ => None,
+    }
+}
+
+/// The limit and the spare number, if both are given.
+fn bounds(matches: &ArgMatches<'_>) -> Option<(u8, u8)>
+    ensures range { IfSome result (λ b. (b.0 ≤ 62) × (b.1 ≤ 15)) }
+    ensures given { IfSome result (λ b. Gives (rows_of (found_of matches.now)) (codes "limit") b.0 × Gives (rows_of (found_of matches.now)) (codes "spare") b.1) }
+{
+    match (number(matches, "limit", 62), number(matches, "spare", 15)) {
+        (Some(limit), Some(spare)) => Some((limit, spare)),
+        _ => None,
+    }
+}
+
+/// The words of `check` behind the plan.
+fn check_of(alloc: Global, plan: String, matches: &ArgMatches<'_>) -> Result<Command, Refusal>
+    requires { Names (rows_of (found_of matches.now)) (codes "plan") plan }
+    ensures range { IfOk result IsInRange }
+    ensures asked { IfOk result (Asks (codes "check") (rows_of (found_of matches.now))) }
+    ensures refused { IfErr result
+        (IsRefused (Some (codes "check", rows_of (found_of matches.now)))) }
+{
+    let cert = text(alloc, matches, "cert")?;
+    match (cert, bounds(matches)) {
+        (Some(cert), Some((limit, spare))) => Ok(Command::Check {
+            plan,
+            cert,
+            limit,
+            spare,
+        }),
+        _ => Err(Refusal::Incomplete),
+    }
+}
+
+/// The words of `audit` behind the plan.
+fn audit_of(alloc: Global, plan: String, matches: &ArgMatches<'_>) -> Result<Command, Refusal>
+    requires { Names (rows_of (found_of matches.now)) (codes "plan") plan }
+    ensures range { IfOk result IsInRange }
+    ensures asked { IfOk result (Asks (codes "audit") (rows_of (found_of matches.now))) }
+    ensures refused { IfErr result
+        (IsRefused (Some (codes "audit", rows_of (found_of matches.now)))) }
+{
+    let cert = text(alloc, matches, "cert")?;
+    let counter = text(alloc, matches, "counter")?;
+    match bounds(matches) {
+        Some((limit, spare)) => Ok(Command::Audit {
+            plan,
+            limit,
+            spare,
+            cert,
+            counter,
+        }),
+        None => Err(Refusal::Incomplete),
+    }
+}
+
+/// The words of `change`.
+pub(crate) fn change_of(alloc: Global, matches: &ArgMatches<'_>) -> Result<Command, Refusal>
+    ensures range { IfOk result IsInRange }
+    ensures asked { IfOk result (Asks (codes "change") (rows_of (found_of matches.now))) }
+    ensures refused { IfErr result
+        (IsRefused (Some (codes "change", rows_of (found_of matches.now)))) }
+{
+    let old = text(alloc, matches, "old")?;
+    let new = text(alloc, matches, "new")?;
+    let cert = text(alloc, matches, "cert")?;
+    let mixture = text(alloc, matches, "mixture")?;
+    let counter = text(alloc, matches, "counter")?;
+    match (old, new, bounds(matches)) {
+        (Some(old), Some(new), Some((limit, spare))) => Ok(Command::Change {
+            old,
+            new,
+            limit,
+            spare,
+            cert,
+            mixture,
+            counter,
+        }),
+        _ => Err(Refusal::Incomplete),
+    }
+}
+
+/// The words of `mend`. The option of the mended plan has the name of a plan, so the first word has
+/// another.
+pub(crate) fn mend_of(alloc: Global, matches: &ArgMatches<'_>) -> Result<Command, Refusal>
+    ensures range { IfOk result IsInRange }
+    ensures asked { IfOk result (Asks (codes "mend") (rows_of (found_of matches.now))) }
+    ensures refused { IfErr result
+        (IsRefused (Some (codes "mend", rows_of (found_of matches.now)))) }
+{
+    let plan = text(alloc, matches, "old")?;
+    let mended = text(alloc, matches, "plan")?;
+    let cert = text(alloc, matches, "cert")?;
+    match (plan, bounds(matches)) {
+        (Some(plan), Some((limit, spare))) => Ok(Command::Mend {
+            plan,
+            limit,
+            spare,
+            mended,
+            cert,
+        }),
+        _ => Err(Refusal::Incomplete),
+    }
+}
+
+/// The words of `survive` behind the plan.
+fn survive_of(alloc: Global, plan: String, matches: &ArgMatches<'_>) -> Result<Command, Refusal>
+    requires { Names (rows_of (found_of matches.now)) (codes "plan") plan }
+    ensures range { IfOk result IsInRange }
+    ensures asked { IfOk result (Asks (codes "survive") (rows_of (found_of matches.now))) }
+    ensures refused { IfErr result
+        (IsRefused (Some (codes "survive", rows_of (found_of matches.now)))) }
+{
+    let risks = text(alloc, matches, "risks")?;
+    Ok(Command::Survive { plan, risks })
+}
+
+/// The words of `trace` behind the plan.
+fn trace_of(alloc: Global, plan: String, matches: &ArgMatches<'_>) -> Result<Command, Refusal>
+    requires { Names (rows_of (found_of matches.now)) (codes "plan") plan }
+    ensures range { IfOk result IsInRange }
+    ensures asked { IfOk result (Asks (codes "trace") (rows_of (found_of matches.now))) }
+    ensures refused { IfErr result
+        (IsRefused (Some (codes "trace", rows_of (found_of matches.now)))) }
+{
+    let exchange = text(alloc, matches, "exchange")?;
+    let code = text(alloc, matches, "code")?;
+    match (exchange, code) {
+        (Some(exchange), Some(code)) => Ok(Command::Trace {
+            plan,
+            exchange,
+            code,
+        }),
+        _ => Err(Refusal::Incomplete),
+    }
+}
+
+/// The words of `run` behind the plan.
+fn run_of(alloc: Global, plan: String, matches: &ArgMatches<'_>) -> Result<Command, Refusal>
+    requires { Names (rows_of (found_of matches.now)) (codes "plan") plan }
+    ensures range { IfOk result IsInRange }
+    ensures asked { IfOk result (Asks (codes "run") (rows_of (found_of matches.now))) }
+    ensures refused { IfErr result
+        (IsRefused (Some (codes "run", rows_of (found_of matches.now)))) }
+{
+    let Some(script) = text(alloc, matches, "script")? else {
+        return Err(Refusal::Incomplete);
+    };
+    let cert = text(alloc, matches, "cert")?;
+    let checked = match (cert, is_given(matches, "limit"), is_given(matches, "spare")) {
+        (None, false, false) => None,
+        (Some(cert), true, true) => match bounds(matches) {
+            Some((limit, spare)) => Some((cert, limit, spare)),
+            None => return Err(Refusal::Incomplete),
+        },
+        _ => return Err(Refusal::Together),
+    };
+    Ok(Command::Run {
+        plan,
+        script,
+        checked,
+    })
+}
+
+/// The words of `draw` behind the plan.
+fn draw_of(alloc: Global, plan: String, matches: &ArgMatches<'_>) -> Result<Command, Refusal>
+    requires { Names (rows_of (found_of matches.now)) (codes "plan") plan }
+    ensures range { IfOk result IsInRange }
+    ensures asked { IfOk result (Asks (codes "draw") (rows_of (found_of matches.now))) }
+    ensures refused { IfErr result
+        (IsRefused (Some (codes "draw", rows_of (found_of matches.now)))) }
+{
+    let code = text(alloc, matches, "code")?;
+    let routes = match (code, is_given(matches, "limit"), is_given(matches, "spare")) {
+        (None, false, false) => None,
+        (Some(code), false, false) => Some((code, None)),
+        (Some(code), true, true) => match bounds(matches) {
+            Some(bounds) => Some((code, Some(bounds))),
+            None => return Err(Refusal::Incomplete),
+        },
+        _ => return Err(Refusal::DrawTogether),
+    };
+    Ok(Command::Draw { plan, routes })
+}
+
+/// The words of `explain`. A word that is no code is refused.
+pub(crate) fn explain_of(alloc: Global, matches: &ArgMatches<'_>) -> Result<Command, Refusal>
+    ensures range { IfOk result IsInRange }
+    ensures asked { IfOk result (Asks (codes "explain") (rows_of (found_of matches.now))) }
+    ensures refused { IfErr result
+        (IsRefused (Some (codes "explain", rows_of (found_of matches.now)))) }
+{
+    let Some(word) = text(alloc, matches, "code")? else {
+        return Ok(Command::Explain { entry: None });
+    };
+    match entry_of(word.as_str()) {
+        Some(entry) => Ok(Command::Explain { entry: Some(entry) }),
+        None => Err(Refusal::NoSuchCode),
+    }
+}
+
+/// The command of a subcommand whose first word is a plan.
+pub(crate) fn plan_command(
+    alloc: Global,
+    name: &str,
+    plan: String,
+    matches: &ArgMatches<'_>,
+) -> Result<Command, Refusal>
+    requires { Names (rows_of (found_of matches.now)) (codes "plan") plan }
+    ensures range { IfOk result IsInRange }
+    ensures asked { IfOk result (Asks name.now (rows_of (found_of matches.now))) }
+    ensures refused { IfErr result (IsRefused (Some (name.now, rows_of (found_of matches.now)))) }
+{
+    match name {
+        "run" => run_of(alloc, plan, matches),
+        "check" => check_of(alloc, plan, matches),
+        "codes" => Ok(Command::Codes { plan }),
+        "audit" => audit_of(alloc, plan, matches),
+        "grade" => Ok(Command::Grade { plan }),
+        "survive" => survive_of(alloc, plan, matches),
+        "trace" => trace_of(alloc, plan, matches),
+        "draw" => draw_of(alloc, plan, matches),
+        _ => Err(Refusal::Incomplete),
+    }
+}

@@ -1,0 +1,304 @@
+// The words that the program takes, with what it tells of them when asked for help.
+ghost use Rattle.std.specs.Prelude.{◌≡◌, Ok, IfOk};
+ghost use Rattle.clap.specs.Words.{AddsSubcommand, app_of};
+ghost use Rattle.clap.specs.declared.builder.command.Command.{Command};
+ghost use Rattle.tx_commands.specs.Grammar as grammar;
+
+use crate::arguments::{over_plan, with_bounds, with_file, with_option, word};
+use std::alloc::{AllocError, Global};
+
+/// The version of the program.
+const VERSION: &str = "1.0.0";
+
+fn run_grammar<'a>(alloc: Global) -> Result<clap::Command<'a>, AllocError>
+    ensures { IfOk result (λ c. app_of c ≡ grammar.run_words) }
+{
+    let run = over_plan(
+        alloc,
+        "run",
+        "Run a script of events over a plan, and print each reply and the ticket of each call that ended",
+    );
+    let run = with_file(
+        run,
+        alloc,
+        "script",
+        "SCRIPT",
+        "The script: events, one a line, between SCRIPT 1 and END",
+    );
+    let run = with_option(
+        run,
+        alloc,
+        "cert",
+        "CERT",
+        "Run only if this certificate shows that the plan is safe, else print the verdict; goes with --limit and --spare",
+    );
+    with_bounds(run, alloc, false)
+}
+
+fn check_grammar<'a>(alloc: Global) -> Result<clap::Command<'a>, AllocError>
+    ensures { IfOk result (λ c. app_of c ≡ grammar.check_words) }
+{
+    let check = over_plan(
+        alloc,
+        "check",
+        "Say whether a certificate shows that a plan is safe: YES, or NO with the first reason",
+    );
+    let check = with_file(
+        check,
+        alloc,
+        "cert",
+        "CERT",
+        "The certificate: ranks of exchanges for each code",
+    );
+    with_bounds(check, alloc, true)
+}
+
+fn codes_grammar<'a>(alloc: Global) -> Result<clap::Command<'a>, AllocError>
+    ensures { IfOk result (λ c. app_of c ≡ grammar.codes_words) }
+{
+    over_plan(
+        alloc,
+        "codes",
+        "List the destination codes of a plan, and the least pair of a code and a longer one that begins with it",
+    )
+}
+
+fn audit_grammar<'a>(alloc: Global) -> Result<clap::Command<'a>, AllocError>
+    ensures { IfOk result (λ c. app_of c ≡ grammar.audit_words) }
+{
+    let audit = over_plan(
+        alloc,
+        "audit",
+        "Say whether a plan is safe: YES, or NO with what is wrong, and a walk for each loop, short list and long way",
+    );
+    let audit = with_bounds(audit, alloc, true);
+    let audit = with_option(
+        audit,
+        alloc,
+        "cert",
+        "CERT",
+        "After YES, write the certificate to this file",
+    );
+    with_option(
+        audit,
+        alloc,
+        "counter",
+        "SCRIPT",
+        "After NO, write a script to this file that shows the first finding that has one",
+    )
+}
+
+fn mend_grammar<'a>(alloc: Global) -> Result<clap::Command<'a>, AllocError>
+    ensures { IfOk result (λ c. app_of c ≡ grammar.mend_words) }
+{
+    let mend = Ok(clap::Command::new(alloc, "mend").about(
+        "Find lists with which a plan is safe, wherever there are any: YES with each list that is another one than before, or NO with whom no lists can serve",
+    ));
+    let mend = with_file(
+        mend,
+        alloc,
+        "old",
+        "PLAN",
+        "The route plan: exchanges, codes, lines, groups, routes and bars",
+    );
+    let mend = with_bounds(mend, alloc, true);
+    let mend = with_option(
+        mend,
+        alloc,
+        "plan",
+        "OUT",
+        "After YES, write the plan with these lists to this file",
+    );
+    with_option(
+        mend,
+        alloc,
+        "cert",
+        "CERT",
+        "After YES, write a certificate of that plan to this file",
+    )
+}
+
+fn survive_grammar<'a>(alloc: Global) -> Result<clap::Command<'a>, AllocError>
+    ensures { IfOk result (λ c. app_of c ≡ grammar.survive_words) }
+{
+    let survive = over_plan(
+        alloc,
+        "survive",
+        "Say whom each group, each exchange and each named risk of a plan cuts off if it fails alone: YES for nobody, or NO with a walk for each",
+    );
+    with_option(
+        survive,
+        alloc,
+        "risks",
+        "RISKS",
+        "The named risks, such as cables: lines RISK name group .., between RISKS 1 and END",
+    )
+}
+
+fn trace_grammar<'a>(alloc: Global) -> Result<clap::Command<'a>, AllocError>
+    ensures { IfOk result (λ c. app_of c ≡ grammar.trace_words) }
+{
+    let trace = over_plan(
+        alloc,
+        "trace",
+        "Tell how calls for a code go from an exchange: the way while all is free, and each list that they may come to",
+    );
+    let trace = with_file(
+        trace,
+        alloc,
+        "exchange",
+        "EXCHANGE",
+        "The exchange from which the calls go",
+    );
+    with_file(trace, alloc, "code", "CODE", "Their destination code")
+}
+
+fn change_grammar<'a>(alloc: Global) -> Result<clap::Command<'a>, AllocError>
+    ensures { IfOk result (λ c. app_of c ≡ grammar.change_words) }
+{
+    let change = Ok(clap::Command::new(alloc, "change").about(
+        "Say whether a plan can be changed into another one of the same network, list by list and in any order, so that it is safe at every moment: YES, or NO with what is wrong",
+    ));
+    let change = with_file(change, alloc, "old", "OLD", "The plan that is in force");
+    let change = with_file(
+        change,
+        alloc,
+        "new",
+        "NEW",
+        "The plan that is to be: the same exchanges, codes, lines and groups, with other routes and bars",
+    );
+    let change = with_bounds(change, alloc, true);
+    let change = with_option(
+        change,
+        alloc,
+        "cert",
+        "CERT",
+        "After YES, write a certificate of both plans to this file",
+    );
+    let change = with_option(
+        change,
+        alloc,
+        "mixture",
+        "PLAN",
+        "After NO, write a plan of old and new lists to this file that shows the first finding that has a walk",
+    );
+    with_option(
+        change,
+        alloc,
+        "counter",
+        "SCRIPT",
+        "After NO, write a script to this file that shows the same finding in that plan, if there is one",
+    )
+}
+
+fn grade_grammar<'a>(alloc: Global) -> Result<clap::Command<'a>, AllocError>
+    ensures { IfOk result (λ c. app_of c ≡ grammar.grade_words) }
+{
+    over_plan(
+        alloc,
+        "grade",
+        "Say with which transit limits and spare numbers a plan is safe, and each of its codes, or what is wrong whatever they are",
+    )
+}
+
+fn draw_grammar<'a>(alloc: Global) -> Result<clap::Command<'a>, AllocError>
+    ensures { IfOk result (λ c. app_of c ≡ grammar.draw_words) }
+{
+    let draw = over_plan(
+        alloc,
+        "draw",
+        "Draw the exchanges and groups of a plan, as a text of Graphviz",
+    );
+    let draw = with_option(
+        draw,
+        alloc,
+        "code",
+        "CODE",
+        "Draw the routes for this destination code alone; with --limit and --spare, the walk of its first finding is red",
+    );
+    with_bounds(draw, alloc, false)
+}
+
+fn explain_grammar<'a>(alloc: Global) -> Result<clap::Command<'a>, AllocError>
+    ensures { IfOk result (λ c. app_of c ≡ grammar.explain_words) }
+{
+    let code = word(
+        alloc,
+        "code",
+        "CODE",
+        "A code that was printed, as P11, S6, M5, K7 or F2",
+    );
+    clap::Command::new(alloc, "explain")
+        .about(
+            "Say what a code of a fault, a refusal or a finding means, and what to do about it; without one, list all codes",
+        )
+        .arg(code)
+}
+
+/// The program's name, its version and what it does.
+fn top_grammar<'a>(alloc: Global) -> Result<clap::Command<'a>, AllocError>
+    ensures { IfOk result (λ c. app_of c ≡ grammar.top_words) }
+{
+    clap::Command::new(alloc, "telexplan")
+        .version(VERSION)
+        .about(
+            "Audit the route plan of an automatic telex network, and simulate calls over it. Without words, a plan and a script are read from standard input.",
+        )
+        .no_binary_name(true)
+        .bin_name("telexplan")
+}
+
+/// The program with one command more, if both could be made.
+fn with_command<'a>(
+    program: Result<clap::Command<'a>, AllocError>,
+    command: Result<clap::Command<'a>, AllocError>,
+) -> Result<clap::Command<'a>, AllocError>
+    ensures { IfOk result (λ c. (top : Command) × (words : Command) × (program.entry ≡ Ok top) × (command.entry ≡ Ok words) × AddsSubcommand top words c) }
+{
+    match program {
+        Ok(top) => match command {
+            Ok(words) => top.subcommand(words),
+            Err(error) => {
+                drop(top);
+                Err(error)
+            }
+        },
+        Err(error) => {
+            drop(command);
+            Err(error)
+        }
+    }
+}
+
+/// The program with the commands that judge a plan.
+fn judging_grammar<'a>(alloc: Global) -> Result<clap::Command<'a>, AllocError>
+    ensures { IfOk result (λ c. app_of c ≡ grammar.judging_words) }
+{
+    let program = with_command(
+        with_command(top_grammar(alloc), audit_grammar(alloc)),
+        grade_grammar(alloc),
+    );
+    let program = with_command(
+        with_command(program, mend_grammar(alloc)),
+        change_grammar(alloc),
+    );
+    with_command(
+        with_command(program, survive_grammar(alloc)),
+        check_grammar(alloc),
+    )
+}
+
+/// The words that the program takes.
+pub(crate) fn grammar<'a>(alloc: Global) -> Result<clap::Command<'a>, AllocError>
+    ensures { IfOk result (λ c. app_of c ≡ grammar.program_words) }
+{
+    let program = with_command(
+        with_command(judging_grammar(alloc), run_grammar(alloc)),
+        codes_grammar(alloc),
+    );
+    let program = with_command(
+        with_command(program, trace_grammar(alloc)),
+        draw_grammar(alloc),
+    );
+    with_command(program, explain_grammar(alloc))
+}

@@ -1,0 +1,14 @@
+//! The commands of the program, and the words of the command line that ask for them.
+#![tactic(auto)]
+
+mod arguments;
+mod asked;
+mod command;
+mod fault;
+mod grammar;
+mod reading;
+mod refusal;
+
+pub use command::Command;
+pub use fault::WordsFault;
+pub use reading::read_command;

@@ -1,0 +1,128 @@
+// The command that the words of the command line ask for.
+ghost use Rattle.std.specs.Prelude.{◌≡◌, ◌≢◌, ℕ, List, Option, [], Ok, Some, IfOk, IfErr};
+ghost use Rattle.clap.specs.Words.{Row, app_of, found_of, rows_of, subcommand_rows_of};
+ghost use Rattle.tx_commands.specs.Commands.{IsInRange, Asks, AskFor, IsFoundIn};
+ghost use Rattle.tx_commands.specs.Grammar.{program_words};
+ghost use Rattle.tx_commands.specs.Faults.{IsRefusalIn, IsRefusalOf};
+ghost use Rattle.tx_commands.specs.inner.Refused.{IsRefused};
+
+use crate::asked::{change_of, explain_of, mend_of, plan_command, text};
+use crate::command::Command;
+use crate::fault::WordsFault;
+use crate::grammar::grammar;
+use crate::refusal::Refusal;
+use clap::ArgMatches;
+use clap::error::ErrorKind;
+use std::alloc::{AllocError, Global};
+
+/// The command of a subcommand's words.
+fn command_of(alloc: Global, name: &str, matches: &ArgMatches<'_>) -> Result<Command, Refusal>
+    ensures range { IfOk result IsInRange }
+    ensures asked { IfOk result (Asks name.now (rows_of (found_of matches.now))) }
+    ensures refused { IfErr result (IsRefused (Some (name.now, rows_of (found_of matches.now)))) }
+{
+    match name {
+        "mend" => return mend_of(alloc, matches),
+        "change" => return change_of(alloc, matches),
+        "explain" => return explain_of(alloc, matches),
+        _ => {}
+    }
+    match text(alloc, matches, "plan")? {
+        Some(plan) => plan_command(alloc, name, plan, matches),
+        None => Err(Refusal::Incomplete),
+    }
+}
+
+/// The command that was found in the words.
+fn found_command(alloc: Global, matches: &ArgMatches<'_>) -> Result<Command, Refusal>
+    ensures range { IfOk result IsInRange }
+    ensures asked { IfOk result (IsFoundIn (subcommand_rows_of matches.now)) }
+    ensures refused { IfErr result (IsRefused (subcommand_rows_of matches.now)) }
+{
+    match matches.subcommand() {
+        Some((name, matches)) => command_of(alloc, name, matches),
+        None => Err(Refusal::Incomplete),
+    }
+}
+
+/// A refusal in the words of the library of command lines.
+fn in_its_words(
+    grammar: &mut clap::Command<'_>,
+    kind: ErrorKind,
+    message: &str,
+) -> Result<WordsFault, AllocError>
+    ensures { IfOk result
+        (λ fault. (command : Option (List ℕ × List Row)) → IsRefusalIn command fault) }
+{
+    let e = grammar.error(kind, message)?;
+    Ok(WordsFault::of_clap(e))
+}
+
+/// Why the words are refused. What has no fault of its own is told in the words of the library.
+fn words_fault(grammar: &mut clap::Command<'_>, refusal: Refusal) -> Result<WordsFault, AllocError>
+    ensures { IfOk result (λ fault. (command : Option (List ℕ × List Row))
+        → IsRefused command refusal → IsRefusalIn command fault) }
+{
+    match refusal {
+        Refusal::Together => Ok(WordsFault::Together),
+        Refusal::NoMemory => Ok(WordsFault::NoMemory),
+        Refusal::Incomplete => in_its_words(
+            grammar,
+            ErrorKind::MissingSubcommand,
+            "a command is missing",
+        ),
+        Refusal::DrawTogether => in_its_words(
+            grammar,
+            ErrorKind::MissingRequiredArgument,
+            "--limit and --spare go together, and with --code",
+        ),
+        Refusal::NoSuchCode => in_its_words(
+            grammar,
+            ErrorKind::InvalidValue,
+            "no such code; there are X1 to X3, P3 to P22, C1 to C10, S1 to S7, Q1 to Q11, M1 to M12, K1 to K7 and F1 to F5",
+        ),
+    }
+}
+
+/// The command that stands in the words, which are not none, by the grammar of the program.
+fn command_in<'a>(
+    alloc: Global,
+    grammar: &mut clap::Command<'a>,
+    words: &'a [&str],
+) -> Result<Command, WordsFault>
+    requires { app_of grammar.old ≡ program_words }
+    ensures in_range { IfOk result IsInRange }
+    ensures asked { IfOk result (AskFor words.now) }
+    ensures refused { IfErr result (IsRefusalOf words.now) }
+{
+    let matches = match grammar.try_get_matches_from_mut(words) {
+        Ok(matches) => matches,
+        Err(e) => return Err(WordsFault::of_clap(e)),
+    };
+    let found = found_command(alloc, &matches);
+    drop(matches);
+    match found {
+        Ok(command) => Ok(command),
+        Err(refusal) => Err(words_fault(grammar, refusal)?),
+    }
+}
+
+/// Reads the words after the program's name. `Err` is refused words, a request for help or for the version, or want of memory.
+pub fn read_command(alloc: Global, words: &[&str]) -> Result<Command, WordsFault>
+    ensures in_range { IfOk result IsInRange }
+    ensures pipe { words.now ≡ [] → result ≡ Ok Command.Pipe }
+    ensures asked { IfOk result (λ c. words.now ≢ [] → AskFor words.now c) }
+    ensures refused { IfErr result (IsRefusalOf words.now) }
+{
+    if words.is_empty() {
+        return Ok(Command::Pipe);
+    }
+    match grammar(alloc) {
+        Ok(mut grammar) => {
+            let command = command_in(alloc, &mut grammar, words);
+            drop(grammar);
+            command
+        }
+        Err(error) => Err(WordsFault::from(error)),
+    }
+}

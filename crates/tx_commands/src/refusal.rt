@@ -1,0 +1,28 @@
+// Why a command that was found is refused.
+ghost use Rattle.std.specs.Prelude.{◌≡◌};
+ghost use Rattle.tx_commands.specs.declared.refusal.Refusal.TheVariants.{NoMemory as OutOfMemory};
+
+use std::alloc::AllocError;
+
+/// Why the words of a command are refused, beside what the library of command lines refuses.
+#[derive(Clone, Copy)]
+pub(crate) enum Refusal {
+    /// A word that it needs is missing, which the grammar rules out.
+    Incomplete,
+    /// `run` has some of its three options, and not all.
+    Together,
+    /// `draw` has one of `--limit` and `--spare` without the other, or both without `--code`.
+    DrawTogether,
+    /// `explain` has a word that is no code.
+    NoSuchCode,
+    /// No memory was left.
+    NoMemory,
+}
+
+impl From<AllocError> for Refusal {
+    ghost from_gives = { λ _ refusal. refusal ≡ OutOfMemory };
+
+    fn from(_e: AllocError) -> Refusal {
+        Refusal::NoMemory
+    }
+}
