@@ -10,7 +10,3 @@ mod Grading
 mod MendTold
 mod Surviving
 mod DrawnCode
-pub mod Before
-pub mod Choices
-pub mod Marking
-mod FirstShown

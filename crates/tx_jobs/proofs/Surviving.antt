@@ -25,7 +25,8 @@ use Rattle.tx_jobs.specs.SurviveJobs.{IsSurvivalOf}
 pub survival_is : (A : Type 0) (p : Plan) (risks : List NamedRisk) (s : Survival A)
     → ((ranks : Ranks) (limit spare : ℕ) → IsCertified p ranks limit spare → AreTried s)
     → OnTried (AreAllCuts p risks) s → OnUngraded (λ findings. findings ≢ []) s
-    → OnUngraded (λ findings. (limit spare : ℕ) → AllByRecursion (IsTrueOf p limit spare) findings) s
+    → OnUngraded (λ findings. (limit spare : ℕ)
+    → AllByRecursion (IsTrueOf p limit spare) findings) s
     → OnUngraded (AreUnmended p) s → IsSurvivalOf p risks s
 survival_is A p risks (Tried cuts) wherever all some right listed = all
 survival_is A p risks (Ungraded findings) wherever all some right listed = record {

@@ -5,10 +5,10 @@ use Rattle.tx_text.specs.Ends.{StopsIn}
 use Rattle.tx_plan.specs.Plan.{Plan, code_named}
 use Rattle.tx_rank.specs.Walks.{net_of}
 use Rattle.tx_rank.specs.declared.finding.Finding.{Finding}
-use Rattle.tx_jobs.specs.Drawing.{drawing}
-use Rattle.tx_jobs.specs.Reached.{AreReached}
-use Rattle.tx_jobs.specs.Shown.{first_shown}
-use Rattle.tx_jobs.specs.CodeDrawing.{code_drawing}
+use Rattle.tx_draw.specs.Drawing.{drawing}
+use Rattle.tx_draw.specs.Reached.{AreReached}
+use Rattle.tx_draw.specs.Shown.{first_shown}
+use Rattle.tx_draw.specs.CodeDrawing.{code_drawing}
 use Rattle.tx_audit.specs.Audits.{IsAllFound}
 use Rattle.tx_jobs.specs.declared.job_fault.JobFault.{JobFault}
 use Rattle.tx_jobs.specs.declared.job_fault.JobFault.TheVariants.{Write, NoMemory}

@@ -16,8 +16,4 @@ pub mod Writables
 pub mod Evidences
 pub mod ChangeEvidences
 pub mod CheckedJobs
-pub mod Drawing
-pub mod Shown
-pub mod CodeDrawing
-pub mod Reached
 pub mod inner

@@ -1,15 +1,15 @@
 // The job of `draw PLAN [--code C] [--limit L --spare K]`.
 ghost use Rattle.std.specs.Prelude.{◌≡◌, ◌≤◌, ◌<◌, length, IfOk, IfSome, option_map};
 ghost use Rattle.tx_text.specs.Calls.{CallsAtMost, source_calls};
-ghost use Rattle.tx_jobs.specs.Drawing.{drawing};
+ghost use Rattle.tx_draw.specs.Drawing.{drawing};
 ghost use Rattle.tx_jobs.specs.JobFaults.{mark_after};
 ghost use Rattle.tx_jobs.specs.JobEnds.{input, output};
 ghost use Rattle.tx_jobs.specs.DrawJobs.{AreToShow, ToldText, DrewCode, Drew, DrawJobAnswers};
 
 use crate::drawn::Drawn;
 use crate::job_fault::JobFault;
-use crate::{reached, write_code_drawing, write_drawing};
 use std::alloc::Allocator;
+use tx_draw::{reached, write_code_drawing, write_drawing};
 use tx_plan::{CodeId, Plan};
 use tx_plantext::read_plan_from;
 use tx_rank::{Finding, Ranking, rank};

@@ -1,4 +1,5 @@
-//! The jobs of the commands that read a plan, over sources and a sink. `explain` reads none, and has none.
+//! The jobs of the commands that read a plan, over sources and a sink. `explain` reads none, and has
+//! none.
 #![tactic(auto)]
 
 mod audit;
@@ -8,24 +9,18 @@ mod change_evidence;
 mod change_fault;
 mod change_fault_line;
 mod check;
-mod code_drawing;
 mod codes;
 mod draw;
-mod drawing;
 mod drawn;
 mod evidence;
 mod fault_line;
 mod grade;
 mod job_fault;
-mod marks;
 mod mend;
 mod mixture;
-mod parts;
 mod pipe;
-mod reaching;
 mod run;
 mod run_checked;
-mod shown;
 mod simulate;
 mod survive;
 mod survive_fault;
@@ -40,10 +35,8 @@ pub use change_evidence::change_evidence_job;
 pub use change_fault::ChangeFault;
 pub use change_fault_line::write_change_fault;
 pub use check::{check_job, check_status};
-pub use code_drawing::write_code_drawing;
 pub use codes::{codes_job, codes_status};
 pub use draw::draw_job;
-pub use drawing::write_drawing;
 pub use drawn::Drawn;
 pub use evidence::{CounterScript, Evidence};
 pub use fault_line::write_fault;
@@ -52,7 +45,6 @@ pub use job_fault::JobFault;
 pub use mend::{mend_job, mending_status};
 pub use mixture::{ChangeEvidence, Mixture};
 pub use pipe::pipe_job;
-pub use reaching::reached;
 pub use run::run_job;
 pub use run_checked::{run_checked_job, run_checked_status};
 pub use survive::{survival_status, survive_job, survive_risks_job};

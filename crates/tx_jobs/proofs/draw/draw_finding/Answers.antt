@@ -1,6 +1,6 @@
 use Rattle.std.proofs.Common.{refl, inl}
-use Rattle.tx_jobs.specs.Shown.{first_shown}
-use Rattle.tx_jobs.specs.CodeDrawing.{code_drawing}
+use Rattle.tx_draw.specs.Shown.{first_shown}
+use Rattle.tx_draw.specs.CodeDrawing.{code_drawing}
 use Rattle.tx_jobs.proofs.draw.draw_finding.Goals as goal
 
 pub returns-in-Ok-clause-drew : goal.returns-in-Ok-clause-drew

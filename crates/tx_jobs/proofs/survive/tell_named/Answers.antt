@@ -4,16 +4,33 @@ use Rattle.tx_jobs.proofs.Surviving.{risks_mark}
 use Rattle.tx_jobs.proofs.survive.tell_named.Goals as goal
 
 pub tell_survival-told-requires : goal.tell_survival-told-requires
-tell_survival-told-requires g c = subst (AreRisksFor c.args.plan.now) (sym c.as_slice.ensures) c.in-Ok.ensures.fits
+tell_survival-told-requires g c =
+    subst (AreRisksFor c.args.plan.now) (sym c.as_slice.ensures) c.in-Ok.ensures.fits
 
 pub returns-in-Ok-told-clause-answers : goal.returns-in-Ok-told-clause-answers
-returns-in-Ok-told-clause-answers g c = inl (record { risks = c.in-Ok.risks; fit = c.in-Ok.ensures.fits; read = c.in-Ok.ensures.answer; goes_on = rw c.as_slice.ensures at c.in-Ok-told.ensures.told })
+returns-in-Ok-told-clause-answers g c = inl (record {
+  risks = c.in-Ok.risks;
+  fit = c.in-Ok.ensures.fits;
+  read = c.in-Ok.ensures.answer;
+  goes_on = rw c.as_slice.ensures at c.in-Ok-told.ensures.told;
+})
 
 pub returns-in-Err-told-clause-answers : goal.returns-in-Err-told-clause-answers
-returns-in-Err-told-clause-answers g c = inl (record { risks = c.in-Ok.risks; fit = c.in-Ok.ensures.fits; read = c.in-Ok.ensures.answer; goes_on = rw c.as_slice.ensures at c.in-Err-told.ensures.told })
+returns-in-Err-told-clause-answers g c = inl (record {
+  risks = c.in-Ok.risks;
+  fit = c.in-Ok.ensures.fits;
+  read = c.in-Ok.ensures.answer;
+  goes_on = rw c.as_slice.ensures at c.in-Err-told.ensures.told;
+})
 
 pub returns-in-Err-clause-answers : goal.returns-in-Err-clause-answers
-returns-in-Err-clause-answers g c = inr (record { fault = c.in-Err.fault; read = c.in-Err.ensures.answer; told = ap Err c.of_risks.ensures; rest = refl })
+returns-in-Err-clause-answers g c = inr (record {
+  fault = c.in-Err.fault;
+  read = c.in-Err.ensures.answer;
+  told = ap Err c.of_risks.ensures;
+  rest = refl;
+})
 
 pub returns-in-Err-clause-mark : goal.returns-in-Err-clause-mark
-returns-in-Err-clause-mark g c = risks_mark (g.W.Sink.failed c.args.out.now) c.in-Err.fault c.of_risks.result c.of_risks.ensures
+returns-in-Err-clause-mark g c =
+    risks_mark (g.W.Sink.failed c.args.out.now) c.in-Err.fault c.of_risks.result c.of_risks.ensures

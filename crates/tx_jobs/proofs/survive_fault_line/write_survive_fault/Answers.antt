@@ -6,6 +6,10 @@ use Rattle.tx_jobs.proofs.survive_fault_line.write_survive_fault.Goals as goal
 
 pub returns-in-Risks-clause-ok : goal.returns-in-Risks-clause-ok
 returns-in-Risks-clause-ok g c =
+    let before = g.W.Sink.taken c.args.sink.now in
+    let after = g.W.Sink.taken c.write_text_fault.new.sink in
+    let line = c.in-Risks.fault.line in
     rw c.in-Risks.is
-    (subst (λ r. OnOk c.write_text_fault.result (g.W.Sink.taken c.write_text_fault.new.sink ≡ append_known (g.W.Sink.taken c.args.sink.now) (text_fault_line (codes "risks") c.in-Risks.fault.line r)))
+    (subst (λ r. OnOk c.write_text_fault.result
+    (after ≡ append_known before (text_fault_line (codes "risks") line r)))
     c.code_and_name-row.ensures c.write_text_fault.ensures.ok)

@@ -1,0 +1,4 @@
+pub mod Before
+pub mod Choices
+pub mod Marking
+mod FirstShown

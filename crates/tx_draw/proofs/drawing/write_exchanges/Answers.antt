@@ -1,0 +1,21 @@
+use Rattle.std.proofs.Common.{length, arith}
+use Rattle.tx_text.proofs.Wrote.{wrote_none}
+use Rattle.tx_draw.specs.Drawing.{exchange_line}
+use Rattle.tx_draw.proofs.Before.{before_more, before_done, before_stopped}
+use Rattle.tx_draw.proofs.drawing.write_exchanges.Goals as goal
+
+pub loop-place-init : goal.loop-place-init
+loop-place-init g c =
+    wrote_none _ _
+
+pub loop-place-preserved : goal.loop-place-preserved
+loop-place-preserved g c =
+    before_more (exchange_line c.args.plan.now) c.loop-place.place _ _ _ _ _ _ _ c.at.ensures c.loop-place.invariant c.in_ok-write_exchange.ensures
+
+pub returns : goal.returns
+returns g c =
+    before_done (exchange_line c.args.plan.now) c.loop-place.place (length c.args.plan.now.exchanges) _ _ _ _ (omega arith) c.loop-place.invariant
+
+pub returns-in_err-write_exchange : goal.returns-in_err-write_exchange
+returns-in_err-write_exchange g c =
+    before_stopped (exchange_line c.args.plan.now) c.loop-place.place (length c.args.plan.now.exchanges) _ _ _ _ _ _ _ _ c.in_err-write_exchange.field-0.0 (omega arith) c.at.ensures c.loop-place.invariant c.in_err-write_exchange.ensures c.from_residual.ensures.0

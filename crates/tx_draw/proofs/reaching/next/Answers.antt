@@ -1,0 +1,20 @@
+use Rattle.std.proofs.Common.{sym, ◌∙◌, arith}
+use Rattle.tx_draw.specs.Reached.{is_marked}
+use Rattle.tx_draw.proofs.Marking.{at_within, waits, none_more}
+use Rattle.tx_draw.proofs.reaching.next.Goals as goal
+
+pub loop-place-preserved : goal.loop-place-preserved
+loop-place-preserved c = none_more c.args.seen.now c.args.opened.now c.loop-place.place c.at-exchange.result c.at-exchange.ensures (sym c.is_waiting.ensures ∙ c.if-is_waiting.false) c.loop-place.invariant
+
+pub returns-then-is_waiting-clause-some : goal.returns-then-is_waiting-clause-some
+returns-then-is_waiting-clause-some c =
+    let w = waits (is_marked c.args.seen.now c.at-exchange.result) (is_marked c.args.opened.now c.at-exchange.result) (sym c.is_waiting.ensures ∙ c.if-is_waiting.true) in
+    let e = c.at-exchange.ensures in
+    let t = c.loop-place-test.true in
+    (omega arith, w.0, w.1)
+
+pub returns-clause-none : goal.returns-clause-none
+returns-clause-none c = λ x s.
+    let w = at_within c.args.seen.now x s in
+    let t = c.loop-place-test.false in
+    c.loop-place.invariant x (omega arith) s

@@ -1,0 +1,5 @@
+pub mod Drawing
+pub mod Shown
+pub mod CodeDrawing
+pub mod Reached
+pub mod inner

@@ -1,0 +1,194 @@
+// The picture of the routes for a code.
+ghost use Rattle.std.specs.Prelude.{◌≡◌, ◌+◌, true, OnOk, OnErr, length, get_or};
+ghost use Rattle.std.specs.Io.KnownBytes.{append_known};
+ghost use Rattle.tx_text.specs.Ends.{StopsIn};
+ghost use Rattle.tx_text.specs.Wrote.{Wrote};
+ghost use Rattle.tx_draw.specs.Shown.{first_shown};
+ghost use Rattle.tx_draw.specs.Drawing.{each_before};
+ghost use Rattle.tx_draw.specs.CodeDrawing.{title, home_text, exchange_line, order_label, choice_line, list_lines, code_drawing};
+
+use crate::marks::is_marked;
+use crate::parts::{write_box, write_head, write_line_between};
+use crate::shown::{Shown, color_text, first_shown};
+use itoa::Buffer;
+use std::alloc::Allocator;
+use tx_plan::{CodeId, ExchangeId, GroupId, Plan};
+use tx_rank::Finding;
+use tx_text::{Sink, WriteFault, write_text};
+
+/// Writes the picture of the routes for a code as a Graphviz text: the exchanges, and for each group of a list an arrow with its place in that list.
+///
+/// The home has a double border, what is not marked as reached is grey, and the walk of the first finding of the code is red. What went out before a failure is a front of the text.
+pub fn write_code_drawing<A: Allocator, W: Sink>(
+    plan: &Plan<A>,
+    code: CodeId,
+    reached: &[bool],
+    findings: &[Finding<A>],
+    sink: &mut W,
+) -> Result<(), WriteFault>
+    ensures ok { OnOk result (W.taken sink.new ≡ append_known (W.taken sink.old) (code_drawing plan.now code reached.now (first_shown code findings.now))) }
+    ensures err { OnErr result (StopsIn (W.taken sink.old) (W.taken sink.new) (code_drawing plan.now code reached.now (first_shown code findings.now))) }
+    ensures mark { OnErr result (W.failed sink.new ≡ true) }
+    ensures unmarked { OnOk result (W.failed sink.new ≡ W.failed sink.old) }
+{
+    write_first(plan, code, reached, findings, sink)
+}
+
+/// The same, said at once.
+fn write_first<A: Allocator, W: Sink>(
+    plan: &Plan<A>,
+    code: CodeId,
+    reached: &[bool],
+    findings: &[Finding<A>],
+    sink: &mut W,
+) -> Result<(), WriteFault>
+    ensures { Wrote (W.taken sink.old) (W.taken sink.new) (W.failed sink.old) (W.failed sink.new) (code_drawing plan.now code reached.now (first_shown code findings.now)) result }
+{
+    let shown = first_shown(code, findings);
+    write_whole(plan, code, reached, &shown, sink)
+}
+
+/// The same of the walk that is shown.
+fn write_whole<A: Allocator, W: Sink>(
+    plan: &Plan<A>,
+    code: CodeId,
+    reached: &[bool],
+    shown: &Shown<'_>,
+    sink: &mut W,
+) -> Result<(), WriteFault>
+    ensures { Wrote (W.taken sink.old) (W.taken sink.new) (W.failed sink.old) (W.failed sink.new) (code_drawing plan.now code reached.now shown.now) result }
+{
+    write_head(sink)?;
+    write_title(plan, code, shown, sink)?;
+    write_exchanges(plan, code, reached, shown, sink)?;
+    write_lists(plan, code, reached, shown, sink)?;
+    write_text(&[b"}\n"], sink)
+}
+
+fn write_title<A: Allocator, W: Sink>(
+    plan: &Plan<A>,
+    code: CodeId,
+    shown: &Shown<'_>,
+    sink: &mut W,
+) -> Result<(), WriteFault>
+    ensures { Wrote (W.taken sink.old) (W.taken sink.new) (W.failed sink.old) (W.failed sink.new) (title plan.now code shown.now) result }
+{
+    let figures = plan.code_figures(code);
+    write_text(&[b"label=\"Code ", figures, shown.word, b"\";\n"], sink)
+}
+
+// EXCHANGES
+
+fn write_exchanges<A: Allocator, W: Sink>(
+    plan: &Plan<A>,
+    code: CodeId,
+    reached: &[bool],
+    shown: &Shown<'_>,
+    sink: &mut W,
+) -> Result<(), WriteFault>
+    ensures { Wrote (W.taken sink.old) (W.taken sink.new) (W.failed sink.old) (W.failed sink.new) (each_before (length plan.now.exchanges) (exchange_line plan.now code reached.now shown.now)) result }
+{
+    plan.rules();
+    for place in 0..plan.exchanges() {
+        let exchange = ExchangeId::at(place as u16);
+        write_exchange(plan, code, reached, shown, exchange, sink)?;
+    }
+    Ok(())
+}
+
+fn write_exchange<A: Allocator, W: Sink>(
+    plan: &Plan<A>,
+    code: CodeId,
+    reached: &[bool],
+    shown: &Shown<'_>,
+    exchange: ExchangeId,
+    sink: &mut W,
+) -> Result<(), WriteFault>
+    ensures { Wrote (W.taken sink.old) (W.taken sink.new) (W.failed sink.old) (W.failed sink.new) (exchange_line plan.now code reached.now shown.now exchange) result }
+{
+    let home = home_text(plan.home(code) == exchange);
+    let color = color_text(shown.passes(exchange), is_marked(reached, exchange));
+    write_box(plan, exchange, sink)?;
+    write_text(&[b"\"", home, color, b"];\n"], sink)
+}
+
+/// The home has a double border.
+fn home_text(is_home: bool) -> &'static [u8]
+    ensures { result.now ≡ home_text is_home }
+{
+    if is_home { b", peripheries=\"2\"" } else { b"" }
+}
+
+// LISTS
+
+fn write_lists<A: Allocator, W: Sink>(
+    plan: &Plan<A>,
+    code: CodeId,
+    reached: &[bool],
+    shown: &Shown<'_>,
+    sink: &mut W,
+) -> Result<(), WriteFault>
+    ensures { Wrote (W.taken sink.old) (W.taken sink.new) (W.failed sink.old) (W.failed sink.new) (each_before (length plan.now.exchanges) (list_lines plan.now code reached.now shown.now)) result }
+{
+    plan.rules();
+    for place in 0..plan.exchanges() {
+        let exchange = ExchangeId::at(place as u16);
+        let list = plan.list(exchange, code);
+        write_list(plan, reached, shown, exchange, list, sink)?;
+    }
+    Ok(())
+}
+
+/// Writes a line for each group of a list.
+fn write_list<A: Allocator, W: Sink>(
+    plan: &Plan<A>,
+    reached: &[bool],
+    shown: &Shown<'_>,
+    exchange: ExchangeId,
+    list: &[GroupId],
+    sink: &mut W,
+) -> Result<(), WriteFault>
+    ensures { Wrote (W.taken sink.old) (W.taken sink.new) (W.failed sink.old) (W.failed sink.new) (each_before (length list.now) (λ i. choice_line plan.now reached.now shown.now exchange (i + 1) (get_or list.now i 0))) result }
+{
+    for i in 0..list.len() {
+        write_choice(plan, reached, shown, exchange, i + 1, list[i], sink)?;
+    }
+    Ok(())
+}
+
+/// Writes the line of the group that stands so many in the list of an exchange.
+fn write_choice<A: Allocator, W: Sink>(
+    plan: &Plan<A>,
+    reached: &[bool],
+    shown: &Shown<'_>,
+    exchange: ExchangeId,
+    order: usize,
+    group: GroupId,
+    sink: &mut W,
+) -> Result<(), WriteFault>
+    ensures { Wrote (W.taken sink.old) (W.taken sink.new) (W.failed sink.old) (W.failed sink.new) (choice_line plan.now reached.now shown.now exchange order group) result }
+{
+    match plan.other_end(group, exchange) {
+        Some(to) => {
+            let color = color_text(shown.goes_by(group, to), is_marked(reached, exchange));
+            write_line_between(plan, exchange, to, sink)?;
+            write_order(plan, order, group, color, sink)
+        }
+        None => Ok(()),
+    }
+}
+
+fn write_order<A: Allocator, W: Sink>(
+    plan: &Plan<A>,
+    order: usize,
+    group: GroupId,
+    color: &[u8],
+    sink: &mut W,
+) -> Result<(), WriteFault>
+    ensures { Wrote (W.taken sink.old) (W.taken sink.new) (W.failed sink.old) (W.failed sink.new) (order_label plan.now order group color.now) result }
+{
+    let mut buffer = Buffer::new();
+    let order = buffer.format(order).as_bytes();
+    let name = plan.group_name(group);
+    write_text(&[b"\"", order, b" ", name, b"\"", color, b"];\n"], sink)
+}

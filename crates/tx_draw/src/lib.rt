@@ -1,0 +1,13 @@
+//! Pictures of a plan, and of the routes for a code, as Graphviz texts.
+#![tactic(auto)]
+
+mod code_drawing;
+mod drawing;
+mod marks;
+mod parts;
+mod reaching;
+mod shown;
+
+pub use code_drawing::write_code_drawing;
+pub use drawing::write_drawing;
+pub use reaching::reached;

@@ -1,0 +1,86 @@
+// What both pictures have.
+ghost use Rattle.std.specs.Prelude.{length};
+ghost use Rattle.tx_text.specs.Wrote.{Wrote};
+ghost use Rattle.tx_draw.specs.Drawing.{head, home_row, box, line_between, each_before};
+
+use std::alloc::Allocator;
+use tx_plan::{CodeId, ExchangeId, Plan};
+use tx_text::{Sink, WriteFault, write_text};
+
+/// Writes the first lines: what all exchanges and all groups look like.
+pub fn write_head<W: Sink>(sink: &mut W) -> Result<(), WriteFault>
+    ensures { Wrote (W.taken sink.old) (W.taken sink.new) (W.failed sink.old) (W.failed sink.new) head result }
+{
+    write_text(
+        &[
+            b"digraph \"plan\" {\n",
+            b"graph [fontname=\"Helvetica\"];\n",
+            b"node [shape=\"box\", fontname=\"Helvetica\"];\n",
+            b"edge [fontname=\"Helvetica\", fontsize=\"10\"];\n",
+        ],
+        sink,
+    )
+}
+
+/// Writes an exchange as far as its label: its name, and the codes that are at home there.
+pub fn write_box<A: Allocator, W: Sink>(
+    plan: &Plan<A>,
+    exchange: ExchangeId,
+    sink: &mut W,
+) -> Result<(), WriteFault>
+    ensures { Wrote (W.taken sink.old) (W.taken sink.new) (W.failed sink.old) (W.failed sink.new) (box plan.now exchange) result }
+{
+    let name = plan.exchange_name(exchange);
+    write_text(&[b"\"", name, b"\" [label=\"", name], sink)?;
+    write_home_rows(plan, exchange, sink)
+}
+
+fn write_home_rows<A: Allocator, W: Sink>(
+    plan: &Plan<A>,
+    exchange: ExchangeId,
+    sink: &mut W,
+) -> Result<(), WriteFault>
+    ensures { Wrote (W.taken sink.old) (W.taken sink.new) (W.failed sink.old) (W.failed sink.new) (each_before (length plan.now.codes) (home_row plan.now exchange)) result }
+{
+    plan.rules();
+    for place in 0..plan.codes() {
+        write_home_row(plan, exchange, CodeId::at(place as u16), sink)?;
+    }
+    Ok(())
+}
+
+fn write_home_row<A: Allocator, W: Sink>(
+    plan: &Plan<A>,
+    exchange: ExchangeId,
+    code: CodeId,
+    sink: &mut W,
+) -> Result<(), WriteFault>
+    ensures { Wrote (W.taken sink.old) (W.taken sink.new) (W.failed sink.old) (W.failed sink.new) (home_row plan.now exchange code) result }
+{
+    if plan.home(code) == exchange {
+        write_text(&[b"\\n", plan.code_figures(code)], sink)
+    } else {
+        Ok(())
+    }
+}
+
+/// Writes a line between two exchanges, as far as its label.
+pub fn write_line_between<A: Allocator, W: Sink>(
+    plan: &Plan<A>,
+    from: ExchangeId,
+    to: ExchangeId,
+    sink: &mut W,
+) -> Result<(), WriteFault>
+    ensures { Wrote (W.taken sink.old) (W.taken sink.new) (W.failed sink.old) (W.failed sink.new) (line_between plan.now from to) result }
+{
+    write_text(
+        &[
+            b"\"",
+            plan.exchange_name(from),
+            b"\" -> \"",
+            plan.exchange_name(to),
+            b"\" [label=",
+        ],
+        sink,
+    )
+}

@@ -1,7 +1,0 @@
-use Rattle.std.proofs.Common.{Ok}
-use Rattle.tx_text.specs.Wrote.{Wrote}
-use Rattle.tx_jobs.specs.Drawing.{each_before, group_line}
-use Rattle.tx_jobs.proofs.drawing.write_groups.Given as goal
-
-abbrev pub invariant-loop-place : goal.invariant-loop-place
-invariant-loop-place g l = Wrote (g.W.Sink.taken l.initial.sink) (g.W.Sink.taken l.sink) (g.W.Sink.failed l.initial.sink) (g.W.Sink.failed l.sink) (each_before l.place (group_line l.plan)) (Ok tt)
