@@ -9,4 +9,6 @@ mod pairs;
 mod shown;
 mod tally;
 
+pub(crate) use members::is_ranked;
+pub(crate) use mixtures::are_alike;
 pub(crate) use pairs::play_pairs;

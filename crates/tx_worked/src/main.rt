@@ -11,7 +11,8 @@
 //!   found, or the script of the first finding that has one. `change L K` has an old plan and a
 //!   new one, and writes behind its report the certificate, or the mixture of the first finding
 //!   that has a walk, and its script. `mend L K` has a plan, and writes behind its report the mended
-//!   plan and its certificate.
+//!   plan and its certificate. `trace EXCHANGE CODE` has a plan. `survive` has a plan and a text of
+//!   risks, and `survive alone` a plan.
 //!   Each is played by sources of 1, 2, 7 and 4,096 bytes a call, which has to make no difference.
 //!   `draw`, `draw CODE` and `draw CODE L K` have a plan.
 //! - `pictures` and `pictures L K` have a plan, which is drawn, and each of its codes, with the walk of the code's first finding where there are numbers.
@@ -26,8 +27,9 @@
 //! - `cert` has a plan and a certificate, and `plan` a plan, which are written and read back. A new certificate of the plan is written before.
 //! - `program` plays the program at its ends, over the files beside the folder `cases`: `cases/end_case.rt` has what stands in its head. `arguments` tells how it
 //!   refuses its arguments.
-//! - `family` judges the ranking over a family of plans, and `pairs` the change of each into each.
-//!   `twins` plays the engine beside the plain network. The calls of the crates below have the kinds
+//! - `family` judges the ranking over a family of plans, `pairs` the change of each into each,
+//!   `mends` the mending of each, and `outages` what each group, each exchange and each two groups
+//!   cut off in each. `twins` plays the engine beside the plain network. The calls of the crates below have the kinds
 //!   of `tests`.
 #![tactic(auto)]
 
@@ -37,19 +39,15 @@ mod checked;
 mod driven;
 mod end_cases;
 mod end_play;
-mod evidences;
-mod fault;
-mod job;
-mod listings;
-mod pictures;
+mod jobs;
+mod mends;
+mod outages;
 mod play;
 mod player;
 mod run_laws;
 mod runs;
 mod stage;
-mod stretches;
 mod tests;
-mod trials;
 mod twins;
 mod walks;
 mod whole_runs;

@@ -4,11 +4,11 @@ use crate::cases::{
     long_number, number_of, task_of, tell, tell_broken, two_texts,
 };
 use crate::checked::play_certified;
-use crate::job::{Whole, do_in_room};
-use crate::listings::{count_calls, list_prefixes};
-use crate::pictures::play_pictures;
+use crate::jobs::{
+    Whole, count_calls, do_in_room, list_prefixes, play_pictures, try_ends, try_pieces,
+    try_refusals,
+};
 use crate::runs::{Over, Script, run_beside};
-use crate::trials::{try_ends, try_pieces, try_refusals};
 use crate::whole_runs::{Part, play_run};
 use crate::written::{play_cert, play_plan};
 use memchr::memmem;

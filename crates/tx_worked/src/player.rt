@@ -5,6 +5,8 @@ use crate::cases::{
 };
 use crate::changes::play_pairs;
 use crate::end_cases::{play_arguments, play_program};
+use crate::mends::play_mends;
+use crate::outages::play_outages;
 use crate::play::play_texts;
 use crate::tests::play_call;
 use crate::twins::{Tallies, play_twins, tell_tallies};
@@ -59,6 +61,8 @@ impl<'a> Player<'a> {
             Some(Kind::Arguments) => play_arguments(alloc, head.first, out),
             Some(Kind::Family) => play_family(alloc, texts, out),
             Some(Kind::Pairs) => play_pairs(alloc, texts, out),
+            Some(Kind::Mends) => play_mends(alloc, texts, out),
+            Some(Kind::Outages) => play_outages(alloc, texts, out),
             Some(Kind::Twins) => play_twins(alloc, head, texts, &mut self.tallies, out),
             None => tell_broken(b"no such kind of case", 0, out),
         }

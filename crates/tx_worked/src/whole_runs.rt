@@ -1,6 +1,6 @@
 // Cases that run a script whole, and what is told beside that.
 use crate::cases::{Ends, ROOM, Told, tell, tell_broken, tell_count};
-use crate::listings::{list_calls, list_rooms};
+use crate::jobs::{list_calls, list_rooms};
 use crate::run_laws::{tell_summary, try_run_laws};
 use crate::runs::{Script, WholeRun, run_in_room, told_cause};
 use std::alloc::Global;

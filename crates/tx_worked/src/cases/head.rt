@@ -35,6 +35,10 @@ pub enum Kind {
     Family,
     /// A family of plans, each of which is changed into each, judged by brute force.
     Pairs,
+    /// A family of plans, each of which is mended, judged by brute force.
+    Mends,
+    /// A family of plans, whose outages are judged by brute force.
+    Outages,
     /// A plan, over which the engine is played beside the plain network.
     Twins,
 }
@@ -62,6 +66,8 @@ pub enum JobKind {
     Audit,
     Change,
     Mend,
+    Trace,
+    Survive,
     Checked,
     Draw,
 }
@@ -79,7 +85,7 @@ pub enum Driven {
     Starting,
 }
 
-static TEXTS: [(&str, TextKind); 19] = [
+static TEXTS: [(&str, TextKind); 21] = [
     ("pipe", TextKind::Job(JobKind::Pipe)),
     ("run", TextKind::Job(JobKind::Run)),
     ("codes", TextKind::Job(JobKind::Codes)),
@@ -88,6 +94,8 @@ static TEXTS: [(&str, TextKind); 19] = [
     ("audit", TextKind::Job(JobKind::Audit)),
     ("change", TextKind::Job(JobKind::Change)),
     ("mend", TextKind::Job(JobKind::Mend)),
+    ("trace", TextKind::Job(JobKind::Trace)),
+    ("survive", TextKind::Job(JobKind::Survive)),
     ("checked", TextKind::Job(JobKind::Checked)),
     ("draw", TextKind::Job(JobKind::Draw)),
     ("both", TextKind::Both),
@@ -101,11 +109,13 @@ static TEXTS: [(&str, TextKind); 19] = [
     ("starting", TextKind::Driven(Driven::Starting)),
 ];
 
-static OTHERS: [(&str, Kind); 5] = [
+static OTHERS: [(&str, Kind); 7] = [
     ("program", Kind::Program),
     ("arguments", Kind::Arguments),
     ("family", Kind::Family),
     ("pairs", Kind::Pairs),
+    ("mends", Kind::Mends),
+    ("outages", Kind::Outages),
     ("twins", Kind::Twins),
 ];
 
@@ -167,7 +177,7 @@ pub fn limit_and_spare(head: Head<'_>) -> (u8, u8) {
 }
 
 /// A picture: of a plan, or of a code, with a limit and a spare number behind it or without.
-pub fn drawing_of(code: &[u8], limit: &[u8], spare: &[u8]) -> Job {
+pub fn drawing_of<'a>(code: &'a [u8], limit: &[u8], spare: &[u8]) -> Job<'a> {
     if code.is_empty() {
         return Job::Draw;
     }
@@ -182,8 +192,17 @@ pub fn drawing_of(code: &[u8], limit: &[u8], spare: &[u8]) -> Job {
     }
 }
 
+/// Outages of a plan, alone or with named risks.
+fn survival_of<'a>(word: &'a [u8]) -> Job<'a> {
+    if word == b"alone".as_slice() {
+        Job::SurviveAlone
+    } else {
+        Job::Survive
+    }
+}
+
 /// The job of a case.
-pub fn job_of(kind: JobKind, head: Head<'_>) -> Job {
+pub fn job_of<'a>(kind: JobKind, head: Head<'a>) -> Job<'a> {
     let (limit, spare) = limit_and_spare(head);
     match kind {
         JobKind::Pipe => Job::Pipe,
@@ -194,6 +213,11 @@ pub fn job_of(kind: JobKind, head: Head<'_>) -> Job {
         JobKind::Audit => Job::Audit { limit, spare },
         JobKind::Change => Job::Change { limit, spare },
         JobKind::Mend => Job::Mend { limit, spare },
+        JobKind::Trace => Job::Trace {
+            exchange: head.first,
+            code: head.second,
+        },
+        JobKind::Survive => survival_of(head.first),
         JobKind::Checked => Job::Checked { limit, spare },
         JobKind::Draw => drawing_of(head.first, head.second, head.third),
     }

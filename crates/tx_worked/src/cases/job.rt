@@ -3,7 +3,7 @@ use crate::cases::case::two_texts;
 
 /// Which job.
 #[derive(Clone, Copy)]
-pub enum Job {
+pub enum Job<'a> {
     Pipe,
     Run,
     Codes,
@@ -15,6 +15,12 @@ pub enum Job {
     Change { limit: u8, spare: u8 },
     /// A plan that is mended, with the mended plan and its certificate behind the report.
     Mend { limit: u8, spare: u8 },
+    /// How calls for a code go from an exchange.
+    Trace { exchange: &'a [u8], code: &'a [u8] },
+    /// What outages cut off, with named risks.
+    Survive,
+    /// What outages cut off, without named risks.
+    SurviveAlone,
     /// A run after a Yes of the checker.
     Checked { limit: u8, spare: u8 },
     /// The picture of a plan.
@@ -28,14 +34,14 @@ pub enum Job {
 /// A job and its texts, in the order in which they are read.
 #[derive(Clone, Copy)]
 pub struct Task<'a> {
-    pub job: Job,
+    pub job: Job<'a>,
     pub first: &'a [u8],
     pub second: &'a [u8],
     pub third: &'a [u8],
 }
 
 /// A job and its texts. That of a checked run has its second and third text in one.
-pub fn task_of<'a>(job: Job, first: &'a [u8], rest: &'a [u8]) -> Task<'a> {
+pub fn task_of<'a>(job: Job<'a>, first: &'a [u8], rest: &'a [u8]) -> Task<'a> {
     let (second, third) = match job {
         Job::Checked { .. } => two_texts(rest),
         _ => (rest, b"".as_slice()),
@@ -49,7 +55,7 @@ pub fn task_of<'a>(job: Job, first: &'a [u8], rest: &'a [u8]) -> Task<'a> {
 }
 
 /// The name of a job.
-pub fn job_name(job: Job) -> &'static [u8] {
+pub fn job_name(job: Job<'_>) -> &'static [u8] {
     match job {
         Job::Pipe => b"pipe",
         Job::Run => b"run",
@@ -59,23 +65,27 @@ pub fn job_name(job: Job) -> &'static [u8] {
         Job::Audit { .. } => b"audit",
         Job::Change { .. } => b"change",
         Job::Mend { .. } => b"mend",
+        Job::Trace { .. } => b"trace",
+        Job::Survive | Job::SurviveAlone => b"survive",
         Job::Checked { .. } => b"checked",
         Job::Draw | Job::DrawCode { .. } | Job::DrawFinding { .. } => b"draw",
     }
 }
 
 /// How many sources a job has.
-pub fn sources(job: Job) -> u8 {
+pub fn sources(job: Job<'_>) -> u8 {
     match job {
         Job::Pipe
         | Job::Codes
         | Job::Grade
         | Job::Audit { .. }
         | Job::Mend { .. }
+        | Job::Trace { .. }
+        | Job::SurviveAlone
         | Job::Draw
         | Job::DrawCode { .. }
         | Job::DrawFinding { .. } => 1,
-        Job::Run | Job::Check { .. } | Job::Change { .. } => 2,
+        Job::Run | Job::Check { .. } | Job::Change { .. } | Job::Survive => 2,
         Job::Checked { .. } => 3,
     }
 }

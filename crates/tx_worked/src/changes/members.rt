@@ -29,7 +29,7 @@ impl Member {
 }
 
 /// Whether a plan has ranks for a limit and a spare number.
-fn is_ranked(alloc: Global, plan: &Plan, limit: u8, spare: u8) -> Result<bool, NoMemory>
+pub fn is_ranked(alloc: Global, plan: &Plan, limit: u8, spare: u8) -> Result<bool, NoMemory>
     requires limit { limit ≤ 62 }
     requires spare { spare ≤ 15 }
 {

@@ -31,6 +31,18 @@ pub enum Difference {
     NoMixture,
     /// The audit of the mixture that a finding of a change shows.
     Mixture,
+    /// The walks of all routings of a network say otherwise than their audits what can be served.
+    Routings,
+    /// What cannot be served, or the ambiguous pair.
+    Unserved,
+    /// The plan that is not mended, or the routes that a mended plan had.
+    Before,
+    /// The list of an exchange for a code.
+    ListAt(CodeId, ExchangeId),
+    /// The order of the routes of a mended plan.
+    Order,
+    /// The cut at this place.
+    CutAt(usize),
 }
 
 /// Whether a walk is one for a code, with what is wanted wrong.

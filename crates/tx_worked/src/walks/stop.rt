@@ -1,4 +1,4 @@
-// Why the plans of a family, or their pairs, are judged no further.
+// Why the plans of a family, or their pairs, mendings or outages, are judged no further.
 use crate::cases::{Stop, Told, tell, tell_count};
 use crate::walks::compare::Difference;
 
@@ -24,6 +24,12 @@ fn said(difference: Difference) -> (&'static [u8], u64) {
         Difference::Networks => (b"networks ", 0),
         Difference::NoMixture => (b"no mixture ", 0),
         Difference::Mixture => (b"mixture ", 0),
+        Difference::Routings => (b"routings ", 0),
+        Difference::Unserved => (b"unserved ", 0),
+        Difference::Before => (b"before ", 0),
+        Difference::ListAt(_, exchange) => (b"list ", exchange.index() as u64),
+        Difference::Order => (b"order ", 0),
+        Difference::CutAt(place) => (b"cut ", place as u64),
     }
 }
 

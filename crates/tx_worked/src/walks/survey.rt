@@ -29,7 +29,7 @@ fn note_greater(counts: &mut [Option<usize>], place: usize, count: usize) {
 }
 
 /// Takes in a count for the exchange at a place, where it is the lesser.
-fn note_lesser(counts: &mut [Option<usize>], place: usize, count: usize) {
+pub fn note_lesser(counts: &mut [Option<usize>], place: usize, count: usize) {
     if let Some(known) = counts.get_mut(place) {
         *known = Some(known.unwrap_or(count).min(count));
     }

@@ -8,7 +8,7 @@ use tx_text::NoMemory;
 pub type Steps = Vec<(GroupId, ExchangeId)>;
 
 /// Takes in the walk in hand, and all that go on from it by at most so many steps, until they repeat an exchange or come home.
-fn note_walks(
+pub fn note_walks(
     plan: &Plan,
     start: ExchangeId,
     steps: &mut Steps,

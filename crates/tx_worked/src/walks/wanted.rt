@@ -45,7 +45,7 @@ fn has_before(plan: &Plan, shorter: CodeId, longer: CodeId) -> bool {
 }
 
 /// The ambiguous pair before which there is none.
-fn ambiguous(plan: &Plan) -> Option<Wanted> {
+pub fn ambiguous(plan: &Plan) -> Option<Wanted> {
     for i in 0..plan.codes() {
         for j in 0..plan.codes() {
             if let (Some(a), Some(b)) = (plan.code_at(i), plan.code_at(j)) {

@@ -1,16 +1,18 @@
-// The jobs that answer what shows their verdict, which is written behind the report.
+// The jobs that answer what shows their verdict, which is written behind the report, and those of
+// outages.
 ghost use Rattle.std.specs.Prelude.{◌≤◌};
 
 use std::alloc::Allocator;
 use tx_audit::write_counter;
 use tx_cert::{Cert, write_cert};
 use tx_jobs::{
-    ChangeEvidence, ChangeFault, CounterScript, Evidence, JobFault, Mixture, change_evidence_job,
-    evidence_job, mend_job,
+    ChangeEvidence, ChangeFault, CounterScript, Evidence, JobFault, Mixture, SurviveFault,
+    change_evidence_job, evidence_job, mend_job, survival_status, survive_job, survive_risks_job,
 };
 use tx_mend::Mending;
 use tx_plan::Plan;
 use tx_plantext::write_plan;
+use tx_risk::Survival;
 use tx_text::{MemorySink, MemorySource, WriteFault};
 
 /// The exit status of a job that wrote something behind its report.
@@ -153,6 +155,38 @@ pub(crate) fn do_mend<A: Allocator + Copy>(
             drop(plan);
             Ok(1)
         }
+        Err(fault) => Err(fault),
+    }
+}
+
+/// Lets go of what outages cut off, and answers the exit status.
+fn survived<A: Allocator>(survival: Survival<A>) -> u8 {
+    let status = survival_status(&survival);
+    drop(survival);
+    status
+}
+
+/// Tries the outages of a plan.
+pub(crate) fn do_survive_alone<A: Allocator + Copy>(
+    alloc: A,
+    plan: &mut MemorySource<'_>,
+    out: &mut MemorySink,
+) -> Result<u8, JobFault> {
+    match survive_job(alloc, plan, out) {
+        Ok(survival) => Ok(survived(survival)),
+        Err(fault) => Err(fault),
+    }
+}
+
+/// Tries the outages of a plan, and its named risks among them.
+pub(crate) fn do_survive<A: Allocator + Copy>(
+    alloc: A,
+    plan: &mut MemorySource<'_>,
+    risks: &mut MemorySource<'_>,
+    out: &mut MemorySink,
+) -> Result<u8, SurviveFault> {
+    match survive_risks_job(alloc, plan, risks, out) {
+        Ok(survival) => Ok(survived(survival)),
         Err(fault) => Err(fault),
     }
 }

@@ -2,13 +2,13 @@
 ghost use Rattle.std.specs.Prelude.{◌≤◌, IfSome};
 
 use crate::cases::{End, Ends, Job, ROOM, Refusing, Task, Told, tell, tell_broken};
-use crate::evidences::{do_audit, do_change, do_mend};
-use crate::fault::Fault;
+use crate::jobs::evidences::{do_audit, do_change, do_mend, do_survive, do_survive_alone};
+use crate::jobs::fault::Fault;
 use itoa::Buffer;
 use std::alloc::{Allocator, Global};
 use tx_jobs::{
-    Drawn, JobFault, check_status, codes_status, draw_job, grade_status, pipe_job,
-    run_checked_status, run_job,
+    Drawn, JobFault, Traced, check_status, codes_status, draw_job, grade_status, pipe_job,
+    run_checked_status, run_job, trace_job,
 };
 use tx_text::{MemorySink, MemorySource};
 
@@ -68,7 +68,7 @@ fn do_draw_code<A: Allocator + Copy>(
 /// Draws a plan, or one of its codes.
 fn do_draw<A: Allocator + Copy>(
     alloc: A,
-    job: Job,
+    job: Job<'_>,
     plan: &mut MemorySource<'_>,
     out: &mut MemorySink,
 ) -> Result<Drawn, JobFault> {
@@ -80,10 +80,25 @@ fn do_draw<A: Allocator + Copy>(
     do_draw_code(alloc, plan, code, bounds, out)
 }
 
+/// Traces a code from an exchange, and answers the exit status.
+fn do_trace<A: Allocator + Copy>(
+    alloc: A,
+    plan: &mut MemorySource<'_>,
+    exchange: &[u8],
+    code: &[u8],
+    out: &mut MemorySink,
+) -> Result<u8, JobFault> {
+    match trace_job(alloc, plan, exchange, code, out) {
+        Ok(Traced::Trace) => Ok(0),
+        Ok(Traced::NoSuchExchange | Traced::NoSuchCode) => Ok(64),
+        Err(fault) => Err(fault),
+    }
+}
+
 /// Does a job over a plan alone, and answers its exit status.
 fn do_plan_job<A: Allocator + Copy>(
     alloc: A,
-    job: Job,
+    job: Job<'_>,
     plan: &mut MemorySource<'_>,
     out: &mut MemorySink,
 ) -> Result<u8, JobFault> {
@@ -92,6 +107,8 @@ fn do_plan_job<A: Allocator + Copy>(
         Job::Grade => grade_status(alloc, plan, out),
         Job::Audit { limit, spare } => do_audit(alloc, plan, limit.min(62), spare.min(15), out),
         Job::Mend { limit, spare } => do_mend(alloc, plan, limit.min(62), spare.min(15), out),
+        Job::Trace { exchange, code } => do_trace(alloc, plan, exchange, code, out),
+        Job::SurviveAlone => do_survive_alone(alloc, plan, out),
         _ => match do_draw(alloc, job, plan, out) {
             Ok(Drawn::Picture) => Ok(0),
             Ok(Drawn::NoSuchCode) => Ok(64),
@@ -103,7 +120,7 @@ fn do_plan_job<A: Allocator + Copy>(
 /// Does a job over its sources, and answers its exit status: that of a pipe has but one.
 fn do_job<A: Allocator + Copy>(
     alloc: A,
-    job: Job,
+    job: Job<'_>,
     first: &mut MemorySource<'_>,
     second: &mut MemorySource<'_>,
     third: &mut MemorySource<'_>,
@@ -122,7 +139,7 @@ fn do_job<A: Allocator + Copy>(
     }
 }
 
-/// Does a task that is no change, and answers its exit status.
+/// Does a task whose texts have no faults of their own, and answers its exit status.
 fn do_other<A: Allocator + Copy>(
     alloc: A,
     task: Task<'_>,
@@ -138,6 +155,38 @@ fn do_other<A: Allocator + Copy>(
     do_job(alloc, task.job, &mut first, &mut second, &mut third, out)
 }
 
+/// Judges the change of a plan into another one, and answers the exit status.
+fn do_change_task<A: Allocator + Copy>(
+    alloc: A,
+    task: Task<'_>,
+    limit: u8,
+    spare: u8,
+    ends: Ends,
+    out: &mut MemorySink,
+) -> Result<u8, Fault> {
+    let mut old = ends.source(End::First, task.first);
+    let mut new = ends.source(End::Second, task.second);
+    match do_change(alloc, &mut old, &mut new, limit.min(62), spare.min(15), out) {
+        Ok(status) => Ok(status),
+        Err(fault) => Err(Fault::Change(fault)),
+    }
+}
+
+/// Tries the outages of a plan, named risks among them, and answers the exit status.
+fn do_survive_task<A: Allocator + Copy>(
+    alloc: A,
+    task: Task<'_>,
+    ends: Ends,
+    out: &mut MemorySink,
+) -> Result<u8, Fault> {
+    let mut plan = ends.source(End::First, task.first);
+    let mut risks = ends.source(End::Second, task.second);
+    match do_survive(alloc, &mut plan, &mut risks, out) {
+        Ok(status) => Ok(status),
+        Err(fault) => Err(Fault::Survive(fault)),
+    }
+}
+
 /// Does a task, and answers its exit status.
 fn do_task<A: Allocator + Copy>(
     alloc: A,
@@ -145,18 +194,13 @@ fn do_task<A: Allocator + Copy>(
     ends: Ends,
     out: &mut MemorySink,
 ) -> Result<u8, Fault> {
-    if let Job::Change { limit, spare } = task.job {
-        let mut old = ends.source(End::First, task.first);
-        let mut new = ends.source(End::Second, task.second);
-        let did = do_change(alloc, &mut old, &mut new, limit.min(62), spare.min(15), out);
-        return match did {
+    match task.job {
+        Job::Change { limit, spare } => do_change_task(alloc, task, limit, spare, ends, out),
+        Job::Survive => do_survive_task(alloc, task, ends, out),
+        _ => match do_other(alloc, task, ends, out) {
             Ok(status) => Ok(status),
-            Err(fault) => Err(Fault::Change(fault)),
-        };
-    }
-    match do_other(alloc, task, ends, out) {
-        Ok(status) => Ok(status),
-        Err(fault) => Err(Fault::Job(fault)),
+            Err(fault) => Err(Fault::Job(fault)),
+        },
     }
 }
 

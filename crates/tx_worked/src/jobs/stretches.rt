@@ -1,6 +1,6 @@
 // Lists of what happens at each number, told by stretches of numbers at which the same happens.
 use crate::cases::{Told, tell, tell_count};
-use crate::fault::Fault;
+use crate::jobs::fault::Fault;
 
 /// What happens at a number: the event and the bytes, where they are told, and the fault.
 #[derive(Clone, Copy, PartialEq, Eq)]

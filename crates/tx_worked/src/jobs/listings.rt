@@ -2,10 +2,10 @@
 use crate::cases::{
     End, Ends, Refusing, Task, Told, calls_left, sources, tell, tell_broken, tell_count, with_last,
 };
-use crate::fault::Fault;
-use crate::job::{Whole, done};
+use crate::jobs::fault::Fault;
+use crate::jobs::job::{Whole, done};
+use crate::jobs::stretches::{Happens, Stretches};
 use crate::runs::{Ran, Script, WholeRun, run_beside, run_text, told_cause};
-use crate::stretches::{Happens, Stretches};
 use std::alloc::Global;
 use tx_jobs::write_fault;
 use tx_text::{MemorySink, MemorySource};

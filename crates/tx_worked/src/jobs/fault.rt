@@ -1,6 +1,8 @@
 // Why a job stopped, as it is compared and told.
 use crate::cases::Told;
-use tx_jobs::{ChangeFault, JobFault, write_change_fault, write_fault};
+use tx_jobs::{
+    ChangeFault, JobFault, SurviveFault, write_change_fault, write_fault, write_survive_fault,
+};
 
 /// Why a job stopped.
 #[derive(Clone, Copy, PartialEq, Eq)]
@@ -8,14 +10,18 @@ pub(crate) enum Fault {
     Job(JobFault),
     /// Of the job of a change.
     Change(ChangeFault),
+    /// Of the job of outages.
+    Survive(SurviveFault),
 }
 
 impl Fault {
     /// Whether it is this fault.
     pub(crate) fn is(&self, fault: JobFault) -> bool {
         match self {
-            Fault::Job(it) | Fault::Change(ChangeFault::Job(it)) => *it == fault,
-            Fault::Change(_) => false,
+            Fault::Job(it)
+            | Fault::Change(ChangeFault::Job(it))
+            | Fault::Survive(SurviveFault::Job(it)) => *it == fault,
+            Fault::Change(_) | Fault::Survive(_) => false,
         }
     }
 
@@ -24,6 +30,7 @@ impl Fault {
         match self {
             Fault::Job(fault) => fault.status(),
             Fault::Change(fault) => fault.status(),
+            Fault::Survive(fault) => fault.status(),
         }
     }
 
@@ -32,6 +39,7 @@ impl Fault {
         let _ = match self {
             Fault::Job(fault) => write_fault(fault, out),
             Fault::Change(fault) => write_change_fault(fault, out),
+            Fault::Survive(fault) => write_survive_fault(fault, out),
         };
     }
 }

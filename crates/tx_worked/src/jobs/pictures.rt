@@ -1,6 +1,6 @@
 // All pictures of a plan.
 use crate::cases::{Head, Job, Told, drawing_of, task_of, tell_broken};
-use crate::job::tell_task;
+use crate::jobs::job::tell_task;
 use std::alloc::Global;
 use tx_plan::{CodeId, Plan};
 use tx_plantext::read_plan;

@@ -1,6 +1,6 @@
 // The laws of a job: however its sources cut the text, wherever an end fails, and whichever request for memory is refused.
 use crate::cases::{End, Ends, Task, Told, job_name, sources, tell_broken, tell_count, tell_parts};
-use crate::job::{Whole, done, tell_task};
+use crate::jobs::job::{Whole, done, tell_task};
 use std::alloc::Global;
 use tx_jobs::JobFault;
 /// More than any case has of anything.

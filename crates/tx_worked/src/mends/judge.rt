@@ -1,0 +1,300 @@
+// What a mending answers beside what all routings of the network show.
+ghost use Rattle.std.specs.Prelude.{◌≤◌};
+
+use crate::changes::{are_alike, is_ranked};
+use crate::mends::lists::Asked;
+use crate::mends::order::{Routed, are_in_order};
+use crate::mends::serving::RoutingWork;
+use crate::mends::starts::count_at;
+use crate::mends::tally::MendTally;
+use crate::walks::{Difference, Survey, Wanted, ambiguous, put_code, ranks_differ, survey_codes};
+use std::alloc::Global;
+use tx_cert::Cert;
+use tx_change::first_difference;
+use tx_check::{Verdict, check};
+use tx_mend::Mending;
+use tx_plan::{CodeId, ExchangeId, GroupId, Pair, Plan, Routes};
+use tx_text::NoMemory;
+
+/// What is wanted of a mending, and what the mended plan shows.
+#[derive(Drop)]
+pub struct Answers {
+    /// Each code with each exchange that cannot be served for it.
+    pub unserved: Vec<(CodeId, ExchangeId)>,
+    /// What the walks of the mended plan show for each code.
+    surveys: Vec<Survey>,
+    list: Vec<GroupId>,
+    routed: Vec<Routed>,
+}
+
+impl Answers {
+    pub fn new(alloc: Global) -> Answers {
+        Answers {
+            unserved: Vec::new(alloc),
+            surveys: Vec::new(alloc),
+            list: Vec::new(alloc),
+            routed: Vec::new(alloc),
+        }
+    }
+}
+
+/// Makes the list of what no routings serve: exchanges where calls for a code may start.
+pub fn put_unserved(
+    asked: Asked<'_>,
+    unserved: &mut Vec<(CodeId, ExchangeId)>,
+) -> Result<(), NoMemory> {
+    unserved.clear();
+    for i in 0..asked.plan.codes() {
+        for j in 0..asked.plan.exchanges() {
+            if let (Some(code), Some(exchange)) = (
+                asked.plan.code_at(i),
+                asked.plan.exchange_at(j),
+            ) {
+                if asked.plan.is_origin_for(exchange, code)
+                    && asked.rank(code, exchange).is_none()
+                {
+                    unserved.push((code, exchange))?;
+                }
+            }
+        }
+    }
+    Ok(())
+}
+
+/// Whether for each code an audit finds nothing wrong with the code in some routing.
+pub fn all_are_ranked(asked: Asked<'_>) -> bool {
+    for place in 0..asked.plan.codes() {
+        if let Some(code) = asked.plan.code_at(place) {
+            match asked.served(code) {
+                Some(served) if served.is_ranked => {}
+                _ => return false,
+            }
+        }
+    }
+    true
+}
+
+/// Whether two plans of one network have the same bars.
+fn bars_alike(one: &Plan, other: &Plan) -> bool {
+    for i in 0..one.exchanges() {
+        for j in 0..one.codes() {
+            if let (Some(exchange), Some(code)) = (one.exchange_at(i), one.code_at(j)) {
+                if one.is_barred(exchange, code) != other.is_barred(exchange, code) {
+                    return false;
+                }
+            }
+        }
+    }
+    true
+}
+
+/// Whether routes are those of a plan.
+fn are_routes_of(plan: &Plan, routes: &Routes) -> bool {
+    for i in 0..plan.exchanges() {
+        for j in 0..plan.codes() {
+            if let (Some(exchange), Some(code)) = (plan.exchange_at(i), plan.code_at(j)) {
+                if routes.list(&Pair { exchange, code }) != plan.list(exchange, code) {
+                    return false;
+                }
+            }
+        }
+    }
+    true
+}
+
+/// Whether a walk of those that a survey has seen comes to an exchange.
+fn is_reached(survey: &Survey, exchange: ExchangeId) -> bool {
+    count_at(&survey.nearest, exchange.index()).is_some()
+}
+
+/// Whether the rank of an exchange in a mended plan, if a call comes there, is its least one.
+fn is_least(asked: Asked<'_>, survey: &Survey, exchange: ExchangeId) -> bool {
+    let height = count_at(&survey.heights, exchange.index());
+    height.is_none() || height == asked.rank(survey.code, exchange)
+}
+
+/// How the list of an exchange in a mended plan, or its rank, differs from what it has to be.
+fn list_differs(
+    asked: Asked<'_>,
+    mended: &Plan,
+    survey: &Survey,
+    keeps: bool,
+    exchange: ExchangeId,
+    list: &mut Vec<GroupId>,
+    tally: &mut MendTally,
+) -> Result<Option<Difference>, NoMemory> {
+    let code = survey.code;
+    let reached = is_reached(survey, exchange);
+    asked.put_list(code, exchange, keeps, reached, list)?;
+    if mended.list(exchange, code) != list.as_slice() {
+        return Ok(Some(Difference::ListAt(code, exchange)));
+    }
+    if !keeps && !is_least(asked, survey, exchange) {
+        return Ok(Some(Difference::RankAt(code, exchange)));
+    }
+    tally.add_list(asked.plan.list(exchange, code), list.as_slice());
+    Ok(None)
+}
+
+/// How the lists of a mended plan for a code, whose present walks and whose walks by these show
+/// this, differ from what they have to be.
+fn code_differs(
+    asked: Asked<'_>,
+    mended: &Plan,
+    present: &Survey,
+    survey: &Survey,
+    list: &mut Vec<GroupId>,
+    wanted: &mut Vec<Wanted>,
+    tally: &mut MendTally,
+) -> Result<Option<Difference>, NoMemory> {
+    put_code(asked.plan, present, asked.limit, asked.spare, wanted)?;
+    let keeps = wanted.is_empty();
+    for place in 0..asked.plan.exchanges() {
+        if let Some(exchange) = asked.plan.exchange_at(place) {
+            let differs = list_differs(asked, mended, survey, keeps, exchange, list, tally)?;
+            if differs.is_some() {
+                return Ok(differs);
+            }
+        }
+    }
+    Ok(None)
+}
+
+/// How the lists of a mended plan differ from what they have to be.
+fn lists_differ(
+    asked: Asked<'_>,
+    mended: &Plan,
+    answers: &mut Answers,
+    wanted: &mut Vec<Wanted>,
+    tally: &mut MendTally,
+) -> Result<Option<Difference>, NoMemory> {
+    let list = &mut answers.list;
+    for (present, survey) in asked.surveys.iter().zip(&answers.surveys) {
+        let differs = code_differs(asked, mended, present, survey, list, wanted, tally)?;
+        if differs.is_some() {
+            return Ok(differs);
+        }
+    }
+    Ok(None)
+}
+
+/// Whether a plan has ranks, and the checker says Yes to its certificate.
+fn is_certified(
+    alloc: Global,
+    plan: &Plan,
+    cert: &Cert,
+    limit: u8,
+    spare: u8,
+) -> Result<bool, NoMemory>
+    requires limit { limit ≤ 62 }
+    requires spare { spare ≤ 15 }
+{
+    match check(plan, cert, limit, spare) {
+        Verdict::Yes => is_ranked(alloc, plan, limit, spare),
+        Verdict::No(_) => Ok(false),
+    }
+}
+
+/// How a mended plan, its certificate, or the routes that it is told to have had, differ from what
+/// they have to be.
+fn mended_differs(
+    alloc: Global,
+    asked: Asked<'_>,
+    mended: &Plan,
+    before: &Routes,
+    cert: &Cert,
+    answers: &mut Answers,
+    work: &mut RoutingWork,
+    tally: &mut MendTally,
+) -> Result<Option<Difference>, NoMemory>
+    requires limit { asked.limit ≤ 62 }
+    requires spare { asked.spare ≤ 15 }
+{
+    if first_difference(asked.plan, mended).is_some() || !bars_alike(asked.plan, mended) {
+        return Ok(Some(Difference::Networks));
+    }
+    if !are_routes_of(asked.plan, before) {
+        return Ok(Some(Difference::Before));
+    }
+    if !is_certified(alloc, mended, cert, asked.limit, asked.spare)? {
+        return Ok(Some(Difference::Refused));
+    }
+    if !are_in_order(asked.plan, mended, &mut answers.routed)? {
+        return Ok(Some(Difference::Order));
+    }
+    survey_codes(alloc, mended, &mut work.steps, &mut answers.surveys)?;
+    tally.add_mended(&answers.surveys);
+    let differs = ranks_differ(mended, &answers.surveys, cert);
+    if differs.is_some() {
+        return Ok(differs);
+    }
+    lists_differ(asked, mended, answers, &mut work.wanted, tally)
+}
+
+/// Whether the pair of codes is the ambiguous one that is wanted.
+fn is_pair(pair: Option<(CodeId, CodeId)>, wanted: Option<Wanted>) -> bool {
+    match (pair, wanted) {
+        (Some((shorter, longer)), Some(Wanted::Ambiguous(first, second))) => {
+            shorter == first && longer == second
+        }
+        (None, None) => true,
+        _ => false,
+    }
+}
+
+/// How what is told of a plan for which no routes can be certified differs from what it has to be.
+fn refusal_differs(
+    asked: Asked<'_>,
+    plan: &Plan,
+    unserved: &[(CodeId, ExchangeId)],
+    pair: Option<(CodeId, CodeId)>,
+    wanted: &[(CodeId, ExchangeId)],
+) -> Option<Difference> {
+    if !are_alike(asked.plan, plan) {
+        return Some(Difference::Before);
+    }
+    if unserved != wanted || !is_pair(pair, ambiguous(asked.plan)) {
+        return Some(Difference::Unserved);
+    }
+    None
+}
+
+/// How the answer for a plan differs from what all routings of its network show.
+pub fn mending_differs(
+    alloc: Global,
+    asked: Asked<'_>,
+    mending: Mending,
+    answers: &mut Answers,
+    work: &mut RoutingWork,
+    tally: &mut MendTally,
+) -> Result<Option<Difference>, NoMemory>
+    requires limit { asked.limit ≤ 62 }
+    requires spare { asked.spare ≤ 15 }
+{
+    let can_be = answers.unserved.is_empty() && ambiguous(asked.plan).is_none();
+    match mending {
+        Mending::Mended(mended, before, cert) => {
+            let differs = if can_be {
+                mended_differs(alloc, asked, &mended, &before, &cert, answers, work, tally)
+            } else {
+                Ok(Some(Difference::Found))
+            };
+            drop(cert);
+            drop(before);
+            drop(mended);
+            differs
+        }
+        Mending::NoRouting(plan, unserved, pair) => {
+            let wanted = answers.unserved.as_slice();
+            let differs = if can_be {
+                Some(Difference::Count)
+            } else {
+                refusal_differs(asked, &plan, &unserved, pair, wanted)
+            };
+            tally.add_refused(pair.is_some(), unserved.len());
+            drop(unserved);
+            drop(plan);
+            Ok(differs)
+        }
+    }
+}

@@ -1,0 +1,54 @@
+// What outages are told to cut off, beside what all walks show.
+ghost use Rattle.tx_risk.specs.NamedRisks.{AreRisksFor};
+
+use crate::outages::wanted::WantedCut;
+use crate::walks::{Difference, Wanted, findings_differ};
+use std::alloc::Global;
+use tx_plan::Plan;
+use tx_risk::{Cut, NamedRisk, Survival, survive};
+use tx_text::NoMemory;
+
+/// No walk of these plans is too long for this limit.
+pub const HIGH: u8 = 62;
+
+/// How what is told to be cut off differs from what all walks show.
+fn cuts_differ(plan: &Plan, cuts: &[Cut], wanted: &[WantedCut]) -> Option<Difference> {
+    if cuts.len() != wanted.len() {
+        return Some(Difference::Count);
+    }
+    for (place, (cut, it)) in cuts.iter().zip(wanted).enumerate() {
+        if !it.is(plan, cut) {
+            return Some(Difference::CutAt(place));
+        }
+    }
+    None
+}
+
+/// How what is told of the outages of a plan differs from what all walks show. The findings are
+/// those that the walks show without a spare group.
+pub fn survival_differs(
+    alloc: Global,
+    plan: &Plan,
+    risks: &[NamedRisk],
+    findings: &[Wanted],
+    cuts: &[WantedCut],
+) -> Result<Option<Difference>, NoMemory>
+    requires { AreRisksFor plan.now risks.now }
+{
+    match survive(alloc, plan, risks)? {
+        Survival::Tried(told) => {
+            let differs = if findings.is_empty() {
+                cuts_differ(plan, &told, cuts)
+            } else {
+                Some(Difference::Grade)
+            };
+            drop(told);
+            Ok(differs)
+        }
+        Survival::Ungraded(told) => {
+            let differs = findings_differ(plan, &told, findings, HIGH, 0);
+            drop(told);
+            Ok(differs)
+        }
+    }
+}
