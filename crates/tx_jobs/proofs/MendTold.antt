@@ -11,13 +11,13 @@ use Rattle.tx_jobs.specs.JobEnds.{Output}
 use Rattle.tx_jobs.specs.MendJobs.{mend_fault, ToldMending}
 
 module _ (A : Type 0) (p : Plan) (limit spare : ℕ) (out : Output) where
-  told_by : (f : MendFault) → MendAnswers {A} p limit spare out.old out.new out.silent (Err f) → ToldMending {A} p limit spare out (Err (mend_fault f))
+  told_by : (f : MendFault) → MendAnswers {A = A} p limit spare out.old out.new out.silent (Err f) → ToldMending {A = A} p limit spare out (Err (mend_fault f))
   told_by Write h = h
   told_by NoMemory h = h
 
-  pub mend_told : (f : MendFault) (j : JobFault) → j ≡ mend_fault f → MendAnswers {A} p limit spare out.old out.new out.silent (Err f) → ToldMending {A} p limit spare out (Err j)
-  mend_told f j e h = subst (λ (k : JobFault). ToldMending {A} p limit spare out (Err k)) (sym e) (told_by f h)
+  pub mend_told : (f : MendFault) (j : JobFault) → j ≡ mend_fault f → MendAnswers {A = A} p limit spare out.old out.new out.silent (Err f) → ToldMending {A = A} p limit spare out (Err j)
+  mend_told f j e h = subst (λ (k : JobFault). ToldMending {A = A} p limit spare out (Err k)) (sym e) (told_by f h)
 
-pub mend_marked : {X : Type 0} (old : Bool) (f : MendFault) → mend_mark_after {X} old (Err f) ≡ mark_by old (mend_fault f)
+pub mend_marked : {X : Type 0} (old : Bool) (f : MendFault) → mend_mark_after {X = X} old (Err f) ≡ mark_by old (mend_fault f)
 mend_marked old Write = refl
 mend_marked old NoMemory = refl

@@ -57,7 +57,7 @@ SurviveJobAnswers plan out result =
 abbrev pub ToldOfRisks : {A : Type 0} → Plan → List NamedRisk → Output
     → Result (Survival A) SurviveFault → Type 0
 ToldOfRisks p risks out (Ok survival) = ToldSurvival p risks out (Ok survival)
-ToldOfRisks {A} p risks out (Err (Job f)) = ToldSurvival {A} p risks out (Err f)
+ToldOfRisks {A} p risks out (Err (Job f)) = ToldSurvival {A = A} p risks out (Err f)
 ToldOfRisks p risks out (Err (Risks f)) = ⊥
 
 -- the text of risks was read, and then the outages were tried

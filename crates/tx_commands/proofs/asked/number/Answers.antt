@@ -1,6 +1,6 @@
 use Rattle.std.proofs.Common.{refl}
 use Rattle.clap.specs.Words.{found_of, one_text}
-use Rattle.tx_commands.proofs.Reading.{given_by}
+use Rattle.tx_commands.proofs.Found.{given_by}
 use Rattle.tx_commands.proofs.asked.number.Goals as goal
 
 pub returns-in-Some-clause-given : goal.returns-in-Some-clause-given

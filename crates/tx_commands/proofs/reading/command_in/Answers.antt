@@ -1,6 +1,6 @@
 use Rattle.tx_commands.specs.Commands.{IsFoundIn}
 use Rattle.tx_commands.specs.inner.Refused.{IsRefused}
-use Rattle.tx_commands.proofs.Reading.{found_by}
+use Rattle.tx_commands.proofs.Found.{found_by}
 use Rattle.tx_commands.proofs.reading.command_in.Goals as goal
 
 pub returns-in-Ok-found-clause-asked : goal.returns-in-Ok-found-clause-asked
