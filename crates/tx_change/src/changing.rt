@@ -89,7 +89,8 @@ fn change_codes<A: Allocator + Copy>(
 ) -> Result<Cert<A>, NoMemory>
     requires network { SameNetwork old.now new.now }
     requires pair { findings.old.items ≡ pair_findings (ambiguous_of old.now.codes) }
-    ensures listed { IfOk result (λ _. AreChangeFindings old.now new.now limit spare findings.new.items) }
+    ensures listed { IfOk result (λ _. AreChangeFindings old.now new.now limit spare
+        findings.new.items) }
     ensures codes { IfOk result (λ cert. cert.codes ≡ length old.now.codes) }
     ensures exchanges { IfOk result (λ cert. cert.exchanges ≡ length old.now.exchanges) }
     ensures heights { IfOk result (λ cert. findings.new.items ≡ []

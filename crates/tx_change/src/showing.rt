@@ -68,7 +68,8 @@ fn mixed_routes<A: Allocator + Copy>(
     old: &Plan<A>,
     new: &Plan<A>,
 ) -> Result<Routes<A>, NoMemory>
-    ensures { IfOk result (λ routes. routes ≡ replaced (is_route_there taking.now.code (listed taking.now))
+    ensures { IfOk result (λ routes. routes
+        ≡ replaced (is_route_there taking.now.code (listed taking.now))
         old.now.routes new.now.routes) }
 {
     let mut routes = Routes::new(alloc);
@@ -143,7 +144,8 @@ fn mixed_bars<A: Allocator + Copy>(
     old: &Plan<A>,
     new: &Plan<A>,
 ) -> Result<Bars<A>, NoMemory>
-    ensures { IfOk result (λ bars. bars ≡ replaced (is_bar_there taking.now.code (barred taking.now))
+    ensures { IfOk result (λ bars. bars
+        ≡ replaced (is_bar_there taking.now.code (barred taking.now))
         old.now.bars new.now.bars) }
 {
     let mut bars = Bars::new(alloc);
