@@ -1,13 +1,10 @@
 -- What the loops of the code keep.
 use Rattle.std.proofs.Common.{◌≡◌, ℕ, zero, suc, ◌+◌, ◌-◌, ◌<◌, ◌≤◌, Bool, true, false, List, [], ◌∷◌, length, drop, ◌++◌, map, take, get_or, Option, Some, None, Result, Ok, Err, refl, sym, ap, ◌∙◌, arith}
 use Rattle.std.specs.Prelude.{find, slice_get, is_some, option_and_then, IfOk}
-use Rattle.std.specs.List.{range_with_len, AllByRecursion, flat_map}
-use Rattle.std.proofs.lemmas.List.{append_assoc, append-nil, drop_all, map_more, take_more}
-use Rattle.std.proofs.lemmas.List.Concat.{flat_map-append}
+use Rattle.std.specs.List.{range_with_len, AllByRecursion}
+use Rattle.std.proofs.lemmas.List.{append_assoc, append-nil, drop_all, map_more}
 use Rattle.std.proofs.lemmas.Option.{slice_get_read}
 use Rattle.std.specs.Option.{option_map, IfSome}
-use Rattle.tx_text.specs.Wrote.{Wrote}
-use Rattle.tx_text.proofs.Wrote.{wrote_then, text_is}
 use Rattle.tx_entries.specs.declared.range.LineRange.{LineRange}
 use Rattle.tx_plan.specs.Plan.{Plan}
 use Rattle.tx_state.specs.declared.event.Event.{Event}
@@ -101,11 +98,3 @@ module _ {V E : Type 0} (items : V → List Event) (made : Option (List Event)) 
   some_made b (Ok None) h e = ap is_some h ∙ e
   some_made b (Err e) h e' = tt
 
--- the text of one member more was written
-pub texts_more : {A : Type 0} (text : A → List ℕ) (xs : List A) (i : ℕ) (x : A) (a b c : Option (List ℕ)) (f g h : Bool) → i < length xs → x ≡ get_or xs i x
-    → Wrote a b f g (flat_map text (take i xs)) (Ok tt) → Wrote b c g h (text x) (Ok tt) → Wrote a c f h (flat_map text (take (i + 1) xs)) (Ok tt)
-texts_more text xs i x a b c f g h low is v w =
-    let before = flat_map text (take i xs) in
-    let more : flat_map text (take (i + 1) xs) ≡ before ++ text x =
-    ap (flat_map text) (take_more xs i x low) ∙ flat_map-append text (take i xs) (get_or xs i x ∷ []) ∙ ap (λ l. before ++ l) (append-nil (text (get_or xs i x))) ∙ ap (λ y. before ++ text y) (sym is) in
-    text_is a c f h (flat_map text (take (i + 1) xs)) (before ++ text x) (Ok tt) more (wrote_then a b c f g h before (text x) (Ok tt) v w)

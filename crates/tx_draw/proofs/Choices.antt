@@ -3,7 +3,7 @@ use Rattle.std.proofs.Common.{◌≡◌, ℕ, Bool, List, [], ◌++◌, Option, 
 use Rattle.std.specs.Option.{option_map_or}
 use Rattle.tx_plan.specs.Plan.{Plan}
 use Rattle.tx_plan.specs.Circuits.{other_end}
-use Rattle.tx_draw.specs.Reached.{is_marked}
+use Rattle.tx_rank.specs.Reached.{is_marked}
 use Rattle.tx_draw.specs.Shown.{Shown, goes_by, color_text}
 use Rattle.tx_draw.specs.Drawing.{line_between}
 use Rattle.tx_draw.specs.CodeDrawing.{order_label, choice_line}

@@ -1,4 +1,3 @@
 pub mod Before
 pub mod Choices
-pub mod Marking
 mod FirstShown

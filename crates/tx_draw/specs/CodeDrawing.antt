@@ -4,7 +4,7 @@ use Rattle.std.specs.Option.{option_map_or}
 use Rattle.tx_plan.specs.Plan.{Plan, figures_of, group_name, home_of}
 use Rattle.tx_plan.specs.Circuits.{other_end}
 use Rattle.tx_plan.specs.Routes.{route_list}
-use Rattle.tx_draw.specs.Reached.{is_marked}
+use Rattle.tx_rank.specs.Reached.{is_marked}
 use Rattle.tx_draw.specs.Shown.{Shown, passes, goes_by, color_text}
 use Rattle.tx_draw.specs.Drawing.{each_before, head, box, line_between}
 

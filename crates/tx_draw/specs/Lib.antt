@@ -1,5 +1,3 @@
 pub mod Drawing
 pub mod Shown
 pub mod CodeDrawing
-pub mod Reached
-pub mod inner

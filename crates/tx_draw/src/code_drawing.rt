@@ -7,13 +7,12 @@ ghost use Rattle.tx_draw.specs.Shown.{first_shown};
 ghost use Rattle.tx_draw.specs.Drawing.{each_before};
 ghost use Rattle.tx_draw.specs.CodeDrawing.{title, home_text, exchange_line, order_label, choice_line, list_lines, code_drawing};
 
-use crate::marks::is_marked;
 use crate::parts::{write_box, write_head, write_line_between};
 use crate::shown::{Shown, color_text, first_shown};
 use itoa::Buffer;
 use std::alloc::Allocator;
 use tx_plan::{CodeId, ExchangeId, GroupId, Plan};
-use tx_rank::Finding;
+use tx_rank::{Finding, is_marked};
 use tx_text::{Sink, WriteFault, write_text};
 
 /// Writes the picture of the routes for a code as a Graphviz text: the exchanges, and for each group of a list an arrow with its place in that list.

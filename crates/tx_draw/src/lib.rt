@@ -3,11 +3,8 @@
 
 mod code_drawing;
 mod drawing;
-mod marks;
 mod parts;
-mod reaching;
 mod shown;
 
 pub use code_drawing::write_code_drawing;
 pub use drawing::write_drawing;
-pub use reaching::reached;

@@ -4,9 +4,9 @@ use Rattle.std.specs.Io.KnownBytes.{append_known}
 use Rattle.tx_text.specs.Ends.{StopsIn}
 use Rattle.tx_plan.specs.Plan.{Plan, code_named}
 use Rattle.tx_rank.specs.Walks.{net_of}
+use Rattle.tx_rank.specs.Reached.{AreReached}
 use Rattle.tx_rank.specs.declared.finding.Finding.{Finding}
 use Rattle.tx_draw.specs.Drawing.{drawing}
-use Rattle.tx_draw.specs.Reached.{AreReached}
 use Rattle.tx_draw.specs.Shown.{first_shown}
 use Rattle.tx_draw.specs.CodeDrawing.{code_drawing}
 use Rattle.tx_audit.specs.Audits.{IsAllFound}

@@ -9,10 +9,10 @@ ghost use Rattle.tx_jobs.specs.DrawJobs.{AreToShow, ToldText, DrewCode, Drew, Dr
 use crate::drawn::Drawn;
 use crate::job_fault::JobFault;
 use std::alloc::Allocator;
-use tx_draw::{reached, write_code_drawing, write_drawing};
+use tx_draw::{write_code_drawing, write_drawing};
 use tx_plan::{CodeId, Plan};
 use tx_plantext::read_plan_from;
-use tx_rank::{Finding, Ranking, rank};
+use tx_rank::{Finding, Ranking, rank, reached};
 use tx_text::{NoMemory, Sink, Source, WriteFault};
 
 /// Reads a plan, and writes its picture; with the figures of a code that of the routes for the code, and with a limit and a spare number too that with the

@@ -1,21 +1,11 @@
 -- Texts of a list, and of the places of a plan, that are written one after another.
-use Rattle.std.proofs.Common.{◌≡◌, ℕ, ◌+◌, ◌-◌, ◌<◌, Bool, List, [], ◌∷◌, ◌++◌, length, take, get_or, Option, Ok, Err, ap, sym, subst, ◌∙◌, append-nil}
+use Rattle.std.proofs.Common.{◌≡◌, ℕ, ◌+◌, ◌-◌, ◌<◌, Bool, List, ◌++◌, Option, Ok, Err, ap, sym, subst, ◌∙◌}
 use Rattle.std.specs.Prelude.{IsErr}
-use Rattle.std.proofs.lemmas.List.{take_more}
-use Rattle.std.proofs.lemmas.List.Concat.{flat_map-append}
 use Rattle.std.specs.List.{flat_map, range_with_len}
 use Rattle.tx_text.specs.declared.sink.WriteFault.{WriteFault}
 use Rattle.tx_text.specs.Wrote.{Wrote}
 use Rattle.tx_text.proofs.Wrote.{Outcome, wrote_then, wrote_first, text_is}
 use Rattle.tx_cert.proofs.Ranges.{flat_map-range_more, flat_map-range_at}
-
-pub texts_more : {A : Type 0} (text : A → List ℕ) (xs : List A) (i : ℕ) (x : A) (a b c : Option (List ℕ)) (f g h : Bool) → i < length xs → x ≡ get_or xs i x
-    → Wrote a b f g (flat_map text (take i xs)) (Ok tt) → Wrote b c g h (text x) (Ok tt) → Wrote a c f h (flat_map text (take (i + 1) xs)) (Ok tt)
-texts_more text xs i x a b c f g h low is v w =
-    let before = flat_map text (take i xs) in
-    let more : flat_map text (take (i + 1) xs) ≡ before ++ text x =
-    ap (flat_map text) (take_more xs i x low) ∙ flat_map-append text (take i xs) (get_or xs i x ∷ []) ∙ ap (λ l. before ++ l) (append-nil (text (get_or xs i x))) ∙ ap (λ y. before ++ text y) (sym is) in
-    text_is a c f h (flat_map text (take (i + 1) xs)) (before ++ text x) (Ok tt) more (wrote_then a b c f g h before (text x) (Ok tt) v w)
 
 module _ (text : ℕ → List ℕ) where
   -- the text of one place more was written

@@ -151,6 +151,13 @@ impl<A: Allocator> PlanBuilder<A> {
         Ok(())
     }
 
+    /// What was declared so far.
+    pub fn plan(&self) -> &Plan<A>
+        ensures { result.now ≡ self.now }
+    {
+        &self.plan
+    }
+
     /// The plan that was made. Takes no memory.
     pub fn finish(self) -> Plan<A>
         ensures { result ≡ self }

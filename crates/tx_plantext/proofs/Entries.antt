@@ -1,5 +1,5 @@
 -- What a call of the builder declares of a line.
-use Rattle.std.proofs.Common.{◌≡◌, Bool, true, false, not, ◌&&◌, List, [], ◌∷◌, Some, Result, Ok, Err, refl, ap, sym, inl, inr}
+use Rattle.std.proofs.Common.{◌≡◌, Bool, true, false, not, ◌&&◌, List, [], ◌∷◌, Option, Some, Result, Ok, Err, IfErr, refl, ap, sym, inl, inr}
 use Rattle.std.proofs.lemmas.Bool.{and_parts}
 use Rattle.tx_text.specs.Said.{Declared, DeclaredBy}
 use Rattle.tx_plan.specs.declared.refusal.PlanRefusal.{PlanRefusal}
@@ -27,3 +27,8 @@ pub declared_from : (ts : List (Bool × PlanRefusal)) (old next new : Plan) (o :
 declared_from ts old next new (Ok x) t h = rw h.0 (ap Ok (sym h.1))
 declared_from ts old next new (Err e) t (same, inl h) = refused_by (unless (first_true ts) next) (is_memory (Refused e)) (Refused e) (first_no_memory ts e t h) (rw h refl)
 declared_from ts old next new (Err e) t (same, inr h) = rw (h.0, h.1) refl
+
+-- A refused declaration changes nothing.
+pub same_from : (refusal : Option PlanRefusal) (old next new : Plan) (o : Result (Unit {0}) PlanRefusal) → Declares refusal old next new o → IfErr (word_told o) (λ _. new ≡ old)
+same_from refusal old next new (Ok x) h = search
+same_from refusal old next new (Err e) h = h.0

@@ -1,5 +1,5 @@
 // What each line declares.
-ghost use Rattle.std.specs.Prelude.{◌≡◌};
+ghost use Rattle.std.specs.Prelude.{◌≡◌, IfErr};
 ghost use Rattle.std.specs.Str.{bytes_eq};
 ghost use Rattle.tx_text.specs.Said.{Declared};
 ghost use Rattle.tx_plantext.specs.PlanText.{declare, exchange_line, code_line, lines_line, group_line, group_by, route_line, bar_line, direction_of, count_of, is_memory, word_told};
@@ -21,9 +21,10 @@ fn told(answer: Result<(), PlanRefusal>) -> Result<(), PlanWord>
 }
 
 /// EXCHANGE name.
-#[tactic(auto, using(crate::proofs::Entries::declared_from))]
+#[tactic(auto, using(crate::proofs::Entries::declared_from, crate::proofs::Entries::same_from))]
 fn exchange_line<A: Allocator>(plan: &mut PlanBuilder<A>, words: Words<'_>) -> Result<(), PlanWord>
-    ensures { Declared is_memory (exchange_line plan.old words.entry) plan.new result }
+    ensures declared { Declared is_memory (exchange_line plan.old words.entry) plan.new result }
+    ensures same { IfErr result (λ _. plan.new ≡ plan.old) }
 {
     let mut words = words;
     match (words.next(), words.next()) {
@@ -33,9 +34,10 @@ fn exchange_line<A: Allocator>(plan: &mut PlanBuilder<A>, words: Words<'_>) -> R
 }
 
 /// CODE code home.
-#[tactic(auto, using(crate::proofs::Entries::declared_from))]
+#[tactic(auto, using(crate::proofs::Entries::declared_from, crate::proofs::Entries::same_from))]
 fn code_line<A: Allocator>(plan: &mut PlanBuilder<A>, words: Words<'_>) -> Result<(), PlanWord>
-    ensures { Declared is_memory (code_line plan.old words.entry) plan.new result }
+    ensures declared { Declared is_memory (code_line plan.old words.entry) plan.new result }
+    ensures same { IfErr result (λ _. plan.new ≡ plan.old) }
 {
     let mut words = words;
     match (words.next(), words.next(), words.next()) {
@@ -45,9 +47,10 @@ fn code_line<A: Allocator>(plan: &mut PlanBuilder<A>, words: Words<'_>) -> Resul
 }
 
 /// LINES code low high.
-#[tactic(auto, using(crate::proofs::Entries::declared_from))]
+#[tactic(auto, using(crate::proofs::Entries::declared_from, crate::proofs::Entries::same_from))]
 fn lines_line<A: Allocator>(plan: &mut PlanBuilder<A>, words: Words<'_>) -> Result<(), PlanWord>
-    ensures { Declared is_memory (lines_line plan.old words.entry) plan.new result }
+    ensures declared { Declared is_memory (lines_line plan.old words.entry) plan.new result }
+    ensures same { IfErr result (λ _. plan.new ≡ plan.old) }
 {
     let mut words = words;
     match (words.next(), words.next(), words.next(), words.next()) {
@@ -57,7 +60,7 @@ fn lines_line<A: Allocator>(plan: &mut PlanBuilder<A>, words: Words<'_>) -> Resu
 }
 
 /// The words after GROUP, where there are as many as there must be.
-#[tactic(auto, using(crate::proofs::Entries::declared_from))]
+#[tactic(auto, using(crate::proofs::Entries::declared_from, crate::proofs::Entries::same_from))]
 #[inline(always)]
 fn group_by<A: Allocator>(
     plan: &mut PlanBuilder<A>,
@@ -67,7 +70,8 @@ fn group_by<A: Allocator>(
     direction: Option<Direction>,
     count: u32,
 ) -> Result<(), PlanWord>
-    ensures { Declared is_memory (group_by plan.old name.now a.now b.now direction count) plan.new result }
+    ensures declared { Declared is_memory (group_by plan.old name.now a.now b.now direction count) plan.new result }
+    ensures same { IfErr result (λ _. plan.new ≡ plan.old) }
 {
     match direction {
         Some(direction) => told(plan.group(name, a, b, direction, count)),
@@ -77,7 +81,8 @@ fn group_by<A: Allocator>(
 
 /// GROUP name a b direction count.
 fn group_line<A: Allocator>(plan: &mut PlanBuilder<A>, words: Words<'_>) -> Result<(), PlanWord>
-    ensures { Declared is_memory (group_line plan.old words.entry) plan.new result }
+    ensures declared { Declared is_memory (group_line plan.old words.entry) plan.new result }
+    ensures same { IfErr result (λ _. plan.new ≡ plan.old) }
 {
     let mut words = words;
     let Some(name) = words.next() else {
@@ -102,10 +107,11 @@ fn group_line<A: Allocator>(plan: &mut PlanBuilder<A>, words: Words<'_>) -> Resu
 }
 
 /// ROUTE exchange code groups.
-#[tactic(auto, using(crate::proofs::Entries::declared_from))]
+#[tactic(auto, using(crate::proofs::Entries::declared_from, crate::proofs::Entries::same_from))]
 #[inline(always)]
 fn route_line<A: Allocator>(plan: &mut PlanBuilder<A>, words: Words<'_>) -> Result<(), PlanWord>
-    ensures { Declared is_memory (route_line plan.old words.entry) plan.new result }
+    ensures declared { Declared is_memory (route_line plan.old words.entry) plan.new result }
+    ensures same { IfErr result (λ _. plan.new ≡ plan.old) }
 {
     let mut words = words;
     let Some(exchange) = words.next() else {
@@ -118,9 +124,10 @@ fn route_line<A: Allocator>(plan: &mut PlanBuilder<A>, words: Words<'_>) -> Resu
 }
 
 /// BAR exchange code.
-#[tactic(auto, using(crate::proofs::Entries::declared_from))]
+#[tactic(auto, using(crate::proofs::Entries::declared_from, crate::proofs::Entries::same_from))]
 fn bar_line<A: Allocator>(plan: &mut PlanBuilder<A>, words: Words<'_>) -> Result<(), PlanWord>
-    ensures { Declared is_memory (bar_line plan.old words.entry) plan.new result }
+    ensures declared { Declared is_memory (bar_line plan.old words.entry) plan.new result }
+    ensures same { IfErr result (λ _. plan.new ≡ plan.old) }
 {
     let mut words = words;
     match (words.next(), words.next(), words.next()) {
@@ -157,15 +164,17 @@ fn count_of(word: &[u8]) -> u32
     number(word, 240).unwrap_or(0)
 }
 
-/// What the line declares under a header of this version.
+/// Declares what the line does under a header of this version, after the lines before it. A line
+/// that is refused changes nothing.
 #[tactic(auto, unfolding(crate::specs::PlanText::declare))]
 #[inline(always)]
-pub(crate) fn declare<A: Allocator>(
+pub fn declare<A: Allocator>(
     plan: &mut PlanBuilder<A>,
     version: u8,
     words: Words<'_>,
 ) -> Result<(), PlanWord>
-    ensures { Declared is_memory (declare version plan.old words.entry) plan.new result }
+    ensures declared { Declared is_memory (declare version plan.old words.entry) plan.new result }
+    ensures same { IfErr result (λ _. plan.new ≡ plan.old) }
 {
     let mut words = words;
     let Some(first) = words.next() else {

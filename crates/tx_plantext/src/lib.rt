@@ -10,6 +10,7 @@ mod plan_reader;
 mod plan_writer;
 mod round_trip;
 
+pub use declaring::declare;
 pub use fault::{PlanFault, PlanWord, code_and_name};
 pub use plan_reader::{read_plan, read_plan_from};
 pub use plan_writer::{write_plan, write_route};

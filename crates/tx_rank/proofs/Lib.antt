@@ -19,3 +19,4 @@ pub mod Listing
 pub mod Bounding
 pub mod Unmended
 pub mod Graded
+pub mod Marking

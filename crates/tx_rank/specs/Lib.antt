@@ -1,5 +1,6 @@
 pub mod Walks
 pub mod Heights
+pub mod Reached
 pub mod Findings
 pub mod Rankings
 pub mod Nets

@@ -1,3 +1,4 @@
 pub mod Judged
 pub mod Links
 pub mod Marks
+pub mod Seen

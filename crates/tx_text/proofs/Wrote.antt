@@ -1,10 +1,11 @@
 -- Texts that are written one after another, told by `Wrote`.
-use Rattle.std.proofs.Common.{◌≡◌, ℕ, ◌<◌, ◌≤◌, Bool, List, [], ◌++◌, length, take, get_or, Option, Result, Ok, Err, refl, sym, ap, ◌∙◌, subst}
+use Rattle.std.proofs.Common.{◌≡◌, ℕ, ◌+◌, ◌<◌, ◌≤◌, Bool, List, [], ◌∷◌, ◌++◌, length, take, get_or, Option, Result, Ok, Err, refl, sym, ap, ◌∙◌, subst, append-nil}
 use Rattle.std.specs.Prelude.{IsErr}
 use Rattle.std.specs.List.{flat_map}
 use Rattle.std.specs.Io.KnownBytes.{append_known}
 use Rattle.std.proofs.lemmas.Bool.{false≢true}
-use Rattle.std.proofs.lemmas.List.{take_all}
+use Rattle.std.proofs.lemmas.List.{take_all, take_more}
+use Rattle.std.proofs.lemmas.List.Concat.{flat_map-append}
 use Rattle.tx_text.specs.declared.sink.WriteFault.{WriteFault}
 use Rattle.tx_text.specs.Wrote.{Wrote}
 use Rattle.tx_text.proofs.Writing.{append_known-nil, append_known_twice, stops_first, stops_later, stops_at}
@@ -32,6 +33,15 @@ text_is a b f g s t r e w = subst (λ (l : List ℕ). Wrote a b f g l r) (sym e)
 -- ---- the texts of a list
 
 module _ {A : Type 0} (text : A → List ℕ) where
+  -- one more was written
+  pub texts_more : (xs : List A) (i : ℕ) (x : A) (a b c : Option (List ℕ)) (f g h : Bool) → i < length xs → x ≡ get_or xs i x
+      → Wrote a b f g (flat_map text (take i xs)) (Ok tt) → Wrote b c g h (text x) (Ok tt) → Wrote a c f h (flat_map text (take (i + 1) xs)) (Ok tt)
+  texts_more xs i x a b c f g h low is v w =
+      let before = flat_map text (take i xs) in
+      let more : flat_map text (take (i + 1) xs) ≡ before ++ text x =
+      ap (flat_map text) (take_more xs i x low) ∙ flat_map-append text (take i xs) (get_or xs i x ∷ []) ∙ ap (λ l. before ++ l) (append-nil (text (get_or xs i x))) ∙ ap (λ y. before ++ text y) (sym is) in
+      text_is a c f h (flat_map text (take (i + 1) xs)) (before ++ text x) (Ok tt) more (wrote_then a b c f g h before (text x) (Ok tt) v w)
+
   -- one of them was not written
   pub texts_stopped : (xs : List A) (i : ℕ) (x : A) (a b c : Option (List ℕ)) (f g h : Bool) (r : Outcome) (fault : WriteFault) → i < length xs → x ≡ get_or xs i x
       → Wrote a b f g (flat_map text (take i xs)) (Ok tt) → Wrote b c g h (text x) (Err fault) → IsErr r → Wrote a c f h (flat_map text xs) r

@@ -88,11 +88,16 @@ pub enum FrameStep {
 
 /// What a finished line is in the frame.
 #[derive(Clone, Copy)]
-pub(crate) enum LineForm {
+pub enum LineForm {
+    /// Without words.
     Blank,
+    /// The header of this version.
     Header(u8),
+    /// A line with words between the header and END.
     Plain,
+    /// The line of the one word END.
     End,
+    /// A line that cannot stand there.
     Bad(FormFault),
 }
 
@@ -141,7 +146,7 @@ fn begins_plain(line: &[u8]) -> bool
 
 /// What a finished line is.
 #[inline(always)]
-pub(crate) fn look(key: &[u8], most: u8, phase: FramePart, line: &[u8]) -> LineForm
+pub fn look(key: &[u8], most: u8, phase: FramePart, line: &[u8]) -> LineForm
     ensures { result ≡ looked (header_of key.now most) phase (words_of line.now) }
 {
     if matches!(phase, FramePart::Body) && begins_plain(line) {
@@ -169,7 +174,7 @@ pub(crate) fn look(key: &[u8], most: u8, phase: FramePart, line: &[u8]) -> LineF
 
 /// What is wrong where the text ends.
 #[inline(always)]
-pub(crate) fn closing(phase: FramePart) -> Option<FormFault>
+pub fn closing(phase: FramePart) -> Option<FormFault>
     ensures { result ≡ closing phase }
 {
     match phase {
@@ -181,7 +186,7 @@ pub(crate) fn closing(phase: FramePart) -> Option<FormFault>
 
 /// What is wrong where the text ends with this unfinished line.
 #[inline(always)]
-pub(crate) fn last_fault(phase: FramePart, line: &[u8]) -> Option<FormFault>
+pub fn last_fault(phase: FramePart, line: &[u8]) -> Option<FormFault>
     ensures { result ≡ last_fault phase (words_of line.now) }
 {
     let mut all = words(line);

@@ -33,7 +33,8 @@ mod to_write;
 pub use feeder::{Fed, LineFeeder};
 pub use figures::{Figures, are_figures};
 pub use frame::{
-    FaultAt, FaultKind, FormFault, FrameFault, FramePart, FrameStep, FrameStop, is_end,
+    FaultAt, FaultKind, FormFault, FrameFault, FramePart, FrameStep, FrameStop, LineForm, closing,
+    is_end, last_fault, look,
 };
 pub use frame_reader::FrameReader;
 pub use from_read::FromRead;
@@ -41,7 +42,7 @@ pub use line::TextLine;
 pub use line_bytes::{bytes_fault, without_cr};
 pub use line_fault::LineFault;
 pub use line_words::Words;
-pub use lines::Lines;
+pub use lines::{Lines, first_line};
 pub use memory_sink::MemorySink;
 pub use memory_source::MemorySource;
 pub use name::{Name, is_name};

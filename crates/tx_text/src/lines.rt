@@ -107,7 +107,7 @@ fn next_item(left: Left<'_>) -> Option<(Result<TextLine<'_>, TextFault>, Left<'_
 }
 
 /// The first line, and the text after it.
-fn first_line(text: &[u8], number: u64, start: usize) -> (TextLine<'_>, &[u8])
+pub fn first_line(text: &[u8], number: u64, start: usize) -> (TextLine<'_>, &[u8])
     requires { 0 < length text.now }
     ensures shorter { length result.1.now < length text.now }
     ensures line { lines_from number start text.now

@@ -1,14 +1,10 @@
 -- The lines of a trace, one after another.
-use Rattle.std.proofs.Common.{◌≡◌, ◌≢◌, ℕ, ◌+◌, ◌<◌, Bool, true, false, eqb, List, [], ◌∷◌, ◌++◌, length, take, get_or, cond, inl, inr, Option, Some, None, Ok, refl, sym, ap, ◌∙◌, arith, append_assoc, append-nil, codes}
+use Rattle.std.proofs.Common.{◌≡◌, ◌≢◌, ℕ, ◌+◌, ◌<◌, true, false, eqb, List, [], ◌∷◌, ◌++◌, length, get_or, cond, inl, inr, Option, Some, None, refl, sym, ap, ◌∙◌, arith, append_assoc, append-nil, codes}
 use Rattle.std.specs.Prelude.{decimal}
 use Rattle.std.specs.List.{flat_map, enumerate_from}
 use Rattle.std.specs.Option.{option_map_or}
 use Rattle.std.proofs.lemmas.Bool.{eqb-false}
-use Rattle.std.proofs.lemmas.List.{take_more}
-use Rattle.std.proofs.lemmas.List.Concat.{flat_map-append}
 use Rattle.std.proofs.lemmas.List.FromFn.{get_or-enumerate_from}
-use Rattle.tx_text.specs.Wrote.{Wrote}
-use Rattle.tx_text.proofs.Wrote.{wrote_then, text_is}
 use Rattle.tx_plan.specs.Plan.{Plan, home_of, exchange_name, group_name}
 use Rattle.tx_plan.specs.Circuits.{other_end}
 use Rattle.tx_plan.specs.Routes.{route_list}
@@ -21,15 +17,6 @@ use Rattle.tx_trace.specs.Heights.{rank_from}
 use Rattle.tx_trace.specs.TraceText.{rank_text, home_line, place_text, place_line, list_lines, met_lines}
 use Rattle.tx_trace.specs.Traces.{rank_told, IsTraceOf}
 use Rattle.tx_trace.proofs.Ends.{among_ends}
-
--- the text of one member more was written
-pub texts_more : {A : Type 0} (text : A → List ℕ) (xs : List A) (i : ℕ) (x : A) (a b c : Option (List ℕ)) (f g h : Bool) → i < length xs → x ≡ get_or xs i x
-    → Wrote a b f g (flat_map text (take i xs)) (Ok tt) → Wrote b c g h (text x) (Ok tt) → Wrote a c f h (flat_map text (take (i + 1) xs)) (Ok tt)
-texts_more text xs i x a b c f g h low is v w =
-    let before = flat_map text (take i xs) in
-    let more : flat_map text (take (i + 1) xs) ≡ before ++ text x =
-    ap (flat_map text) (take_more xs i x low) ∙ flat_map-append text (take i xs) (get_or xs i x ∷ []) ∙ ap (λ l. before ++ l) (append-nil (text (get_or xs i x))) ∙ ap (λ y. before ++ text y) (sym is) in
-    text_is a c f h (flat_map text (take (i + 1) xs)) (before ++ text x) (Ok tt) more (wrote_then a b c f g h before (text x) (Ok tt) v w)
 
 pub way_cut : (a b rest : List ℕ) → a ++ (b ++ rest) ≡ (a ++ (b ++ [])) ++ rest
 way_cut a b rest = simp (append_assoc, append-nil)

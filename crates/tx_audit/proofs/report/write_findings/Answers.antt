@@ -1,6 +1,5 @@
-use Rattle.tx_text.proofs.Wrote.{wrote_none, texts_stopped, texts_done}
+use Rattle.tx_text.proofs.Wrote.{wrote_none, texts_more, texts_stopped, texts_done}
 use Rattle.tx_audit.specs.Report.{finding_line}
-use Rattle.tx_audit.proofs.Loops.{texts_more}
 use Rattle.tx_audit.proofs.report.write_findings.Goals as goal
 
 pub returns-in_err-write_finding : goal.returns-in_err-write_finding

@@ -1,8 +1,7 @@
 use Rattle.std.proofs.Common.{codes, Err, refl}
 use Rattle.std.specs.List.{flat_map}
-use Rattle.tx_text.proofs.Wrote.{wrote_then, wrote_first, texts_stopped, texts_done}
+use Rattle.tx_text.proofs.Wrote.{wrote_then, wrote_first, texts_more, texts_stopped, texts_done}
 use Rattle.tx_audit.specs.Report.{step_text}
-use Rattle.tx_audit.proofs.Loops.{texts_more}
 use Rattle.tx_audit.proofs.report.write_steps.Goals as goal
 
 pub returns-in_err-write_step : goal.returns-in_err-write_step

@@ -1,6 +1,5 @@
-use Rattle.tx_text.proofs.Wrote.{texts_stopped}
+use Rattle.tx_text.proofs.Wrote.{texts_more, texts_stopped}
 use Rattle.tx_mend_report.specs.MendText.{unserved_line}
-use Rattle.tx_mend_report.proofs.Written.{texts_more}
 use Rattle.tx_mend_report.proofs.unserved.write_each.Goals as goal
 
 pub returns-in_err-write_one : goal.returns-in_err-write_one

@@ -2,6 +2,6 @@ use Rattle.std.proofs.Common.{rules}
 use Rattle.tx_plantext.specs.PlanText.{declare}
 use Rattle.tx_plantext.proofs.declaring.declare.Goals as goal
 
-pub returns-then-is-6 : goal.returns-then-is-6
+pub returns-then-is-6-clause-declared : goal.returns-then-is-6-clause-declared
 unfolding declare
-returns-then-is-6 g c = search rules
+returns-then-is-6-clause-declared g c = search rules

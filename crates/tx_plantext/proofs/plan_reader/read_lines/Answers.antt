@@ -33,7 +33,7 @@ lines-preserved g c =
     let ws = words_of_line v.reader.feed.line in
     let q = rw c.in-Ok-Line.field-0-is at c.in-Ok-Line.ensures.gives in
     let w = rw c.in-Ok-Line.field-0-is at c.in-Ok-Line.ensures.went in
-    let d : declare c.lines.version c.lines.plan ws ≡ Ok c.declare.new.plan = subst (λ (w : List (List ℕ)). declare c.lines.version c.lines.plan w ≡ Ok c.declare.new.plan) c.words.ensures c.in-Ok.ensures in
+    let d : declare c.lines.version c.lines.plan ws ≡ Ok c.declare.new.plan = subst (λ (w : List (List ℕ)). declare c.lines.version c.lines.plan w ≡ Ok c.declare.new.plan) c.words.ensures c.in-Ok.ensures.declared in
     record {
       says = declared_on declare _ _ _ plan_of (to_come c.lines.frame) (to_come v) c.lines.version c.lines.plan c.declare.new.plan n ws c.lines.invariant.says q d;
       finds = finds_declared declare _ _ _ found (to_come c.lines.frame) (to_come v) c.lines.version c.lines.plan c.declare.new.plan n ws c.lines.invariant.finds q d;
@@ -48,7 +48,7 @@ returns-in-Err-declare-clause-answer g c =
     let ws = words_of_line v.reader.feed.line in
     let x = c.in-Err-declare.fault in
     let q = rw c.in-Ok-Line.field-0-is at c.in-Ok-Line.ensures.gives in
-    let d : DeclaredBy (declare c.lines.version c.lines.plan ws) (is_memory x) x = subst (λ (w : List (List ℕ)). DeclaredBy (declare c.lines.version c.lines.plan w) (is_memory x) x) c.words.ensures c.in-Err-declare.ensures in
+    let d : DeclaredBy (declare c.lines.version c.lines.plan ws) (is_memory x) x = subst (λ (w : List (List ℕ)). DeclaredBy (declare c.lines.version c.lines.plan w) (is_memory x) x) c.words.ensures c.in-Err-declare.ensures.declared in
     let a = g.R.Source.rest c.args.source.now in
     let b = g.R.Source.rest c.advance.new.source in
     let here = found_here declare _ _ _ found (to_come c.lines.frame) (to_come v) c.lines.version c.lines.plan n ws c.lines.invariant.finds q in

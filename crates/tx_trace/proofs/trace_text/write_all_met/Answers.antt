@@ -1,7 +1,6 @@
-use Rattle.tx_text.proofs.Wrote.{wrote_none, texts_stopped, texts_done}
+use Rattle.tx_text.proofs.Wrote.{wrote_none, texts_more, texts_stopped, texts_done}
 use Rattle.tx_trace.specs.TraceText.{met_lines}
 use Rattle.tx_trace.specs.Traces.{rank_told}
-use Rattle.tx_trace.proofs.Texts.{texts_more}
 use Rattle.tx_trace.proofs.trace_text.write_all_met.Goals as goal
 
 pub loop-i-init : goal.loop-i-init

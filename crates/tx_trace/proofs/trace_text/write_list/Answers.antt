@@ -1,10 +1,10 @@
 use Rattle.std.proofs.Common.{◌+◌, ℕ, arith}
 use Rattle.std.specs.List.{enumerate_from}
 use Rattle.std.proofs.lemmas.List.FromFn.{length-enumerate_from}
-use Rattle.tx_text.proofs.Wrote.{wrote_none, texts_stopped, texts_done}
+use Rattle.tx_text.proofs.Wrote.{wrote_none, texts_more, texts_stopped, texts_done}
 use Rattle.tx_trace.specs.TraceText.{place_line}
 use Rattle.tx_trace.specs.Traces.{rank_told}
-use Rattle.tx_trace.proofs.Texts.{texts_more, numbered}
+use Rattle.tx_trace.proofs.Texts.{numbered}
 use Rattle.tx_trace.proofs.trace_text.write_list.Goals as goal
 
 pub loop-i-init : goal.loop-i-init

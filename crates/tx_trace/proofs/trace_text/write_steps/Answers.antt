@@ -1,8 +1,7 @@
 use Rattle.std.proofs.Common.{codes, Err, refl}
 use Rattle.std.specs.List.{flat_map}
-use Rattle.tx_text.proofs.Wrote.{wrote_none, wrote_then, wrote_first, texts_stopped, texts_done}
+use Rattle.tx_text.proofs.Wrote.{wrote_none, wrote_then, wrote_first, texts_more, texts_stopped, texts_done}
 use Rattle.tx_trace.specs.TraceText.{step_text}
-use Rattle.tx_trace.proofs.Texts.{texts_more}
 use Rattle.tx_trace.proofs.trace_text.write_steps.Goals as goal
 
 pub returns-in_err-write_step : goal.returns-in_err-write_step

@@ -5,8 +5,8 @@ use Rattle.tx_plan.specs.Plan.{home_of}
 use Rattle.tx_plan.specs.Routes.{route_list}
 use Rattle.tx_rank.specs.Walks.{net_of}
 use Rattle.tx_rank.proofs.Looks.{got_at, among_at}
-use Rattle.tx_draw.proofs.Marking.{IsOpening, opening_step, opening_all}
-use Rattle.tx_draw.proofs.reaching.open.Goals as goal
+use Rattle.tx_rank.proofs.Marking.{IsOpening, opening_step, opening_all}
+use Rattle.tx_rank.proofs.reaching.open.Goals as goal
 
 pub far-to-requires-clause-listed : goal.far-to-requires-clause-listed
 far-to-requires-clause-listed g c =

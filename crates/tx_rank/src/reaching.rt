@@ -5,8 +5,8 @@ ghost use Rattle.tx_plan.specs.Among.{Among};
 ghost use Rattle.tx_plan.specs.Circuits.{other_end};
 ghost use Rattle.tx_plan.specs.Routes.{route_list};
 ghost use Rattle.tx_rank.specs.Walks.{net_of};
-ghost use Rattle.tx_draw.specs.Reached.{is_marked, AreReached};
-ghost use Rattle.tx_draw.specs.inner.Seen.{AreSeen, LeadsToSeen, StaysSeen};
+ghost use Rattle.tx_rank.specs.Reached.{is_marked, AreReached};
+ghost use Rattle.tx_rank.specs.inner.Seen.{AreSeen, LeadsToSeen, StaysSeen};
 
 use crate::marks::is_marked;
 use std::alloc::Allocator;

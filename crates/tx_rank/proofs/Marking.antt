@@ -15,8 +15,8 @@ use Rattle.tx_rank.specs.Heights.{IsReached}
 use Rattle.tx_rank.proofs.Ways.{end_push, goes_push}
 use Rattle.tx_rank.proofs.Looks.{take_next, among_at}
 use Rattle.tx_rank.proofs.Nets.{is_net}
-use Rattle.tx_draw.specs.Reached.{is_marked, AreReached}
-use Rattle.tx_draw.specs.inner.Seen.{AreSeen, LeadsToSeen, StaysSeen}
+use Rattle.tx_rank.specs.Reached.{is_marked, AreReached}
+use Rattle.tx_rank.specs.inner.Seen.{AreSeen, LeadsToSeen, StaysSeen}
 
 -- ---- marks
 
@@ -186,7 +186,7 @@ pub record IsMarking (n : Net) (marks done : List Bool) : Type 0 where
   pub long : length done ≡ n.exchanges
   pub opened : (x : ℕ) → is_marked done x ≡ true → LeadsToSeen n marks x
 
-unmarked : (k x : ℕ) → is_marked (replicate k false) x ≡ false
+pub unmarked : (k x : ℕ) → is_marked (replicate k false) x ≡ false
 unmarked zero x = refl
 unmarked (suc k) zero = refl
 unmarked (suc k) (suc x) = unmarked k x

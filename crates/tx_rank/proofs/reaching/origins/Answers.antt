@@ -1,7 +1,7 @@
 use Rattle.std.proofs.Common.{◌∙◌, ℕ, ap, arith}
 use Rattle.tx_plan.specs.Routes.{is_origin_for}
-use Rattle.tx_draw.proofs.Marking.{origins_next, origins_seen}
-use Rattle.tx_draw.proofs.reaching.origins.Goals as goal
+use Rattle.tx_rank.proofs.Marking.{origins_next, origins_seen}
+use Rattle.tx_rank.proofs.reaching.origins.Goals as goal
 
 pub loop-place-preserved : goal.loop-place-preserved
 loop-place-preserved g c =

@@ -1,7 +1,7 @@
 use Rattle.std.proofs.Common.{sym, ◌∙◌, arith}
-use Rattle.tx_draw.specs.Reached.{is_marked}
-use Rattle.tx_draw.proofs.Marking.{at_within, waits, none_more}
-use Rattle.tx_draw.proofs.reaching.next.Goals as goal
+use Rattle.tx_rank.specs.Reached.{is_marked}
+use Rattle.tx_rank.proofs.Marking.{at_within, waits, none_more}
+use Rattle.tx_rank.proofs.reaching.next.Goals as goal
 
 pub loop-place-preserved : goal.loop-place-preserved
 loop-place-preserved c = none_more c.args.seen.now c.args.opened.now c.loop-place.place c.at-exchange.result c.at-exchange.ensures (sym c.is_waiting.ensures ∙ c.if-is_waiting.false) c.loop-place.invariant

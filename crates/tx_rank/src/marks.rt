@@ -1,6 +1,6 @@
 // Marks of exchanges.
 ghost use Rattle.std.specs.Prelude.{◌≡◌};
-ghost use Rattle.tx_draw.specs.Reached.{is_marked};
+ghost use Rattle.tx_rank.specs.Reached.{is_marked};
 
 use tx_plan::ExchangeId;
 

@@ -2,7 +2,7 @@ use Rattle.std.proofs.Common.{sym}
 use Rattle.tx_rank.specs.Walks.{net_of}
 use Rattle.tx_rank.proofs.Nets.{is_net, leads_somewhere}
 use Rattle.tx_rank.proofs.Looks.{leads_within}
-use Rattle.tx_draw.proofs.reaching.far.Goals as goal
+use Rattle.tx_rank.proofs.reaching.far.Goals as goal
 
 pub unreachable-requires : goal.unreachable-requires
 unreachable-requires g c = leads_somewhere c.args.plan.now c.rules.ensures c.args.code c.args.exchange c.args.group c.requires.listed (sym c.in-None.ensures)

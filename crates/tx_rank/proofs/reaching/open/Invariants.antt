@@ -1,8 +1,8 @@
 use Rattle.std.proofs.Common.{take}
 use Rattle.tx_plan.specs.Routes.{route_list}
 use Rattle.tx_rank.specs.Walks.{net_of}
-use Rattle.tx_draw.proofs.Marking.{IsOpening}
-use Rattle.tx_draw.proofs.reaching.open.Given as goal
+use Rattle.tx_rank.proofs.Marking.{IsOpening}
+use Rattle.tx_rank.proofs.reaching.open.Given as goal
 
 abbrev pub invariant-loop-i : goal.invariant-loop-i
 invariant-loop-i g l = IsOpening (net_of l.plan l.code) l.exchange (take l.i (route_list l.plan l.exchange l.code)) l.fn.seen l.seen

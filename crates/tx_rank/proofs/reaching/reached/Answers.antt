@@ -1,8 +1,8 @@
 use Rattle.std.proofs.Common.{◌≡◌, ◌∙◌, false, length, drop, ap, sym, arith}
 use Rattle.tx_rank.specs.Walks.{net_of}
-use Rattle.tx_draw.specs.Reached.{is_marked}
-use Rattle.tx_draw.proofs.Marking.{left_less, put_back, marking_none, marking_more, marking_all}
-use Rattle.tx_draw.proofs.reaching.reached.Goals as goal
+use Rattle.tx_rank.specs.Reached.{is_marked}
+use Rattle.tx_rank.proofs.Marking.{left_less, put_back, marking_none, marking_more, marking_all}
+use Rattle.tx_rank.proofs.reaching.reached.Goals as goal
 
 pub next-requires-clause-few : goal.next-requires-clause-few
 next-requires-clause-few g c =

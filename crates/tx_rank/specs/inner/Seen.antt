@@ -3,7 +3,7 @@ use Rattle.std.specs.Prelude.{◌≡◌, ◌≢◌, ℕ, Bool, true, List, lengt
 use Rattle.tx_plan.specs.Among.{Among}
 use Rattle.tx_rank.specs.Walks.{Net}
 use Rattle.tx_rank.specs.Heights.{IsReached}
-use Rattle.tx_draw.specs.Reached.{is_marked}
+use Rattle.tx_rank.specs.Reached.{is_marked}
 
 -- where calls may start is marked, and what is marked is reached
 pub record AreSeen (n : Net) (seen : List Bool) : Type 0 where
