@@ -36,7 +36,7 @@ import tempfile
 
 TOP = os.path.dirname(os.path.dirname(os.path.abspath(__file__)))
 PAGES = ["README.md", "docs/FORMATS.md"]
-NAMING = ["CONTRIBUTING.md", "docs/ARCHITECTURE.md", "docs/DECISIONS.md", "docs/GLOSSARY.md", "docs/HEADLINE.md", "docs/MEASURED.md", "docs/PROOFS.md"]
+NAMING = ["CHANGELOG.md", "CONTRIBUTING.md", "docs/ARCHITECTURE.md", "docs/DECISIONS.md", "docs/GLOSSARY.md", "docs/HEADLINE.md", "docs/MEASURED.md", "docs/PROOFS.md"]
 MADE = ["crates/telexplan/out/telexplan"]
 PLAYED = "crates/tx_worked/data/cases"
 
