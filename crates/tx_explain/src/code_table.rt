@@ -16,19 +16,19 @@ pub static TABLE: [Entry; 75] = [
         "X2",
         "BadByte",
         "A line has a byte that is neither a tab nor printable ASCII.",
-        "Look for letters with accents, for quotes and spaces of a word processor, for a byte order mark at the start of the file, and for a CR inside the line.",
+        "Look for letters with accents, for quotes of a word processor, and for a CR inside the line.",
     ],
     [
         "X3",
         "NoMemory",
         "No memory was left for the reader's line.",
-        "Give the program more memory. It reports this as telexplan: no memory.",
+        "Give the program more memory. It tells this as telexplan: no memory.",
     ],
     [
         "P3",
         "UnknownWord",
-        "The first word of the line is not one that begins a line of a plan, or a group is neither ONEWAY nor BOTHWAY.",
-        "Correct the word; it is in capitals. BAR needs the header PLAN 2.",
+        "The first word of the line is none of a plan, or a group is neither ONEWAY nor BOTHWAY.",
+        "Correct the word. BAR wants the header PLAN 2.",
     ],
     [
         "P4",
@@ -39,7 +39,7 @@ pub static TABLE: [Entry; 75] = [
     [
         "P5",
         "BadName",
-        "The name of an exchange or a group is not valid.",
+        "An exchange or a group is no name.",
         "Write 1 to 8 capitals and figures, a letter first.",
     ],
     [
@@ -87,13 +87,13 @@ pub static TABLE: [Entry; 75] = [
     [
         "P13",
         "NotOutgoing",
-        "The exchange may not seize a group of its list: it is not an end of it, or it is the far end of a one-way group.",
+        "The exchange may not seize a group of its list: it is no end of it, or the far end of a one-way group.",
         "Take the group out of the list. If the exchange is its far end, BOTHWAY lets it seize the group.",
     ],
     [
         "P14",
         "RepeatedGroup",
-        "A group is in a list twice.",
+        "A group stands twice in a list.",
         "Drop one.",
     ],
     [
@@ -112,7 +112,7 @@ pub static TABLE: [Entry; 75] = [
         "P17",
         "NoHeader",
         "The first line with words is not PLAN 1 or PLAN 2.",
-        "Begin the text with it, in capitals, or see whether the files are in the right order: the plan comes first.",
+        "Begin the text with it, or see whether the files are in the right order: the plan comes first.",
     ],
     [
         "P18",
@@ -120,18 +120,18 @@ pub static TABLE: [Entry; 75] = [
         "The text ends without END, or in the middle of a line.",
         "See whether the file was cut off.",
     ],
-    ["P19", "AfterEnd", "Words come after END.", "Drop them."],
+    ["P19", "AfterEnd", "Words stand behind END.", "Drop them."],
     [
         "P20",
         "ReadFault",
         "The source of the text failed.",
-        "See whether the file can be read. The program reports this as telexplan: read fault.",
+        "See whether the file can be read. The program tells this as telexplan: read fault.",
     ],
     [
         "P21",
         "NoMemory",
         "No memory was left.",
-        "Give the program more memory. It reports this as telexplan: no memory.",
+        "Give the program more memory. It tells this as telexplan: no memory.",
     ],
     [
         "P22",
@@ -181,23 +181,23 @@ pub static TABLE: [Entry; 75] = [
         "The text ends without END, or in the middle of a line.",
         "See whether the file was cut off.",
     ],
-    ["C8", "AfterEnd", "Words come after END.", "Drop them."],
+    ["C8", "AfterEnd", "Words stand behind END.", "Drop them."],
     [
         "C9",
         "NoMemory",
         "No memory was left.",
-        "Give the program more memory. It reports this as telexplan: no memory.",
+        "Give the program more memory. It tells this as telexplan: no memory.",
     ],
     [
         "C10",
         "ReadFault",
         "The source of the text failed.",
-        "See whether the file can be read. The program reports this as telexplan: read fault.",
+        "See whether the file can be read. The program tells this as telexplan: read fault.",
     ],
     [
         "S1",
         "UnknownWord",
-        "The first word of the line is not that of an event, or who clears is neither CALLER nor CALLED.",
+        "The first word of the line is no event, or who clears is neither CALLER nor CALLED.",
         "Correct the word.",
     ],
     [
@@ -222,7 +222,7 @@ pub static TABLE: [Entry; 75] = [
         "S5",
         "NoHeader",
         "The first line with words is not SCRIPT 1.",
-        "Begin the text with it. On standard input it comes after the plan's END.",
+        "Begin the text with it. On standard input it stands behind the plan's END.",
     ],
     [
         "S6",
@@ -233,7 +233,7 @@ pub static TABLE: [Entry; 75] = [
     [
         "S7",
         "AfterEnd",
-        "Words come after END.",
+        "Words stand behind END.",
         "The events before it were run. Drop the words.",
     ],
     [
@@ -245,13 +245,13 @@ pub static TABLE: [Entry; 75] = [
     [
         "Q2",
         "WrongCount",
-        "The risk has no name or no groups, or words come after END on its line.",
+        "The risk has no name or no groups, or words stand behind END on its line.",
         "Write RISK, a name, and one or more groups.",
     ],
     [
         "Q3",
         "BadName",
-        "The name of the risk is not valid.",
+        "The name of the risk is no name.",
         "Write 1 to 8 capitals and figures, a letter first.",
     ],
     [
@@ -269,7 +269,7 @@ pub static TABLE: [Entry; 75] = [
     [
         "Q6",
         "RepeatedGroup",
-        "A group is in a risk twice.",
+        "A group stands twice in a risk.",
         "Drop one.",
     ],
     [
@@ -284,18 +284,18 @@ pub static TABLE: [Entry; 75] = [
         "The text ends without END, or in the middle of a line.",
         "See whether the file was cut off.",
     ],
-    ["Q9", "AfterEnd", "Words come after END.", "Drop them."],
+    ["Q9", "AfterEnd", "Words stand behind END.", "Drop them."],
     [
         "Q10",
         "NoMemory",
         "No memory was left.",
-        "Give the program more memory. It reports this as telexplan: no memory.",
+        "Give the program more memory. It tells this as telexplan: no memory.",
     ],
     [
         "Q11",
         "ReadFault",
         "The source of the text failed.",
-        "See whether the file can be read. The program reports this as telexplan: read fault.",
+        "See whether the file can be read. The program tells this as telexplan: read fault.",
     ],
     [
         "M1",
@@ -378,7 +378,7 @@ pub static TABLE: [Entry; 75] = [
     [
         "K2",
         "HomeNotZero",
-        "The home of the code does not have the rank 0.",
+        "The home of the code has not the rank 0.",
         "Take the certificate that the audit writes.",
     ],
     [
@@ -421,7 +421,7 @@ pub static TABLE: [Entry; 75] = [
         "F2",
         "LOOP",
         "The lists lead back to an exchange that the walk has passed.",
-        "Take one group of the loop out of the list of the exchange that comes before it in the walk, or let telexplan mend find lists. In a change, each list of the walk is the old one or the new one: if both plans are safe, change in two steps, by a plan in which no call goes so.",
+        "Take one group of the loop out of the list of the exchange that stands before it in the walk, or let telexplan mend find lists. In a change, each list of the walk is the old one or the new one: if both plans are safe, change in two steps, by a plan in which no call goes so.",
     ],
     [
         "F3",
