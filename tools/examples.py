@@ -49,7 +49,7 @@ class Example:
         words = command.split()
         bar = words.index("|") if "|" in words else -1
         self.input = words[1:bar] if bar > 0 else []
-        self.driver = words[:1] if words[0].endswith(".py") else []
+        self.driver = words[0] if words[0].endswith(".py") else None
         self.words = words[words.index("telexplan") + 1 :]
         made = [b for a, b in zip(self.words, self.words[1:]) if a in ("--counter", "--mixture", "--plan") or (a == "--cert" and self.words[0] != "run")]
         self.made = made
@@ -82,16 +82,16 @@ def run(program, example):
     """The exit status, what is printed on standard output and on standard error, and the files that are made."""
     with tempfile.TemporaryDirectory() as room:
         os.mkdir(os.path.join(room, "examples"))
-        for it in example.driver + example.files + example.input:
+        for it in example.files + example.input:
             if os.path.exists(os.path.join(TOP, it)):
                 shutil.copyfile(os.path.join(TOP, it), os.path.join(room, it))
         given = b"".join(read(it) for it in example.input)
-        driver = [sys.executable, *example.driver] if example.driver else []
+        driver = [sys.executable, os.path.join(TOP, example.driver)] if example.driver else []
         ran = subprocess.run(driver + program + example.words, cwd=room, input=given, capture_output=True, timeout=60)
         made = {}
         for it in sorted(os.listdir(os.path.join(room, "examples"))):
             path = f"examples/{it}"
-            if path not in example.driver + example.files + example.input:
+            if path not in example.files + example.input:
                 with open(os.path.join(room, path), "rb") as file:
                     made[path] = file.read()
         return ran.returncode, ran.stdout, ran.stderr, made
@@ -108,7 +108,7 @@ def difference(wanted, given):
 def check_examples(program, tell):
     named = {"examples/list", "examples/README.md"} | images()
     for example in examples():
-        named.update(example.driver + example.files + example.input + example.made + [out_of(example)])
+        named.update(example.files + example.input + example.made + [out_of(example), example.driver])
         status, printed, fault, made = run(program, example)
         if status != example.status:
             tell(f"{example.name}: the status is {status} and not {example.status}")
@@ -415,8 +415,6 @@ def check_map(tell):
 
 def case_of(example):
     """The kind of a case, and its texts; None where no case shows the example."""
-    if example.driver:
-        return None
     texts = [read(it) for it in example.input + example.files if os.path.exists(os.path.join(TOP, it))]
     bounds = f" {example.option('--limit')} {example.option('--spare')}"
     if example.input:
