@@ -70,7 +70,8 @@ fn group_by<A: Allocator>(
     direction: Option<Direction>,
     count: u32,
 ) -> Result<(), PlanWord>
-    ensures declared { Declared is_memory (group_by plan.old name.now a.now b.now direction count) plan.new result }
+    ensures declared { Declared is_memory (group_by plan.old name.now a.now b.now direction count)
+        plan.new result }
     ensures same { IfErr result (λ _. plan.new ≡ plan.old) }
 {
     match direction {
