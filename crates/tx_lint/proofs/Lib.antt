@@ -1,0 +1,5 @@
+pub mod Agreeing
+pub mod AllRead
+pub mod Marked
+pub mod Taken
+pub mod Warned
