@@ -211,7 +211,7 @@ pub fn job_of<'a>(kind: JobKind, head: Head<'a>) -> Job<'a> {
         JobKind::Run => Job::Run,
         JobKind::Codes => Job::Codes,
         JobKind::Grade => Job::Grade,
-        JobKind::Lint => Job::Lint,
+        JobKind::Lint => Job::Lint { file: head.first },
         JobKind::Check => Job::Check { limit, spare },
         JobKind::Audit => Job::Audit { limit, spare },
         JobKind::Change => Job::Change { limit, spare },

@@ -105,7 +105,7 @@ fn do_plan_job<A: Allocator + Copy>(
     match job {
         Job::Codes => codes_status(alloc, plan, out),
         Job::Grade => grade_status(alloc, plan, out),
-        Job::Lint => lint_job(alloc, plan, b"PLAN", out),
+        Job::Lint { file } => lint_job(alloc, plan, file, out),
         Job::Audit { limit, spare } => do_audit(alloc, plan, limit.min(62), spare.min(15), out),
         Job::Mend { limit, spare } => do_mend(alloc, plan, limit.min(62), spare.min(15), out),
         Job::Trace { exchange, code } => do_trace(alloc, plan, exchange, code, out),
