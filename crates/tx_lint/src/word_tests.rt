@@ -57,17 +57,8 @@ fn is_not_outgoing<A: Allocator>(plan: &Plan<A>, pair: &Option<Pair>, group: &[u
 pub(crate) fn first_no_name<'t>(words: Words<'t>) -> Option<&'t [u8]>
     ensures { option_map (λ w. w.now) result ≡ first_not is_name words.entry }
 {
-    let mut rest = words;
-    'words: loop {
-        match rest.next() {
-            None => return None,
-            Some(word) => {
-                if !is_name(word) {
-                    return Some(word);
-                }
-            }
-        }
-    }
+    let mut words = words;
+    words.find(|word| !is_name(word))
 }
 
 /// The first of the words that is the name of no group.
@@ -77,17 +68,8 @@ pub(crate) fn first_unknown_group<'t, A: Allocator>(
 ) -> Option<&'t [u8]>
     ensures { option_map (λ w. w.now) result ≡ first_not (has_group plan.now) words.entry }
 {
-    let mut rest = words;
-    'words: loop {
-        match rest.next() {
-            None => return None,
-            Some(word) => {
-                if !is_group(plan, word) {
-                    return Some(word);
-                }
-            }
-        }
-    }
+    let mut words = words;
+    words.find(|word| !is_group(plan, word))
 }
 
 /// The first of the words that is the name of a group that the pair's exchange may not seize.
@@ -99,34 +81,16 @@ pub(crate) fn first_closed<'t, A: Allocator>(
     ensures { option_map (λ w. w.now) result
         ≡ find (is_not_outgoing plan.now pair.now) words.entry }
 {
-    let mut rest = words;
-    'words: loop {
-        match rest.next() {
-            None => return None,
-            Some(word) => {
-                if is_not_outgoing(plan, pair, word) {
-                    return Some(word);
-                }
-            }
-        }
-    }
+    let mut words = words;
+    words.find(|word| is_not_outgoing(plan, pair, word))
 }
 
 /// Whether the word is one of the words.
 fn is_among(word: &[u8], words: Words<'_>) -> bool
     ensures { result ≡ list_any (bytes_eq word.now) words.entry }
 {
-    let mut rest = words;
-    'words: loop {
-        match rest.next() {
-            None => return false,
-            Some(other) => {
-                if word == other {
-                    return true;
-                }
-            }
-        }
-    }
+    let mut words = words;
+    words.any(|other| word == other)
 }
 
 /// The first of the words that stands there again.
@@ -134,14 +98,10 @@ pub(crate) fn first_again<'t>(words: Words<'t>) -> Option<&'t [u8]>
     ensures { option_map (λ w. w.now) result ≡ first_again words.entry }
 {
     let mut rest = words;
-    'words: loop {
-        match rest.next() {
-            None => return None,
-            Some(word) => {
-                if is_among(word, rest.again()) {
-                    return Some(word);
-                }
-            }
+    while let Some(word) = rest.next() {
+        if is_among(word, rest.again()) {
+            return Some(word);
         }
     }
+    None
 }
