@@ -7,7 +7,7 @@ ghost use Rattle.tx_jobs.specs.LintJobs.{LintedInRoom, LintJobAnswers};
 
 use crate::job_fault::JobFault;
 use std::alloc::Allocator;
-use tx_lint::{lint, read_text, write_lint};
+use tx_lint::{lint_plan, read_text, write_lint};
 use tx_text::{Sink, Source, WriteFault};
 
 /// Reads a plan's text to its end, and writes all its faults; or where it has none, the warnings of
@@ -46,7 +46,7 @@ fn lint_text<A: Allocator + Copy, W: Sink>(
     ensures linted { LintedInRoom text.now file.now (output W.taken out.old out.new) result }
     ensures mark { W.failed out.new ≡ mark_after (W.failed out.old) result }
 {
-    match lint(alloc, text) {
+    match lint_plan(alloc, text) {
         Ok(lint) => match write_lint(&lint, file, out) {
             Ok(()) => Ok(lint.status()),
             Err(WriteFault) => Err(JobFault::Write),

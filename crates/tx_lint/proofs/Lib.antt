@@ -3,3 +3,4 @@ pub mod AllRead
 pub mod Marked
 pub mod Taken
 pub mod Warned
+pub mod WholeText
