@@ -70,7 +70,7 @@ last_agrees s m ws (Some x) = refl
 module _ (m : ℕ) (ls : List Line) (after : (s : Progress) → Agrees s (m + 1) ls) where
   declared_agrees : (s : Progress) (ws : List (List ℕ)) (r : Said)
       → first_fault (option_to_list (option_map (fault_in_line s m ws) (refused r)) ++ faults_from (declared_on s m ws r) (m + 1) ls)
-      ≡ told_by (step_on m r (λ p. said declare s.version p (rest_framed s (m + 1) ls)))
+      ≡ told_by (step_on declare m r (λ p. said declare s.version p (rest_framed s (m + 1) ls)))
   declared_agrees s ws (Ok p) = after (record s { plan = p; entries = s.entries ++ entry_at s.plan m ws })
   declared_agrees s ws (Err x) = refl
 
@@ -118,7 +118,7 @@ end_gives p s n (Some x) h = cc
 
 module _ (p : Plan) (m : ℕ) (ls : List Line) (after : (s : Progress) → GivesPlan p s (m + 1) ls) where
   declared_gives : (s : Progress) (ws : List (List ℕ)) (r : Said)
-      → step_on m r (λ q. said declare s.version q (rest_framed s (m + 1) ls)) ≡ Ok p → (progress_from (declared_on s m ws r) ls).plan ≡ p
+      → step_on declare m r (λ q. said declare s.version q (rest_framed s (m + 1) ls)) ≡ Ok p → (progress_from (declared_on s m ws r) ls).plan ≡ p
   declared_gives s ws (Ok q) h = after (record s { plan = q; entries = s.entries ++ entry_at s.plan m ws }) h
   declared_gives s ws (Err x) h = cc
 

@@ -37,7 +37,9 @@ one_on s l ls f = rw f refl
 
 last_line : (s : Progress) (n : ℕ) (l : Line) (ls : List Line) → l.finished ≡ false → faults_from s n (l ∷ ls) ≡ option_to_list (fault_of_line s l)
 unfolding faults_from
-last_line s n l ls f = rw f (append-nil (option_to_list (fault_of_line s l)))
+last_line s n l ls f =
+    ap (λ (b : Bool). option_to_list (fault_of_line s l) ++ (if b then faults_from (line_on s l) (l.number + 1) ls else [])) f
+    ∙ append-nil (option_to_list (fault_of_line s l))
 
 last_on : (s : Progress) (l : Line) (ls : List Line) → l.finished ≡ false → progress_from s (l ∷ ls) ≡ s
 unfolding progress_from

@@ -1,13 +1,21 @@
 -- Marking where calls come, and which groups stand in a list.
-use Rattle.std.proofs.Common.{◌≡◌, ℕ, zero, suc, ◌+◌, ◌<◌, ◌≤◌, Bool, true, false, List, [], ◌∷◌, ◌++◌, map, length, take, get_or, ◌⊎◌, inl, inr, Some, refl, sym, ap, subst, ◌∙◌, arith}
+use Rattle.std.proofs.Common.{◌≡◌, ℕ, zero, suc, ◌+◌, ◌<◌, ◌≤◌, Bool, true, false, List, [], ◌∷◌, ◌++◌, map, length, take, get_or, ◌⊎◌, inl, inr, Option, Some, None, Vec, refl, sym, ap, subst, ◌∙◌, arith}
 use Rattle.std.specs.Prelude.{◌↔◌, ◌||◌, ◌==◌, slice_get}
-use Rattle.std.specs.List.{list_any}
-use Rattle.std.specs.Option.{option_map_or}
+use Rattle.std.specs.List.{list_any, AllByRecursion}
+use Rattle.std.specs.Option.{option_map, option_map_or}
+use Rattle.std.proofs.Math.Dec.{eqb-zero-suc, eqb-suc-zero, eqb-suc-suc}
 use Rattle.std.proofs.Math.ListN.{set}
-use Rattle.std.proofs.lemmas.Bool.{cases_lt}
+use Rattle.std.proofs.lemmas.Bool.{cases_lt, false≢true}
 use Rattle.std.proofs.lemmas.List.{map-append}
 use Rattle.std.proofs.lemmas.List.Folds.{list_any_more}
-use Rattle.tx_plan.specs.Plan.{Plan, Route}
+use Rattle.std.proofs.lemmas.Option.{slice_get_within}
+use Rattle.tx_entries.proofs.Lists.{all_map}
+use Rattle.tx_plan.specs.Plan.{Plan, Route, Group}
+use Rattle.tx_plan.specs.Circuits.{may_seize, may_seize_row}
+use Rattle.tx_plan.specs.Routes.{route_list}
+use Rattle.tx_plan.specs.Rules.{IsPlan, IsRoute}
+use Rattle.tx_plan.proofs.ByPlace.{all_at}
+use Rattle.tx_plan.proofs.ListFound.{list_found}
 use Rattle.tx_trie.proofs.Stepping.{slice_get_last}
 use Rattle.tx_rank.specs.Walks.{net_of}
 use Rattle.tx_rank.specs.Heights.{IsReached}
@@ -49,6 +57,18 @@ coming_next p i marks m so r = record {
   ];
 }
 
+-- the next code is marked
+pub coming_push : {A : Type 0} (p : Plan) (i : ℕ) (old new : List (Vec Bool A)) (m : Vec Bool A)
+    → AreComingBefore p i (map (λ (v : Vec Bool A). v.items) old) → new ≡ old ++ m ∷ []
+    → (c : ℕ) → c ≡ i → AreReached (net_of p c) m.items
+    → AreComingBefore p (i + 1) (map (λ (v : Vec Bool A). v.items) new)
+coming_push {A} p i old new m so more c is r =
+    let marks = λ (v : Vec Bool A). v.items in
+    let pushed : map marks new ≡ map marks old ++ m.items ∷ [] =
+    ap (map marks) more ∙ map-append marks old (m ∷ []) in
+    subst (AreComingBefore p (i + 1)) (sym pushed)
+    (coming_next p i (map marks old) m.items so (subst (λ (k : ℕ). AreReached (net_of p k) m.items) is r))
+
 -- ---- which groups stand in a list
 
 or_false : (b : Bool) → b ≡ (b || false)
@@ -60,9 +80,9 @@ pub marked_one : (marks : List Bool) (y g : ℕ) → y < length marks → is_mar
 marked_one [] y g h = absurd (omega (arith, h))
 marked_one (true ∷ bs) zero zero h = refl
 marked_one (false ∷ bs) zero zero h = refl
-marked_one (b ∷ bs) zero (suc g) h = or_false (is_marked bs g)
-marked_one (b ∷ bs) (suc y) zero h = or_false b
-marked_one (b ∷ bs) (suc y) (suc g) h = marked_one bs y g (omega (arith, h))
+marked_one (b ∷ bs) zero (suc g) h = rw (eqb-zero-suc g) (or_false (is_marked bs g))
+marked_one (b ∷ bs) (suc y) zero h = rw (eqb-suc-zero y) (or_false b)
+marked_one (b ∷ bs) (suc y) (suc g) h = rw (eqb-suc-suc y g) (marked_one bs y g (omega (arith, h)))
 
 or_assoc : (a b c : Bool) → ((a || b) || c) ≡ (a || (b || c))
 or_assoc true b c = refl
@@ -90,3 +110,47 @@ listed_more old new routes i r low is so more g =
     more g ∙ ap (λ b. b || list_any (λ h. h == g) r.groups) (so g)
     ∙ ap (λ (q : Route). stands_in g (take i routes) || list_any (λ h. h == g) q.groups) is
     ∙ sym (list_any_more (λ (q : Route). list_any (λ h. h == g) q.groups) routes i r low)
+
+-- ---- the route at a place
+
+seized_within : (p : Plan) (g x : ℕ) → may_seize p g x ≡ true → g < length p.groups
+seized_within p g x h = at (slice_get p.groups g) refl h
+  where
+    at : (o : Option Group) → slice_get p.groups g ≡ o → option_map_or (λ (r : Group). may_seize_row r x) o false ≡ true → g < length p.groups
+    at None e h = absurd (false≢true h)
+    at (Some r) e h = slice_get_within p.groups g r e
+
+-- it is there, and has the list of its exchange and code
+pub route_there : (p : Plan) → IsPlan p → (i : ℕ) (k : ℕ × ℕ)
+    → Some k ≡ option_map (λ (r : Route). (r.exchange, r.code)) (slice_get p.routes i)
+    → (r : Route) × (slice_get p.routes i ≡ Some r) × (route_list p k.0 k.1 ≡ r.groups)
+route_there p ok i k got = by (slice_get p.routes i) refl got
+  where
+    by : (o : Option Route) → slice_get p.routes i ≡ o → Some k ≡ option_map (λ (r : Route). (r.exchange, r.code)) o
+        → (r : Route) × (slice_get p.routes i ≡ Some r) × (route_list p k.0 k.1 ≡ r.groups)
+    by None e h = absurd (let bad : ⊥ = cc in bad)
+    by (Some r) e h =
+        let same : k ≡ (r.exchange, r.code) = cc in
+        (r, e, (λ j. route_list p (same j).0 (same j).1) ∙ list_found p i r ok e)
+
+-- its groups have marks
+pub within_marks : (p : Plan) → IsPlan p → (i : ℕ) (r : Route) → slice_get p.routes i ≡ Some r
+    → (marks : List Bool) (list : List ℕ) → length marks ≡ length p.groups → list ≡ r.groups
+    → AllByRecursion (λ g. g < length marks) list
+within_marks p ok i r at marks list long is =
+    let seized = (all_at (IsRoute p) p.routes i r ok.routes at).outgoing in
+    subst (AllByRecursion (λ g. g < length marks)) (sym is)
+    (subst (λ n. AllByRecursion (λ g. g < n) r.groups) (sym long)
+    (all_map r.groups (λ g may. seized_within p g r.exchange may) seized))
+
+-- an entry at a place within a list is there
+pub no_none : {X Y : Type 0} (f : X → Y) (o : Option X) (x : X) → o ≡ Some x → ◌≡◌ {A = Option Y} None (option_map f o) → ⊥
+no_none f None x e h = cc
+no_none f (Some y) x e h = cc
+
+-- what is below a bound at each place
+pub below_at : (n : ℕ) (groups : List ℕ) (i y : ℕ) → AllByRecursion (λ g. g < n) groups → i < length groups
+    → y ≡ get_or groups i y → y < n
+below_at n [] i y all low is = absurd (omega (arith, low))
+below_at n (g ∷ gs) zero y all low is = subst (λ (k : ℕ). k < n) (sym is) all.0
+below_at n (g ∷ gs) (suc i) y all low is = below_at n gs i y all.1 (omega (arith, low)) is

@@ -1,9 +1,12 @@
 -- Warnings that are found one after another.
-use Rattle.std.proofs.Common.{◌≡◌, ℕ, ◌+◌, ◌<◌, List, [], ◌∷◌, ◌++◌, map, length, take, get_or, Option, Some, None, refl, ap, sym, ◌∙◌, append-nil}
-use Rattle.std.specs.List.{flat_map, range_with_len}
+use Rattle.std.proofs.Common.{◌≡◌, ℕ, ◌+◌, ◌<◌, Bool, true, false, List, [], ◌∷◌, ◌++◌, map, length, take, get_or, Option, Some, None, refl, ap, sym, ◌∙◌, append-nil}
+use Rattle.std.specs.Prelude.{◌||◌, slice_get}
+use Rattle.std.specs.List.{flat_map, range_with_len, list_any}
 use Rattle.std.specs.Option.{option_map, option_map_or}
 use Rattle.std.proofs.lemmas.List.{take_more, map-append, append_assoc}
 use Rattle.std.proofs.lemmas.List.Concat.{flat_map-append}
+use Rattle.std.proofs.lemmas.List.Folds.{list_any_at, list_any_more}
+use Rattle.std.proofs.lemmas.Option.{slice_get_within, get_or_from_slice_get}
 use Rattle.tx_entries.specs.declared.pair.Pair.{Pair}
 use Rattle.tx_plan.specs.Plan.{Plan, Route}
 use Rattle.tx_cert.proofs.Ranges.{flat_map-range_more}
@@ -51,7 +54,7 @@ route_there f None k h = cc
 route_there f (Some r) k h = let same : k ≡ (r.exchange, r.code) = cc in rw same refl
 
 pub no_route_there : (f : ℕ → ℕ → List Warning) (o : Option Route)
-    → None ≡ option_map (λ (r : Route). (r.exchange, r.code)) o
+    → ◌≡◌ {A = Option (ℕ × ℕ)} None (option_map (λ (r : Route). (r.exchange, r.code)) o)
     → option_map_or (λ (r : Route). f r.code r.exchange) o [] ≡ []
 no_route_there f None h = refl
 no_route_there f (Some r) h = cc
@@ -64,7 +67,27 @@ bar_there f None k h = cc
 bar_there f (Some b) k h = let same : k ≡ (b.exchange, b.code) = cc in rw same refl
 
 pub no_bar_there : (f : ℕ → List Warning) (o : Option Pair)
-    → None ≡ option_map (λ (b : Pair). (b.exchange, b.code)) o
+    → ◌≡◌ {A = Option (ℕ × ℕ)} None (option_map (λ (b : Pair). (b.exchange, b.code)) o)
     → option_map_or (λ (b : Pair). f b.exchange) o [] ≡ []
 no_bar_there f None h = refl
 no_bar_there f (Some b) h = cc
+
+-- ---- the lines of a code
+
+pub any_there : {X : Type 0} (test : X → Bool) (xs : List X) (i : ℕ) (x : X) → slice_get xs i ≡ Some x
+    → test x ≡ true → true ≡ list_any test xs
+any_there test xs i x at passes =
+    let low = slice_get_within xs i x at in
+    sym (list_any_at test xs i x low (ap test (get_or_from_slice_get xs i x x at) ∙ passes))
+
+pub none_more : {X : Type 0} (test : X → Bool) (xs : List X) (i : ℕ) (x : X) → slice_get xs i ≡ Some x
+    → test x ≡ false → list_any test (take i xs) ≡ false → list_any test (take (i + 1) xs) ≡ false
+none_more test xs i x at fails before =
+    list_any_more test xs i x (slice_get_within xs i x at)
+    ∙ (λ j. before j || (ap test (get_or_from_slice_get xs i x x at) ∙ fails) j)
+
+-- ---- a code for which the exchange may want a list
+
+pub missing_is : (p : Plan) (x i c : ℕ) (wanting : Bool) → wanting ≡ wants_list p x c → c ≡ i
+    → warned_if wanting (NoList c) ≡ missing_list p x i
+missing_is p x i c wanting is same = λ j. warned_if ((is ∙ ap (wants_list p x) same) j) (NoList (same j))

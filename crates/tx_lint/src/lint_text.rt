@@ -35,14 +35,14 @@ fn write_faults<W: Sink>(faults: &[Fault<'_>], file: &[u8], sink: &mut W) -> Res
         (flat_map (fault_line file.now) (map fault_held faults.now)) result }
 {
     for i in 0..faults.len() {
-        write_fault(&faults[i], file, sink)?;
+        write_fault(faults[i], file, sink)?;
     }
     Ok(())
 }
 
-fn write_fault<W: Sink>(fault: &Fault<'_>, file: &[u8], sink: &mut W) -> Result<(), WriteFault>
+fn write_fault<W: Sink>(fault: Fault<'_>, file: &[u8], sink: &mut W) -> Result<(), WriteFault>
     ensures { Wrote (W.taken sink.old) (W.taken sink.new) (W.failed sink.old) (W.failed sink.new)
-        (fault_line file.now (fault_held fault.now)) result }
+        (fault_line file.now (fault_held fault.entry)) result }
 {
     write_line(
         file,

@@ -69,8 +69,9 @@ fn listed<A: Allocator + Copy>(alloc: A, plan: &Plan<A>) -> Result<Vec<bool, A>,
     plan.rules();
     let mut marks = vec![in alloc; false; plan.groups()]?;
     for place in 0..plan.routes() {
-        if let Some((exchange, code)) = plan.route_at(place) {
-            mark_all(plan.list(exchange, code), &mut marks);
+        match plan.route_at(place) {
+            Some((exchange, code)) => mark_all(plan.list(exchange, code), &mut marks),
+            None => unreachable!(),
         }
     }
     Ok(marks)

@@ -89,10 +89,13 @@ fn has_lines<A: Allocator>(plan: &Plan<A>, code: CodeId) -> bool
     ensures { result ≡ has_lines plan.now code }
 {
     for place in 0..plan.ranges() {
-        if let Some(range) = plan.range_at(place) {
-            if range.code == code {
-                return true;
+        match plan.range_at(place) {
+            Some(range) => {
+                if range.code == code {
+                    return true;
+                }
             }
+            None => unreachable!(),
         }
     }
     false
