@@ -40,6 +40,9 @@ numbered : (n start : ℕ) (text : List ℕ) → AreNumbered n (lines_from n sta
 unfolding lines_from
 numbered n start text = numbered_parts n start _
 
+pub first_number : (n start : ℕ) (text : List ℕ) (l : Line) (ls : List Line) → lines_from n start text ≡ l ∷ ls → l.number ≡ n
+first_number n start text l ls e = (subst (AreNumbered n) e (numbered n start text)).0
+
 -- ---- what the reader tells of lines
 
 -- what comes of a part of the text that the frame leaves to the reader

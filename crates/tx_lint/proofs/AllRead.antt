@@ -1,7 +1,8 @@
 -- Reading all lines of a text, one after another.
-use Rattle.std.proofs.Common.{◌≡◌, ℕ, ◌+◌, ◌-◌, ◌<◌, ◌≤◌, Bool, true, false, List, [], ◌∷◌, ◌++◌, length, refl, sym, ap, subst, ◌∙◌, append-nil, arith}
+use Rattle.std.proofs.Common.{◌≡◌, ◌==◌, ℕ, ◌+◌, ◌-◌, ◌<◌, ◌≤◌, Bool, true, false, List, [], ◌∷◌, ◌++◌, length, refl, sym, ap, subst, ◌∙◌, append-nil, arith}
 use Rattle.std.specs.Prelude.{if◌then◌else◌}
 use Rattle.std.specs.Option.{option_to_list}
+use Rattle.std.proofs.lemmas.Bool.{eqb-true}
 use Rattle.std.proofs.lemmas.List.{append_assoc}
 use Rattle.tx_text.specs.Text.{Line, lines_from}
 use Rattle.tx_text.proofs.TextLines.{lines_nil}
@@ -85,6 +86,10 @@ module _ (text : List ℕ) (fs new : List Fault) (s r : Progress) (n : ℕ) (res
     told ∙ ap (λ x. fs ++ x) (sym (last_line s n l ls fin)) ∙ ap (λ x. fs ++ faults_from s n x) (sym e) ∙ sym so.faults,
     (led ∙ rw fin refl) ∙ sym (last_on s l ls fin) ∙ ap (progress_from s) (sym e) ∙ sym so.progress,
   )
+
+pub no_bytes : (rest : List ℕ) → (length rest == 0) ≡ true → rest ≡ []
+no_bytes [] over = refl
+no_bytes (b ∷ rest) over = let zero = eqb-true (length (b ∷ rest)) 0 over in absurd (omega (arith, zero))
 
 -- the end was taken in
 pub all_read_end : (text : List ℕ) (fs new : List Fault) (s r : Progress) (n : ℕ) (rest : List ℕ) → SoFar text fs s n rest → rest ≡ []

@@ -63,11 +63,23 @@ fn write_warnings<A: Allocator, W: Sink>(
         (flat_map (warning_line file.now plan.now) warnings.now) result }
 {
     for i in 0..warnings.len() {
-        let (line, warning) = warnings[i];
-        let word = warning_word(plan, warning);
-        write_line(file, line, warning.code_and_name(), word, sink)?;
+        write_warning(plan, warnings[i], file, sink)?;
     }
     Ok(())
+}
+
+fn write_warning<A: Allocator, W: Sink>(
+    plan: &Plan<A>,
+    warning: (u64, Warning),
+    file: &[u8],
+    sink: &mut W,
+) -> Result<(), WriteFault>
+    ensures { Wrote (W.taken sink.old) (W.taken sink.new) (W.failed sink.old) (W.failed sink.new)
+        (warning_line file.now plan.now warning) result }
+{
+    let (line, warning) = warning;
+    let word = warning_word(plan, warning);
+    write_line(file, line, warning.code_and_name(), word, sink)
 }
 
 /// The code or the group that a warning speaks of.
