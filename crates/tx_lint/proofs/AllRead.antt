@@ -16,17 +16,6 @@ pub record SoFar (text : List ℕ) (fs : List Fault) (s : Progress) (n : ℕ) (r
   pub short : length rest ≤ length text
   pub number : n ≤ (length text - length rest) + 1
 
--- nothing was read yet
-pub so_far_start : (text : List ℕ) → SoFar text [] no_progress 1 text
-so_far_start text =
-    let none : length text - length text ≡ 0 = omega arith in
-    record {
-      faults = rw none refl;
-      progress = rw none refl;
-      short = omega arith;
-      number = omega arith;
-    }
-
 one_line : (s : Progress) (n : ℕ) (l : Line) (ls : List Line) → l.number ≡ n → l.finished ≡ true
     → faults_from s n (l ∷ ls) ≡ option_to_list (fault_of_line s l) ++ faults_from (line_on s l) (n + 1) ls
 unfolding faults_from

@@ -38,9 +38,6 @@ pub record AreComingBefore (p : Plan) (i : ℕ) (marks : List (List Bool)) : Typ
   pub long : length marks ≡ i
   pub each : (c x : ℕ) → c < i → (comes_by marks c x ≡ true) ↔ IsReached (net_of p c) x
 
-pub coming_none : (p : Plan) → AreComingBefore p 0 []
-coming_none p = record { long = refl; each = λ c x h. absurd (omega (arith, h)) }
-
 pub coming_next : (p : Plan) (i : ℕ) (marks : List (List Bool)) (m : List Bool) → AreComingBefore p i marks → AreReached (net_of p i) m → AreComingBefore p (i + 1) (marks ++ m ∷ [])
 coming_next p i marks m so r = record {
   long = let n = long_push marks m in let l = so.long in omega arith;

@@ -23,16 +23,6 @@ told_of p comes e = map (λ w. (e.0, w)) (entry_warnings p comes e.1)
 abbrev pub missing_list : Plan → (x c : ℕ) → List Warning
 missing_list p x c = warned_if (wants_list p x c) (NoList c)
 
--- those of one entry more
-pub next_entry : {X : Type 0} (g : X → List (ℕ × Warning)) (xs : List X) (i : ℕ) (x : X)
-    (a b : List (ℕ × Warning)) → i < length xs → x ≡ get_or xs i x → a ≡ flat_map g (take i xs)
-    → b ≡ a ++ g x → b ≡ flat_map g (take (i + 1) xs)
-next_entry g xs i x a b low is before more =
-    more ∙ ap (λ l. l ++ g x) before ∙ ap (λ y. flat_map g (take i xs) ++ g y) is
-    ∙ ap (λ l. flat_map g (take i xs) ++ l) (sym (append-nil (g (get_or xs i x))))
-    ∙ sym (ap (flat_map g) (take_more xs i x low)
-    ∙ flat_map-append g (take i xs) (get_or xs i x ∷ []))
-
 -- those of one code more
 pub next_code : (line i : ℕ) (f : ℕ → List Warning) (a b c : List (ℕ × Warning))
     → b ≡ a ++ map (λ w. (line, w)) (flat_map f (range_with_len 0 i))
@@ -45,32 +35,6 @@ next_code line i f a b c before more =
     ∙ append_assoc a (map with_line front) (map with_line (f i))
     ∙ ap (λ l. a ++ l) (sym (map-append with_line front (f i)))
     ∙ ap (λ l. a ++ map with_line l) (sym (flat_map-range_more f i))
-
--- what is warned of at a place of the routes
-pub route_there : (f : ℕ → ℕ → List Warning) (o : Option Route) (k : ℕ × ℕ)
-    → Some k ≡ option_map (λ (r : Route). (r.exchange, r.code)) o
-    → option_map_or (λ (r : Route). f r.code r.exchange) o [] ≡ f k.1 k.0
-route_there f None k h = cc
-route_there f (Some r) k h = let same : k ≡ (r.exchange, r.code) = cc in rw same refl
-
-pub no_route_there : (f : ℕ → ℕ → List Warning) (o : Option Route)
-    → ◌≡◌ {A = Option (ℕ × ℕ)} None (option_map (λ (r : Route). (r.exchange, r.code)) o)
-    → option_map_or (λ (r : Route). f r.code r.exchange) o [] ≡ []
-no_route_there f None h = refl
-no_route_there f (Some r) h = cc
-
--- the same of the bars
-pub bar_there : (f : ℕ → List Warning) (o : Option Pair) (k : ℕ × ℕ)
-    → Some k ≡ option_map (λ (b : Pair). (b.exchange, b.code)) o
-    → option_map_or (λ (b : Pair). f b.exchange) o [] ≡ f k.0
-bar_there f None k h = cc
-bar_there f (Some b) k h = let same : k ≡ (b.exchange, b.code) = cc in rw same refl
-
-pub no_bar_there : (f : ℕ → List Warning) (o : Option Pair)
-    → ◌≡◌ {A = Option (ℕ × ℕ)} None (option_map (λ (b : Pair). (b.exchange, b.code)) o)
-    → option_map_or (λ (b : Pair). f b.exchange) o [] ≡ []
-no_bar_there f None h = refl
-no_bar_there f (Some b) h = cc
 
 -- ---- the lines of a code
 

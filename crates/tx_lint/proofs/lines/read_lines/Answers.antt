@@ -2,7 +2,7 @@ use Rattle.std.proofs.Common.{◌≡◌, ◌==◌, ◌∙◌, length, true, sym,
 use Rattle.tx_text.specs.TextLine.{line_of}
 use Rattle.tx_lint.specs.inner.Readings.{progress_held, faults_held}
 use Rattle.tx_lint.proofs.Agreeing.{first_number}
-use Rattle.tx_lint.proofs.AllRead.{so_far_start, so_far_next, all_read_last, all_read_end, no_bytes}
+use Rattle.tx_lint.proofs.AllRead.{so_far_next, all_read_last, all_read_end, no_bytes}
 use Rattle.tx_lint.proofs.lines.read_lines.Goals as goal
 
 pub returns-then-not-line : goal.returns-then-not-line
