@@ -6,7 +6,7 @@ use Rattle.std.proofs.lemmas.Bool.{eqb-true}
 use Rattle.std.proofs.lemmas.List.{append_assoc}
 use Rattle.tx_text.specs.Text.{Line, lines_from}
 use Rattle.tx_text.proofs.TextLines.{lines_nil}
-use Rattle.tx_lint.specs.AllFaults.{Fault, Progress, no_progress, fault_of_line, fault_of_end, line_on, faults_from, progress_from, faults_of, progress_of}
+use Rattle.tx_lint.specs.AllFaults.{Fault, Progress, fault_of_line, fault_of_end, line_on, faults_from, progress_from, faults_of, progress_of}
 
 -- These faults were told of the lines before the rest, of which the first has the number n, and s is
 -- what was read of them.

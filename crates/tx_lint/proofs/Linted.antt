@@ -7,7 +7,7 @@ use Rattle.tx_lint.specs.declared.fault.Fault.{Fault as FaultHeld}
 use Rattle.tx_lint.specs.declared.warning.Warning.{Warning}
 use Rattle.tx_lint.specs.AllFaults.{Fault, Progress}
 use Rattle.tx_lint.specs.Warnings.{Coming, TellsWhereCallsCome, warnings}
-use Rattle.tx_lint.specs.Lints.{Lint, Faults, Warnings, IsLintBy, fault_held}
+use Rattle.tx_lint.specs.Lints.{Faults, Warnings, IsLintBy, fault_held}
 
 -- some faults were told
 pub lint_faults : (held : List FaultHeld) (fs : List Fault) (s : Progress) (n : ℕ) → n ≡ length held

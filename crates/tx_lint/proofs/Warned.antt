@@ -1,14 +1,11 @@
 -- Warnings that are found one after another.
-use Rattle.std.proofs.Common.{◌≡◌, ℕ, ◌+◌, ◌<◌, Bool, true, false, List, [], ◌∷◌, ◌++◌, map, length, take, get_or, Option, Some, None, refl, ap, sym, ◌∙◌, append-nil}
+use Rattle.std.proofs.Common.{◌≡◌, ℕ, ◌+◌, Bool, true, false, List, ◌++◌, map, take, Some, ap, sym, ◌∙◌}
 use Rattle.std.specs.Prelude.{◌||◌, slice_get}
 use Rattle.std.specs.List.{flat_map, range_with_len, list_any}
-use Rattle.std.specs.Option.{option_map, option_map_or}
-use Rattle.std.proofs.lemmas.List.{take_more, map-append, append_assoc}
-use Rattle.std.proofs.lemmas.List.Concat.{flat_map-append}
+use Rattle.std.proofs.lemmas.List.{map-append, append_assoc}
 use Rattle.std.proofs.lemmas.List.Folds.{list_any_at, list_any_more}
 use Rattle.std.proofs.lemmas.Option.{slice_get_within, get_or_from_slice_get}
-use Rattle.tx_entries.specs.declared.pair.Pair.{Pair}
-use Rattle.tx_plan.specs.Plan.{Plan, Route}
+use Rattle.tx_plan.specs.Plan.{Plan}
 use Rattle.tx_cert.proofs.Ranges.{flat_map-range_more}
 use Rattle.tx_lint.specs.declared.entry.Entry.{Entry}
 use Rattle.tx_lint.specs.declared.warning.Warning.{Warning}

@@ -1,4 +1,4 @@
-use Rattle.std.proofs.Common.{◌≡◌, ◌==◌, ◌∙◌, length, true, sym, rules}
+use Rattle.std.proofs.Common.{◌≡◌, ◌==◌, length, true, rules}
 use Rattle.tx_text.specs.TextLine.{line_of}
 use Rattle.tx_lint.specs.inner.Readings.{progress_held, faults_held}
 use Rattle.tx_lint.proofs.Agreeing.{first_number}

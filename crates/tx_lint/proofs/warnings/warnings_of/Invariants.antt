@@ -1,4 +1,4 @@
-use Rattle.std.proofs.Common.{◌≡◌, ℕ, map, take}
+use Rattle.std.proofs.Common.{◌≡◌, take}
 use Rattle.std.specs.List.{flat_map}
 use Rattle.tx_lint.proofs.Warned.{told_of}
 use Rattle.tx_lint.specs.inner.Marks.{coming_of}
