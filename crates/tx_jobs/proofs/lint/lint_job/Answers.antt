@@ -12,7 +12,7 @@ returns-in-Ok-clause-answers g c = inl (record {
 
 pub returns-in-Err-clause-answers : goal.returns-in-Err-clause-answers
 returns-in-Err-clause-answers g c =
-    inr (not_read (input g.P.Source.rest g.P.Source.failed g.P.Source.called c.args.plan.now c.read_text.new.plan)
+    inr (not_read (input g.P.Source.rest g.P.Source.failed g.P.Source.called c.args.plan.now c.read_text.new.source)
     (output g.W.Sink.taken c.args.out.now c.args.out.now) c.in-Err.fault c.of_lint.result c.of_lint.ensures (λ e. c.in-Err.ensures.fault (ap Err e)) refl)
 
 pub returns-in-Err-clause-mark : goal.returns-in-Err-clause-mark
