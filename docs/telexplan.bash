@@ -7,8 +7,8 @@ _telexplan() {
         --cert | --mixture | --plan | --risks | --counter | --code) ;;
         *)
             case $COMP_CWORD:${COMP_WORDS[1]}:$word in
-                1:*) words="audit grade mend change survive check run codes trace draw explain help --help --version" ;;
-                *:help:*) words="audit grade mend change survive check run codes trace draw explain" ;;
+                1:*) words="lint audit grade mend change survive check run codes trace draw explain help --help --version" ;;
+                *:help:*) words="lint audit grade mend change survive check run codes trace draw explain" ;;
                 *:explain:*) words="--help $(telexplan explain 2>/dev/null | cut -d ' ' -f 1)" ;;
                 *:audit:-*) words="--limit --spare --cert --counter --help" ;;
                 *:mend:-*) words="--limit --spare --plan --cert --help" ;;
@@ -16,7 +16,7 @@ _telexplan() {
                 *:survive:-*) words="--risks --help" ;;
                 *:check:-*) words="--limit --spare --help" ;;
                 *:run:-*) words="--cert --limit --spare --help" ;;
-                *:grade:-* | *:codes:-* | *:trace:-*) words="--help" ;;
+                *:lint:-* | *:grade:-* | *:codes:-* | *:trace:-*) words="--help" ;;
                 *:draw:-*) words="--code --limit --spare --help" ;;
             esac
             ;;

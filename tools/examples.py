@@ -303,8 +303,8 @@ def codes_defined():
     """The codes and names of the definitions."""
     text = lambda crate, name: read(f"crates/{crate}/specs/{name}.antt").decode()
     rows = set()
-    for crate, name in [("tx_text", "Rows"), ("tx_plantext", "PlanFaults"), ("tx_cert", "CertFaults"), ("tx_script", "ScriptFaults"), ("tx_risk_text", "RiskFaults")]:
-        rows.update(re.findall(r'\(codes "([PCSQX]\d+)", codes "(\w+)"\)', text(crate, name)))
+    for crate, name in [("tx_text", "Rows"), ("tx_plantext", "PlanFaults"), ("tx_lint", "LintText"), ("tx_cert", "CertFaults"), ("tx_script", "ScriptFaults"), ("tx_risk_text", "RiskFaults")]:
+        rows.update(re.findall(r'\(codes "([APCSQX]\d+)", codes "(\w+)"\)', text(crate, name)))
     rows.update((b, a) for a, b in re.findall(r'refusal_text (\w+) = codes "(M\d+)"', text("tx_tickets", "Texts")))
     rows.update((b, a) for a, b in re.findall(r'fault_words p \((\w+)[ \w]*\) = codes "(K\d)"', text("tx_check", "Verdicts")))
     rows.update(re.findall(r'finding_line p \(\w+[ \w]*\) = codes "(F\d) (\w+) ', text("tx_audit", "Report")))
@@ -427,7 +427,7 @@ def case_of(example):
         return f"checked{bounds}", b"---\n".join([plan, cert, script])
     drawn = " ".join(["draw"] + [it for it in map(example.option, ["--code", "--limit", "--spare"]) if it])
     kinds = {"run": "run", "draw": drawn, "codes": "codes", "grade": "grade"} | {it: it + bounds for it in ("check", "audit", "change", "mend")}
-    kinds |= {"survive": "survive" if example.option("--risks") else "survive alone", "trace": " ".join(["trace", *example.words[2:]])}
+    kinds |= {"survive": "survive" if example.option("--risks") else "survive alone", "trace": " ".join(["trace", *example.words[2:]]), "lint": " ".join(example.words)}
     return (kinds[verb], b"---\n".join(texts)) if verb in kinds else None
 
 

@@ -6,7 +6,7 @@ use Rattle.clap.specs.Words.{Row, first_of, one_of, subcommand_of}
 use Rattle.tx_explain.specs.Entries.{texts, explanation}
 use Rattle.tx_commands.specs.Grammar.{program_words}
 use Rattle.tx_commands.specs.declared.command.Command.{Command}
-use Rattle.tx_commands.specs.declared.command.Command.TheVariants.{Pipe, Run, Check, Codes, Audit, Change, Mend, Survive, Grade, Trace, Draw, Explain}
+use Rattle.tx_commands.specs.declared.command.Command.TheVariants.{Pipe, Run, Check, Lint, Codes, Audit, Change, Mend, Survive, Grade, Trace, Draw, Explain}
 
 -- a limit is at most 62, and a spare number at most 15
 abbrev pub IsInRange : Command → Type 0
@@ -39,6 +39,7 @@ Asks name found (Run plan script (Some (cert, limit, spare))) =
     (name ≡ codes "run") × Names found (codes "plan") plan × Names found (codes "script") script × Names found (codes "cert") cert × Gives found (codes "limit") limit × Gives found (codes "spare") spare
 Asks name found (Check plan cert limit spare) =
     (name ≡ codes "check") × Names found (codes "plan") plan × Names found (codes "cert") cert × Gives found (codes "limit") limit × Gives found (codes "spare") spare
+Asks name found (Lint plan) = (name ≡ codes "lint") × Names found (codes "plan") plan
 Asks name found (Codes plan) = (name ≡ codes "codes") × Names found (codes "plan") plan
 Asks name found (Audit plan limit spare cert counter) =
     (name ≡ codes "audit") × Names found (codes "plan") plan × Gives found (codes "limit") limit × Gives found (codes "spare") spare × (first_of (codes "cert") found ≡ option_map string_bytes cert)

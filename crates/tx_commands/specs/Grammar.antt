@@ -35,6 +35,9 @@ run_words = with_rule (with_rule (with_rule (with_rule (plan_words (codes "run")
 abbrev pub check_words : App
 check_words = with_rule (with_rule (with_rule (plan_words (codes "check")) (file (codes "cert"))) (needed limit)) (needed spare)
 
+abbrev pub lint_words : App
+lint_words = plan_words (codes "lint")
+
 abbrev pub grade_words : App
 grade_words = plan_words (codes "grade")
 
@@ -73,15 +76,16 @@ draw_words = with_rule (with_rule (with_rule (plan_words (codes "draw")) (option
 abbrev pub explain_words : App
 explain_words = with_rule (new_app (codes "explain")) (record (new_rule (codes "code")) { value_names = 1; action = Some Set })
 
--- the program takes its words from the first on, tells its version, and has eleven commands
+-- the program takes its words from the first on, tells its version, and has twelve commands
 abbrev pub top_words : App
 top_words = let app = new_app (codes "telexplan") in record app { top = record app.top { no_binary_name = true; has_version = true } }
 
 -- with those that judge plans
 abbrev pub judging_words : App
 judging_words =
-    with_subcommand (with_subcommand (with_subcommand (with_subcommand (with_subcommand (with_subcommand
-    top_words audit_words.top) grade_words.top) mend_words.top) change_words.top)
+    with_subcommand (with_subcommand (with_subcommand (with_subcommand (with_subcommand
+    (with_subcommand (with_subcommand
+    top_words lint_words.top) audit_words.top) grade_words.top) mend_words.top) change_words.top)
     survive_words.top) check_words.top
 
 abbrev pub program_words : App

@@ -256,6 +256,7 @@ pub(crate) fn plan_command(
     match name {
         "run" => run_of(alloc, plan, matches),
         "check" => check_of(alloc, plan, matches),
+        "lint" => Ok(Command::Lint { plan }),
         "codes" => Ok(Command::Codes { plan }),
         "audit" => audit_of(alloc, plan, matches),
         "grade" => Ok(Command::Grade { plan }),

@@ -19,6 +19,10 @@ pub enum Command {
         limit: u8,
         spare: u8,
     },
+    /// `lint PLAN`: what is to be said of its text.
+    Lint {
+        plan: String,
+    },
     /// `codes PLAN`.
     Codes {
         plan: String,

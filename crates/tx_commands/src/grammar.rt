@@ -63,6 +63,16 @@ fn codes_grammar<'a>(alloc: Global) -> Result<clap::Command<'a>, AllocError>
     )
 }
 
+fn lint_grammar<'a>(alloc: Global) -> Result<clap::Command<'a>, AllocError>
+    ensures { IfOk result (λ c. app_of c ≡ grammar.lint_words) }
+{
+    over_plan(
+        alloc,
+        "lint",
+        "Tell all faults of a plan's text, each with its line and the word at fault, or where it has none, what in the plan is of no use or most likely not meant",
+    )
+}
+
 fn audit_grammar<'a>(alloc: Global) -> Result<clap::Command<'a>, AllocError>
     ensures { IfOk result (λ c. app_of c ≡ grammar.audit_words) }
 {
@@ -275,17 +285,18 @@ fn judging_grammar<'a>(alloc: Global) -> Result<clap::Command<'a>, AllocError>
     ensures { IfOk result (λ c. app_of c ≡ grammar.judging_words) }
 {
     let program = with_command(
-        with_command(top_grammar(alloc), audit_grammar(alloc)),
-        grade_grammar(alloc),
+        with_command(top_grammar(alloc), lint_grammar(alloc)),
+        audit_grammar(alloc),
     );
     let program = with_command(
-        with_command(program, mend_grammar(alloc)),
-        change_grammar(alloc),
+        with_command(program, grade_grammar(alloc)),
+        mend_grammar(alloc),
     );
-    with_command(
-        with_command(program, survive_grammar(alloc)),
-        check_grammar(alloc),
-    )
+    let program = with_command(
+        with_command(program, change_grammar(alloc)),
+        survive_grammar(alloc),
+    );
+    with_command(program, check_grammar(alloc))
 }
 
 /// The words that the program takes.

@@ -8,6 +8,7 @@ use Rattle.tx_text.specs.declared.frame.FaultKind.TheVariants.{Frame, Word}
 use Rattle.tx_plan.specs.Plan.{Plan}
 use Rattle.tx_plan.specs.declared.refusal.PlanRefusal.TheVariants as plan
 use Rattle.tx_plantext.specs.declared.fault.PlanWord.TheVariants as plan_word
+use Rattle.tx_lint.specs.declared.warning.Warning.TheVariants as warning
 use Rattle.tx_cert.specs.declared.fault.CertWord.TheVariants as cert
 use Rattle.tx_script.specs.declared.script_word.ScriptWord.TheVariants as script
 use Rattle.tx_state.specs.declared.refusal.Refusal.TheVariants as refusal
@@ -16,7 +17,7 @@ use Rattle.tx_rank.specs.declared.finding.Finding.TheVariants as finding
 use Rattle.tx_mend_report.specs.MendText.{pair_line, unserved_line}
 use Rattle.tx_risk_text.specs.declared.fault.RiskWord.TheVariants as risk
 use Rattle.tx_explain.specs.Entries.{table}
-use Rattle.tx_explain.specs.Explained.{BeginsExplained, PlanFaultsAreExplained, CertFaultsAreExplained, ScriptFaultsAreExplained, RiskFaultsAreExplained, RefusalsAreExplained, CheckFaultsAreExplained, FindingsAreExplained, MendingsAreExplained}
+use Rattle.tx_explain.specs.Explained.{BeginsExplained, PlanFaultsAreExplained, WarningsAreExplained, CertFaultsAreExplained, ScriptFaultsAreExplained, RiskFaultsAreExplained, RefusalsAreExplained, CheckFaultsAreExplained, FindingsAreExplained, MendingsAreExplained}
 
 pub plans : PlanFaultsAreExplained
 unfolding table
@@ -43,6 +44,15 @@ plans (Word (plan_word.Refused plan.RouteAtHome)) = refl
 plans (Word (plan_word.Refused plan.TooMany)) = refl
 plans (Word (plan_word.Refused plan.NoMemory)) = refl
 plans (Word (plan_word.Refused plan.BarAtHome)) = refl
+
+pub warnings : WarningsAreExplained
+unfolding table
+warnings warning.NothingToJudge = refl
+warnings (warning.NoLines c) = refl
+warnings (warning.UnusedGroup g) = refl
+warnings warning.UnusedList = refl
+warnings (warning.NoList c) = refl
+warnings warning.UnusedBar = refl
 
 pub certificates : CertFaultsAreExplained
 unfolding table

@@ -7,6 +7,8 @@ use Rattle.tx_text.specs.declared.frame.FaultKind.TheVariants.{Frame}
 use Rattle.tx_plan.specs.Plan.{Plan}
 use Rattle.tx_plantext.specs.declared.fault.PlanWord.{PlanWord}
 use Rattle.tx_plantext.specs.PlanFaults.{fault_row as plan_row}
+use Rattle.tx_lint.specs.declared.warning.Warning.{Warning}
+use Rattle.tx_lint.specs.LintText.{warning_row}
 use Rattle.tx_cert.specs.declared.fault.CertWord.{CertWord}
 use Rattle.tx_cert.specs.CertFaults.{fault_row as cert_row}
 use Rattle.tx_script.specs.declared.script_word.ScriptWord.{ScriptWord}
@@ -35,6 +37,9 @@ pub record BeginsExplained (line : List ℕ) : Type 0 where
 
 abbrev pub PlanFaultsAreExplained : Type 0
 PlanFaultsAreExplained = (kind : FaultKind PlanWord) → IsExplained (plan_row kind)
+
+abbrev pub WarningsAreExplained : Type 0
+WarningsAreExplained = (warning : Warning) → IsExplained (warning_row warning)
 
 abbrev pub CertFaultsAreExplained : Type 0
 CertFaultsAreExplained = (kind : FaultKind CertWord) → IsExplained (cert_row kind)

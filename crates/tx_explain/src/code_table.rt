@@ -3,9 +3,9 @@
 /// A code, its name, what it means, and what to do about it.
 pub type Entry = [&'static str; 4];
 
-/// All codes: of any text (X), a plan (P), a certificate (C), a script (S), a text of risks (Q), a
-/// refused event (M), a check (K) and a finding (F).
-pub static TABLE: [Entry; 75] = [
+/// All codes: of any text (X), a plan (P), a warning of a plan (A), a certificate (C), a script (S),
+/// a text of risks (Q), a refused event (M), a check (K) and a finding (F).
+pub static TABLE: [Entry; 81] = [
     [
         "X1",
         "LineTooLong",
@@ -138,6 +138,42 @@ pub static TABLE: [Entry; 75] = [
         "BarAtHome",
         "The bar is for the exchange where the code is at home.",
         "Drop the line.",
+    ],
+    [
+        "A1",
+        "NothingToJudge",
+        "No code has LINES, so no call can start, and an audit says YES to anything.",
+        "Declare the lines of the codes: an exchange is an origin where a code with lines is at home.",
+    ],
+    [
+        "A2",
+        "NoLines",
+        "The code has no LINES, so nobody can be called there.",
+        "Declare its lines, or drop the code.",
+    ],
+    [
+        "A3",
+        "UnusedGroup",
+        "The group stands in no list.",
+        "Add it to a list, or drop it.",
+    ],
+    [
+        "A4",
+        "UnusedList",
+        "No call for the code of the list comes to its exchange.",
+        "Drop the list, or let another list lead there.",
+    ],
+    [
+        "A5",
+        "NoList",
+        "Calls for the code may start at the exchange, and it has neither a list nor a bar for them.",
+        "Write a ROUTE for them, or BAR them.",
+    ],
+    [
+        "A6",
+        "UnusedBar",
+        "No call can start at the exchange of the bar: no code that is at home there has LINES.",
+        "Drop the bar, or declare the lines.",
     ],
     [
         "C1",

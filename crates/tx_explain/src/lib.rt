@@ -1,4 +1,4 @@
-//! What the codes of faults, refusals and findings mean, and what to do about each.
+//! What the codes of faults, warnings, refusals and findings mean, and what to do about each.
 #![tactic(auto)]
 
 mod code_table;

@@ -8,5 +8,6 @@ mod ChangeTold
 mod ChangeEvidenced
 mod Grading
 mod MendTold
+mod LintTold
 mod Surviving
 mod DrawnCode

@@ -9,6 +9,7 @@ pub mod ChangeFaults
 pub mod ChangeJobs
 pub mod GradeJobs
 pub mod MendJobs
+pub mod LintJobs
 pub mod TraceJobs
 pub mod SurviveFaults
 pub mod SurviveJobs

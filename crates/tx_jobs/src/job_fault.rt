@@ -2,11 +2,13 @@
 ghost use Rattle.std.specs.Prelude.{◌≡◌};
 ghost use Rattle.tx_jobs.specs.JobFaults.{status_of, plan_fault, cert_fault, script_fault, run_fault};
 ghost use Rattle.tx_jobs.specs.AuditJobs.{audit_fault};
+ghost use Rattle.tx_jobs.specs.LintJobs.{lint_fault};
 ghost use Rattle.tx_jobs.specs.MendJobs.{mend_fault};
 
 use thiserror::Error;
 use tx_audit::AuditFault;
 use tx_cert::{CertFault, CertWord};
+use tx_lint::LintFault;
 use tx_mend_report::MendFault;
 use tx_plan::PlanRefusal;
 use tx_plantext::{PlanFault, PlanWord};
@@ -78,6 +80,15 @@ impl JobFault {
             AuditFault::Plan(fault) => JobFault::of_plan(fault),
             AuditFault::Write => JobFault::Write,
             AuditFault::NoMemory => JobFault::NoMemory,
+        }
+    }
+
+    pub(crate) fn of_lint(fault: LintFault) -> JobFault
+        ensures { result ≡ lint_fault fault }
+    {
+        match fault {
+            LintFault::Read => JobFault::Read,
+            LintFault::NoMemory => JobFault::NoMemory,
         }
     }
 

@@ -33,6 +33,10 @@ impl Bounds {
 /// What is done over a plan alone.
 #[derive(Clone, Copy)]
 pub(crate) enum PlanJob<'a> {
+    Lint {
+        /// The plan's file, as it was named.
+        file: &'a [u8],
+    },
     Codes,
     Grade,
     /// Outages without named risks.
@@ -151,6 +155,7 @@ impl<'a, I: Read + Drop, R: Read + Drop> Opened<'a, I, R> {
                 limit,
                 spare,
             } => Opened::check(folder, plan, cert, Bounds::of(*limit, *spare)),
+            Command::Lint { plan } => Opened::lint(folder, plan),
             Command::Codes { plan } => Opened::over_plan(folder, plan, PlanJob::Codes),
             Command::Grade { plan } => Opened::over_plan(folder, plan, PlanJob::Grade),
             Command::Survive { plan, risks } => Opened::survive(folder, plan, risks),
@@ -249,6 +254,14 @@ impl<'a, I: Read + Drop, R: Read + Drop> Opened<'a, I, R> {
     ) -> Result<Opened<'a, I, R>, JobFault> {
         let plan = open(folder, plan.as_str())?;
         Ok(Opened::Plan { plan, job })
+    }
+
+    fn lint<F: Folder<Input = R>>(
+        folder: &F,
+        plan: &'a String,
+    ) -> Result<Opened<'a, I, R>, JobFault> {
+        let file = plan.as_bytes();
+        Opened::over_plan(folder, plan, PlanJob::Lint { file })
     }
 
     fn draw<F: Folder<Input = R>>(

@@ -14,8 +14,9 @@ use std::io::{Read, Write};
 use tx_commands::Command;
 use tx_explain::{Entry, write_explanation};
 use tx_jobs::{
-    Drawn, JobFault, Traced, check_status, codes_status, draw_job, grade_status, pipe_job,
-    run_checked_status, run_job, survival_status, survive_job, survive_risks_job, trace_job,
+    Drawn, JobFault, Traced, check_status, codes_status, draw_job, grade_status, lint_job,
+    pipe_job, run_checked_status, run_job, survival_status, survive_job, survive_risks_job,
+    trace_job,
 };
 use tx_text::Source;
 
@@ -156,7 +157,7 @@ fn do_over_plan<A: Allocator + Copy, R: Read + Drop, O: Write + Drop>(
     do_plan_job(alloc, &mut plan, job, output)
 }
 
-/// `codes PLAN`, `grade PLAN`, `survive PLAN`, `trace PLAN EXCHANGE CODE`, or
+/// `lint PLAN`, `codes PLAN`, `grade PLAN`, `survive PLAN`, `trace PLAN EXCHANGE CODE`, or
 /// `draw PLAN [--code C [--limit L --spare K]]`.
 fn do_plan_job<A: Allocator + Copy, P: Source, O: Write + Drop>(
     alloc: A,
@@ -166,6 +167,7 @@ fn do_plan_job<A: Allocator + Copy, P: Source, O: Write + Drop>(
 ) -> Result<u8, CommandFault> {
     let mut sink = output.sink();
     match job {
+        PlanJob::Lint { file } => Ok(lint_job(alloc, plan, file, &mut sink)?),
         PlanJob::Codes => Ok(codes_status(alloc, plan, &mut sink)?),
         PlanJob::Grade => Ok(grade_status(alloc, plan, &mut sink)?),
         PlanJob::Survive => {

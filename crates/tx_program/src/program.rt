@@ -26,9 +26,9 @@ pub struct Ends<'a, F, I: Drop, O: Drop, E: Drop> {
 
 /// Does what the words after the program's name ask for, and answers the exit status: 0, or 1 after
 /// a No (of `codes`: where codes are ambiguous; of `grade` and `survive`: where there is no grade
-/// too), 2 for a refused text, 3 for a failed read or write (of help too), 4 for want of memory, 64
-/// for refused words, and for a code to draw, or an exchange or a code to trace, that the plan has
-/// not. A fault is told by one line on standard error, and refused words by what the library of
+/// too; of `lint`: after warnings), 2 for a refused text (of `lint`: after faults), 3 for a failed
+/// read or write (of help too), 4 for want of memory, 64 for refused words, and for a code to draw,
+/// or an exchange or a code to trace, that the plan has not. A fault is told by one line on standard error, and refused words by what the library of
 /// command lines says. The words are read with `alloc`, and what they ask for is done with `memory`.
 pub fn run_words<A: Allocator + Copy, F: Folder, I: Read + Drop, O: Write + Drop, E: Write + Drop>(
     alloc: Global,

@@ -11,8 +11,8 @@
 //!   found, or the script of the first finding that has one. `change L K` has an old plan and a
 //!   new one, and writes behind its report the certificate, or the mixture of the first finding
 //!   that has a walk, and its script. `mend L K` has a plan, and writes behind its report the mended
-//!   plan and its certificate. `trace EXCHANGE CODE` has a plan. `survive` has a plan and a text of
-//!   risks, and `survive alone` a plan.
+//!   plan and its certificate. `trace EXCHANGE CODE` has a plan, and `lint FILE` one that is named
+//!   so. `survive` has a plan and a text of risks, and `survive alone` a plan.
 //!   Each is played by sources of 1, 2, 7 and 4,096 bytes a call, which has to make no difference.
 //!   `draw`, `draw CODE` and `draw CODE L K` have a plan.
 //! - `pictures` and `pictures L K` have a plan, which is drawn, and each of its codes, with the walk of the code's first finding where there are numbers.

@@ -62,6 +62,7 @@ pub enum JobKind {
     Run,
     Codes,
     Grade,
+    Lint,
     Check,
     Audit,
     Change,
@@ -85,11 +86,12 @@ pub enum Driven {
     Starting,
 }
 
-static TEXTS: [(&str, TextKind); 21] = [
+static TEXTS: [(&str, TextKind); 22] = [
     ("pipe", TextKind::Job(JobKind::Pipe)),
     ("run", TextKind::Job(JobKind::Run)),
     ("codes", TextKind::Job(JobKind::Codes)),
     ("grade", TextKind::Job(JobKind::Grade)),
+    ("lint", TextKind::Job(JobKind::Lint)),
     ("check", TextKind::Job(JobKind::Check)),
     ("audit", TextKind::Job(JobKind::Audit)),
     ("change", TextKind::Job(JobKind::Change)),
@@ -209,6 +211,7 @@ pub fn job_of<'a>(kind: JobKind, head: Head<'a>) -> Job<'a> {
         JobKind::Run => Job::Run,
         JobKind::Codes => Job::Codes,
         JobKind::Grade => Job::Grade,
+        JobKind::Lint => Job::Lint { file: head.first },
         JobKind::Check => Job::Check { limit, spare },
         JobKind::Audit => Job::Audit { limit, spare },
         JobKind::Change => Job::Change { limit, spare },

@@ -8,6 +8,8 @@ pub enum Job<'a> {
     Run,
     Codes,
     Grade,
+    /// What is to be said of the text of a plan, whose file is named so.
+    Lint { file: &'a [u8] },
     Check { limit: u8, spare: u8 },
     /// An audit, with its certificate or its counter script behind the report.
     Audit { limit: u8, spare: u8 },
@@ -61,6 +63,7 @@ pub fn job_name(job: Job<'_>) -> &'static [u8] {
         Job::Run => b"run",
         Job::Codes => b"codes",
         Job::Grade => b"grade",
+        Job::Lint { .. } => b"lint",
         Job::Check { .. } => b"check",
         Job::Audit { .. } => b"audit",
         Job::Change { .. } => b"change",
@@ -78,6 +81,7 @@ pub fn sources(job: Job<'_>) -> u8 {
         Job::Pipe
         | Job::Codes
         | Job::Grade
+        | Job::Lint { .. }
         | Job::Audit { .. }
         | Job::Mend { .. }
         | Job::Trace { .. }

@@ -7,8 +7,8 @@ use crate::jobs::fault::Fault;
 use itoa::Buffer;
 use std::alloc::{Allocator, Global};
 use tx_jobs::{
-    Drawn, JobFault, Traced, check_status, codes_status, draw_job, grade_status, pipe_job,
-    run_checked_status, run_job, trace_job,
+    Drawn, JobFault, Traced, check_status, codes_status, draw_job, grade_status, lint_job,
+    pipe_job, run_checked_status, run_job, trace_job,
 };
 use tx_text::{MemorySink, MemorySource};
 
@@ -105,6 +105,7 @@ fn do_plan_job<A: Allocator + Copy>(
     match job {
         Job::Codes => codes_status(alloc, plan, out),
         Job::Grade => grade_status(alloc, plan, out),
+        Job::Lint { file } => lint_job(alloc, plan, file, out),
         Job::Audit { limit, spare } => do_audit(alloc, plan, limit.min(62), spare.min(15), out),
         Job::Mend { limit, spare } => do_mend(alloc, plan, limit.min(62), spare.min(15), out),
         Job::Trace { exchange, code } => do_trace(alloc, plan, exchange, code, out),

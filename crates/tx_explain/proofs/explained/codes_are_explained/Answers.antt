@@ -1,8 +1,11 @@
-use Rattle.tx_explain.proofs.Printed.{plans, certificates, scripts, risks, refusals, checks, findings, mendings}
+use Rattle.tx_explain.proofs.Printed.{plans, warnings, certificates, scripts, risks, refusals, checks, findings, mendings}
 use Rattle.tx_explain.proofs.explained.codes_are_explained.Goals as goal
 
 pub returns-clause-plans : goal.returns-clause-plans
 returns-clause-plans g c = plans
+
+pub returns-clause-warnings : goal.returns-clause-warnings
+returns-clause-warnings g c = warnings
 
 pub returns-clause-certificates : goal.returns-clause-certificates
 returns-clause-certificates g c = certificates

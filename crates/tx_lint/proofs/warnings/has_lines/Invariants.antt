@@ -1,0 +1,9 @@
+use Rattle.std.proofs.Common.{◌≡◌, false, take}
+use Rattle.std.specs.Prelude.{◌==◌}
+use Rattle.std.specs.List.{list_any}
+use Rattle.tx_entries.specs.declared.range.LineRange.{LineRange}
+use Rattle.tx_lint.proofs.warnings.has_lines.Given as goal
+
+abbrev pub invariant-loop-place : goal.invariant-loop-place
+invariant-loop-place g l =
+    list_any (λ (r : LineRange). r.code == l.code) (take l.place l.plan.ranges) ≡ false

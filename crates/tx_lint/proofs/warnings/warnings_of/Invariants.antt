@@ -1,0 +1,8 @@
+use Rattle.std.proofs.Common.{◌≡◌, take}
+use Rattle.std.specs.List.{flat_map}
+use Rattle.tx_lint.proofs.Warned.{told_of}
+use Rattle.tx_lint.specs.inner.Marks.{coming_of}
+use Rattle.tx_lint.proofs.warnings.warnings_of.Given as goal
+
+abbrev pub invariant-loop-i : goal.invariant-loop-i
+invariant-loop-i g l = l.found.items ≡ flat_map (told_of l.plan (coming_of l.marks)) (take l.i l.entries)

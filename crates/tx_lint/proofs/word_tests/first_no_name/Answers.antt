@@ -1,0 +1,11 @@
+use Rattle.std.specs.Prelude.{not}
+use Rattle.std.proofs.Common.{rules, tests, refl}
+use Rattle.std.proofs.lemmas.Iterator.Search.{find_from_yields_List}
+use Rattle.std.proofs.lemmas.Iterator.Consumers.{YieldsList-from_first}
+use Rattle.tx_text.specs.Words.{is_name}
+use Rattle.tx_lint.proofs.word_tests.first_no_name.Goals as goal
+
+pub returns : goal.returns
+returns c =
+    find_from_yields_List (λ w. not (is_name w)) _ _ c.find.result c.find.ensures.ran
+    (YieldsList-from_first (λ x. x.now) (λ s. s) c.args.words refl) (λ x b q k. search (rules, tests))

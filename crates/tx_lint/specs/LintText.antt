@@ -1,0 +1,44 @@
+-- The lines that tell what is to be said of a text.
+use Rattle.std.specs.Prelude.{ℕ, List, [], ◌++◌, Option, Some, None, codes, decimal}
+use Rattle.tx_text.specs.Rows.{Row}
+use Rattle.tx_plan.specs.Plan.{Plan, figures_of, group_name}
+use Rattle.tx_plantext.specs.PlanFaults.{fault_row}
+use Rattle.tx_lint.specs.declared.warning.Warning.{Warning}
+use Rattle.tx_lint.specs.declared.warning.Warning.TheVariants.{NothingToJudge, NoLines, UnusedGroup, UnusedList, NoList, UnusedBar}
+use Rattle.tx_lint.specs.AllFaults.{Fault}
+
+-- the codes and names of the warnings
+abbrev pub warning_row : Warning → Row
+warning_row NothingToJudge = (codes "A1", codes "NothingToJudge")
+warning_row (NoLines c) = (codes "A2", codes "NoLines")
+warning_row (UnusedGroup g) = (codes "A3", codes "UnusedGroup")
+warning_row UnusedList = (codes "A4", codes "UnusedList")
+warning_row (NoList c) = (codes "A5", codes "NoList")
+warning_row UnusedBar = (codes "A6", codes "UnusedBar")
+
+-- the code or the group that a warning speaks of. A list and a bar are known by their line.
+abbrev pub warning_word : Plan → Warning → Option (List ℕ)
+warning_word p NothingToJudge = None
+warning_word p (NoLines c) = Some (figures_of p c)
+warning_word p (UnusedGroup g) = Some (group_name p g)
+warning_word p UnusedList = None
+warning_word p (NoList c) = Some (figures_of p c)
+warning_word p UnusedBar = None
+
+-- a word with a space before it, if there is one
+abbrev pub word_text : Option (List ℕ) → List ℕ
+word_text None = []
+word_text (Some w) = codes " " ++ w
+
+-- A LINE, as `PLAN.txt:5: P9 Unknown SOUTH`: the words for the file, the line, the code and the
+-- name of what is told, and a word
+abbrev pub told_line : (file : List ℕ) → (line : ℕ) → Row → Option (List ℕ) → List ℕ
+told_line file line row word =
+    file ++ (codes ":" ++ (decimal line ++ (codes ": "
+    ++ (row.0 ++ (codes " " ++ (row.1 ++ (word_text word ++ codes "\n")))))))
+
+abbrev pub fault_line : (file : List ℕ) → Fault → List ℕ
+fault_line file f = told_line file f.line (fault_row f.kind) f.word
+
+abbrev pub warning_line : (file : List ℕ) → Plan → ℕ × Warning → List ℕ
+warning_line file p w = told_line file w.0 (warning_row w.1) (warning_word p w.1)

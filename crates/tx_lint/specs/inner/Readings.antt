@@ -1,0 +1,45 @@
+-- What is held while the lines of a text are read.
+use Rattle.std.specs.Prelude.{◌≡◌, ℕ, List, [], ◌∷◌, ◌++◌, map, if◌then◌else◌}
+use Rattle.std.specs.Option.{option_to_list}
+use Rattle.tx_text.specs.declared.frame.FaultKind.{FaultKind}
+use Rattle.tx_text.specs.Text.{Line}
+use Rattle.tx_text.specs.Words.{words_of}
+use Rattle.tx_plantext.specs.declared.fault.PlanWord.{PlanWord}
+use Rattle.tx_lint.specs.declared.entry.Entry.{Entry}
+use Rattle.tx_lint.specs.declared.lines.Reading.{Reading}
+use Rattle.tx_lint.specs.AllFaults.{Fault, Progress, fault_in_line, fault_of_line, line_on, faults_of, progress_of}
+use Rattle.tx_lint.specs.Lints.{fault_held}
+
+abbrev pub progress_held : {A : Type 0} → Reading A → Progress
+progress_held r = record {
+  part = r.part;
+  version = r.version;
+  plan = r.plan;
+  entries = r.entries.items;
+}
+
+abbrev pub faults_held : {A : Type 0} → Reading A → List Fault
+faults_held r = map fault_held r.faults.items
+
+-- a line is told to be at fault
+abbrev pub Told : {A : Type 0} → Reading A → Reading A → Line → FaultKind PlanWord → Type 0
+Told old new l kind = faults_held new
+    ≡ faults_held old ++ fault_in_line (progress_held old) l.number (words_of l.bytes) kind ∷ []
+
+-- the line of an entry is noted, and nothing else changes
+pub record Noted {A : Type 0} (old new : Reading A) (n : ℕ) (e : Entry) : Type 0 where
+  pub progress : progress_held new
+      ≡ record (progress_held old) { entries = old.entries.items ++ (n, e) ∷ [] }
+  pub faults : faults_held new ≡ faults_held old
+
+-- a line was taken in
+pub record TookIn {A : Type 0} (old new : Reading A) (l : Line) : Type 0 where
+  pub faults : faults_held new
+      ≡ faults_held old ++ option_to_list (fault_of_line (progress_held old) l)
+  pub progress : progress_held new
+      ≡ (if l.finished then line_on (progress_held old) l else progress_held old)
+
+-- the whole text was read
+pub record HasRead {A : Type 0} (text : List ℕ) (r : Reading A) : Type 0 where
+  pub faults : faults_held r ≡ faults_of text
+  pub progress : progress_held r ≡ progress_of text

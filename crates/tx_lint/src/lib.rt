@@ -1,0 +1,24 @@
+//! What is to be said of a plan's text, as an editor shows it: all its faults at once, each with its
+//! line and the word at fault; or where it has none, warnings of what is of no use in the plan or
+//! most likely not meant.
+#![tactic(auto)]
+
+mod at_fault;
+mod entry;
+mod fault;
+mod law;
+mod lines;
+mod lint_text;
+mod linting;
+mod marks;
+mod reading;
+mod warning;
+mod warnings;
+mod word_tests;
+
+pub use fault::{Fault, LintFault};
+pub use law::faults_agree_with_reader;
+pub use lint_text::write_lint;
+pub use linting::{Lint, lint_plan};
+pub use reading::read_text;
+pub use warning::Warning;

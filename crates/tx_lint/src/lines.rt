@@ -1,0 +1,181 @@
+// The lines of a plan's text, all of them.
+ghost use Rattle.std.specs.Prelude.{◌≡◌, ◌++◌, [], true, None, IfOk, OnOk};
+ghost use Rattle.std.specs.Option.{option_to_list};
+ghost use Rattle.tx_text.specs.TextLine.{line_of};
+ghost use Rattle.tx_text.specs.Text.{bytes_fault};
+ghost use Rattle.tx_text.specs.Words.{words_of};
+ghost use Rattle.tx_lint.specs.AllFaults.{no_progress, form_of, fault_of_end};
+ghost use Rattle.tx_lint.specs.inner.Readings.{progress_held, faults_held, TookIn, HasRead, Told, Noted};
+
+use crate::at_fault::word_at_fault;
+use crate::entry::Entry;
+use crate::fault::{Fault, LintFault};
+use std::alloc::Allocator;
+use tx_plan::{PlanBuilder, PlanRefusal};
+use tx_plantext::{PlanWord, declare};
+use tx_text::{
+    FaultKind, FormFault, FrameFault, FramePart, LineFault, LineForm, NoMemory, TextLine,
+    bytes_fault, closing, first_line, last_fault, look, words,
+};
+
+const KEY: &[u8] = b"PLAN";
+
+const VERSIONS: u8 = 2;
+
+/// What was read of a text: what its lines declare, and what is wrong with them.
+#[derive(Drop)]
+pub(crate) struct Reading<'t, A: Allocator> {
+    pub part: FramePart,
+    pub version: u8,
+    pub plan: PlanBuilder<A>,
+    pub entries: Vec<(u64, Entry), A>,
+    pub faults: Vec<Fault<'t>, A>,
+}
+
+impl<'t, A: Allocator + Copy> Reading<'t, A> {
+    /// Nothing was read yet.
+    fn new(alloc: A) -> Reading<'t, A>
+        ensures progress { progress_held result ≡ no_progress }
+        ensures faults { faults_held result ≡ [] }
+    {
+        Reading {
+            part: FramePart::Start,
+            version: 1,
+            plan: PlanBuilder::new(alloc),
+            entries: Vec::new(alloc),
+            faults: Vec::new(alloc),
+        }
+    }
+}
+
+impl<'t, A: Allocator> Reading<'t, A> {
+    /// Tells that a line is at fault, and passes over it.
+    fn tell(&mut self, line: TextLine<'t>, kind: FaultKind<PlanWord>) -> Result<(), NoMemory>
+        ensures told { OnOk result (Told self.old self.new (line_of line.entry) kind) }
+        ensures same { progress_held self.new ≡ progress_held self.old }
+    {
+        let word = word_at_fault(self.plan.plan(), words(line.text), kind);
+        self.faults.push(Fault {
+            line: line.number,
+            kind,
+            word,
+        })?;
+        Ok(())
+    }
+
+    /// Notes the line of an entry.
+    fn note(&mut self, line: u64, entry: Entry) -> Result<(), NoMemory>
+        ensures { OnOk result (Noted self.old self.new line entry) }
+    {
+        self.entries.push((line, entry))?;
+        Ok(())
+    }
+
+    /// Takes in the next line.
+    fn take_in(&mut self, line: TextLine<'t>) -> Result<(), LintFault>
+        ensures { OnOk result (TookIn self.old self.new (line_of line.entry)) }
+    {
+        if let Some(fault) = bytes_fault(line.text) {
+            let fault = FrameFault::Line(LineFault::Text(fault));
+            self.tell(line, FaultKind::Frame(fault))?;
+            return Ok(());
+        }
+        if line.finished {
+            let form = look(KEY, VERSIONS, self.part, line.text);
+            return self.take_form(line, form);
+        }
+        if let Some(fault) = last_fault(self.part, line.text) {
+            self.tell(line, FaultKind::Frame(FrameFault::Form(fault)))?;
+        }
+        Ok(())
+    }
+
+    /// The same of a finished line of right bytes, by what it is in the frame.
+    fn take_form(&mut self, line: TextLine<'t>, form: LineForm) -> Result<(), LintFault>
+        requires finished { line.finished ≡ true }
+        requires right { bytes_fault line.text.now ≡ None }
+        requires form { form ≡ form_of self.old.part (words_of line.text.now) }
+        ensures { OnOk result (TookIn self.old self.new (line_of line.entry)) }
+    {
+        match form {
+            LineForm::Blank => {}
+            LineForm::Header(version) => {
+                self.part = FramePart::Body;
+                self.version = version;
+                self.note(line.number, Entry::Header)?;
+            }
+            LineForm::Plain => self.declare(line)?,
+            LineForm::End => self.part = FramePart::Ended,
+            LineForm::Bad(fault) => {
+                self.tell(line, FaultKind::Frame(FrameFault::Form(fault)))?;
+                if matches!(fault, FormFault::NoHeader) {
+                    self.part = FramePart::Body;
+                    self.version = VERSIONS;
+                }
+            }
+        }
+        Ok(())
+    }
+
+    /// The same of a line with words between the header and END.
+    fn declare(&mut self, line: TextLine<'t>) -> Result<(), LintFault>
+        requires finished { line.finished ≡ true }
+        requires right { bytes_fault line.text.now ≡ None }
+        requires plain { form_of self.old.part (words_of line.text.now) ≡ LineForm.Plain }
+        ensures { OnOk result (TookIn self.old self.new (line_of line.entry)) }
+    {
+        let entry = match words(line.text).next() {
+            Some(first) => Entry::next(self.plan.plan(), first),
+            None => None,
+        };
+        match declare(&mut self.plan, self.version, words(line.text)) {
+            Ok(()) => {
+                if let Some(entry) = entry {
+                    self.note(line.number, entry)?;
+                }
+            }
+            Err(PlanWord::Refused(PlanRefusal::NoMemory)) => return Err(LintFault::NoMemory),
+            Err(fault) => self.tell(line, FaultKind::Word(fault))?,
+        }
+        Ok(())
+    }
+
+    /// Takes in the end of a text, behind the line before this number.
+    fn end(&mut self, number: u64) -> Result<(), NoMemory>
+        ensures faults { OnOk result (faults_held self.new
+            ≡ faults_held self.old ++ option_to_list (fault_of_end number self.old.part)) }
+        ensures same { progress_held self.new ≡ progress_held self.old }
+    {
+        if let Some(fault) = closing(self.part) {
+            self.faults.push(Fault {
+                line: number,
+                kind: FaultKind::Frame(FrameFault::Form(fault)),
+                word: None,
+            })?;
+        }
+        Ok(())
+    }
+}
+
+/// Reads all lines of a text.
+pub(crate) fn read_lines<A: Allocator + Copy>(
+    alloc: A,
+    text: &[u8],
+) -> Result<Reading<'_, A>, LintFault>
+    ensures { IfOk result (HasRead text.now) }
+{
+    let mut reading = Reading::new(alloc);
+    let mut rest = text;
+    let mut number = 1;
+    while !rest.is_empty() {
+        let (line, after) = first_line(rest, number, text.len() - rest.len());
+        reading.take_in(line)?;
+        if !line.finished {
+            return Ok(reading);
+        }
+        rest = after;
+        number += 1;
+    }
+    reading.end(number)?;
+    Ok(reading)
+}

@@ -1,0 +1,123 @@
+// The writer of what is to be said of a text.
+ghost use Rattle.std.specs.Prelude.{◌≡◌, ◌++◌, codes, map, option_map};
+ghost use Rattle.std.specs.List.{flat_map};
+ghost use Rattle.tx_text.specs.Wrote.{Wrote};
+ghost use Rattle.tx_lint.specs.LintText.{word_text, told_line, fault_line, warning_word, warning_line};
+ghost use Rattle.tx_lint.specs.Lints.{fault_held, lint_held, lint_text};
+
+use crate::fault::Fault;
+use crate::linting::Lint;
+use crate::warning::Warning;
+use itoa::Buffer;
+use std::alloc::Allocator;
+use tx_plan::Plan;
+use tx_plantext::code_and_name;
+use tx_text::{Sink, WriteFault, write_text};
+
+/// Writes a line for each fault or each warning, as `PLAN.txt:5: P9 Unknown SOUTH`, with the words
+/// for the file of the text.
+pub fn write_lint<A: Allocator, W: Sink>(
+    lint: &Lint<'_, A>,
+    file: &[u8],
+    sink: &mut W,
+) -> Result<(), WriteFault>
+    ensures { Wrote (W.taken sink.old) (W.taken sink.new) (W.failed sink.old) (W.failed sink.new)
+        (lint_text file.now (lint_held lint.now)) result }
+{
+    match lint {
+        Lint::Faults(faults) => write_faults(faults, file, sink),
+        Lint::Warnings(plan, warnings) => write_warnings(plan, warnings, file, sink),
+    }
+}
+
+fn write_faults<W: Sink>(faults: &[Fault<'_>], file: &[u8], sink: &mut W) -> Result<(), WriteFault>
+    ensures { Wrote (W.taken sink.old) (W.taken sink.new) (W.failed sink.old) (W.failed sink.new)
+        (flat_map (fault_line file.now) (map fault_held faults.now)) result }
+{
+    for i in 0..faults.len() {
+        write_fault(faults[i], file, sink)?;
+    }
+    Ok(())
+}
+
+fn write_fault<W: Sink>(fault: Fault<'_>, file: &[u8], sink: &mut W) -> Result<(), WriteFault>
+    ensures { Wrote (W.taken sink.old) (W.taken sink.new) (W.failed sink.old) (W.failed sink.new)
+        (fault_line file.now (fault_held fault.entry)) result }
+{
+    write_line(
+        file,
+        fault.line,
+        code_and_name(fault.kind),
+        fault.word,
+        sink,
+    )
+}
+
+fn write_warnings<A: Allocator, W: Sink>(
+    plan: &Plan<A>,
+    warnings: &[(u64, Warning)],
+    file: &[u8],
+    sink: &mut W,
+) -> Result<(), WriteFault>
+    ensures { Wrote (W.taken sink.old) (W.taken sink.new) (W.failed sink.old) (W.failed sink.new)
+        (flat_map (warning_line file.now plan.now) warnings.now) result }
+{
+    for i in 0..warnings.len() {
+        write_warning(plan, warnings[i], file, sink)?;
+    }
+    Ok(())
+}
+
+fn write_warning<A: Allocator, W: Sink>(
+    plan: &Plan<A>,
+    warning: (u64, Warning),
+    file: &[u8],
+    sink: &mut W,
+) -> Result<(), WriteFault>
+    ensures { Wrote (W.taken sink.old) (W.taken sink.new) (W.failed sink.old) (W.failed sink.new)
+        (warning_line file.now plan.now warning) result }
+{
+    let (line, warning) = warning;
+    let word = warning_word(plan, warning);
+    write_line(file, line, warning.code_and_name(), word, sink)
+}
+
+/// The code or the group that a warning speaks of.
+fn warning_word<A: Allocator>(plan: &Plan<A>, warning: Warning) -> Option<&[u8]>
+    ensures { option_map (λ w. w.now) result ≡ warning_word plan.now warning }
+{
+    match warning {
+        Warning::NoLines(code) | Warning::NoList(code) => Some(plan.code_figures(code)),
+        Warning::UnusedGroup(group) => Some(plan.group_name(group)),
+        Warning::NothingToJudge | Warning::UnusedList | Warning::UnusedBar => None,
+    }
+}
+
+/// Writes one line.
+fn write_line<'a, W: Sink>(
+    file: &'a [u8],
+    line: u64,
+    row: (&'a [u8], &'a [u8]),
+    word: Option<&'a [u8]>,
+    sink: &mut W,
+) -> Result<(), WriteFault>
+    ensures { Wrote (W.taken sink.old) (W.taken sink.new) (W.failed sink.old) (W.failed sink.new)
+        (told_line file.now line (row.entry.0.now, row.entry.1.now)
+        (option_map (λ w. w.now) word.entry)) result }
+{
+    let mut number = Buffer::new();
+    let line = number.format(line).as_bytes();
+    write_text(&[file, b":", line, b": ", row.0, b" ", row.1], sink)?;
+    write_end(word, sink)
+}
+
+/// Writes a word, if there is one, and the end of the line.
+fn write_end<W: Sink>(word: Option<&[u8]>, sink: &mut W) -> Result<(), WriteFault>
+    ensures { Wrote (W.taken sink.old) (W.taken sink.new) (W.failed sink.old) (W.failed sink.new)
+        (word_text (option_map (λ w. w.now) word.entry) ++ codes "\n") result }
+{
+    match word {
+        Some(word) => write_text(&[b" ", word, b"\n"], sink),
+        None => write_text(&[b"\n"], sink),
+    }
+}
