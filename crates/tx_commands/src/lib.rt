@@ -5,10 +5,12 @@ mod arguments;
 mod asked;
 mod command;
 mod fault;
+mod files;
 mod grammar;
 mod reading;
 mod refusal;
 
 pub use command::Command;
 pub use fault::WordsFault;
+pub use files::STANDARD_INPUT;
 pub use reading::read_command;
