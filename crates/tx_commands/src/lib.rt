@@ -7,6 +7,7 @@ mod command;
 mod fault;
 mod files;
 mod grammar;
+mod help;
 mod reading;
 mod refusal;
 
