@@ -152,7 +152,7 @@ fn trace_grammar<'a>(alloc: Global) -> Result<clap::Command<'a>, AllocError>
     let trace = over_plan(
         alloc,
         "trace",
-        "Tell how calls for a code go from an exchange: the first way, and each list on their ways",
+        "Tell how calls for a code go from an exchange: the way while all is free, and the lists",
         help::TRACE,
     );
     let trace = with_file(
@@ -185,7 +185,7 @@ fn change_grammar<'a>(alloc: Global) -> Result<clap::Command<'a>, AllocError>
         alloc,
         "new",
         "NEW",
-        "The plan that is to be, of the same network, with other routes and bars; - is standard input",
+        "The plan that is to be: the same network with other routes and bars; - is standard input",
     );
     let change = with_bounds(change, alloc, true);
     let change = with_option(

@@ -64,5 +64,5 @@ of memory, 64 for refused words, and for a code that the plan has not";
 
 pub(crate) const EXPLAIN: &str = "Example: telexplan explain P11
 
-Exit status: 0 for a code of the table, 3 for a failed write, 4 for want of memory, 64 for
-refused words";
+Exit status: 0 for a code of the table and without one, 3 for a failed write, 4 for want of
+memory, 64 for refused words";

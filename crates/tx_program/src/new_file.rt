@@ -22,16 +22,18 @@ impl<'a, F: Folder> NewFile<'a, F> {
 
     /// Gives the file, which is whole, its name.
     pub(crate) fn finish(self) -> io::Result<()> {
-        match self.file {
-            Some(file) => self.folder.finish(file),
+        let NewFile { folder, file, .. } = self;
+        match file {
+            Some(file) => folder.finish(file),
             None => Ok(()),
         }
     }
 
     /// Gives the file up.
     pub(crate) fn give_up(self) {
-        if let Some(file) = self.file {
-            self.folder.give_up(file);
+        let NewFile { folder, file, .. } = self;
+        if let Some(file) = file {
+            folder.give_up(file);
         }
     }
 }
