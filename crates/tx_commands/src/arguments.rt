@@ -4,6 +4,7 @@ ghost use Rattle.clap.specs.Words.{App, app_of, new_rule, rule_of, with_rule};
 ghost use Rattle.clap.specs.declared.builder.action.ArgAction.TheVariants.{Set};
 ghost use Rattle.tx_commands.specs.Grammar as grammar;
 
+use crate::help;
 use clap::{Arg, ArgAction, value_parser};
 use std::alloc::{AllocError, Global};
 
@@ -19,13 +20,7 @@ pub(crate) fn over_plan<'a>(
     let command = clap::Command::new(alloc, name)
         .about(about)
         .after_help(after);
-    with_file(
-        Ok(command),
-        alloc,
-        "plan",
-        "PLAN",
-        "The route plan: exchanges, codes, lines, groups, routes and bars; - is standard input",
-    )
+    with_file(Ok(command), alloc, "plan", "PLAN", help::PLAN)
 }
 
 /// A command with one argument more, if it could be made so far.

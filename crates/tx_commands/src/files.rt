@@ -10,13 +10,6 @@ use crate::refusal::Refusal;
 /// The name of standard input, where a file is read.
 pub const STANDARD_INPUT: &str = "-";
 
-/// The files that a command names: those that it reads, and those that it may make.
-#[derive(Clone, Copy)]
-struct Files<'a> {
-    read: [Option<&'a str>; 3],
-    made: [Option<&'a str>; 3],
-}
-
 /// The name of a file, if one is named.
 fn name_of(file: &Option<String>) -> Option<&str>
     ensures { option_map (λ s. s.now) result ≡ option_map string_bytes file.now }
@@ -38,61 +31,44 @@ fn cert_of(checked: &Option<(String, u8, u8)>) -> Option<&str>
     }
 }
 
-/// The files of a command.
-fn files_of(command: &Command) -> Files<'_>
-    ensures read { names result.read ≡ files_read command.now }
-    ensures made { names result.made ≡ files_made command.now }
+/// The files that a command reads.
+fn files_read(command: &Command) -> [Option<&str>; 3]
+    ensures { names result ≡ files_read command.now }
 {
-    let none = [None, None, None];
-    let (read, made) = match command {
-        Command::Pipe | Command::Explain { .. } => (none, none),
+    match command {
+        Command::Pipe | Command::Explain { .. } => [None, None, None],
         Command::Run {
             plan,
             script,
             checked,
-        } => {
-            let read = [Some(plan.as_str()), Some(script.as_str()), cert_of(checked)];
-            (read, none)
-        }
-        Command::Check { plan, cert, .. } => {
-            ([Some(plan.as_str()), Some(cert.as_str()), None], none)
-        }
-        Command::Survive { plan, risks } => ([Some(plan.as_str()), name_of(risks), None], none),
+        } => [Some(plan.as_str()), Some(script.as_str()), cert_of(checked)],
+        Command::Check { plan, cert, .. } => [Some(plan.as_str()), Some(cert.as_str()), None],
+        Command::Change { old, new, .. } => [Some(old.as_str()), Some(new.as_str()), None],
+        Command::Survive { plan, risks } => [Some(plan.as_str()), name_of(risks), None],
         Command::Codes { plan }
+        | Command::Audit { plan, .. }
+        | Command::Mend { plan, .. }
         | Command::Grade { plan }
         | Command::Trace { plan, .. }
-        | Command::Draw { plan, .. } => ([Some(plan.as_str()), None, None], none),
-        Command::Audit {
-            plan,
-            cert,
-            counter,
-            ..
-        } => (
-            [Some(plan.as_str()), None, None],
-            [name_of(cert), name_of(counter), None],
-        ),
-        Command::Mend {
-            plan,
-            mended,
-            cert,
-            ..
-        } => (
-            [Some(plan.as_str()), None, None],
-            [name_of(mended), name_of(cert), None],
-        ),
+        | Command::Draw { plan, .. } => [Some(plan.as_str()), None, None],
+    }
+}
+
+/// The files that it may make.
+fn files_made(command: &Command) -> [Option<&str>; 3]
+    ensures { names result ≡ files_made command.now }
+{
+    match command {
+        Command::Audit { cert, counter, .. } => [name_of(cert), name_of(counter), None],
+        Command::Mend { mended, cert, .. } => [name_of(mended), name_of(cert), None],
         Command::Change {
-            old,
-            new,
             cert,
             mixture,
             counter,
             ..
-        } => (
-            [Some(old.as_str()), Some(new.as_str()), None],
-            [name_of(cert), name_of(mixture), name_of(counter)],
-        ),
-    };
-    Files { read, made }
+        } => [name_of(cert), name_of(mixture), name_of(counter)],
+        _ => [None, None, None],
+    }
 }
 
 /// Whether a file is one of these.
@@ -134,10 +110,10 @@ pub(crate) fn clash(command: &Command) -> Option<Refusal>
     ensures read_once { result ≡ None → reads_input_twice command.now ≡ false }
     ensures apart { result ≡ None → overwrites command.now ≡ false }
 {
-    let files = files_of(command);
-    if has_input_twice(&files.read) {
+    let read = files_read(command);
+    if has_input_twice(&read) {
         Some(Refusal::InputTwice)
-    } else if has_clash(&files.read, &files.made) {
+    } else if has_clash(&read, &files_made(command)) {
         Some(Refusal::Overwrites)
     } else {
         None

@@ -103,13 +103,7 @@ fn mend_grammar<'a>(alloc: Global) -> Result<clap::Command<'a>, AllocError>
             "Find lists with which a plan is safe: YES with each new list, or NO with whom none serve",
         )
         .after_help(help::MEND);
-    let mend = with_file(
-        Ok(mend),
-        alloc,
-        "old",
-        "PLAN",
-        "The route plan: exchanges, codes, lines, groups, routes and bars; - is standard input",
-    );
+    let mend = with_file(Ok(mend), alloc, "old", "PLAN", help::PLAN);
     let mend = with_bounds(mend, alloc, true);
     let mend = with_option(
         mend,
@@ -173,20 +167,8 @@ fn change_grammar<'a>(alloc: Global) -> Result<clap::Command<'a>, AllocError>
             "Say whether a plan is safe at every moment while its lists change into those of another",
         )
         .after_help(help::CHANGE);
-    let change = with_file(
-        Ok(change),
-        alloc,
-        "old",
-        "OLD",
-        "The plan that is in force; - is standard input",
-    );
-    let change = with_file(
-        change,
-        alloc,
-        "new",
-        "NEW",
-        "The plan that is to be: the same network with other routes and bars; - is standard input",
-    );
+    let change = with_file(Ok(change), alloc, "old", "OLD", help::OLD_PLAN);
+    let change = with_file(change, alloc, "new", "NEW", help::NEW_PLAN);
     let change = with_bounds(change, alloc, true);
     let change = with_option(
         change,

@@ -1,4 +1,13 @@
-// What the help of each command ends with: an example, and the exit statuses.
+// What the help says of plans, and what the help of each command ends with: an example, and the exit
+// statuses.
+
+pub(crate) const PLAN: &str =
+    "The route plan: exchanges, codes, lines, groups, routes and bars; - is standard input";
+
+pub(crate) const OLD_PLAN: &str = "The plan that is in force; - is standard input";
+
+pub(crate) const NEW_PLAN: &str =
+    "The plan that is to be: the same network with other routes and bars; - is standard input";
 
 pub(crate) const PROGRAM: &str = "Example: telexplan audit own.plan --limit 1 --spare 1
 

@@ -48,11 +48,12 @@ impl<'a, F: Folder, I: Read + Drop> Inputs<'a, F, I> {
     /// Opens a file, or takes standard input where `-` is named.
     pub(crate) fn open(&mut self, name: &str) -> Result<Input<I, F::Input>, JobFault> {
         if name == STANDARD_INPUT {
-            return self.take_standard();
-        }
-        match self.folder.open(name) {
-            Ok(file) => Ok(Input::File(file)),
-            Err(_) => Err(JobFault::Read),
+            self.take_standard()
+        } else {
+            match self.folder.open(name) {
+                Ok(file) => Ok(Input::File(file)),
+                Err(_) => Err(JobFault::Read),
+            }
         }
     }
 

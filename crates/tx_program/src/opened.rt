@@ -119,9 +119,7 @@ impl<'a, I: Read + Drop, R: Read + Drop> Opened<'a, I, R> {
         requires { IsInRange command.now }
     {
         match command {
-            Command::Pipe => Ok(Opened::Pipe {
-                input: inputs.take_standard()?,
-            }),
+            Command::Pipe => Opened::pipe(inputs),
             Command::Run {
                 plan,
                 script,
@@ -170,6 +168,13 @@ impl<'a, I: Read + Drop, R: Read + Drop> Opened<'a, I, R> {
                 Opened::change(inputs, old, new, bounds, cert, mixture, counter)
             }
         }
+    }
+
+    fn pipe<F: Folder<Input = R>>(
+        inputs: &mut Inputs<'_, F, I>,
+    ) -> Result<Opened<'a, I, R>, JobFault> {
+        let input = inputs.take_standard()?;
+        Ok(Opened::Pipe { input })
     }
 
     fn run<F: Folder<Input = R>>(
