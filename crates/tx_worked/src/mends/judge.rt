@@ -233,12 +233,12 @@ fn mended_differs(
 
 /// Whether the pair of codes is the ambiguous one that is wanted.
 fn is_pair(pair: Option<(CodeId, CodeId)>, wanted: Option<Wanted>) -> bool {
-    match (pair, wanted) {
-        (Some((shorter, longer)), Some(Wanted::Ambiguous(first, second))) => {
-            shorter == first && longer == second
-        }
-        (None, None) => true,
-        _ => false,
+    let Some((shorter, longer)) = pair else {
+        return wanted.is_none();
+    };
+    match wanted {
+        Some(wanted) => wanted.is_pair(shorter, longer),
+        None => false,
     }
 }
 

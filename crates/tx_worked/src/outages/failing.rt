@@ -30,13 +30,28 @@ impl Failing {
         }
     }
 
+    /// Whether it is a group, and this one.
+    fn is_group(self, group: GroupId) -> bool {
+        match self {
+            Failing::Group(gone) => group == gone,
+            _ => false,
+        }
+    }
+
+    /// Whether it is the named risk at this place.
+    fn is_named(self, place: usize) -> bool {
+        match self {
+            Failing::Both(risk, _, _) => place == risk,
+            _ => false,
+        }
+    }
+
     /// Whether this is the outage that is told.
     pub fn is(self, outage: Outage) -> bool {
-        match (self, outage) {
-            (Failing::Group(gone), Outage::Group(group)) => gone == group,
-            (Failing::Exchange(gone), Outage::Exchange(exchange)) => gone == exchange,
-            (Failing::Both(place, _, _), Outage::Named(named)) => place == named,
-            _ => false,
+        match outage {
+            Outage::Group(group) => self.is_group(group),
+            Outage::Exchange(exchange) => self.is_exchange(exchange),
+            Outage::Named(place) => self.is_named(place),
         }
     }
 }

@@ -35,14 +35,14 @@ impl WantedCut {
 }
 
 /// Whether calls for a code may start at an exchange, and are in question.
-fn is_asked(left: Left<'_>, exchange: ExchangeId) -> bool {
+fn is_asked(left: &Left<'_>, exchange: ExchangeId) -> bool {
     left.plan.is_origin_for(exchange, left.code)
         && !left.failing.is_exchange(exchange)
         && !left.failing.is_exchange(left.plan.home(left.code))
 }
 
 /// Adds what is cut off of one code, by exchanges.
-fn add_code(left: Left<'_>, wanted: &mut Vec<WantedCut>) -> Result<(), NoMemory> {
+fn add_code(left: &Left<'_>, wanted: &mut Vec<WantedCut>) -> Result<(), NoMemory> {
     for place in 0..left.plan.exchanges() {
         if let Some(start) = left.plan.exchange_at(place) {
             if is_asked(left, start) {
@@ -74,7 +74,7 @@ pub fn put_cuts(plan: &Plan, all: &[Failing], wanted: &mut Vec<WantedCut>) -> Re
                     code,
                     failing: *failing,
                 };
-                add_code(left, wanted)?;
+                add_code(&left, wanted)?;
             }
         }
     }

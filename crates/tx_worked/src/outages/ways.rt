@@ -69,15 +69,12 @@ fn note_dead(steps: usize, ways: &mut Ways) {
 
 /// Takes in how the walk ends that has come to an exchange by so many steps, and how all end that go
 /// on from it by at most so many more.
-pub fn note_ways(left: Left<'_>, at: ExchangeId, steps: usize, more: usize, ways: &mut Ways) {
+pub fn note_ways(left: &Left<'_>, at: ExchangeId, steps: usize, more: usize, ways: &mut Ways) {
     if left.is_home(at) {
         ways.home = true;
-        return;
-    }
-    if left.is_empty(at) {
-        return note_dead(steps, ways);
-    }
-    if more > 0 {
+    } else if left.is_empty(at) {
+        note_dead(steps, ways);
+    } else if more > 0 {
         for group in left.plan.list(at, left.code) {
             if !left.failing.takes(left.plan, *group) {
                 if let Some(to) = left.plan.other_end(*group, at) {

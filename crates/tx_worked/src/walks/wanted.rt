@@ -21,6 +21,14 @@ impl Wanted {
     pub fn has_walk(self) -> bool {
         !matches!(self, Wanted::Ambiguous(_, _))
     }
+
+    /// Whether it is this ambiguous pair.
+    pub fn is_pair(self, shorter: CodeId, longer: CodeId) -> bool {
+        match self {
+            Wanted::Ambiguous(first, second) => shorter == first && longer == second,
+            _ => false,
+        }
+    }
 }
 
 /// Whether a code begins another one.
