@@ -52,8 +52,8 @@ class Example:
         self.driver = words[0] if words[0].endswith(".py") else None
         self.words = words[words.index("telexplan") + 1 :]
         made = [b for a, b in zip(self.words, self.words[1:]) if a in ("--counter", "--mixture", "--plan") or (a == "--cert" and self.words[0] != "run")]
-        self.made = made
-        self.files = [it for it in self.words if it.startswith("examples/") and it not in made]
+        self.made = made if self.status < 2 else []
+        self.files = [it for it in self.words if it.startswith("examples/") and it not in self.made]
 
     def option(self, name):
         return self.words[self.words.index(name) + 1] if name in self.words else None
@@ -91,9 +91,10 @@ def run(program, example):
         made = {}
         for it in sorted(os.listdir(os.path.join(room, "examples"))):
             path = f"examples/{it}"
-            if path not in example.files + example.input:
-                with open(os.path.join(room, path), "rb") as file:
-                    made[path] = file.read()
+            with open(os.path.join(room, path), "rb") as file:
+                text = file.read()
+            if path not in example.files + example.input or text != read(path):
+                made[path] = text
         return ran.returncode, ran.stdout, ran.stderr, made
 
 
@@ -415,11 +416,12 @@ def check_map(tell):
 
 def case_of(example):
     """The kind of a case, and its texts; None where no case shows the example."""
-    texts = [read(it) for it in example.input + example.files if os.path.exists(os.path.join(TOP, it))]
+    if example.input and not example.words:
+        return "both", b"".join(map(read, example.input))
+    files = [example.input[0] if it == "-" else it for it in example.words if it == "-" or it in example.files]
+    texts = [read(it) for it in files if os.path.exists(os.path.join(TOP, it))]
     bounds = f" {example.option('--limit')} {example.option('--spare')}"
-    if example.input:
-        return "both", b"".join(texts)
-    if len(texts) != len(example.files) or example.status == 64:
+    if len(texts) != len(files) or example.status == 64:
         return None
     verb = example.words[0]
     if verb == "run" and example.option("--cert"):

@@ -6,7 +6,11 @@ use Rattle.clap.specs.declared.parser.matches.ArgMatches.{ArgMatches}
 use Rattle.clap.proofs.WalkLemmas.{one_text-rows}
 use Rattle.clap.proofs.OnLiterals.{clap_on_literals}
 use Rattle.tx_commands.specs.Grammar.{program_words}
-use Rattle.tx_commands.specs.Commands.{Gives}
+use Rattle.tx_commands.specs.Commands.{Gives, IsFoundIn}
+use Rattle.tx_commands.specs.inner.Refused.{IsClash, IsRefused}
+use Rattle.tx_commands.specs.declared.command.Command.{Command}
+use Rattle.tx_commands.specs.declared.refusal.Refusal.{Refusal}
+use Rattle.tx_commands.specs.declared.refusal.Refusal.TheVariants.{Incomplete, Together, DrawTogether, NoSuchCode, InputTwice, Overwrites, NoMemory}
 
 -- a number that was read was given
 pub given_by : (m : ArgMatches) (id : List ℕ) (n : ℕ) (one : Option (List ℕ)) → one_text (found_of m) id ≡ one
@@ -26,3 +30,14 @@ pub found_by : (P : Option (Text × List Row) → Type 0) (app : App) (words : L
 found_by P app words m is has found =
     let h = has (ap is_simple is ∙ simple) in
     subst P (h.1 ∙ ap (λ (a : App). subcommand_of a words) is) found
+
+-- words that ask for a command of which two files clash are refused for that
+pub refused_for_clash : (found : Option (Text × List Row)) (command : Command) (refusal : Refusal)
+    → IsFoundIn found command → IsClash command refusal → IsRefused found refusal
+refused_for_clash found command InputTwice asked clash = (command, asked, clash)
+refused_for_clash found command Overwrites asked clash = (command, asked, clash)
+refused_for_clash found command Incomplete asked clash = tt
+refused_for_clash found command Together asked clash = absurd clash
+refused_for_clash found command DrawTogether asked clash = absurd clash
+refused_for_clash found command NoSuchCode asked clash = absurd clash
+refused_for_clash found command NoMemory asked clash = tt

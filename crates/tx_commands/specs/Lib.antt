@@ -1,4 +1,5 @@
 pub mod Grammar
 pub mod Commands
+pub mod Files
 pub mod Faults
 pub mod inner

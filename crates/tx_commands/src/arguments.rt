@@ -4,25 +4,23 @@ ghost use Rattle.clap.specs.Words.{App, app_of, new_rule, rule_of, with_rule};
 ghost use Rattle.clap.specs.declared.builder.action.ArgAction.TheVariants.{Set};
 ghost use Rattle.tx_commands.specs.Grammar as grammar;
 
+use crate::help;
 use clap::{Arg, ArgAction, value_parser};
 use std::alloc::{AllocError, Global};
 
-/// A command whose first word is a plan.
+/// A command whose first word is a plan, with what its help begins and ends with.
 pub(crate) fn over_plan<'a>(
     alloc: Global,
     name: &'a str,
     about: &'a str,
+    after: &'a str,
 ) -> Result<clap::Command<'a>, AllocError>
     ensures { IfOk result (λ c. app_of c ≡ grammar.plan_words name.now) }
 {
-    let command = Ok(clap::Command::new(alloc, name).about(about));
-    with_file(
-        command,
-        alloc,
-        "plan",
-        "PLAN",
-        "The route plan: exchanges, codes, lines, groups, routes and bars",
-    )
+    let command = clap::Command::new(alloc, name)
+        .about(about)
+        .after_help(after);
+    with_file(Ok(command), alloc, "plan", "PLAN", help::PLAN)
 }
 
 /// A command with one argument more, if it could be made so far.
@@ -94,8 +92,8 @@ fn limit<'a>(alloc: Global) -> Arg<'a>
     option(
         alloc,
         "limit",
-        "L",
-        "At most how many transits a call may pass: 0 to 62",
+        "L: 0 to 62",
+        "At most how many transits a call may pass",
     )
     .value_parser(value_parser!(u8).range(0..=62))
 }
@@ -107,8 +105,10 @@ fn spare<'a>(alloc: Global) -> Arg<'a>
     option(
         alloc,
         "spare",
-        "K",
-        "How many groups may be down: 0 to 15. After YES, a call is answered NC only after a second head-on collision, or where more than K groups are listed and each of them is down or has no free circuit",
+        "K: 0 to 15",
+        "How many groups may be down. After YES, a call is answered NC only
+after a second head-on collision, or where more than K groups are
+listed and each of them is down or has no free circuit",
     )
     .value_parser(value_parser!(u8).range(0..=15))
 }

@@ -5,6 +5,7 @@ ghost use Rattle.clap.specs.declared.builder.command.Command.{Command};
 ghost use Rattle.tx_commands.specs.Grammar as grammar;
 
 use crate::arguments::{over_plan, with_bounds, with_file, with_option, word};
+use crate::help;
 use std::alloc::{AllocError, Global};
 
 /// The version of the program.
@@ -16,21 +17,23 @@ fn run_grammar<'a>(alloc: Global) -> Result<clap::Command<'a>, AllocError>
     let run = over_plan(
         alloc,
         "run",
-        "Run a script of events over a plan, and print each reply and the ticket of each call that ended",
+        "Run a script of events over a plan: print each reply, and a ticket for each ended call",
+        help::RUN,
     );
     let run = with_file(
         run,
         alloc,
         "script",
         "SCRIPT",
-        "The script: events, one a line, between SCRIPT 1 and END",
+        "The script: events, one a line, between SCRIPT 1 and END; - is standard input",
     );
     let run = with_option(
         run,
         alloc,
         "cert",
         "CERT",
-        "Run only if this certificate shows that the plan is safe, else print the verdict; goes with --limit and --spare",
+        "Run only if this certificate shows that the plan is safe, else print
+the verdict; goes with --limit and --spare",
     );
     with_bounds(run, alloc, false)
 }
@@ -42,13 +45,14 @@ fn check_grammar<'a>(alloc: Global) -> Result<clap::Command<'a>, AllocError>
         alloc,
         "check",
         "Say whether a certificate shows that a plan is safe: YES, or NO with the first reason",
+        help::CHECK,
     );
     let check = with_file(
         check,
         alloc,
         "cert",
         "CERT",
-        "The certificate: ranks of exchanges for each code",
+        "The certificate: ranks of exchanges for each code; - is standard input",
     );
     with_bounds(check, alloc, true)
 }
@@ -59,7 +63,8 @@ fn codes_grammar<'a>(alloc: Global) -> Result<clap::Command<'a>, AllocError>
     over_plan(
         alloc,
         "codes",
-        "List the destination codes of a plan, and the least pair of a code and a longer one that begins with it",
+        "List the codes of a plan, and the least pair of which one begins the other",
+        help::CODES,
     )
 }
 
@@ -69,7 +74,8 @@ fn lint_grammar<'a>(alloc: Global) -> Result<clap::Command<'a>, AllocError>
     over_plan(
         alloc,
         "lint",
-        "Tell all faults of a plan's text, each with its line and the word at fault, or where it has none, what in the plan is of no use or most likely not meant",
+        "Tell all faults of a plan's text, or else what is of no use in the plan or likely not meant",
+        help::LINT,
     )
 }
 
@@ -79,7 +85,8 @@ fn audit_grammar<'a>(alloc: Global) -> Result<clap::Command<'a>, AllocError>
     let audit = over_plan(
         alloc,
         "audit",
-        "Say whether a plan is safe: YES, or NO with what is wrong, and a walk for each loop, short list and long way",
+        "Say whether a plan is safe: YES, or NO with what is wrong and the walks that show it",
+        help::AUDIT,
     );
     let audit = with_bounds(audit, alloc, true);
     let audit = with_option(
@@ -94,23 +101,20 @@ fn audit_grammar<'a>(alloc: Global) -> Result<clap::Command<'a>, AllocError>
         alloc,
         "counter",
         "SCRIPT",
-        "After NO, write a script to this file that shows the first finding that has one",
+        "After NO, write a script to this file that shows the first finding
+that has one",
     )
 }
 
 fn mend_grammar<'a>(alloc: Global) -> Result<clap::Command<'a>, AllocError>
     ensures { IfOk result (λ c. app_of c ≡ grammar.mend_words) }
 {
-    let mend = Ok(clap::Command::new(alloc, "mend").about(
-        "Find lists with which a plan is safe, wherever there are any: YES with each list that is another one than before, or NO with whom no lists can serve",
-    ));
-    let mend = with_file(
-        mend,
-        alloc,
-        "old",
-        "PLAN",
-        "The route plan: exchanges, codes, lines, groups, routes and bars",
-    );
+    let mend = clap::Command::new(alloc, "mend")
+        .about(
+            "Find lists with which a plan is safe: YES with each new list, or NO with whom none serve",
+        )
+        .after_help(help::MEND);
+    let mend = with_file(Ok(mend), alloc, "old", "PLAN", help::PLAN);
     let mend = with_bounds(mend, alloc, true);
     let mend = with_option(
         mend,
@@ -134,14 +138,16 @@ fn survive_grammar<'a>(alloc: Global) -> Result<clap::Command<'a>, AllocError>
     let survive = over_plan(
         alloc,
         "survive",
-        "Say whom each group, each exchange and each named risk of a plan cuts off if it fails alone: YES for nobody, or NO with a walk for each",
+        "Say whom each group, exchange and named risk of a plan cuts off if it fails alone",
+        help::SURVIVE,
     );
     with_option(
         survive,
         alloc,
         "risks",
         "RISKS",
-        "The named risks, such as cables: lines RISK name group .., between RISKS 1 and END",
+        "The named risks, such as cables: lines RISK name group .., between
+RISKS 1 and END; - is standard input",
     )
 }
 
@@ -151,7 +157,8 @@ fn trace_grammar<'a>(alloc: Global) -> Result<clap::Command<'a>, AllocError>
     let trace = over_plan(
         alloc,
         "trace",
-        "Tell how calls for a code go from an exchange: the way while all is free, and each list that they may come to",
+        "Tell how calls for a code go from an exchange: the way while all is free, and the lists",
+        help::TRACE,
     );
     let trace = with_file(
         trace,
@@ -166,17 +173,13 @@ fn trace_grammar<'a>(alloc: Global) -> Result<clap::Command<'a>, AllocError>
 fn change_grammar<'a>(alloc: Global) -> Result<clap::Command<'a>, AllocError>
     ensures { IfOk result (λ c. app_of c ≡ grammar.change_words) }
 {
-    let change = Ok(clap::Command::new(alloc, "change").about(
-        "Say whether a plan can be changed into another one of the same network, list by list and in any order, so that it is safe at every moment: YES, or NO with what is wrong",
-    ));
-    let change = with_file(change, alloc, "old", "OLD", "The plan that is in force");
-    let change = with_file(
-        change,
-        alloc,
-        "new",
-        "NEW",
-        "The plan that is to be: the same exchanges, codes, lines and groups, with other routes and bars",
-    );
+    let change = clap::Command::new(alloc, "change")
+        .about(
+            "Say whether a plan is safe at every moment while its lists change into those of another",
+        )
+        .after_help(help::CHANGE);
+    let change = with_file(Ok(change), alloc, "old", "OLD", help::OLD_PLAN);
+    let change = with_file(change, alloc, "new", "NEW", help::NEW_PLAN);
     let change = with_bounds(change, alloc, true);
     let change = with_option(
         change,
@@ -190,14 +193,16 @@ fn change_grammar<'a>(alloc: Global) -> Result<clap::Command<'a>, AllocError>
         alloc,
         "mixture",
         "PLAN",
-        "After NO, write a plan of old and new lists to this file that shows the first finding that has a walk",
+        "After NO, write a plan of old and new lists to this file that shows
+the first finding that has a walk",
     );
     with_option(
         change,
         alloc,
         "counter",
         "SCRIPT",
-        "After NO, write a script to this file that shows the same finding in that plan, if there is one",
+        "After NO, write a script to this file that shows the same finding in
+that plan, if there is one",
     )
 }
 
@@ -207,7 +212,8 @@ fn grade_grammar<'a>(alloc: Global) -> Result<clap::Command<'a>, AllocError>
     over_plan(
         alloc,
         "grade",
-        "Say with which transit limits and spare numbers a plan is safe, and each of its codes, or what is wrong whatever they are",
+        "Say with which transit limits and spare numbers a plan is safe, and each of its codes",
+        help::GRADE,
     )
 }
 
@@ -218,13 +224,15 @@ fn draw_grammar<'a>(alloc: Global) -> Result<clap::Command<'a>, AllocError>
         alloc,
         "draw",
         "Draw the exchanges and groups of a plan, as a text of Graphviz",
+        help::DRAW,
     );
     let draw = with_option(
         draw,
         alloc,
         "code",
         "CODE",
-        "Draw the routes for this destination code alone; with --limit and --spare, the walk of its first finding is red",
+        "Draw the routes for this destination code alone; with --limit and
+--spare, the walk of its first finding is red",
     );
     with_bounds(draw, alloc, false)
 }
@@ -240,8 +248,9 @@ fn explain_grammar<'a>(alloc: Global) -> Result<clap::Command<'a>, AllocError>
     );
     clap::Command::new(alloc, "explain")
         .about(
-            "Say what a code of a fault, a refusal or a finding means, and what to do about it; without one, list all codes",
+            "Say what a printed code means, and what to do about it; without one, list all codes",
         )
+        .after_help(help::EXPLAIN)
         .arg(code)
 }
 
@@ -252,8 +261,10 @@ fn top_grammar<'a>(alloc: Global) -> Result<clap::Command<'a>, AllocError>
     clap::Command::new(alloc, "telexplan")
         .version(VERSION)
         .about(
-            "Audit the route plan of an automatic telex network, and simulate calls over it. Without words, a plan and a script are read from standard input.",
+            "Audit the route plan of an automatic telex network, and simulate calls over it.
+Without words, a plan and a script are read from standard input.",
         )
+        .after_help(help::PROGRAM)
         .no_binary_name(true)
         .bin_name("telexplan")
 }

@@ -5,10 +5,13 @@ mod arguments;
 mod asked;
 mod command;
 mod fault;
+mod files;
 mod grammar;
+mod help;
 mod reading;
 mod refusal;
 
 pub use command::Command;
 pub use fault::WordsFault;
+pub use files::STANDARD_INPUT;
 pub use reading::read_command;

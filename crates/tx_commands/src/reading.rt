@@ -1,7 +1,8 @@
 // The command that the words of the command line ask for.
-ghost use Rattle.std.specs.Prelude.{◌≡◌, ◌≢◌, ℕ, List, Option, [], Ok, Some, IfOk, IfErr};
+ghost use Rattle.std.specs.Prelude.{◌≡◌, ◌≢◌, ℕ, false, List, Option, [], Ok, Some, IfOk, IfErr};
 ghost use Rattle.clap.specs.Words.{Row, app_of, found_of, rows_of, subcommand_rows_of};
 ghost use Rattle.tx_commands.specs.Commands.{IsInRange, Asks, AskFor, IsFoundIn};
+ghost use Rattle.tx_commands.specs.Files.{reads_input_twice, overwrites};
 ghost use Rattle.tx_commands.specs.Grammar.{program_words};
 ghost use Rattle.tx_commands.specs.Faults.{IsRefusalIn, IsRefusalOf};
 ghost use Rattle.tx_commands.specs.inner.Refused.{IsRefused};
@@ -9,6 +10,7 @@ ghost use Rattle.tx_commands.specs.inner.Refused.{IsRefused};
 use crate::asked::{change_of, explain_of, mend_of, plan_command, text};
 use crate::command::Command;
 use crate::fault::WordsFault;
+use crate::files::clash;
 use crate::grammar::grammar;
 use crate::refusal::Refusal;
 use clap::ArgMatches;
@@ -33,14 +35,22 @@ fn command_of(alloc: Global, name: &str, matches: &ArgMatches<'_>) -> Result<Com
     }
 }
 
-/// The command that was found in the words.
+/// The command that was found in the words. One of which two files clash is refused.
 fn found_command(alloc: Global, matches: &ArgMatches<'_>) -> Result<Command, Refusal>
     ensures range { IfOk result IsInRange }
     ensures asked { IfOk result (IsFoundIn (subcommand_rows_of matches.now)) }
+    ensures read_once { IfOk result (λ c. reads_input_twice c ≡ false) }
+    ensures apart { IfOk result (λ c. overwrites c ≡ false) }
     ensures refused { IfErr result (IsRefused (subcommand_rows_of matches.now)) }
 {
     match matches.subcommand() {
-        Some((name, matches)) => command_of(alloc, name, matches),
+        Some((name, matches)) => {
+            let command = command_of(alloc, name, matches)?;
+            match clash(&command) {
+                None => Ok(command),
+                Some(refusal) => Err(refusal),
+            }
+        }
         None => Err(Refusal::Incomplete),
     }
 }
@@ -81,6 +91,16 @@ fn words_fault(grammar: &mut clap::Command<'_>, refusal: Refusal) -> Result<Word
             ErrorKind::InvalidValue,
             "no such code; there are X1 to X3, P3 to P22, A1 to A6, C1 to C10, S1 to S7, Q1 to Q11, M1 to M12, K1 to K7 and F1 to F5",
         ),
+        Refusal::InputTwice => in_its_words(
+            grammar,
+            ErrorKind::ArgumentConflict,
+            "standard input, which is named -, can be read for one file alone",
+        ),
+        Refusal::Overwrites => in_its_words(
+            grammar,
+            ErrorKind::ArgumentConflict,
+            "a file to be made has the name of another file of the command, or is named -",
+        ),
     }
 }
 
@@ -93,6 +113,8 @@ fn command_in<'a>(
     requires { app_of grammar.old ≡ program_words }
     ensures in_range { IfOk result IsInRange }
     ensures asked { IfOk result (AskFor words.now) }
+    ensures read_once { IfOk result (λ c. reads_input_twice c ≡ false) }
+    ensures apart { IfOk result (λ c. overwrites c ≡ false) }
     ensures refused { IfErr result (IsRefusalOf words.now) }
 {
     let matches = match grammar.try_get_matches_from_mut(words) {
@@ -112,6 +134,8 @@ pub fn read_command(alloc: Global, words: &[&str]) -> Result<Command, WordsFault
     ensures in_range { IfOk result IsInRange }
     ensures pipe { words.now ≡ [] → result ≡ Ok Command.Pipe }
     ensures asked { IfOk result (λ c. words.now ≢ [] → AskFor words.now c) }
+    ensures read_once { IfOk result (λ c. reads_input_twice c ≡ false) }
+    ensures apart { IfOk result (λ c. overwrites c ≡ false) }
     ensures refused { IfErr result (IsRefusalOf words.now) }
 {
     if words.is_empty() {

@@ -15,6 +15,10 @@ pub(crate) enum Refusal {
     DrawTogether,
     /// `explain` has a word that is no code.
     NoSuchCode,
+    /// Standard input is to be read for two files.
+    InputTwice,
+    /// A file to be made has the name of another file of the command, or of standard input.
+    Overwrites,
     /// No memory was left.
     NoMemory,
 }

@@ -1,4 +1,5 @@
 // The files that commands name.
+use crate::draft::Draft;
 use std::fs::File;
 use std::io;
 use std::io::{Read, Write};
@@ -8,27 +9,41 @@ pub trait Folder {
     /// A file that is read.
     type Input: Read + Drop;
 
-    /// A file that is written.
+    /// A file that is being made.
     type Output: Write + Drop;
 
     /// Opens a file to be read.
     fn open(&self, name: &str) -> io::Result<Self::Input>;
 
-    /// Makes a file, and empties it if it is there.
-    fn create(&self, name: &str) -> io::Result<Self::Output>;
+    /// Begins to make a file. What has its name stays as it is until the file is finished.
+    fn begin(&self, name: &str) -> io::Result<Self::Output>;
+
+    /// Gives the file, which is whole, its name, in place of what had it.
+    fn finish(&self, file: Self::Output) -> io::Result<()>;
+
+    /// Gives the file up. What has its name stays.
+    fn give_up(&self, file: Self::Output);
 }
 
 /// The files of the machine.
 impl Folder for HostRuntime {
     type Input = File;
 
-    type Output = File;
+    type Output = Draft;
 
     fn open(&self, name: &str) -> io::Result<File> {
         File::open(self, name)
     }
 
-    fn create(&self, name: &str) -> io::Result<File> {
-        File::create(self, name)
+    fn begin(&self, name: &str) -> io::Result<Draft> {
+        Draft::begin(self, name)
+    }
+
+    fn finish(&self, file: Draft) -> io::Result<()> {
+        file.finish(self)
+    }
+
+    fn give_up(&self, file: Draft) {
+        file.give_up(self);
     }
 }

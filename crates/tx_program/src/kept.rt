@@ -32,7 +32,8 @@ pub(crate) enum Kept<'a, A: Allocator> {
     Script(&'a CounterScript<A>),
 }
 
-/// Once the report is out, makes the file of what is to be kept, if one is named.
+/// Once the report is out, makes the file of what is to be kept, if one is named: whole, or not at
+/// all.
 pub(crate) fn keep_file<A: Allocator + Copy, F: Folder, O: Write + Drop>(
     alloc: A,
     kept: Kept<'_, A>,
@@ -43,7 +44,14 @@ pub(crate) fn keep_file<A: Allocator + Copy, F: Folder, O: Write + Drop>(
     match name {
         Some(name) => {
             report.let_out()?;
-            write_kept(alloc, kept, NewFile::new(folder, name))
+            let mut file = NewFile::new(folder, name);
+            match write_kept(alloc, kept, &mut file) {
+                Ok(()) => file.finish().or(Err(JobFault::Write)),
+                Err(fault) => {
+                    file.give_up();
+                    Err(fault)
+                }
+            }
         }
         None => Ok(()),
     }

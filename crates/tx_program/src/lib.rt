@@ -5,8 +5,10 @@
 mod audited;
 mod changed;
 mod command_fault;
+mod draft;
 mod ends;
 mod folder;
+mod input;
 mod kept;
 mod mended;
 mod new_file;
@@ -15,6 +17,7 @@ mod perform;
 mod program;
 mod tell;
 
+pub use draft::Draft;
 pub use folder::Folder;
 pub use program::{Ends, run_command, run_words};
 pub use tell::{refuse_arguments, tell_words};

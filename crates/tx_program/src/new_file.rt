@@ -3,7 +3,7 @@ use crate::folder::Folder;
 use std::io;
 use std::io::Write;
 
-/// A file that is made when the first bytes go to it.
+/// A file that is begun when the first bytes go to it.
 #[derive(Drop)]
 pub(crate) struct NewFile<'a, F: Folder> {
     folder: &'a F,
@@ -19,12 +19,29 @@ impl<'a, F: Folder> NewFile<'a, F> {
             file: None,
         }
     }
+
+    /// Gives the file, which is whole, its name.
+    pub(crate) fn finish(self) -> io::Result<()> {
+        let NewFile { folder, file, .. } = self;
+        match file {
+            Some(file) => folder.finish(file),
+            None => Ok(()),
+        }
+    }
+
+    /// Gives the file up.
+    pub(crate) fn give_up(self) {
+        let NewFile { folder, file, .. } = self;
+        if let Some(file) = file {
+            folder.give_up(file);
+        }
+    }
 }
 
 impl<'a, F: Folder> Write for NewFile<'a, F> {
     fn write(&mut self, bytes: &[u8]) -> io::Result<usize> {
         if self.file.is_none() {
-            self.file = Some(self.folder.create(self.name)?);
+            self.file = Some(self.folder.begin(self.name)?);
         }
         match &mut self.file {
             Some(file) => file.write(bytes),

@@ -4,6 +4,7 @@ ghost use Rattle.tx_commands.specs.declared.command.Command.TheVariants.{Run, Dr
 ghost use Rattle.tx_commands.specs.Commands.{IsInRange};
 
 use crate::folder::Folder;
+use crate::input::{Input, Inputs};
 use crate::kept::Keep;
 use std::io::Read;
 use tx_commands::Command;
@@ -58,45 +59,45 @@ pub(crate) enum PlanJob<'a> {
 #[derive(Drop)]
 pub(crate) enum Opened<'a, I: Read + Drop, R: Read + Drop> {
     Pipe {
-        input: I,
+        input: Input<I, R>,
     },
     Run {
-        plan: R,
-        script: R,
+        plan: Input<I, R>,
+        script: Input<I, R>,
     },
     Checked {
-        plan: R,
-        cert: R,
-        script: R,
+        plan: Input<I, R>,
+        cert: Input<I, R>,
+        script: Input<I, R>,
         bounds: Bounds,
     },
     Check {
-        plan: R,
-        cert: R,
+        plan: Input<I, R>,
+        cert: Input<I, R>,
         bounds: Bounds,
     },
     Audit {
-        plan: R,
+        plan: Input<I, R>,
         bounds: Bounds,
         keep: Keep<'a>,
     },
     Mend {
-        plan: R,
+        plan: Input<I, R>,
         bounds: Bounds,
         keep: Keep<'a>,
     },
     Change {
-        old: R,
-        new: R,
+        old: Input<I, R>,
+        new: Input<I, R>,
         bounds: Bounds,
         keep: Keep<'a>,
     },
     Survive {
-        plan: R,
-        risks: R,
+        plan: Input<I, R>,
+        risks: Input<I, R>,
     },
     Plan {
-        plan: R,
+        plan: Input<I, R>,
         job: PlanJob<'a>,
     },
     Explain {
@@ -112,59 +113,38 @@ fn name_of(file: &Option<String>) -> Option<&str> {
     }
 }
 
-fn open<F: Folder>(folder: &F, name: &str) -> Result<F::Input, JobFault> {
-    folder.open(name).or(Err(JobFault::Read))
-}
-
-/// Opens two files, the first one first.
-fn open_both<F: Folder>(
-    folder: &F,
-    first: &str,
-    second: &str,
-) -> Result<(F::Input, F::Input), JobFault> {
-    let first = open(folder, first)?;
-    match open(folder, second) {
-        Ok(second) => Ok((first, second)),
-        Err(fault) => {
-            drop(first);
-            Err(fault)
-        }
-    }
-}
-
 impl<'a, I: Read + Drop, R: Read + Drop> Opened<'a, I, R> {
     /// Opens the files of a command, in the order plan, certificate, script; of a change, the old
     /// plan and then the new one; of outages, the plan and then the risks.
     pub(crate) fn new<F: Folder<Input = R>>(
         command: &'a Command,
-        folder: &F,
-        input: I,
+        inputs: &mut Inputs<'_, F, I>,
     ) -> Result<Opened<'a, I, R>, JobFault>
         requires { IsInRange command.now }
     {
         match command {
-            Command::Pipe => Ok(Opened::Pipe { input }),
+            Command::Pipe => Opened::pipe(inputs),
             Command::Run {
                 plan,
                 script,
                 checked,
-            } => Opened::run(folder, plan, script, checked),
+            } => Opened::run(inputs, plan, script, checked),
             Command::Check {
                 plan,
                 cert,
                 limit,
                 spare,
-            } => Opened::check(folder, plan, cert, Bounds::of(*limit, *spare)),
-            Command::Lint { plan } => Opened::lint(folder, plan),
-            Command::Codes { plan } => Opened::over_plan(folder, plan, PlanJob::Codes),
-            Command::Grade { plan } => Opened::over_plan(folder, plan, PlanJob::Grade),
-            Command::Survive { plan, risks } => Opened::survive(folder, plan, risks),
+            } => Opened::check(inputs, plan, cert, Bounds::of(*limit, *spare)),
+            Command::Lint { plan } => Opened::lint(inputs, plan),
+            Command::Codes { plan } => Opened::over_plan(inputs, plan, PlanJob::Codes),
+            Command::Grade { plan } => Opened::over_plan(inputs, plan, PlanJob::Grade),
+            Command::Survive { plan, risks } => Opened::survive(inputs, plan, risks),
             Command::Trace {
                 plan,
                 exchange,
                 code,
-            } => Opened::trace(folder, plan, exchange, code),
-            Command::Draw { plan, routes } => Opened::draw(folder, plan, routes),
+            } => Opened::trace(inputs, plan, exchange, code),
+            Command::Draw { plan, routes } => Opened::draw(inputs, plan, routes),
             Command::Explain { entry } => Ok(Opened::Explain { entry: *entry }),
             Command::Audit {
                 plan,
@@ -172,14 +152,14 @@ impl<'a, I: Read + Drop, R: Read + Drop> Opened<'a, I, R> {
                 spare,
                 cert,
                 counter,
-            } => Opened::audit(folder, plan, Bounds::of(*limit, *spare), cert, counter),
+            } => Opened::audit(inputs, plan, Bounds::of(*limit, *spare), cert, counter),
             Command::Mend {
                 plan,
                 limit,
                 spare,
                 mended,
                 cert,
-            } => Opened::mend(folder, plan, Bounds::of(*limit, *spare), mended, cert),
+            } => Opened::mend(inputs, plan, Bounds::of(*limit, *spare), mended, cert),
             Command::Change {
                 old,
                 new,
@@ -190,13 +170,20 @@ impl<'a, I: Read + Drop, R: Read + Drop> Opened<'a, I, R> {
                 counter,
             } => {
                 let bounds = Bounds::of(*limit, *spare);
-                Opened::change(folder, old, new, bounds, cert, mixture, counter)
+                Opened::change(inputs, old, new, bounds, cert, mixture, counter)
             }
         }
     }
 
+    fn pipe<F: Folder<Input = R>>(
+        inputs: &mut Inputs<'_, F, I>,
+    ) -> Result<Opened<'a, I, R>, JobFault> {
+        let input = inputs.take_standard()?;
+        Ok(Opened::Pipe { input })
+    }
+
     fn run<F: Folder<Input = R>>(
-        folder: &F,
+        inputs: &mut Inputs<'_, F, I>,
         plan: &String,
         script: &String,
         checked: &Option<(String, u8, u8)>,
@@ -205,24 +192,24 @@ impl<'a, I: Read + Drop, R: Read + Drop> Opened<'a, I, R> {
     {
         match checked {
             None => {
-                let (plan, script) = open_both(folder, plan.as_str(), script.as_str())?;
+                let (plan, script) = inputs.open_both(plan.as_str(), script.as_str())?;
                 Ok(Opened::Run { plan, script })
             }
             Some((cert, limit, spare)) => {
-                Opened::checked(folder, plan, cert, script, Bounds::of(*limit, *spare))
+                Opened::checked(inputs, plan, cert, script, Bounds::of(*limit, *spare))
             }
         }
     }
 
     fn checked<F: Folder<Input = R>>(
-        folder: &F,
+        inputs: &mut Inputs<'_, F, I>,
         plan: &String,
         cert: &String,
         script: &String,
         bounds: Bounds,
     ) -> Result<Opened<'a, I, R>, JobFault> {
-        let (plan, cert) = open_both(folder, plan.as_str(), cert.as_str())?;
-        match open(folder, script.as_str()) {
+        let (plan, cert) = inputs.open_both(plan.as_str(), cert.as_str())?;
+        match inputs.open(script.as_str()) {
             Ok(script) => Ok(Opened::Checked {
                 plan,
                 cert,
@@ -238,34 +225,34 @@ impl<'a, I: Read + Drop, R: Read + Drop> Opened<'a, I, R> {
     }
 
     fn check<F: Folder<Input = R>>(
-        folder: &F,
+        inputs: &mut Inputs<'_, F, I>,
         plan: &String,
         cert: &String,
         bounds: Bounds,
     ) -> Result<Opened<'a, I, R>, JobFault> {
-        let (plan, cert) = open_both(folder, plan.as_str(), cert.as_str())?;
+        let (plan, cert) = inputs.open_both(plan.as_str(), cert.as_str())?;
         Ok(Opened::Check { plan, cert, bounds })
     }
 
     fn over_plan<F: Folder<Input = R>>(
-        folder: &F,
+        inputs: &mut Inputs<'_, F, I>,
         plan: &String,
         job: PlanJob<'a>,
     ) -> Result<Opened<'a, I, R>, JobFault> {
-        let plan = open(folder, plan.as_str())?;
+        let plan = inputs.open(plan.as_str())?;
         Ok(Opened::Plan { plan, job })
     }
 
     fn lint<F: Folder<Input = R>>(
-        folder: &F,
+        inputs: &mut Inputs<'_, F, I>,
         plan: &'a String,
     ) -> Result<Opened<'a, I, R>, JobFault> {
         let file = plan.as_bytes();
-        Opened::over_plan(folder, plan, PlanJob::Lint { file })
+        Opened::over_plan(inputs, plan, PlanJob::Lint { file })
     }
 
     fn draw<F: Folder<Input = R>>(
-        folder: &F,
+        inputs: &mut Inputs<'_, F, I>,
         plan: &String,
         routes: &'a Option<(String, Option<(u8, u8)>)>,
     ) -> Result<Opened<'a, I, R>, JobFault>
@@ -278,25 +265,25 @@ impl<'a, I: Read + Drop, R: Read + Drop> Opened<'a, I, R> {
                 (Some(code.as_bytes()), Some(Bounds::of(*limit, *spare)))
             }
         };
-        Opened::over_plan(folder, plan, PlanJob::Draw { code, bounds })
+        Opened::over_plan(inputs, plan, PlanJob::Draw { code, bounds })
     }
 
     fn survive<F: Folder<Input = R>>(
-        folder: &F,
+        inputs: &mut Inputs<'_, F, I>,
         plan: &String,
         risks: &Option<String>,
     ) -> Result<Opened<'a, I, R>, JobFault> {
         match risks {
-            None => Opened::over_plan(folder, plan, PlanJob::Survive),
+            None => Opened::over_plan(inputs, plan, PlanJob::Survive),
             Some(risks) => {
-                let (plan, risks) = open_both(folder, plan.as_str(), risks.as_str())?;
+                let (plan, risks) = inputs.open_both(plan.as_str(), risks.as_str())?;
                 Ok(Opened::Survive { plan, risks })
             }
         }
     }
 
     fn trace<F: Folder<Input = R>>(
-        folder: &F,
+        inputs: &mut Inputs<'_, F, I>,
         plan: &String,
         exchange: &'a String,
         code: &'a String,
@@ -305,17 +292,17 @@ impl<'a, I: Read + Drop, R: Read + Drop> Opened<'a, I, R> {
             exchange: exchange.as_bytes(),
             code: code.as_bytes(),
         };
-        Opened::over_plan(folder, plan, job)
+        Opened::over_plan(inputs, plan, job)
     }
 
     fn audit<F: Folder<Input = R>>(
-        folder: &F,
+        inputs: &mut Inputs<'_, F, I>,
         plan: &String,
         bounds: Bounds,
         cert: &'a Option<String>,
         counter: &'a Option<String>,
     ) -> Result<Opened<'a, I, R>, JobFault> {
-        let plan = open(folder, plan.as_str())?;
+        let plan = inputs.open(plan.as_str())?;
         let keep = Keep {
             cert: name_of(cert),
             plan: None,
@@ -325,13 +312,13 @@ impl<'a, I: Read + Drop, R: Read + Drop> Opened<'a, I, R> {
     }
 
     fn mend<F: Folder<Input = R>>(
-        folder: &F,
+        inputs: &mut Inputs<'_, F, I>,
         plan: &String,
         bounds: Bounds,
         mended: &'a Option<String>,
         cert: &'a Option<String>,
     ) -> Result<Opened<'a, I, R>, JobFault> {
-        let plan = open(folder, plan.as_str())?;
+        let plan = inputs.open(plan.as_str())?;
         let keep = Keep {
             cert: name_of(cert),
             plan: name_of(mended),
@@ -341,7 +328,7 @@ impl<'a, I: Read + Drop, R: Read + Drop> Opened<'a, I, R> {
     }
 
     fn change<F: Folder<Input = R>>(
-        folder: &F,
+        inputs: &mut Inputs<'_, F, I>,
         old: &String,
         new: &String,
         bounds: Bounds,
@@ -349,7 +336,7 @@ impl<'a, I: Read + Drop, R: Read + Drop> Opened<'a, I, R> {
         mixture: &'a Option<String>,
         counter: &'a Option<String>,
     ) -> Result<Opened<'a, I, R>, JobFault> {
-        let (old, new) = open_both(folder, old.as_str(), new.as_str())?;
+        let (old, new) = inputs.open_both(old.as_str(), new.as_str())?;
         let keep = Keep {
             cert: name_of(cert),
             plan: name_of(mixture),

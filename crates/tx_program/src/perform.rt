@@ -7,6 +7,7 @@ use crate::changed::change_files;
 use crate::command_fault::CommandFault;
 use crate::ends::Output;
 use crate::folder::Folder;
+use crate::input::Inputs;
 use crate::mended::mend_file;
 use crate::opened::{Bounds, Opened, PlanJob};
 use std::alloc::Allocator;
@@ -30,7 +31,10 @@ pub(crate) fn perform<A: Allocator + Copy, F: Folder, I: Read + Drop, O: Write +
 ) -> Result<u8, CommandFault>
     requires { IsInRange command.now }
 {
-    let opened = Opened::new(command, folder, input)?;
+    let mut inputs = Inputs::new(folder, input);
+    let opened = Opened::new(command, &mut inputs);
+    drop(inputs);
+    let opened = opened?;
     match Output::new(alloc, output) {
         Ok(output) => {
             let done = do_job(alloc, opened, folder, &output);

@@ -10,7 +10,7 @@ use crate::folder::Folder;
 use crate::perform::perform;
 use crate::tell::tell_words;
 use std::alloc::{Allocator, Global};
-use std::io::{Read, Write};
+use std::io::{IsTerminal, Read, Write};
 use tx_commands::{Command, WordsFault, read_command};
 use tx_jobs::{JobFault, write_change_fault, write_fault, write_survive_fault};
 use tx_text::{ToWrite, write_bytes};
@@ -28,15 +28,32 @@ pub struct Ends<'a, F, I: Drop, O: Drop, E: Drop> {
 /// a No (of `codes`: where codes are ambiguous; of `grade` and `survive`: where there is no grade
 /// too; of `lint`: after warnings), 2 for a refused text (of `lint`: after faults), 3 for a failed
 /// read or write (of help too), 4 for want of memory, 64 for refused words, and for a code to draw,
-/// or an exchange or a code to trace, that the plan has not. A fault is told by one line on standard error, and refused words by what the library of
+/// or an exchange or a code to trace, that the plan has not. Without words, on a terminal, it prints
+/// its help. A fault is told by one line on standard error, and refused words by what the library of
 /// command lines says. The words are read with `alloc`, and what they ask for is done with `memory`.
-pub fn run_words<A: Allocator + Copy, F: Folder, I: Read + Drop, O: Write + Drop, E: Write + Drop>(
+pub fn run_words<
+    A: Allocator + Copy,
+    F: Folder,
+    I: Read + IsTerminal + Drop,
+    O: Write + Drop,
+    E: Write + Drop,
+>(alloc: Global, memory: A, words: &[&str], ends: Ends<'_, F, I, O, E>) -> u8
+    ensures refused { AskNothing words.now → IsRefusedWith words.now result }
+{
+    if words.is_empty() && ends.input.is_terminal() {
+        return do_words(alloc, memory, &["--help"], ends);
+    }
+    do_words(alloc, memory, words, ends)
+}
+
+/// The same, whatever the input is.
+fn do_words<A: Allocator + Copy, F: Folder, I: Read + Drop, O: Write + Drop, E: Write + Drop>(
     alloc: Global,
     memory: A,
     words: &[&str],
     ends: Ends<'_, F, I, O, E>,
 ) -> u8
-    ensures refused { AskNothing words.now → IsRefusedWith words.now result }
+    ensures { AskNothing words.now → IsRefusedWith words.now result }
 {
     match read_command(alloc, words) {
         Ok(command) => {

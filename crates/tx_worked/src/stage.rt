@@ -2,7 +2,7 @@
 use crate::cases::{EndCase, Log, Reader, Writer};
 use std::fs::File;
 use std::io;
-use tx_program::{Ends, Folder};
+use tx_program::{Draft, Ends, Folder};
 
 /// The folder of a case, and its settings.
 #[derive(Drop)]
@@ -41,11 +41,12 @@ impl<'a> Stage<'a> {
             piece: self.case.piece,
             fails: self.case.failing_call(name),
             interrupted: self.case.interrupted_call(name),
+            is_terminal: self.case.is_terminal,
             reads: 0,
         }
     }
 
-    fn writer(&self, file: Option<File>, name: &str) -> Writer<'a> {
+    fn writer(&self, file: Option<Draft>, name: &str) -> Writer<'a> {
         Writer {
             file,
             name: self.told_name(name),
@@ -72,11 +73,33 @@ impl<'a> Folder for Stage<'a> {
         }
     }
 
-    fn create(&self, name: &str) -> io::Result<Writer<'a>> {
+    fn begin(&self, name: &str) -> io::Result<Writer<'a>> {
         self.log.tell("make", name);
-        match Folder::create(self.rt, name) {
+        match Folder::begin(self.rt, name) {
             Ok(file) => Ok(self.writer(Some(file), name)),
             Err(fault) => Err(fault),
+        }
+    }
+
+    fn finish(&self, file: Writer<'a>) -> io::Result<()> {
+        let Writer { file, name, .. } = file;
+        self.log.tell("finish", name.as_str());
+        let Some(file) = file else {
+            return Ok(());
+        };
+        if self.case.unfinished == Some(name.as_str()) {
+            self.log.tell("fails", name.as_str());
+            Folder::give_up(self.rt, file);
+            return Err(io::Error::from(io::ErrorKind::Other));
+        }
+        Folder::finish(self.rt, file)
+    }
+
+    fn give_up(&self, file: Writer<'a>) {
+        let Writer { file, name, .. } = file;
+        self.log.tell("give up", name.as_str());
+        if let Some(file) = file {
+            Folder::give_up(self.rt, file);
         }
     }
 }

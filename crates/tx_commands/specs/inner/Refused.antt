@@ -2,9 +2,12 @@
 use Rattle.std.specs.Prelude.{◌≡◌, ℕ, true, false, ◌&&◌, ◌||◌, List, Option, None, option_and_then, codes, IsSomeAnd}
 use Rattle.clap.specs.Words.{Row, first_of}
 use Rattle.tx_explain.specs.Entries.{explanation}
+use Rattle.tx_commands.specs.Commands.{IsFoundIn}
+use Rattle.tx_commands.specs.Files.{reads_input_twice, overwrites}
 use Rattle.tx_commands.specs.Faults.{has, IsRunInPart}
+use Rattle.tx_commands.specs.declared.command.Command.{Command}
 use Rattle.tx_commands.specs.declared.refusal.Refusal.{Refusal}
-use Rattle.tx_commands.specs.declared.refusal.Refusal.TheVariants.{Together, DrawTogether, NoSuchCode}
+use Rattle.tx_commands.specs.declared.refusal.Refusal.TheVariants.{Together, DrawTogether, NoSuchCode, InputTwice, Overwrites}
 
 -- `draw` has a limit or a spare number, and not both with a code
 pub record IsDrawInPart (name : List ℕ) (found : List Row) : Type 0 where
@@ -18,9 +21,21 @@ pub record IsNoCode (name : List ℕ) (found : List Row) : Type 0 where
   pub given : has found (codes "code") ≡ true
   pub unknown : option_and_then explanation (first_of (codes "code") found) ≡ None
 
+-- two files of the command clash in this way
+abbrev pub IsClash : Command → Refusal → Type 0
+IsClash command InputTwice = reads_input_twice command ≡ true
+IsClash command Overwrites = overwrites command ≡ true
+IsClash command other = ⊥
+
+-- the words that were found ask for a command of which two files clash in this way
+abbrev pub AskForClash : Option (List ℕ × List Row) → Refusal → Type 0
+AskForClash found refusal = (command : Command) × IsFoundIn found command × IsClash command refusal
+
 -- The words that were found are refused for this. That a word is missing, and want of memory, are left open.
 abbrev pub IsRefused : Option (List ℕ × List Row) → Refusal → Type 0
 IsRefused command Together = IsSomeAnd command (λ c. IsRunInPart c.0 c.1)
 IsRefused command DrawTogether = IsSomeAnd command (λ c. IsDrawInPart c.0 c.1)
 IsRefused command NoSuchCode = IsSomeAnd command (λ c. IsNoCode c.0 c.1)
+IsRefused command InputTwice = AskForClash command InputTwice
+IsRefused command Overwrites = AskForClash command Overwrites
 IsRefused command other = Unit {0}

@@ -5,6 +5,8 @@
 // - `fails NAME N`: read number N of that file fails, or flush number N where it is written. Standard input is `in`.
 // - `interrupts NAME N`: call number N of that file is interrupted: a read, or a write or flush. It goes on where it is called again.
 // - `room NAME N`: that file takes N bytes and then fails. Standard output and standard error are `out` and `errors`.
+// - `unfinished FILE`: that file, which is made, cannot be given its name.
+// - `terminal`: standard input is a terminal.
 // - `shows FILE`: what that file holds in the end is printed.
 // - `each-request`: each request of the command for memory is refused in turn.
 // - `words`: nothing is run: what the words ask for is printed.
@@ -24,6 +26,10 @@ pub struct EndCase<'a> {
     pub interrupts: Option<(&'a str, u64)>,
     /// The file that fails when it has taken so many bytes.
     pub room: Option<(&'a str, usize)>,
+    /// The file that cannot be given its name.
+    pub unfinished: Option<&'a str>,
+    /// Whether standard input is a terminal.
+    pub is_terminal: bool,
     /// The file to be shown in the end.
     pub shows: Option<&'a str>,
     pub what: What,
@@ -50,18 +56,22 @@ enum Setting {
     Fails,
     Interrupts,
     Room,
+    Unfinished,
+    Terminal,
     Shows,
     EachRequest,
     Words,
 }
 
 /// The settings, and whether the name of a file and a number stand behind each.
-static SETTINGS: [(&str, (Setting, bool, bool)); 8] = [
+static SETTINGS: [(&str, (Setting, bool, bool)); 10] = [
     ("input", (Setting::Input, true, false)),
     ("piece", (Setting::Piece, false, true)),
     ("fails", (Setting::Fails, true, true)),
     ("interrupts", (Setting::Interrupts, true, true)),
     ("room", (Setting::Room, true, true)),
+    ("unfinished", (Setting::Unfinished, true, false)),
+    ("terminal", (Setting::Terminal, false, false)),
     ("shows", (Setting::Shows, true, false)),
     ("each-request", (Setting::EachRequest, false, false)),
     ("words", (Setting::Words, false, false)),
@@ -76,6 +86,8 @@ impl<'a> EndCase<'a> {
             fails: None,
             interrupts: None,
             room: None,
+            unfinished: None,
+            is_terminal: false,
             shows: None,
             what: What::Run,
             is_bad: false,
@@ -122,6 +134,8 @@ impl<'a> EndCase<'a> {
             Setting::Fails => self.fails = Some((name, u64::from(number))),
             Setting::Interrupts => self.interrupts = Some((name, u64::from(number))),
             Setting::Room => self.room = Some((name, number as usize)),
+            Setting::Unfinished => self.unfinished = Some(name),
+            Setting::Terminal => self.is_terminal = true,
             Setting::Shows => self.shows = Some(name),
             Setting::EachRequest => self.what = What::RunWithout,
             Setting::Words => self.what = What::Read,

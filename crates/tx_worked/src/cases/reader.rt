@@ -4,7 +4,7 @@ ghost use Rattle.std.specs.Io.{ReadsAtMost};
 use crate::cases::log::Log;
 use std::fs::File;
 use std::io;
-use std::io::Read;
+use std::io::{IsTerminal, Read};
 
 /// A file whose reads are told, of which one may fail.
 #[derive(Drop)]
@@ -17,6 +17,8 @@ pub struct Reader<'a> {
     pub fails: u64,
     /// The read that is interrupted, or 0.
     pub interrupted: u64,
+    /// Whether it is told to be a terminal.
+    pub is_terminal: bool,
     pub reads: u64,
 }
 
@@ -54,5 +56,11 @@ impl<'a> Read for Reader<'a> {
             Err(why) => self.log.tell(end_of(why.kind()), self.name.as_str()),
         }
         read
+    }
+}
+
+impl<'a> IsTerminal for Reader<'a> {
+    fn is_terminal(&self) -> bool {
+        self.is_terminal
     }
 }

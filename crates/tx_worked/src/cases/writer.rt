@@ -1,14 +1,14 @@
 // Writers that are watched.
 use crate::cases::log::Log;
-use std::fs::File;
 use std::io;
 use std::io::Write;
+use tx_program::Draft;
 
 /// A writer whose writes and flushes are told, which fails when it has taken so many bytes, and of which a flush may fail.
 #[derive(Drop)]
 pub struct Writer<'a> {
     /// Where the bytes go; those of a standard end are only told.
-    pub file: Option<File>,
+    pub file: Option<Draft>,
     pub name: String,
     pub log: &'a Log,
     pub room: usize,

@@ -4,5 +4,5 @@ use Rattle.tx_commands.proofs.arguments.over_plan.Goals as goal
 
 pub returns : goal.returns
 returns c =
-    let named : app_of c.about.result ≡ new_app c.args.name.now = search rules in
+    let named : app_of c.after_help-command.result ≡ new_app c.args.name.now = search rules in
     c.with_file.ensures _ named

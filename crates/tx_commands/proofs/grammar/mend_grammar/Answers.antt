@@ -4,6 +4,6 @@ use Rattle.tx_commands.proofs.grammar.mend_grammar.Goals as goal
 
 pub returns : goal.returns
 returns c =
-    let named : app_of c.about.result ≡ new_app (codes "mend") = search rules in
+    let named : app_of c.after_help-mend.result ≡ new_app (codes "mend") = search rules in
     c.with_option.ensures _ (c.with_option-mend.ensures _
     (c.with_bounds-mend.ensures _ (c.with_file-mend.ensures _ named)))

@@ -1,0 +1,68 @@
+-- The files that a command names, and where two of them clash.
+use Rattle.std.specs.Prelude.{ℕ, Bool, false, ◌&&◌, ◌||◌, List, [], ◌∷◌, Option, None, Some, option_map, bytes_eq, codes, string_bytes}
+use Rattle.std.specs.List.{list_any}
+use Rattle.tx_commands.specs.declared.command.Command.{Command}
+use Rattle.tx_commands.specs.declared.command.Command.TheVariants.{Pipe, Run, Check, Codes, Audit, Change, Mend, Survive, Grade, Trace, Draw, Explain, Lint}
+
+-- those of these files that are named
+abbrev pub given : List (Option (List ℕ)) → List (List ℕ)
+given [] = []
+given (None ∷ rest) = given rest
+given (Some file ∷ rest) = file ∷ given rest
+
+-- the files that a command reads
+abbrev pub files_read : Command → List (List ℕ)
+files_read Pipe = []
+files_read (Run plan script checked) =
+    string_bytes plan ∷ string_bytes script ∷ given (option_map (λ c. string_bytes c.0) checked ∷ [])
+files_read (Check plan cert limit spare) = string_bytes plan ∷ string_bytes cert ∷ []
+files_read (Lint plan) = string_bytes plan ∷ []
+files_read (Codes plan) = string_bytes plan ∷ []
+files_read (Audit plan limit spare cert counter) = string_bytes plan ∷ []
+files_read (Change old new limit spare cert mixture counter) =
+    string_bytes old ∷ string_bytes new ∷ []
+files_read (Mend plan limit spare mended cert) = string_bytes plan ∷ []
+files_read (Survive plan risks) = string_bytes plan ∷ given (option_map string_bytes risks ∷ [])
+files_read (Grade plan) = string_bytes plan ∷ []
+files_read (Trace plan exchange code) = string_bytes plan ∷ []
+files_read (Draw plan routes) = string_bytes plan ∷ []
+files_read (Explain entry) = []
+
+-- the files that it may make
+abbrev pub files_made : Command → List (List ℕ)
+files_made (Audit plan limit spare cert counter) =
+    given (option_map string_bytes cert ∷ option_map string_bytes counter ∷ [])
+files_made (Change old new limit spare cert mixture counter) =
+    given (option_map string_bytes cert ∷ option_map string_bytes mixture
+    ∷ option_map string_bytes counter ∷ [])
+files_made (Mend plan limit spare mended cert) =
+    given (option_map string_bytes mended ∷ option_map string_bytes cert ∷ [])
+files_made other = []
+
+-- the name of standard input, where a file is read
+abbrev pub standard_input : List ℕ
+standard_input = codes "-"
+
+-- the file is one of these: it is named by the same bytes
+abbrev pub is_among : List (List ℕ) → List ℕ → Bool
+is_among files file = list_any (λ f. bytes_eq f file) files
+
+-- standard input is one of these files, and one of those behind it
+abbrev pub has_input_twice : List (List ℕ) → Bool
+has_input_twice [] = false
+has_input_twice (file ∷ rest) =
+    (bytes_eq file standard_input && is_among rest standard_input) || has_input_twice rest
+
+-- one of the files to be made is a known one, or is to be made again behind
+abbrev pub has_clash : List (List ℕ) → List (List ℕ) → Bool
+has_clash known [] = false
+has_clash known (file ∷ rest) =
+    (is_among known file || is_among rest file) || has_clash known rest
+
+-- standard input is to be read for two files
+abbrev pub reads_input_twice : Command → Bool
+reads_input_twice command = has_input_twice (files_read command)
+
+-- a file to be made is one that is read, or another one to be made, or has the name of standard input
+abbrev pub overwrites : Command → Bool
+overwrites command = has_clash (standard_input ∷ files_read command) (files_made command)
