@@ -18,5 +18,5 @@ pub mod Certifying
 pub mod Listing
 pub mod Bounding
 pub mod Unmended
-pub mod Grading
+pub mod Graded
 pub mod Marking

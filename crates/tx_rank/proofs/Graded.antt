@@ -6,23 +6,24 @@ use Rattle.std.proofs.lemmas.Bool.{cases_lt}
 use Rattle.tx_plan.specs.Plan.{Plan}
 use Rattle.tx_plan.specs.Rules.{IsPlan}
 use Rattle.tx_plan.specs.Ambiguous.{ambiguous_of}
-use Rattle.tx_plan.specs.Certified.{Ranks, IsCertified}
+use Rattle.tx_plan.specs.Certified.{Ranks}
+use Rattle.tx_cert.specs.Certificate.{Certificate, ranks_of}
 use Rattle.tx_rank.specs.declared.bounds.Bounds.{Bounds}
 use Rattle.tx_rank.specs.declared.finding.Finding.{Finding}
 use Rattle.tx_rank.specs.Walks.{net_of}
-use Rattle.tx_rank.specs.Heights.{AreHeights}
 use Rattle.tx_rank.specs.Findings.{IsTrueOf, AreFindingsOfCode}
 use Rattle.tx_rank.specs.Findings.AreFindingsOfCode.{looped, straight}
 use Rattle.tx_rank.specs.Nets.{Certifies}
 use Rattle.tx_rank.specs.Grades.{AreBounds, IsGrade, CanBeCertified, CanBeCertifiedFor, NothingIsWrong, AreCodeGrades, AreUnmended}
+use Rattle.tx_rank.specs.inner.Judged.{IsRankedBelow}
 use Rattle.tx_rank.specs.inner.Together.{together}
 use Rattle.tx_rank.proofs.Nets.{is_net}
 use Rattle.tx_rank.proofs.Origins.{at_push}
 use Rattle.tx_rank.proofs.Certifying.{certifies_code, certified_codes, distinct_none, none_distinct, none_true}
-use Rattle.tx_rank.proofs.Listing.{some_true}
+use Rattle.tx_rank.proofs.Listing.{some_true, ranked_listed, ranked_heights, ranked_certified}
 use Rattle.tx_rank.proofs.Walked.{certified_no_loop, certified_no_short}
 use Rattle.tx_rank.proofs.Bounding.{bounds_both, bounds_same, clear_code}
-use Rattle.tx_rank.proofs.Unmended.{no_long, unmended_true}
+use Rattle.tx_rank.proofs.Unmended.{no_long, unmended, unmended_true}
 
 -- TWO GRADES
 
@@ -122,44 +123,59 @@ module _ (p : Plan) where
     to_codes : CanBeCertified p l s → CanBeCertifiedBelow p (length p.codes) l s
     to_codes k = (distinct_none p.codes k.1.no_prefix, λ d h. (k.0 d, certifies_code p k.0 l s k.1 d h))
 
-  module _ (c : ℕ) (plan : Option Bounds) (codes : List (ℕ × Option Bounds)) (all : c ≡ length p.codes) (g : IsGradedBelow p c plan codes) where
-    pub graded_plan : IsGrade (CanBeCertified p) plan
-    graded_plan =
-        grade_same (CanBeCertifiedBelow p (length p.codes)) (CanBeCertified p) plan
-        (subst (λ k. IsGrade (CanBeCertifiedBelow p k) plan) all g.all)
-        (λ l s. (of_codes l s, to_codes l s))
+-- ALL CODES
 
-    pub graded_codes : AreCodeGrades p codes
-    graded_codes = record { long = g.long ∙ all; each = g.each }
+module _ (p : Plan) (ok : IsPlan p) (c : ℕ) (all : c ≡ length p.codes) (plan : Option Bounds)
+    (codes : List (ℕ × Option Bounds)) (g : IsGradedBelow p c plan codes) where
+  pub graded_plan : IsGrade (CanBeCertified p) plan
+  graded_plan =
+      grade_same (CanBeCertifiedBelow p (length p.codes)) (CanBeCertified p) plan
+      (subst (λ k. IsGrade (CanBeCertifiedBelow p k) plan) all g.all)
+      (λ l s. (of_codes p l s, to_codes p l s))
 
--- WHAT IS FOUND BESIDE A GRADE
+  pub graded_codes : AreCodeGrades p codes
+  graded_codes = record { long = g.long ∙ all; each = g.each }
 
-module _ {A : Type 0} (p : Plan) (findings : List (Finding A)) (unmended : AreUnmended p findings) where
-  -- nothing where some ranks certify the plan
-  certified_clean : (l s : ℕ) → CanBeCertified p l s → findings ≡ []
-  certified_clean l s k = none_or findings (unmended_true p findings unmended l s)
-    where
-      none_or : (fs : List (Finding A)) → AllByRecursion (IsTrueOf p l s) fs → fs ≡ []
-      none_or [] each = refl
-      none_or (f ∷ fs) each = absurd (none_true p k.0 l s k.1 f each.0)
+  module _ {A : Type 0} (cert : Certificate) (findings : List (Finding A)) (r : IsRankedBelow p 255 0 c cert findings) where
+    pub graded_listed : AreUnmended p findings
+    graded_listed = unmended p ok findings (ranked_listed p 255 0 c cert findings r all)
 
-  pub graded_clean : (plan : Option Bounds) → IsGrade (CanBeCertified p) plan → IfSome plan (λ _. findings ≡ [])
-  graded_clean None g = tt
-  graded_clean (Some b) g = let at = (g.exactly b.limit b.spare g.few).1 (omega arith, omega arith) in certified_clean b.limit b.spare at
+    pub graded_true : (limit spare : ℕ) → AllByRecursion (IsTrueOf p limit spare) findings
+    graded_true = unmended_true p findings graded_listed
 
-  module _ (ranks : Ranks) (heights : findings ≡ [] → AreHeights p ranks) (certified : findings ≡ [] → IsCertified p ranks 255 0) where
-    -- something where none do
-    pub ungraded_fails : (plan : Option Bounds) → IsGrade (CanBeCertified p) plan → IfNone plan (findings ≢ [])
-    ungraded_fails None g = λ e. g 255 0 (ranks, certified e)
-    ungraded_fails (Some b) g = tt
+    -- nothing is found where some ranks certify the plan
+    certified_clean : (l s : ℕ) → CanBeCertified p l s → findings ≡ []
+    certified_clean l s k = none_of_them findings (graded_true l s)
+      where
+        none_of_them : (fs : List (Finding A)) → AllByRecursion (IsTrueOf p l s) fs → fs ≡ []
+        none_of_them [] each = refl
+        none_of_them (f ∷ fs) each = absurd (none_true p k.0 l s k.1 f each.0)
+
+    pub graded_clean : IfSome plan (λ _. findings ≡ [])
+    graded_clean = at plan graded_plan
+      where
+        at : (o : Option Bounds) → IsGrade (CanBeCertified p) o → IfSome o (λ _. findings ≡ [])
+        at None h = tt
+        at (Some b) h = let own = (h.exactly b.limit b.spare h.few).1 (omega arith, omega arith) in certified_clean b.limit b.spare own
+
+    -- something is found where none do
+    pub graded_fails : IfNone plan (findings ≢ [])
+    graded_fails = at plan graded_plan
+      where
+        at : (o : Option Bounds) → IsGrade (CanBeCertified p) o → IfNone o (findings ≢ [])
+        at None h = λ e. h 255 0 (ranks_of cert, ranked_certified p 255 0 c cert findings r all e)
+        at (Some b) h = tt
 
     -- nothing is wrong exactly where some ranks certify the plan
-    nothing_certified : (l s : ℕ) → NothingIsWrong A p l s → CanBeCertified p l s
-    nothing_certified l s none = at findings refl
+    clear_certified : (l s : ℕ) → NothingIsWrong A p l s → CanBeCertified p l s
+    clear_certified l s none = at findings refl
       where
         at : (fs : List (Finding A)) → findings ≡ fs → CanBeCertified p l s
-        at [] e = (ranks, certified_codes p ranks l s (certified e).no_prefix (λ d h. clear_code p ranks (heights e) (certified e) d h l s none))
-        at (f ∷ fs) e = absurd (some_true p l s findings (unmended_true p findings unmended l s) (λ empty. let bad : ⊥ = cc in bad) none)
+        at [] e =
+            let heights = ranked_heights p 255 0 c cert findings r all e in
+            let own = ranked_certified p 255 0 c cert findings r all e in
+            (ranks_of cert, certified_codes p (ranks_of cert) l s own.no_prefix (λ d h. clear_code p (ranks_of cert) heights own d h l s none))
+        at (f ∷ fs) e = absurd (some_true p l s findings (graded_true l s) (λ empty. let bad : ⊥ = cc in bad) none)
 
-    pub graded_clear : (plan : Option Bounds) → IsGrade (CanBeCertified p) plan → IsGrade (NothingIsWrong A p) plan
-    graded_clear plan g = grade_same (CanBeCertified p) (NothingIsWrong A p) plan g (λ l s. (λ k. none_true p k.0 l s k.1, nothing_certified l s))
+    pub graded_clear : IsGrade (NothingIsWrong A p) plan
+    graded_clear = grade_same (CanBeCertified p) (NothingIsWrong A p) plan graded_plan (λ l s. (λ k. none_true p k.0 l s k.1, clear_certified l s))
