@@ -226,11 +226,11 @@ fn explain_grammar<'a>(alloc: Global) -> Result<clap::Command<'a>, AllocError>
         alloc,
         "code",
         "CODE",
-        "A code that was printed, as P11, S6, M5, K7 or F2",
+        "A code or a name that was printed, as P11, M5, F2, NC, CLRA or Overlap",
     );
     clap::Command::new(alloc, "explain")
         .about(
-            "Say what a code of a fault, a refusal or a finding means, and what to do about it; without one, list all codes",
+            "Say what a code of a fault, a refusal, a finding or a ticket means, and what to do about it; without one, list all codes",
         )
         .arg(code)
 }

@@ -1,7 +1,7 @@
 -- Why the words of a command that was found are refused.
-use Rattle.std.specs.Prelude.{◌≡◌, ℕ, true, false, ◌&&◌, ◌||◌, List, Option, None, option_and_then, codes, IsSomeAnd}
+use Rattle.std.specs.Prelude.{◌≡◌, ℕ, true, false, ◌&&◌, ◌||◌, List, Option, Some, option_map, codes, IsSomeAnd}
 use Rattle.clap.specs.Words.{Row, first_of}
-use Rattle.tx_explain.specs.Entries.{explanation}
+use Rattle.tx_explain.specs.Entries.{is_known}
 use Rattle.tx_commands.specs.Faults.{has, IsRunInPart}
 use Rattle.tx_commands.specs.declared.refusal.Refusal.{Refusal}
 use Rattle.tx_commands.specs.declared.refusal.Refusal.TheVariants.{Together, DrawTogether, NoSuchCode}
@@ -12,11 +12,10 @@ pub record IsDrawInPart (name : List ℕ) (found : List Row) : Type 0 where
   pub some : (has found (codes "limit") || has found (codes "spare")) ≡ true
   pub not_all : (has found (codes "code") && (has found (codes "limit") && has found (codes "spare"))) ≡ false
 
--- `explain` has a word that the table has not
+-- `explain` has a word that asks for no entry of the table
 pub record IsNoCode (name : List ℕ) (found : List Row) : Type 0 where
   pub explain : name ≡ codes "explain"
-  pub given : has found (codes "code") ≡ true
-  pub unknown : option_and_then explanation (first_of (codes "code") found) ≡ None
+  pub unknown : option_map is_known (first_of (codes "code") found) ≡ Some false
 
 -- The words that were found are refused for this. That a word is missing, and want of memory, are left open.
 abbrev pub IsRefused : Option (List ℕ × List Row) → Refusal → Type 0
