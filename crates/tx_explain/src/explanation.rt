@@ -25,7 +25,7 @@ fn write_tables<W: Sink>(
 ) -> Result<(), WriteFault>
     ensures { Wrote (W.taken sink.old) (W.taken sink.new) (W.failed sink.old) (W.failed sink.new)
         (flat_map (λ t. flat_map (λ e. told_text (option_map (λ w. w.now) word) (texts e)) t.now)
-            tables.now) result }
+        tables.now) result }
 {
     for i in 0..tables.len() {
         write_entries(tables[i], word, sink)?;
@@ -47,11 +47,7 @@ fn write_entries<W: Sink>(
     Ok(())
 }
 
-fn write_told<W: Sink>(
-    entry: &Entry,
-    word: Option<&str>,
-    sink: &mut W,
-) -> Result<(), WriteFault>
+fn write_told<W: Sink>(entry: &Entry, word: Option<&str>, sink: &mut W) -> Result<(), WriteFault>
     ensures { Wrote (W.taken sink.old) (W.taken sink.new) (W.failed sink.old) (W.failed sink.new)
         (told_text (option_map (λ w. w.now) word) (texts entry.now)) result }
 {

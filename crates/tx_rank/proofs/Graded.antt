@@ -92,10 +92,13 @@ module _ (p : Plan) where
         all = grade_both (CanBeCertifiedBelow p c) (CanBeCertifiedFor p c) (CanBeCertifiedBelow p (c + 1)) plan alone g.all one
             (λ l s. (
               λ r. ((r.0, λ d h. r.1 d (omega arith)), r.1 c (omega arith)),
-              λ k. (k.0.0, λ d h. elim (cases_lt d c) [
-                | inl before ↦ k.0.1 d before
-                | inr not_before ↦ let here : d ≡ c = omega arith in subst (λ (y : ℕ). CanBeCertifiedFor p y l s) (sym here) k.1
-              ]),
+              λ k. (
+                k.0.0,
+                λ d h. elim (cases_lt d c) [
+                  | inl before ↦ k.0.1 d before
+                  | inr not_before ↦ let here : d ≡ c = omega arith in subst (λ (y : ℕ). CanBeCertifiedFor p y l s) (sym here) k.1
+                ],
+              ),
             ));
         long = let l = g.long in simp length-append (omega arith);
         each = λ d e at. elim (at_push codes (c, alone) e d at) [

@@ -48,9 +48,11 @@ pub fn survive<A: Allocator + Copy>(
     ensures listed { IfOk result (OnUngraded (λ g. AreUnmended plan.now g.findings.items)) }
 {
     let grade = grade(alloc, plan)?;
-    if grade.plan.is_none() {
-        return Ok(Survival::Ungraded(grade));
+    match grade.plan {
+        Some(_) => {
+            drop(grade);
+            Ok(Survival::Tried(all_cuts(alloc, plan, risks)?))
+        }
+        None => Ok(Survival::Ungraded(grade)),
     }
-    drop(grade);
-    Ok(Survival::Tried(all_cuts(alloc, plan, risks)?))
 }

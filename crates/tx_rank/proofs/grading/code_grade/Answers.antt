@@ -7,10 +7,10 @@ returns-then-len-before-clause-grade g c =
     let j = c.in_ok-rank_code.ensures.judged in
     let old = c.args.findings.now.items in
     let some : j.mine ≢ [] = λ e.
-        let same = ap length (j.added ∙ ap (λ l. old ++ l) e ∙ append-nil old) in
-        let before = c.len-before.ensures in
-        let after = c.len.ensures in
-        let more = c.if-len-before.true in
-        absurd (omega arith)
+    let same = ap length (j.added ∙ ap (λ l. old ++ l) e ∙ append-nil old) in
+    let before = c.len-before.ensures in
+    let after = c.len.ensures in
+    let more = c.if-len-before.true in
+    absurd (omega arith)
     in
     ungraded_code c.args.plan.now c.rules.ensures c.args.code c.requires.code j.mine j.listed some

@@ -26,7 +26,7 @@ loop-place-init g c =
         | else-is_empty w ↦
             let full = eqb-false (vec_len findings) 0 (sym c.is_empty.ensures ∙ w.if-is_empty.false) in
             let some : ambiguous_of p.codes ≢ None = λ e.
-                let l = ap length (c.in_ok-findings.ensures ∙ ap pair_findings e) in full (omega arith)
+            let l = ap length (c.in_ok-findings.ensures ∙ ap pair_findings e) in full (omega arith)
             in
             rw w.together-is (graded_none p some)
       ]);
