@@ -72,6 +72,9 @@ fn findings_agree(
     wanted: &mut Vec<Wanted>,
 ) -> Result<bool, NoMemory> {
     put_wanted(plan, surveys, HIGH, 0, wanted)?;
+    if wanted.is_empty() {
+        return Ok(findings.is_empty());
+    }
     Ok(findings_differ(plan, findings, wanted, HIGH, 0).is_none())
 }
 
