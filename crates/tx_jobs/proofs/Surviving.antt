@@ -1,5 +1,6 @@
 -- What the clauses of a search for outages come to, and what a refused text of risks leaves.
-use Rattle.std.proofs.Common.{◌≡◌, ◌≢◌, ◌==◌, ◌∙◌, ℕ, Bool, true, false, ⊥, absurd, List, [], ◌∷◌, length, None, refl, sym, ap}
+use Rattle.std.proofs.Common.{◌≡◌, ◌≢◌, ◌∙◌, ℕ, Bool, List, [], ◌∷◌, length, None, refl, sym, ap}
+use Rattle.std.proofs.lemmas.List.{nil_from_length}
 use Rattle.std.specs.List.{AllByRecursion}
 use Rattle.tx_text.specs.declared.text_fault.TextFault.TheVariants.{LineTooLong, BadByte, NoMemory as TextNoMemory}
 use Rattle.tx_text.specs.declared.line_fault.LineFault.TheVariants.{Text, Read as LineRead}
@@ -63,10 +64,9 @@ pub risks_mark : (old : Bool) (f : FaultAt RiskWord) (told : SurviveFault) → t
 risks_mark old f told e = sym (ap (survive_mark_by old) e ∙ risks_by old f f.kind)
 
 -- the status of cuts, by how many there are
-pub none_cut : {A : Type 0} (cuts : List A) → (length cuts == 0) ≡ true → status_of_cuts cuts ≡ 0
-none_cut [] h = refl
-none_cut (cut ∷ cuts) h = let bad : ⊥ = cc in absurd bad
+pub none_cut : {A : Type 0} (cuts : List A) → length cuts ≡ 0 → status_of_cuts cuts ≡ 0
+none_cut cuts e = ap status_of_cuts (nil_from_length cuts e)
 
-pub some_cut : {A : Type 0} (cuts : List A) → (length cuts == 0) ≡ false → status_of_cuts cuts ≡ 1
-some_cut [] h = let bad : ⊥ = cc in absurd bad
+pub some_cut : {A : Type 0} (cuts : List A) → length cuts ≢ 0 → status_of_cuts cuts ≡ 1
+some_cut [] h = absurd (h refl)
 some_cut (cut ∷ cuts) h = refl
