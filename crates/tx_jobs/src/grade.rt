@@ -56,7 +56,10 @@ pub fn grade_status<A: Allocator + Copy, P: Source, W: Sink>(
 fn status_of<A: Allocator>(grade: &Grade<A>) -> u8
     ensures { result ≡ status_of_grade grade.now }
 {
-    if grade.plan.is_some() { 0 } else { 1 }
+    match grade.plan {
+        Some(_) => 0,
+        None => 1,
+    }
 }
 
 fn tell_grade<A: Allocator + Copy, W: Sink>(
