@@ -10,7 +10,8 @@ use Rattle.tx_audit.specs.Report.{finding_line, verdict_line}
 -- a limit and a spare number, or that there are none, to the end of the line
 abbrev pub bounds_text : Option Bounds → List ℕ
 bounds_text None = codes " NONE\n"
-bounds_text (Some b) = codes " LIMIT " ++ (decimal b.limit ++ (codes " SPARE " ++ (decimal b.spare ++ codes "\n")))
+bounds_text (Some b) =
+    codes " LIMIT " ++ (decimal b.limit ++ (codes " SPARE " ++ (decimal b.spare ++ codes "\n")))
 
 -- a code with its grade
 abbrev pub code_line : Plan → ℕ × Option Bounds → List ℕ

@@ -69,7 +69,8 @@ Asks name found (Draw plan (Some (code, Some (limit, spare)))) =
     (name ≡ codes "draw") × Names found (codes "plan") plan × Names found (codes "code") code × Gives found (codes "limit") limit × Gives found (codes "spare") spare
 Asks name found (Explain None) = (name ≡ codes "explain") × (first_of (codes "code") found ≡ None)
 Asks name found (Explain (Some word)) =
-    (name ≡ codes "explain") × Names found (codes "code") word × (is_known (string_bytes word) ≡ true)
+    (name ≡ codes "explain") × Names found (codes "code") word
+    × (is_known (string_bytes word) ≡ true)
 
 -- the command that was found, with its files and options, asks for this
 abbrev pub IsFoundIn : Option (List ℕ × List Row) → Command → Type 0

@@ -60,7 +60,9 @@ CausesAreExplained = (cause : Cause) → is_known (cause_text cause) ≡ true
 
 -- the first word of what is wrong
 abbrev pub CheckFaultsAreExplained : Type 0
-CheckFaultsAreExplained = (p : Plan) (fault : CheckFault) → (code : List ℕ) × (rest : List (List ℕ)) × (is_known code ≡ true) × (fault_words p fault ≡ code ∷ rest)
+CheckFaultsAreExplained = (p : Plan) (fault : CheckFault)
+    → (code : List ℕ) × (rest : List (List ℕ)) × (is_known code ≡ true)
+    × (fault_words p fault ≡ code ∷ rest)
 
 abbrev pub FindingsAreExplained : Type 0 → Type 0
 FindingsAreExplained A = (p : Plan) (finding : Finding A) → BeginsExplained (finding_line p finding)

@@ -11,7 +11,8 @@ entry_line t = t.0 ++ (codes " " ++ (t.1 ++ (codes ": " ++ (t.2 ++ codes "\n")))
 abbrev pub entry_text : Texts → List ℕ
 entry_text t = t.0 ++ (codes " " ++ (t.1 ++ (codes "\n" ++ (t.2 ++ (codes "\nWhat to do: " ++ (t.3 ++ codes "\n"))))))
 
--- what is written of an entry: all that is told of it if the word asks for it; without a word, its line
+-- what is written of an entry: all that is told of it if the word asks for it; without a word, its
+-- line
 abbrev pub told_text : Option (List ℕ) → Texts → List ℕ
 told_text None t = entry_line t
 told_text (Some word) t = if is_asked word t then entry_text t else []

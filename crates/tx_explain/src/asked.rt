@@ -28,7 +28,8 @@ pub fn is_known(word: &str) -> bool
 }
 
 fn asks_in_some(tables: &[&[Entry]], word: &str) -> bool
-    ensures { result ≡ list_any (λ t. list_any (λ e. is_asked word.now (texts e)) t.now) tables.now }
+    ensures { result
+        ≡ list_any (λ t. list_any (λ e. is_asked word.now (texts e)) t.now) tables.now }
 {
     tables.iter().any(|entries| asks_in(entries, word))
 }

@@ -47,12 +47,14 @@ module _ (A : Type 0) (p : Plan) (ok : IsPlan p) where
         );
       }
 
-  -- what is told of a plan and of its codes
+  -- what is told of a plan
   module _ (findings : List (Finding A)) where
-    pub plan_is : (plan : Option Bounds) → IsGrade (CanBeCertified p) plan → IsGrade (NothingIsWrong A p) plan
+    pub plan_is : (plan : Option Bounds) → IsGrade (CanBeCertified p) plan
+        → IsGrade (NothingIsWrong A p) plan
         → IfNone plan (findings ≢ []) → IfSome plan (λ _. findings ≡ [])
-        → ((limit spare : ℕ) → AllByRecursion (IsTrueOf p limit spare) findings) → AreUnmended p findings
-        → IsGradeOfPlan p plan findings
-    plan_is (Some b) certified clear fails clean right listed = (certified, sound_bounds b certified clear, clean)
+        → ((limit spare : ℕ) → AllByRecursion (IsTrueOf p limit spare) findings)
+        → AreUnmended p findings → IsGradeOfPlan p plan findings
+    plan_is (Some b) certified clear fails clean right listed =
+        (certified, sound_bounds b certified clear, clean)
     plan_is None certified clear fails clean right listed =
         record { nowhere = certified; some = fails; each = right; listed = listed }

@@ -121,10 +121,14 @@ module _ (n : Net) (ranks : ℕ → Option ℕ) where
 
 -- A CODE OF A PLAN
 
-module _ (p : Plan) (ranks : Ranks) (heights : AreHeights p ranks) (certified : IsCertified p ranks 255 0) where
+module _ (p : Plan) (ranks : Ranks) (heights : AreHeights p ranks)
+    (certified : IsCertified p ranks 255 0) where
   -- these ranks certify a code where no finding is true
-  pub clear_code : {A : Type 0} (c : ℕ) → c < length p.codes → (l s : ℕ) → NothingIsWrong A p l s → Certifies (net_of p c) (ranks c) l s
+  pub clear_code : {A : Type 0} (c : ℕ) → c < length p.codes → (l s : ℕ)
+      → NothingIsWrong A p l s → Certifies (net_of p c) (ranks c) l s
   clear_code c h l s none =
       let own = certifies_code p ranks 255 0 certified c h in
       suits_certified (net_of p c) (ranks c) (heights c h) own l s
-      (clear_suits (net_of p c) (ranks c) (heights c h) own l s (λ x steps i. none (Short c (record { start = x; steps = steps })) (h, i)) (λ x steps i. none (Long c (record { start = x; steps = steps })) (h, i)))
+      (clear_suits (net_of p c) (ranks c) (heights c h) own l s
+      (λ x steps i. none (Short c (record { start = x; steps = steps })) (h, i))
+      (λ x steps i. none (Long c (record { start = x; steps = steps })) (h, i)))

@@ -29,7 +29,8 @@ use Rattle.tx_rank.proofs.Unmended.{no_long, unmended, unmended_true}
 
 module _ (P : ℕ → ℕ → Type 0) where
   module _ (Q R : ℕ → ℕ → Type 0) where
-    grade_both : (a b : Option Bounds) → IsGrade P a → IsGrade Q b → ((l s : ℕ) → R l s ↔ (P l s × Q l s)) → IsGrade R (together a b)
+    grade_both : (a b : Option Bounds) → IsGrade P a → IsGrade Q b
+        → ((l s : ℕ) → R l s ↔ (P l s × Q l s)) → IsGrade R (together a b)
     grade_both (Some a) (Some b) p q split = bounds_both P Q R a b _ p q refl refl split
     grade_both (Some a) None p q split = λ l s r. q l s ((split l s).0 r).1
     grade_both None b p q split = λ l s r. p l s ((split l s).0 r).0
@@ -43,26 +44,37 @@ module _ (P : ℕ → ℕ → Type 0) where
 
 module _ {A : Type 0} (p : Plan) (ok : IsPlan p) (c : ℕ) (within : c < length p.codes) where
   -- what is found of a code without a spare group, no numbers mend
-  pub ungraded_code : (mine : List (Finding A)) → AreFindingsOfCode (net_of p c) c 255 0 mine → mine ≢ [] → IsGrade (CanBeCertifiedFor p c) None
-  ungraded_code mine (looped w loop e) some l s k = certified_no_loop (net_of p c) k.0 l s k.1 w.start w.steps loop
+  pub ungraded_code : (mine : List (Finding A)) → AreFindingsOfCode (net_of p c) c 255 0 mine
+      → mine ≢ [] → IsGrade (CanBeCertifiedFor p c) None
+  ungraded_code mine (looped w loop e) some l s k =
+      certified_no_loop (net_of p c) k.0 l s k.1 w.start w.steps loop
   ungraded_code mine (straight none [] each None long e) some l s k = some e
-  ungraded_code mine (straight none [] each (Some w) long e) some l s k = no_long p ok c within w.start w.steps long
+  ungraded_code mine (straight none [] each (Some w) long e) some l s k =
+      no_long p ok c within w.start w.steps long
   ungraded_code mine (straight none (w ∷ ws) each long is_long e) some l s k =
       let short = each.each w (inl refl) in
       certified_no_short (net_of p c) k.0 l s k.1 w.start w.steps
-      (record { walk = short.walk; once = short.once; away = short.away; few = let f = short.few in omega arith })
+      (record {
+        walk = short.walk;
+        once = short.once;
+        away = short.away;
+        few = let f = short.few in omega arith;
+      })
 
 -- CODE AFTER CODE
 
 -- no codes are ambiguous, and some ranks certify each code before c
 abbrev pub CanBeCertifiedBelow : Plan → (c limit spare : ℕ) → Type 0
-CanBeCertifiedBelow p c limit spare = (ambiguous_of p.codes ≡ None) × ((d : ℕ) → d < c → CanBeCertifiedFor p d limit spare)
+CanBeCertifiedBelow p c limit spare =
+    (ambiguous_of p.codes ≡ None) × ((d : ℕ) → d < c → CanBeCertifiedFor p d limit spare)
 
 -- the grades of the codes before c, together and one by one
-pub record IsGradedBelow (p : Plan) (c : ℕ) (plan : Option Bounds) (codes : List (ℕ × Option Bounds)) : Type 0 where
+pub record IsGradedBelow (p : Plan) (c : ℕ) (plan : Option Bounds)
+    (codes : List (ℕ × Option Bounds)) : Type 0 where
   pub all : IsGrade (CanBeCertifiedBelow p c) plan
   pub long : length codes ≡ c
-  pub each : (d : ℕ) (q : ℕ × Option Bounds) → slice_get codes d ≡ Some q → (q.0 ≡ d) × IsGrade (CanBeCertifiedFor p d) q.1
+  pub each : (d : ℕ) (q : ℕ × Option Bounds) → slice_get codes d ≡ Some q
+      → (q.0 ≡ d) × IsGrade (CanBeCertifiedFor p d) q.1
 
 none_at : {X : Type 0} (d : ℕ) (x : X) → slice_get [] d ≡ Some x → ⊥
 none_at zero x e = cc
@@ -70,12 +82,16 @@ none_at (suc d) x e = cc
 
 module _ (p : Plan) where
   -- before the first code, where no codes are ambiguous
-  pub graded_first : (b : Bounds) → ambiguous_of p.codes ≡ None → b.limit ≡ 0 → b.spare ≡ 15 → IsGradedBelow p 0 (Some b) []
+  pub graded_first : (b : Bounds) → ambiguous_of p.codes ≡ None → b.limit ≡ 0 → b.spare ≡ 15
+      → IsGradedBelow p 0 (Some b) []
   graded_first b none limit spare =
       record {
         all = record {
           few = omega arith;
-          exactly = λ l s h. (λ k. (omega arith, omega arith), λ k. (none, λ d less. absurd (omega arith)));
+          exactly = λ l s h. (
+            λ k. (omega arith, omega arith),
+            λ k. (none, λ d less. absurd (omega arith)),
+          );
         };
         long = refl;
         each = λ d q at. absurd (none_at d q at);
@@ -83,20 +99,25 @@ module _ (p : Plan) where
 
   -- and where two are
   pub graded_none : ambiguous_of p.codes ≢ None → IsGradedBelow p 0 None []
-  graded_none some = record { all = λ l s k. some k.0; long = refl; each = λ d q at. absurd (none_at d q at) }
+  graded_none some =
+      record { all = λ l s k. some k.0; long = refl; each = λ d q at. absurd (none_at d q at) }
 
-  pub graded_next : (c : ℕ) (plan alone : Option Bounds) (codes : List (ℕ × Option Bounds)) → IsGradedBelow p c plan codes
-      → IsGrade (CanBeCertifiedFor p c) alone → IsGradedBelow p (c + 1) (together plan alone) (codes ++ (c, alone) ∷ [])
+  pub graded_next : (c : ℕ) (plan alone : Option Bounds) (codes : List (ℕ × Option Bounds))
+      → IsGradedBelow p c plan codes → IsGrade (CanBeCertifiedFor p c) alone
+      → IsGradedBelow p (c + 1) (together plan alone) (codes ++ (c, alone) ∷ [])
   graded_next c plan alone codes g one =
       record {
-        all = grade_both (CanBeCertifiedBelow p c) (CanBeCertifiedFor p c) (CanBeCertifiedBelow p (c + 1)) plan alone g.all one
+        all = grade_both (CanBeCertifiedBelow p c) (CanBeCertifiedFor p c)
+            (CanBeCertifiedBelow p (c + 1)) plan alone g.all one
             (λ l s. (
               λ r. ((r.0, λ d h. r.1 d (omega arith)), r.1 c (omega arith)),
               λ k. (
                 k.0.0,
                 λ d h. elim (cases_lt d c) [
                   | inl before ↦ k.0.1 d before
-                  | inr not_before ↦ let here : d ≡ c = omega arith in subst (λ (y : ℕ). CanBeCertifiedFor p y l s) (sym here) k.1
+                  | inr not_before ↦
+                      let here : d ≡ c = omega arith in
+                      subst (λ (y : ℕ). CanBeCertifiedFor p y l s) (sym here) k.1
                 ],
               ),
             ));
@@ -105,7 +126,11 @@ module _ (p : Plan) where
           | inl m ↦ g.each d e m
           | inr m ↦
               let here : d ≡ c = m.0 ∙ g.long in
-              (ap (λ (y : ℕ × Option Bounds). y.0) m.1 ∙ sym here, subst (λ (k : ℕ). IsGrade (CanBeCertifiedFor p k) e.1) (sym here) (subst (λ (y : ℕ × Option Bounds). IsGrade (CanBeCertifiedFor p c) y.1) (sym m.1) one))
+              let own = subst (λ (y : ℕ × Option Bounds). IsGrade (CanBeCertifiedFor p c) y.1)
+              (sym m.1) one in (
+                ap (λ (y : ℕ × Option Bounds). y.0) m.1 ∙ sym here,
+                subst (λ (k : ℕ). IsGrade (CanBeCertifiedFor p k) e.1) (sym here) own,
+              )
         ];
       }
 
@@ -118,13 +143,15 @@ module _ (p : Plan) where
         ranks d = elim (cases_lt d (length p.codes)) [ inl h ↦ (k.1 d h).0 | inr h ↦ λ x. None ]
 
         right : (d : ℕ) → d < length p.codes → Certifies (net_of p d) (ranks d) l s
-        right d h = elim (cases_lt d (length p.codes)) as (λ t. Certifies (net_of p d) (elim t [ inl i ↦ (k.1 d i).0 | inr i ↦ λ x. None ]) l s) [
-          | inl i ↦ (k.1 d i).1
-          | inr i ↦ absurd (omega arith)
-        ]
+        right d h = elim (cases_lt d (length p.codes)) as (λ t. Certifies (net_of p d)
+            (elim t [ inl i ↦ (k.1 d i).0 | inr i ↦ λ x. None ]) l s) [
+              | inl i ↦ (k.1 d i).1
+              | inr i ↦ absurd (omega arith)
+            ]
 
     to_codes : CanBeCertified p l s → CanBeCertifiedBelow p (length p.codes) l s
-    to_codes k = (distinct_none p.codes k.1.no_prefix, λ d h. (k.0 d, certifies_code p k.0 l s k.1 d h))
+    to_codes k =
+        (distinct_none p.codes k.1.no_prefix, λ d h. (k.0 d, certifies_code p k.0 l s k.1 d h))
 
 -- ALL CODES
 
@@ -139,7 +166,8 @@ module _ (p : Plan) (ok : IsPlan p) (c : ℕ) (all : c ≡ length p.codes) (plan
   pub graded_codes : AreCodeGrades p codes
   graded_codes = record { long = g.long ∙ all; each = g.each }
 
-  module _ {A : Type 0} (cert : Certificate) (findings : List (Finding A)) (r : IsRankedBelow p 255 0 c cert findings) where
+  module _ {A : Type 0} (cert : Certificate) (findings : List (Finding A))
+      (r : IsRankedBelow p 255 0 c cert findings) where
     pub graded_listed : AreUnmended p findings
     graded_listed = unmended p ok findings (ranked_listed p 255 0 c cert findings r all)
 
@@ -159,7 +187,9 @@ module _ (p : Plan) (ok : IsPlan p) (c : ℕ) (all : c ≡ length p.codes) (plan
       where
         at : (o : Option Bounds) → IsGrade (CanBeCertified p) o → IfSome o (λ _. findings ≡ [])
         at None h = tt
-        at (Some b) h = let own = (h.exactly b.limit b.spare h.few).1 (omega arith, omega arith) in certified_clean b.limit b.spare own
+        at (Some b) h =
+            let own = (h.exactly b.limit b.spare h.few).1 (omega arith, omega arith) in
+            certified_clean b.limit b.spare own
 
     -- something is found where none do
     pub graded_fails : IfNone plan (findings ≢ [])
@@ -176,9 +206,16 @@ module _ (p : Plan) (ok : IsPlan p) (c : ℕ) (all : c ≡ length p.codes) (plan
         at : (fs : List (Finding A)) → findings ≡ fs → CanBeCertified p l s
         at [] e =
             let heights = ranked_heights p 255 0 c cert findings r all e in
-            let own = ranked_certified p 255 0 c cert findings r all e in
-            (ranks_of cert, certified_codes p (ranks_of cert) l s own.no_prefix (λ d h. clear_code p (ranks_of cert) heights own d h l s none))
-        at (f ∷ fs) e = absurd (some_true p l s findings (graded_true l s) (λ empty. let bad : ⊥ = cc in bad) none)
+            let own = ranked_certified p 255 0 c cert findings r all e in (
+              ranks_of cert,
+              certified_codes p (ranks_of cert) l s own.no_prefix
+                  (λ d h. clear_code p (ranks_of cert) heights own d h l s none),
+            )
+        at (f ∷ fs) e =
+            let some : findings ≢ [] = λ empty. let bad : ⊥ = cc in bad in
+            absurd (some_true p l s findings (graded_true l s) some none)
 
     pub graded_clear : IsGrade (NothingIsWrong A p) plan
-    graded_clear = grade_same (CanBeCertified p) (NothingIsWrong A p) plan graded_plan (λ l s. (λ k. none_true p k.0 l s k.1, clear_certified l s))
+    graded_clear =
+        grade_same (CanBeCertified p) (NothingIsWrong A p) plan graded_plan
+        (λ l s. (λ k. none_true p k.0 l s k.1, clear_certified l s))

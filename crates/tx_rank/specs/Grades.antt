@@ -25,7 +25,8 @@ pub record AreBounds (Holds : (limit spare : ℕ) → Type 0) (b : Bounds) : Typ
   pub few : b.spare ≤ 15
   pub exactly : (limit spare : ℕ) → spare ≤ 15 → Holds limit spare ↔ ((b.limit ≤ limit) × (spare ≤ b.spare))
 
--- A GRADE: the bounds with which it holds; or none, where it holds with no limit and no spare number.
+-- A GRADE: the bounds with which it holds; or none, where it holds with no limit and no spare
+-- number.
 abbrev pub IsGrade : ((limit spare : ℕ) → Type 0) → Option Bounds → Type 0
 IsGrade Holds (Some b) = AreBounds Holds b
 IsGrade Holds None = (limit spare : ℕ) → Holds limit spare → ⊥

@@ -67,8 +67,8 @@ module _ {A : Type 0} where
   tried_text p risks cuts =
       head_line (outages p risks) ++ (cuts_text p risks None cuts ++ verdict_line (length cuts))
 
-  -- THE REPORT: how many outages were tried, what each cuts off, and the verdict; or the text of the
-  -- grade, where the plan has none
+  -- THE REPORT: how many outages were tried, what each cuts off, and the verdict; or the text of
+  -- the grade, where the plan has none
   abbrev pub survival_text : Plan → List NamedRisk → Survival A → List ℕ
   survival_text p risks (Tried cuts) = tried_text p risks cuts.items
   survival_text p risks (Ungraded grade) = grade_text p grade

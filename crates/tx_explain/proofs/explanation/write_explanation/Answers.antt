@@ -7,4 +7,5 @@ use Rattle.tx_explain.proofs.explanation.write_explanation.Goals as goal
 pub returns : goal.returns
 returns g c =
     let text = told_text (option_map (λ w. w.now) c.args.word) in
-    rw (text_of text c.tables.result ∙ ap (flat_map text) c.tables.ensures) at c.write_tables.ensures
+    rw (text_of text c.tables.result ∙ ap (flat_map text) c.tables.ensures)
+    at c.write_tables.ensures

@@ -7,10 +7,14 @@ use Rattle.tx_explain.proofs.explanation.write_tables.Goals as goal
 
 pub returns-in_err-write_entries : goal.returns-in_err-write_entries
 returns-in_err-write_entries g c =
-    let fault = c.in_err-write_entries.field-0.0 in
-    texts_stopped (λ t. flat_map (λ e. told_text (option_map (λ w. w.now) c.args.word) (texts e)) t.now) c.args.tables.now c.loop-i.i c.index-tables-i.result _ _ _ _ _ _ _ fault c.loop-i-test.true c.index-tables-i.is c.loop-i.invariant c.in_err-write_entries.ensures
+    let text = (λ t. flat_map (λ e. told_text (option_map (λ w. w.now) c.args.word) (texts e)) t.now) in
+    let failed = c.in_err-write_entries in
+    texts_stopped text c.args.tables.now c.loop-i.i c.index-tables-i.result _ _ _ _ _ _ _
+    failed.field-0.0 c.loop-i-test.true c.index-tables-i.is c.loop-i.invariant failed.ensures
     c.from_residual.ensures.0
 
 pub loop-i-preserved : goal.loop-i-preserved
 loop-i-preserved g c =
-    texts_more (λ t. flat_map (λ e. told_text (option_map (λ w. w.now) c.args.word) (texts e)) t.now) c.args.tables.now c.loop-i.i c.index-tables-i.result _ _ _ _ _ _ c.loop-i-test.true c.index-tables-i.is c.loop-i.invariant c.in_ok-write_entries.ensures
+    let text = (λ t. flat_map (λ e. told_text (option_map (λ w. w.now) c.args.word) (texts e)) t.now) in
+    texts_more text c.args.tables.now c.loop-i.i c.index-tables-i.result _ _ _ _ _ _
+    c.loop-i-test.true c.index-tables-i.is c.loop-i.invariant c.in_ok-write_entries.ensures

@@ -17,14 +17,19 @@ loop-place-init g c =
     let p = c.args.plan.now in
     let findings = c.in_ok-findings.findings in
     record {
-      ranked = ranked_first p 255 0 c.in_ok-cert.cert findings.items c.in_ok-cert.ensures c.in_ok-findings.ensures;
+      ranked = ranked_first p 255 0 c.in_ok-cert.cert findings.items
+          c.in_ok-cert.ensures c.in_ok-findings.ensures;
       graded = rw c.in_ok-codes.ensures.items (elim c.if-is_empty.branch [
         | then-is_empty w ↦
-            let empty = eqb-true (vec_len findings) 0 (sym c.is_empty.ensures ∙ w.if-is_empty.true) in
-            let none = no_pair (ambiguous_of p.codes) (sym c.in_ok-findings.ensures ∙ none_of findings.items (omega arith)) in
-            rw w.together-is (graded_first p w.widest.result none w.widest.ensures.limit w.widest.ensures.spare)
+            let empty =
+            eqb-true (vec_len findings) 0 (sym c.is_empty.ensures ∙ w.if-is_empty.true) in
+            let nothing = none_of findings.items (omega arith) in
+            let none = no_pair (ambiguous_of p.codes) (sym c.in_ok-findings.ensures ∙ nothing) in
+            let e = w.widest.ensures in
+            rw w.together-is (graded_first p w.widest.result none e.limit e.spare)
         | else-is_empty w ↦
-            let full = eqb-false (vec_len findings) 0 (sym c.is_empty.ensures ∙ w.if-is_empty.false) in
+            let full =
+            eqb-false (vec_len findings) 0 (sym c.is_empty.ensures ∙ w.if-is_empty.false) in
             let some : ambiguous_of p.codes ≢ None = λ e.
             let l = ap length (c.in_ok-findings.ensures ∙ ap pair_findings e) in full (omega arith)
             in
@@ -43,55 +48,101 @@ loop-place-preserved g c =
     let place = c.loop-place.place in
     let alone = c.in_ok-alone.alone in
     let one = subst (λ (d : ℕ). IsGrade (CanBeCertifiedFor p d) alone) at e.grade in
-    let next = graded_next p place c.loop-place.together alone c.loop-place.codes.items i.graded one in
-    let both = subst (λ (plan : Option Bounds). IsGradedBelow p (place + 1) plan (c.loop-place.codes.items ++ (place, alone) ∷ [])) (sym c.both-together.ensures) next in
-    let same = subst (λ (d : ℕ). IsGradedBelow p (place + 1) c.both-together.result (c.loop-place.codes.items ++ (d, alone) ∷ [])) (sym at) both in
+    let before = c.loop-place.codes.items in
+    let plan = c.both-together.result in
+    let next = graded_next p place c.loop-place.together alone before i.graded one in
+    let both = subst
+    (λ (b : Option Bounds). IsGradedBelow p (place + 1) b (before ++ (place, alone) ∷ []))
+    (sym c.both-together.ensures) next in
+    let same = subst
+    (λ (d : ℕ). IsGradedBelow p (place + 1) plan (before ++ (d, alone) ∷ []))
+    (sym at) both in
     record {
-      ranked = ranked_next p 255 0 place c.loop-place.cert c.code_grade.new.cert c.loop-place.findings.items c.code_grade.new.findings.items i.ranked
-          (subst (λ (d : ℕ). IsJudged {A = g.row.A.Denot} (net_of p d) d 255 0 c.loop-place.findings.items c.code_grade.new.findings.items (rank_at c.code_grade.new.cert d)) at e.judged)
+      ranked = ranked_next p 255 0 place c.loop-place.cert c.code_grade.new.cert
+          c.loop-place.findings.items c.code_grade.new.findings.items i.ranked
+          (subst (λ (d : ℕ). IsJudged {A = g.row.A.Denot} (net_of p d) d 255 0
+          c.loop-place.findings.items c.code_grade.new.findings.items
+          (rank_at c.code_grade.new.cert d)) at e.judged)
           (λ d x away. e.others d x (λ q. away (q ∙ at))) e.codes e.exchanges;
-      graded = subst (λ (codes : List (ℕ × Option Bounds)). IsGradedBelow p (place + 1) c.both-together.result codes) (sym k.items) same;
+      graded = subst
+          (λ (codes : List (ℕ × Option Bounds)). IsGradedBelow p (place + 1) plan codes)
+          (sym k.items) same;
       room = let r = i.room in let q = k.capacity in omega arith;
     }
 
 pub returns-clause-plan : goal.returns-clause-plan
 returns-clause-plan g c =
     let l = c.loop-place in
-    let all : l.place ≡ length c.args.plan.now.codes = let t = c.loop-place-test.false in let a = l.auto.place-end in let e = c.codes-place-end.ensures in omega arith in
-    graded_plan c.args.plan.now c.rules.ensures l.place all l.together l.codes.items l.invariant.graded
+    let all : l.place ≡ length c.args.plan.now.codes =
+    let test = c.loop-place-test.false in
+    let end = l.auto.place-end in
+    let e = c.codes-place-end.ensures in
+    omega arith in
+    graded_plan c.args.plan.now c.rules.ensures l.place all l.together l.codes.items
+    l.invariant.graded
 
 pub returns-clause-clear : goal.returns-clause-clear
 returns-clause-clear g c =
     let l = c.loop-place in
-    let all : l.place ≡ length c.args.plan.now.codes = let t = c.loop-place-test.false in let a = l.auto.place-end in let e = c.codes-place-end.ensures in omega arith in
-    graded_clear c.args.plan.now c.rules.ensures l.place all l.together l.codes.items l.invariant.graded l.cert l.findings.items l.invariant.ranked
+    let all : l.place ≡ length c.args.plan.now.codes =
+    let test = c.loop-place-test.false in
+    let end = l.auto.place-end in
+    let e = c.codes-place-end.ensures in
+    omega arith in
+    graded_clear c.args.plan.now c.rules.ensures l.place all l.together l.codes.items
+    l.invariant.graded l.cert l.findings.items l.invariant.ranked
 
 pub returns-clause-codes : goal.returns-clause-codes
 returns-clause-codes g c =
     let l = c.loop-place in
-    let all : l.place ≡ length c.args.plan.now.codes = let t = c.loop-place-test.false in let a = l.auto.place-end in let e = c.codes-place-end.ensures in omega arith in
-    graded_codes c.args.plan.now c.rules.ensures l.place all l.together l.codes.items l.invariant.graded
+    let all : l.place ≡ length c.args.plan.now.codes =
+    let test = c.loop-place-test.false in
+    let end = l.auto.place-end in
+    let e = c.codes-place-end.ensures in
+    omega arith in
+    graded_codes c.args.plan.now c.rules.ensures l.place all l.together l.codes.items
+    l.invariant.graded
 
 pub returns-clause-fails : goal.returns-clause-fails
 returns-clause-fails g c =
     let l = c.loop-place in
-    let all : l.place ≡ length c.args.plan.now.codes = let t = c.loop-place-test.false in let a = l.auto.place-end in let e = c.codes-place-end.ensures in omega arith in
-    graded_fails c.args.plan.now c.rules.ensures l.place all l.together l.codes.items l.invariant.graded l.cert l.findings.items l.invariant.ranked
+    let all : l.place ≡ length c.args.plan.now.codes =
+    let test = c.loop-place-test.false in
+    let end = l.auto.place-end in
+    let e = c.codes-place-end.ensures in
+    omega arith in
+    graded_fails c.args.plan.now c.rules.ensures l.place all l.together l.codes.items
+    l.invariant.graded l.cert l.findings.items l.invariant.ranked
 
 pub returns-clause-clean : goal.returns-clause-clean
 returns-clause-clean g c =
     let l = c.loop-place in
-    let all : l.place ≡ length c.args.plan.now.codes = let t = c.loop-place-test.false in let a = l.auto.place-end in let e = c.codes-place-end.ensures in omega arith in
-    graded_clean c.args.plan.now c.rules.ensures l.place all l.together l.codes.items l.invariant.graded l.cert l.findings.items l.invariant.ranked
+    let all : l.place ≡ length c.args.plan.now.codes =
+    let test = c.loop-place-test.false in
+    let end = l.auto.place-end in
+    let e = c.codes-place-end.ensures in
+    omega arith in
+    graded_clean c.args.plan.now c.rules.ensures l.place all l.together l.codes.items
+    l.invariant.graded l.cert l.findings.items l.invariant.ranked
 
 pub returns-clause-each : goal.returns-clause-each
 returns-clause-each g c =
     let l = c.loop-place in
-    let all : l.place ≡ length c.args.plan.now.codes = let t = c.loop-place-test.false in let a = l.auto.place-end in let e = c.codes-place-end.ensures in omega arith in
-    graded_true c.args.plan.now c.rules.ensures l.place all l.together l.codes.items l.invariant.graded l.cert l.findings.items l.invariant.ranked
+    let all : l.place ≡ length c.args.plan.now.codes =
+    let test = c.loop-place-test.false in
+    let end = l.auto.place-end in
+    let e = c.codes-place-end.ensures in
+    omega arith in
+    graded_true c.args.plan.now c.rules.ensures l.place all l.together l.codes.items
+    l.invariant.graded l.cert l.findings.items l.invariant.ranked
 
 pub returns-clause-listed : goal.returns-clause-listed
 returns-clause-listed g c =
     let l = c.loop-place in
-    let all : l.place ≡ length c.args.plan.now.codes = let t = c.loop-place-test.false in let a = l.auto.place-end in let e = c.codes-place-end.ensures in omega arith in
-    graded_listed c.args.plan.now c.rules.ensures l.place all l.together l.codes.items l.invariant.graded l.cert l.findings.items l.invariant.ranked
+    let all : l.place ≡ length c.args.plan.now.codes =
+    let test = c.loop-place-test.false in
+    let end = l.auto.place-end in
+    let e = c.codes-place-end.ensures in
+    omega arith in
+    graded_listed c.args.plan.now c.rules.ensures l.place all l.together l.codes.items
+    l.invariant.graded l.cert l.findings.items l.invariant.ranked
