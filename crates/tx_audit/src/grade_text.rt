@@ -1,9 +1,8 @@
 // The writer of grades.
-ghost use Rattle.std.specs.Prelude.{◌≡◌, ◌++◌, length};
+ghost use Rattle.std.specs.Prelude.{◌++◌};
 ghost use Rattle.std.specs.List.{flat_map};
 ghost use Rattle.tx_text.specs.Wrote.{Wrote};
-ghost use Rattle.tx_audit.specs.Report.{finding_line, verdict_line};
-ghost use Rattle.tx_audit.specs.GradeText.{bounds_text, code_line, findings_text, why_text, grade_text};
+ghost use Rattle.tx_audit.specs.GradeText.{bounds_text, code_line, why_text, grade_text};
 
 use crate::report::{write_findings, write_verdict};
 use itoa::Buffer;

@@ -1,5 +1,5 @@
 -- What the grades of codes come to together.
-use Rattle.std.proofs.Common.{◌≡◌, ◌≢◌, ℕ, zero, suc, ◌+◌, ◌<◌, ◌≤◌, List, [], ◌∷◌, ◌++◌, length, inl, inr, Option, Some, None, refl, sym, ap, subst, ◌∙◌, arith, length-append}
+use Rattle.std.proofs.Common.{◌≡◌, ◌≢◌, ℕ, zero, suc, ◌+◌, ◌<◌, List, [], ◌∷◌, ◌++◌, length, inl, inr, Option, Some, None, refl, sym, ap, subst, ◌∙◌, arith, length-append}
 use Rattle.std.specs.Prelude.{◌↔◌, slice_get, IfSome, IfNone}
 use Rattle.std.specs.List.{AllByRecursion}
 use Rattle.std.proofs.lemmas.Bool.{cases_lt}
@@ -14,10 +14,9 @@ use Rattle.tx_rank.specs.Walks.{net_of}
 use Rattle.tx_rank.specs.Findings.{IsTrueOf, AreFindingsOfCode}
 use Rattle.tx_rank.specs.Findings.AreFindingsOfCode.{looped, straight}
 use Rattle.tx_rank.specs.Nets.{Certifies}
-use Rattle.tx_rank.specs.Grades.{AreBounds, IsGrade, CanBeCertified, CanBeCertifiedFor, NothingIsWrong, AreCodeGrades, AreUnmended}
+use Rattle.tx_rank.specs.Grades.{IsGrade, CanBeCertified, CanBeCertifiedFor, NothingIsWrong, AreCodeGrades, AreUnmended}
 use Rattle.tx_rank.specs.inner.Judged.{IsRankedBelow}
 use Rattle.tx_rank.specs.inner.Together.{together}
-use Rattle.tx_rank.proofs.Nets.{is_net}
 use Rattle.tx_rank.proofs.Origins.{at_push}
 use Rattle.tx_rank.proofs.Certifying.{certifies_code, certified_codes, distinct_none, none_distinct, none_true}
 use Rattle.tx_rank.proofs.Listing.{some_true, ranked_listed, ranked_heights, ranked_certified}
