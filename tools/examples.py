@@ -297,16 +297,19 @@ def lines_quoted(page):
 
 def codes_explained():
     """The program's table of codes: a code, its name, what it means and what to do."""
-    return re.findall(r'\[\s*"(.*?)",\s*"(.*?)",\s*"(.*?)",\s*"(.*?)",?\s*\]', read("crates/tx_explain/src/code_table.rt").decode())
+    texts = [read(f"crates/tx_explain/src/{name}.rt").decode() for name in ("text_faults", "run_codes", "plan_codes")]
+    return re.findall(r'\[\s*"(.*?)",\s*"(.*?)",\s*"(.*?)",\s*"(.*?)",?\s*\]', "".join(texts))
 
 
 def codes_defined():
-    """The codes and names of the definitions."""
+    """The codes and names of the definitions, and why calls end by the names of the table, since these codes have none."""
     text = lambda crate, name: read(f"crates/{crate}/specs/{name}.antt").decode()
     rows = set()
     for crate, name in [("tx_text", "Rows"), ("tx_plantext", "PlanFaults"), ("tx_lint", "LintText"), ("tx_cert", "CertFaults"), ("tx_script", "ScriptFaults"), ("tx_risk_text", "RiskFaults")]:
         rows.update(re.findall(r'\(codes "([APCSQX]\d+)", codes "(\w+)"\)', text(crate, name)))
     rows.update((b, a) for a, b in re.findall(r'refusal_text (\w+) = codes "(M\d+)"', text("tx_tickets", "Texts")))
+    names = dict(row[:2] for row in codes_explained())
+    rows.update((it, names.get(it)) for it in re.findall(r'(?:service|cause)_text \w+ = codes "(\w+)"', text("tx_tickets", "Texts")))
     rows.update((b, a) for a, b in re.findall(r'fault_words p \((\w+)[ \w]*\) = codes "(K\d)"', text("tx_check", "Verdicts")))
     rows.update(re.findall(r'finding_line p \(\w+[ \w]*\) = codes "(F\d) (\w+) ', text("tx_audit", "Report")))
     rows.update(re.findall(r'codes "(F\d) (\w+) ', text("tx_mend_report", "MendText")))

@@ -1,9 +1,8 @@
 // The writer of grades.
-ghost use Rattle.std.specs.Prelude.{◌≡◌, ◌++◌, length};
+ghost use Rattle.std.specs.Prelude.{◌++◌};
 ghost use Rattle.std.specs.List.{flat_map};
 ghost use Rattle.tx_text.specs.Wrote.{Wrote};
-ghost use Rattle.tx_audit.specs.Report.{finding_line, verdict_line};
-ghost use Rattle.tx_audit.specs.GradeText.{bounds_text, code_line, findings_text, grade_text, graded_text};
+ghost use Rattle.tx_audit.specs.GradeText.{bounds_text, code_line, why_text, grade_text};
 
 use crate::report::{write_findings, write_verdict};
 use itoa::Buffer;
@@ -12,57 +11,53 @@ use tx_plan::{CodeId, Plan};
 use tx_rank::{Bounds, Finding, Grade};
 use tx_text::{Sink, WriteFault, write_text};
 
-/// Writes the bounds of a plan and of each of its codes, or that there is no grade, and why.
+/// Writes the bounds of a plan and of each of its codes, or that there are none; and why, if the
+/// plan has none.
 pub fn write_grade<A: Allocator, W: Sink>(
     plan: &Plan<A>,
     grade: &Grade<A>,
     sink: &mut W,
 ) -> Result<(), WriteFault>
-    ensures { Wrote (W.taken sink.old) (W.taken sink.new) (W.failed sink.old) (W.failed sink.new) (grade_text plan.now grade.now) result }
+    ensures { Wrote (W.taken sink.old) (W.taken sink.new) (W.failed sink.old) (W.failed sink.new)
+        (grade_text plan.now grade.now) result }
 {
-    match grade {
-        Grade::Graded(bounds, codes) => write_graded(plan, *bounds, codes, sink),
-        Grade::Ungraded(findings) => write_none(plan, findings, sink),
-    }
+    write_bounds(b"GRADE", b"", grade.plan, sink)?;
+    write_codes(plan, &grade.codes, sink)?;
+    write_why(plan, grade.plan, &grade.findings, sink)
 }
 
-fn write_graded<A: Allocator, W: Sink>(
-    plan: &Plan<A>,
-    bounds: Bounds,
-    codes: &[(CodeId, Bounds)],
-    sink: &mut W,
-) -> Result<(), WriteFault>
-    ensures { Wrote (W.taken sink.old) (W.taken sink.new) (W.failed sink.old) (W.failed sink.new) (graded_text plan.now bounds codes.now) result }
-{
-    write_bounds(b"GRADE", b"", bounds, sink)?;
-    write_code_bounds(plan, codes, sink)
-}
-
-/// Writes the head of a line, a name, a limit and a spare number.
+/// Writes the head of a line, a name, and a limit and a spare number, or that there are none.
 fn write_bounds<W: Sink>(
     head: &[u8],
     name: &[u8],
-    bounds: Bounds,
+    bounds: Option<Bounds>,
     sink: &mut W,
 ) -> Result<(), WriteFault>
-    ensures { Wrote (W.taken sink.old) (W.taken sink.new) (W.failed sink.old) (W.failed sink.new) (head.now ++ (name.now ++ bounds_text bounds)) result }
+    ensures { Wrote (W.taken sink.old) (W.taken sink.new) (W.failed sink.old) (W.failed sink.new)
+        (head.now ++ (name.now ++ bounds_text bounds)) result }
 {
-    let mut transits = Buffer::new();
-    let mut groups = Buffer::new();
-    let limit = transits.format(bounds.limit).as_bytes();
-    let spare = groups.format(bounds.spare).as_bytes();
-    write_text(
-        &[head, name, b" LIMIT ", limit, b" SPARE ", spare, b"\n"],
-        sink,
-    )
+    match bounds {
+        Some(bounds) => {
+            let mut transits = Buffer::new();
+            let mut groups = Buffer::new();
+            let limit = transits.format(bounds.limit).as_bytes();
+            let spare = groups.format(bounds.spare).as_bytes();
+            write_text(
+                &[head, name, b" LIMIT ", limit, b" SPARE ", spare, b"\n"],
+                sink,
+            )
+        }
+        None => write_text(&[head, name, b" NONE\n"], sink),
+    }
 }
 
-fn write_code_bounds<A: Allocator, W: Sink>(
+fn write_codes<A: Allocator, W: Sink>(
     plan: &Plan<A>,
-    codes: &[(CodeId, Bounds)],
+    codes: &[(CodeId, Option<Bounds>)],
     sink: &mut W,
 ) -> Result<(), WriteFault>
-    ensures { Wrote (W.taken sink.old) (W.taken sink.new) (W.failed sink.old) (W.failed sink.new) (flat_map (code_line plan.now) codes.now) result }
+    ensures { Wrote (W.taken sink.old) (W.taken sink.new) (W.failed sink.old) (W.failed sink.new)
+        (flat_map (code_line plan.now) codes.now) result }
 {
     for i in 0..codes.len() {
         write_code(plan, codes[i], sink)?;
@@ -72,22 +67,29 @@ fn write_code_bounds<A: Allocator, W: Sink>(
 
 fn write_code<A: Allocator, W: Sink>(
     plan: &Plan<A>,
-    code: (CodeId, Bounds),
+    code: (CodeId, Option<Bounds>),
     sink: &mut W,
 ) -> Result<(), WriteFault>
-    ensures { Wrote (W.taken sink.old) (W.taken sink.new) (W.failed sink.old) (W.failed sink.new) (code_line plan.now code) result }
+    ensures { Wrote (W.taken sink.old) (W.taken sink.new) (W.failed sink.old) (W.failed sink.new)
+        (code_line plan.now code) result }
 {
     write_bounds(b"CODE ", plan.code_figures(code.0), code.1, sink)
 }
 
-fn write_none<A: Allocator, W: Sink>(
+fn write_why<A: Allocator, W: Sink>(
     plan: &Plan<A>,
+    bounds: Option<Bounds>,
     findings: &[Finding<A>],
     sink: &mut W,
 ) -> Result<(), WriteFault>
-    ensures { Wrote (W.taken sink.old) (W.taken sink.new) (W.failed sink.old) (W.failed sink.new) (findings_text plan.now findings.now) result }
+    ensures { Wrote (W.taken sink.old) (W.taken sink.new) (W.failed sink.old) (W.failed sink.new)
+        (why_text plan.now bounds findings.now) result }
 {
-    write_text(&[b"GRADE NONE\n"], sink)?;
-    write_findings(plan, findings, sink)?;
-    write_verdict(findings.len(), sink)
+    match bounds {
+        Some(_) => Ok(()),
+        None => {
+            write_findings(plan, findings, sink)?;
+            write_verdict(findings.len(), sink)
+        }
+    }
 }

@@ -1,9 +1,9 @@
 -- What words ask for.
-use Rattle.std.specs.Prelude.{◌≡◌, ◌≤◌, ℕ, List, Option, None, Some, map, option_map, option_and_then, codes, string_bytes, String}
+use Rattle.std.specs.Prelude.{◌≡◌, ◌≤◌, ℕ, true, List, Option, None, Some, map, option_map, codes, string_bytes, String}
 use Rattle.std.specs.Borrow.{Bor}
 use Rattle.std.specs.Str.Parse.{IsNumeral, digits_value, without_leading_plus}
 use Rattle.clap.specs.Words.{Row, first_of, one_of, subcommand_of}
-use Rattle.tx_explain.specs.Entries.{texts, explanation}
+use Rattle.tx_explain.specs.Entries.{is_known}
 use Rattle.tx_commands.specs.Grammar.{program_words}
 use Rattle.tx_commands.specs.declared.command.Command.{Command}
 use Rattle.tx_commands.specs.declared.command.Command.TheVariants.{Pipe, Run, Check, Lint, Codes, Audit, Change, Mend, Survive, Grade, Trace, Draw, Explain}
@@ -69,7 +69,9 @@ Asks name found (Draw plan (Some (code, None))) =
 Asks name found (Draw plan (Some (code, Some (limit, spare)))) =
     (name ≡ codes "draw") × Names found (codes "plan") plan × Names found (codes "code") code × Gives found (codes "limit") limit × Gives found (codes "spare") spare
 Asks name found (Explain None) = (name ≡ codes "explain") × (first_of (codes "code") found ≡ None)
-Asks name found (Explain (Some entry)) = (name ≡ codes "explain") × (option_and_then explanation (first_of (codes "code") found) ≡ Some (texts entry.now))
+Asks name found (Explain (Some word)) =
+    (name ≡ codes "explain") × Names found (codes "code") word
+    × (is_known (string_bytes word) ≡ true)
 
 -- the command that was found, with its files and options, asks for this
 abbrev pub IsFoundIn : Option (List ℕ × List Row) → Command → Type 0

@@ -9,7 +9,7 @@ use crate::command::Command;
 use crate::refusal::Refusal;
 use clap::ArgMatches;
 use std::alloc::{AllocError, Global};
-use tx_explain::entry_of;
+use tx_explain::is_known;
 
 /// The word of an id.
 pub(crate) fn text(
@@ -225,7 +225,7 @@ fn draw_of(alloc: Global, plan: String, matches: &ArgMatches<'_>) -> Result<Comm
     Ok(Command::Draw { plan, routes })
 }
 
-/// The words of `explain`. A word that is no code is refused.
+/// The words of `explain`. A word that is no code and no name is refused.
 pub(crate) fn explain_of(alloc: Global, matches: &ArgMatches<'_>) -> Result<Command, Refusal>
     ensures range { IfOk result IsInRange }
     ensures asked { IfOk result (Asks (codes "explain") (rows_of (found_of matches.now))) }
@@ -233,11 +233,12 @@ pub(crate) fn explain_of(alloc: Global, matches: &ArgMatches<'_>) -> Result<Comm
         (IsRefused (Some (codes "explain", rows_of (found_of matches.now)))) }
 {
     let Some(word) = text(alloc, matches, "code")? else {
-        return Ok(Command::Explain { entry: None });
+        return Ok(Command::Explain { word: None });
     };
-    match entry_of(word.as_str()) {
-        Some(entry) => Ok(Command::Explain { entry: Some(entry) }),
-        None => Err(Refusal::NoSuchCode),
+    if is_known(word.as_str()) {
+        Ok(Command::Explain { word: Some(word) })
+    } else {
+        Err(Refusal::NoSuchCode)
     }
 }
 

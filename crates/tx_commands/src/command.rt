@@ -1,5 +1,4 @@
 // Commands.
-use tx_explain::Entry;
 
 /// What the words ask for.
 #[derive(Debug, Drop)]
@@ -75,8 +74,8 @@ pub enum Command {
         plan: String,
         routes: Option<(String, Option<(u8, u8)>)>,
     },
-    /// `explain [CODE]`: what a code means, or all codes.
+    /// `explain [CODE]`: what a code or a name means, or all codes.
     Explain {
-        entry: Option<&'static Entry>,
+        word: Option<String>,
     },
 }

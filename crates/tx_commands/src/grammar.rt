@@ -244,7 +244,7 @@ fn explain_grammar<'a>(alloc: Global) -> Result<clap::Command<'a>, AllocError>
         alloc,
         "code",
         "CODE",
-        "A code that was printed, as P11, S6, M5, K7 or F2",
+        "A code or a name that was printed, as P11, M5, F2, NC, CLRA or Overlap",
     );
     clap::Command::new(alloc, "explain")
         .about(

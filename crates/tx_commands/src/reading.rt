@@ -89,7 +89,7 @@ fn words_fault(grammar: &mut clap::Command<'_>, refusal: Refusal) -> Result<Word
         Refusal::NoSuchCode => in_its_words(
             grammar,
             ErrorKind::InvalidValue,
-            "no such code; there are X1 to X3, P3 to P22, A1 to A6, C1 to C10, S1 to S7, Q1 to Q11, M1 to M12, K1 to K7 and F1 to F5",
+            "no such code; there are X1 to X3, P3 to P22, A1 to A6, C1 to C10, S1 to S7, Q1 to Q11, M1 to M12, K1 to K7 and F1 to F5, those of a ticket, as NC or CLRA, and the names, as Overlap",
         ),
         Refusal::InputTwice => in_its_words(
             grammar,

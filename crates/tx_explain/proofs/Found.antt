@@ -1,27 +1,53 @@
--- What is found in a list, as a function sees its elements.
-use Rattle.std.proofs.Common.{◌≡◌, ◌∙◌, ℕ, Bool, true, false, List, [], ◌∷◌, ◌++◌, Option, None, Some, map, find, option_map, if◌then◌else◌, refl, sym, ap}
+-- What holds of the entries of all tables, as it holds of the table.
+use Rattle.std.proofs.Common.{◌≡◌, ◌∙◌, ℕ, Bool, false, true, ◌||◌, List, [], ◌∷◌, ◌++◌, map, refl, sym, ap, append_assoc}
 use Rattle.std.specs.Borrow.{Bor}
-use Rattle.std.specs.List.{flat_map}
-use Rattle.tx_explain.specs.Entries.{texts, table}
-use Rattle.tx_explain.specs.Written.{entry_line}
+use Rattle.std.specs.List.{flat_map, list_any}
+use Rattle.tx_explain.specs.Entries.{Texts, texts}
 
-module _ {A B : Type 0} (f : A → B) (p : B → Bool) where
-  chosen : (b : Bool) (x : A) (o : Option A) (q : Option B) → option_map f o ≡ q → option_map f (if b then Some x else o) ≡ (if b then Some (f x) else q)
-  chosen true x o q e = refl
-  chosen false x o q e = e
+-- the entries of a table, as the program has them
+abbrev pub Entries : Type 0
+Entries = List (List (Bor (List ℕ)))
 
-  pub found : (xs : List A) → option_map f (find (λ x. p (f x)) xs) ≡ find p (map f xs)
-  found [] = refl
-  found (x ∷ xs) = chosen (p (f x)) x _ _ (found xs)
+abbrev pub all_texts : List (Bor Entries) → List Texts
+all_texts = flat_map (λ t. map texts t.now)
 
-pub mapped_twice : {A B C : Type 0} (f : A → B) (g : B → C) (o : Option A) → option_map g (option_map f o) ≡ option_map (λ x. g (f x)) o
-mapped_twice f g None = refl
-mapped_twice f g (Some x) = refl
+or_over : (a b c : Bool) → (a || (b || c)) ≡ ((a || b) || c)
+or_over true b c = refl
+or_over false b c = refl
 
-flat_map-map : {A B C : Type 0} (f : A → B) (g : B → List C) (xs : List A) → flat_map g (map f xs) ≡ flat_map (λ x. g (f x)) xs
-flat_map-map f g [] = refl
-flat_map-map f g (x ∷ xs) = ap (λ l. g (f x) ++ l) (flat_map-map f g xs)
+module _ (P : Texts → Bool) where
+  abbrev any_in : Entries → Bool
+  any_in = list_any (λ e. P (texts e))
 
--- the lines of all entries
-pub all_lines : (es : List (List (Bor (List ℕ)))) → map texts es ≡ table → flat_map (λ e. entry_line (texts e)) es ≡ flat_map entry_line table
-all_lines es is = sym (flat_map-map texts entry_line es) ∙ ap (flat_map entry_line) is
+  any_joined : (es : Entries) (ts : List Texts)
+      → list_any P (map texts es ++ ts) ≡ (any_in es || list_any P ts)
+  any_joined [] ts = refl
+  any_joined (e ∷ es) ts =
+      ap (λ b. P (texts e) || b) (any_joined es ts)
+      ∙ or_over (P (texts e)) (any_in es) (list_any P ts)
+
+  pub any_of : (tables : List (Bor Entries))
+      → list_any (λ t. list_any (λ e. P (texts e)) t.now) tables
+      ≡ list_any P (all_texts tables)
+  any_of [] = refl
+  any_of (t ∷ tables) =
+      ap (λ b. any_in t.now || b) (any_of tables) ∙ sym (any_joined t.now (all_texts tables))
+
+module _ (text : Texts → List ℕ) where
+  abbrev texts_in : Entries → List ℕ
+  texts_in = flat_map (λ e. text (texts e))
+
+  texts_joined : (es : Entries) (ts : List Texts)
+      → flat_map text (map texts es ++ ts) ≡ texts_in es ++ flat_map text ts
+  texts_joined [] ts = refl
+  texts_joined (e ∷ es) ts =
+      ap (λ l. text (texts e) ++ l) (texts_joined es ts)
+      ∙ sym (append_assoc (text (texts e)) (texts_in es) (flat_map text ts))
+
+  pub text_of : (tables : List (Bor Entries))
+      → flat_map (λ t. flat_map (λ e. text (texts e)) t.now) tables
+      ≡ flat_map text (all_texts tables)
+  text_of [] = refl
+  text_of (t ∷ tables) =
+      ap (λ l. texts_in t.now ++ l) (text_of tables)
+      ∙ sym (texts_joined t.now (all_texts tables))

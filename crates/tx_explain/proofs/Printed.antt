@@ -12,12 +12,18 @@ use Rattle.tx_lint.specs.declared.warning.Warning.TheVariants as warning
 use Rattle.tx_cert.specs.declared.fault.CertWord.TheVariants as cert
 use Rattle.tx_script.specs.declared.script_word.ScriptWord.TheVariants as script
 use Rattle.tx_state.specs.declared.refusal.Refusal.TheVariants as refusal
+use Rattle.tx_state.specs.declared.service.Service.TheVariants as service
+use Rattle.tx_state.specs.declared.cause.Cause.TheVariants as cause
 use Rattle.tx_check.specs.declared.fault.CheckFault.TheVariants as fault
 use Rattle.tx_rank.specs.declared.finding.Finding.TheVariants as finding
 use Rattle.tx_mend_report.specs.MendText.{pair_line, unserved_line}
 use Rattle.tx_risk_text.specs.declared.fault.RiskWord.TheVariants as risk
 use Rattle.tx_explain.specs.Entries.{table}
-use Rattle.tx_explain.specs.Explained.{BeginsExplained, PlanFaultsAreExplained, WarningsAreExplained, CertFaultsAreExplained, ScriptFaultsAreExplained, RiskFaultsAreExplained, RefusalsAreExplained, CheckFaultsAreExplained, FindingsAreExplained, MendingsAreExplained}
+use Rattle.tx_explain.specs.Explained.{CodesAreDistinct, BeginsExplained, PlanFaultsAreExplained, WarningsAreExplained, CertFaultsAreExplained, ScriptFaultsAreExplained, RiskFaultsAreExplained, RefusalsAreExplained, CausesAreExplained, CheckFaultsAreExplained, FindingsAreExplained, MendingsAreExplained}
+
+pub once : CodesAreDistinct
+unfolding table
+once = refl
 
 pub plans : PlanFaultsAreExplained
 unfolding table
@@ -115,6 +121,18 @@ refusals refusal.NotSo = refl
 refusals refusal.NotReleasing = refl
 refusals refusal.UnknownCircuit = refl
 refusals refusal.Exhausted = refl
+
+pub causes : CausesAreExplained
+unfolding table
+causes (cause.Service service.Occ) = refl
+causes (cause.Service service.Nc) = refl
+causes (cause.Service service.Np) = refl
+causes (cause.Service service.Der) = refl
+causes (cause.Service service.Abs) = refl
+causes (cause.Service service.Na) = refl
+causes cause.ClearedByCaller = refl
+causes cause.ClearedByCalled = refl
+causes cause.Lost = refl
 
 pub checks : CheckFaultsAreExplained
 unfolding table

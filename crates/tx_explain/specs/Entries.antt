@@ -1,7 +1,11 @@
--- The table of codes, and what it says of one.
-use Rattle.std.specs.Prelude.{ℕ, List, [], Option, map, find, get_or, bytes_eq}
+-- The table of codes, and which of its entries a word asks for.
+use Rattle.std.specs.Prelude.{ℕ, Bool, ◌||◌, List, [], ◌++◌, map, filter, get_or}
 use Rattle.std.specs.Borrow.{Bor}
-use Rattle.tx_explain.specs.declared.code_table.TheConstants.{TABLE}
+use Rattle.std.specs.List.{list_any}
+use Rattle.std.specs.Str.{str_eq_ignore_ascii_case}
+use Rattle.tx_explain.specs.declared.text_faults.TheConstants.{TEXT_FAULTS}
+use Rattle.tx_explain.specs.declared.run_codes.TheConstants.{RUN_CODES}
+use Rattle.tx_explain.specs.declared.plan_codes.TheConstants.{PLAN_CODES}
 
 -- a code, its name, what it means, and what to do about it
 abbrev pub Texts : Type 0
@@ -14,10 +18,20 @@ text_at e i = (get_or e i (record { ref_ptr = (0, 0); now = [] })).now
 abbrev pub texts : List (Bor (List ℕ)) → Texts
 texts e = (text_at e 0, text_at e 1, text_at e 2, text_at e 3)
 
--- THE TABLE, as its texts
+-- THE TABLE, as its texts: the codes of faults of texts, those that a run prints, and those of what
+-- is wrong with a plan
 unfoldable pub table : List Texts
-table = map (λ e. let t = get_or e in ((t 0 (record { now = [] })).now, (t 1 (record { now = [] })).now, (t 2 (record { now = [] })).now, (t 3 (record { now = [] })).now)) TABLE
+table = map (λ e. let t = get_or e in ((t 0 (record { now = [] })).now, (t 1 (record { now = [] })).now, (t 2 (record { now = [] })).now, (t 3 (record { now = [] })).now))
+    (TEXT_FAULTS ++ (RUN_CODES ++ PLAN_CODES))
 
--- what the table says of a code: its first entry, if it has one
-abbrev pub explanation : List ℕ → Option Texts
-explanation code = find (λ e. bytes_eq e.0 code) table
+-- a word asks for an entry by its code or its name, in capitals or small letters
+abbrev pub is_asked : List ℕ → Texts → Bool
+is_asked word t = str_eq_ignore_ascii_case t.0 word || str_eq_ignore_ascii_case t.1 word
+
+-- what the table says of a word: the entries that it asks for, in order
+abbrev pub entries_of : List ℕ → List Texts
+entries_of word = filter (is_asked word) table
+
+-- it says something of the word
+abbrev pub is_known : List ℕ → Bool
+is_known word = list_any (is_asked word) table

@@ -1,5 +1,5 @@
 -- That the table has each code that is printed.
-use Rattle.std.specs.Prelude.{◌≡◌, ◌≢◌, ℕ, true, List, ◌∷◌, ◌++◌, Some, is_some, option_map, codes}
+use Rattle.std.specs.Prelude.{◌≡◌, ◌≢◌, ℕ, true, List, [], ◌∷◌, ◌++◌, map, Some, codes}
 use Rattle.tx_text.specs.declared.line_fault.LineFault.TheVariants.{Read}
 use Rattle.tx_text.specs.declared.frame.FrameFault.TheVariants.{Line}
 use Rattle.tx_text.specs.declared.frame.FaultKind.{FaultKind}
@@ -14,7 +14,8 @@ use Rattle.tx_cert.specs.CertFaults.{fault_row as cert_row}
 use Rattle.tx_script.specs.declared.script_word.ScriptWord.{ScriptWord}
 use Rattle.tx_script.specs.ScriptFaults.{fault_row as script_row}
 use Rattle.tx_state.specs.declared.refusal.Refusal.{Refusal}
-use Rattle.tx_tickets.specs.Texts.{refusal_text}
+use Rattle.tx_state.specs.declared.cause.Cause.{Cause}
+use Rattle.tx_tickets.specs.Texts.{refusal_text, cause_text}
 use Rattle.tx_check.specs.declared.fault.CheckFault.{CheckFault}
 use Rattle.tx_check.specs.Verdicts.{fault_words}
 use Rattle.tx_rank.specs.declared.finding.Finding.{Finding}
@@ -22,11 +23,15 @@ use Rattle.tx_audit.specs.Report.{finding_line}
 use Rattle.tx_mend_report.specs.MendText.{pair_line, unserved_line}
 use Rattle.tx_risk_text.specs.declared.fault.RiskWord.{RiskWord}
 use Rattle.tx_risk_text.specs.RiskFaults.{fault_row as risk_row}
-use Rattle.tx_explain.specs.Entries.{explanation}
+use Rattle.tx_explain.specs.Entries.{table, entries_of, is_known}
 
--- the table has the code, by this name
+-- the code of an entry asks for that entry alone: no other has it as its code or its name
+abbrev pub CodesAreDistinct : Type 0
+CodesAreDistinct = map (λ t. entries_of t.0) table ≡ map (λ t. t ∷ []) table
+
+-- the table has one entry for the code, by this name
 abbrev pub IsExplained : List ℕ × List ℕ → Type 0
-IsExplained row = option_map (λ t. (t.0, t.1)) (explanation row.0) ≡ Some row
+IsExplained row = map (λ t. (t.0, t.1)) (entries_of row.0) ≡ row ∷ []
 
 -- a line begins with a code of the table and its name
 pub record BeginsExplained (line : List ℕ) : Type 0 where
@@ -52,11 +57,17 @@ abbrev pub RiskFaultsAreExplained : Type 0
 RiskFaultsAreExplained = (kind : FaultKind RiskWord) → IsExplained (risk_row kind)
 
 abbrev pub RefusalsAreExplained : Type 0
-RefusalsAreExplained = (refusal : Refusal) → is_some (explanation (refusal_text refusal)) ≡ true
+RefusalsAreExplained = (refusal : Refusal) → is_known (refusal_text refusal) ≡ true
+
+-- why a call ended: also each service code
+abbrev pub CausesAreExplained : Type 0
+CausesAreExplained = (cause : Cause) → is_known (cause_text cause) ≡ true
 
 -- the first word of what is wrong
 abbrev pub CheckFaultsAreExplained : Type 0
-CheckFaultsAreExplained = (p : Plan) (fault : CheckFault) → (code : List ℕ) × (rest : List (List ℕ)) × (is_some (explanation code) ≡ true) × (fault_words p fault ≡ code ∷ rest)
+CheckFaultsAreExplained = (p : Plan) (fault : CheckFault)
+    → (code : List ℕ) × (rest : List (List ℕ)) × (is_known code ≡ true)
+    × (fault_words p fault ≡ code ∷ rest)
 
 abbrev pub FindingsAreExplained : Type 0 → Type 0
 FindingsAreExplained A = (p : Plan) (finding : Finding A) → BeginsExplained (finding_line p finding)

@@ -1,8 +1,7 @@
 -- What is written of codes.
-use Rattle.std.specs.Prelude.{ℕ, List, ◌++◌, Option, Some, None, codes}
+use Rattle.std.specs.Prelude.{ℕ, List, [], ◌++◌, if◌then◌else◌, Option, Some, None, codes}
 use Rattle.std.specs.List.{flat_map}
-use Rattle.std.specs.Borrow.{Bor}
-use Rattle.tx_explain.specs.Entries.{Texts, texts, table}
+use Rattle.tx_explain.specs.Entries.{Texts, table, is_asked}
 
 -- a line of the list of all codes
 abbrev pub entry_line : Texts → List ℕ
@@ -12,7 +11,12 @@ entry_line t = t.0 ++ (codes " " ++ (t.1 ++ (codes ": " ++ (t.2 ++ codes "\n")))
 abbrev pub entry_text : Texts → List ℕ
 entry_text t = t.0 ++ (codes " " ++ (t.1 ++ (codes "\n" ++ (t.2 ++ (codes "\nWhat to do: " ++ (t.3 ++ codes "\n"))))))
 
--- WHAT IS WRITTEN: of one code, or of all
-abbrev pub explanation_text : Option (Bor (List (Bor (List ℕ)))) → List ℕ
-explanation_text None = flat_map entry_line table
-explanation_text (Some e) = entry_text (texts e.now)
+-- what is written of an entry: all that is told of it if the word asks for it; without a word, its
+-- line
+abbrev pub told_text : Option (List ℕ) → Texts → List ℕ
+told_text None t = entry_line t
+told_text (Some word) t = if is_asked word t then entry_text t else []
+
+-- WHAT IS WRITTEN: of each entry that the word asks for, or of all
+abbrev pub explanation_text : Option (List ℕ) → List ℕ
+explanation_text word = flat_map (told_text word) table

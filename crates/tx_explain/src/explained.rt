@@ -1,18 +1,22 @@
-// Every code that is printed is explained.
-ghost use Rattle.tx_explain.specs.Explained.{PlanFaultsAreExplained, WarningsAreExplained, CertFaultsAreExplained, ScriptFaultsAreExplained, RiskFaultsAreExplained, RefusalsAreExplained, CheckFaultsAreExplained, FindingsAreExplained, MendingsAreExplained};
+// Every code that is printed is explained, and stands once in the table.
+ghost use Rattle.tx_explain.specs.Explained.{CodesAreDistinct, PlanFaultsAreExplained, WarningsAreExplained, CertFaultsAreExplained, ScriptFaultsAreExplained, RiskFaultsAreExplained, RefusalsAreExplained, CausesAreExplained, CheckFaultsAreExplained, FindingsAreExplained, MendingsAreExplained};
 
 use std::alloc::Allocator;
 
+/// The code of an entry asks for that entry alone; a name may be that of several, as `Short`.
+///
 /// Each code that is printed has an entry: of a fault of a text, of a warning, of a finding, and of
-/// what no lists can serve by the name that is printed with it, of a refusal and of a check's fault
-/// by its code.
+/// what no lists can serve by the name that is printed with it, of a refusal, of why a call ended and
+/// of a fault of a check by its code.
 pub fn codes_are_explained<A: Allocator>()
+    ensures once { CodesAreDistinct }
     ensures plans { PlanFaultsAreExplained }
     ensures warnings { WarningsAreExplained }
     ensures certificates { CertFaultsAreExplained }
     ensures scripts { ScriptFaultsAreExplained }
     ensures risks { RiskFaultsAreExplained }
     ensures refusals { RefusalsAreExplained }
+    ensures causes { CausesAreExplained }
     ensures checks { CheckFaultsAreExplained }
     ensures findings { FindingsAreExplained A }
     ensures mendings { MendingsAreExplained }

@@ -1,38 +1,73 @@
 // What is written of codes.
-ghost use Rattle.std.specs.Prelude.{◌≡◌, true, OnOk, OnErr};
-ghost use Rattle.std.specs.Io.KnownBytes.{append_known};
+ghost use Rattle.std.specs.Prelude.{option_map};
 ghost use Rattle.std.specs.List.{flat_map};
-ghost use Rattle.tx_text.specs.Ends.{StopsIn};
+ghost use Rattle.tx_text.specs.Wrote.{Wrote};
 ghost use Rattle.tx_explain.specs.Entries.{texts};
-ghost use Rattle.tx_explain.specs.Written.{entry_line, entry_text, explanation_text};
+ghost use Rattle.tx_explain.specs.Written.{entry_line, entry_text, told_text, explanation_text};
 
-use crate::code_table::Entry;
-use crate::entry::entries;
-use tx_text::{Sink, WriteFault, write_parts};
+use crate::asked::is_asked;
+use crate::code_table::{Entry, tables};
+use tx_text::{Sink, WriteFault, write_text};
 
-/// Writes a code with its name, what it means and what to do about it; without an entry, a line for each code with its meaning. Where the sink fails, a front
-/// of the text was taken.
-#[tactic(auto, using(crate::proofs::Found::all_lines))]
-pub fn write_explanation<W: Sink>(entry: Option<&Entry>, sink: &mut W) -> Result<(), WriteFault>
-    ensures ok { OnOk result (W.taken sink.new ≡ append_known (W.taken sink.old) (explanation_text entry.entry)) }
-    ensures err { OnErr result (StopsIn (W.taken sink.old) (W.taken sink.new) (explanation_text entry.entry)) }
-    ensures mark { OnErr result (W.failed sink.new ≡ true) }
-    ensures unmarked { OnOk result (W.failed sink.new ≡ W.failed sink.old) }
+/// Writes each entry that a word asks for: its code with its name, what it means and what to do
+/// about it; without a word, a line for each code with its meaning.
+pub fn write_explanation<W: Sink>(word: Option<&str>, sink: &mut W) -> Result<(), WriteFault>
+    ensures { Wrote (W.taken sink.old) (W.taken sink.new) (W.failed sink.old) (W.failed sink.new)
+        (explanation_text (option_map (λ w. w.now) word)) result }
 {
-    match entry {
-        Some(entry) => write_entry(entry, sink),
-        None => write_lines(entries(), sink),
+    write_tables(&tables(), word, sink)
+}
+
+fn write_tables<W: Sink>(
+    tables: &[&[Entry]],
+    word: Option<&str>,
+    sink: &mut W,
+) -> Result<(), WriteFault>
+    ensures { Wrote (W.taken sink.old) (W.taken sink.new) (W.failed sink.old) (W.failed sink.new)
+        (flat_map (λ t. flat_map (λ e. told_text (option_map (λ w. w.now) word) (texts e)) t.now)
+        tables.now) result }
+{
+    for i in 0..tables.len() {
+        write_entries(tables[i], word, sink)?;
+    }
+    Ok(())
+}
+
+fn write_entries<W: Sink>(
+    entries: &[Entry],
+    word: Option<&str>,
+    sink: &mut W,
+) -> Result<(), WriteFault>
+    ensures { Wrote (W.taken sink.old) (W.taken sink.new) (W.failed sink.old) (W.failed sink.new)
+        (flat_map (λ e. told_text (option_map (λ w. w.now) word) (texts e)) entries.now) result }
+{
+    for i in 0..entries.len() {
+        write_told(&entries[i], word, sink)?;
+    }
+    Ok(())
+}
+
+fn write_told<W: Sink>(entry: &Entry, word: Option<&str>, sink: &mut W) -> Result<(), WriteFault>
+    ensures { Wrote (W.taken sink.old) (W.taken sink.new) (W.failed sink.old) (W.failed sink.new)
+        (told_text (option_map (λ w. w.now) word) (texts entry.now)) result }
+{
+    match word {
+        Some(word) => {
+            if is_asked(word, entry) {
+                return write_entry(entry, sink);
+            }
+            Ok(())
+        }
+        None => write_line(entry, sink),
     }
 }
 
 fn write_entry<W: Sink>(entry: &Entry, sink: &mut W) -> Result<(), WriteFault>
-    ensures ok { OnOk result (W.taken sink.new ≡ append_known (W.taken sink.old) (entry_text (texts entry.now))) }
-    ensures err { OnErr result (StopsIn (W.taken sink.old) (W.taken sink.new) (entry_text (texts entry.now))) }
-    ensures mark { OnErr result (W.failed sink.new ≡ true) }
-    ensures unmarked { OnOk result (W.failed sink.new ≡ W.failed sink.old) }
+    ensures { Wrote (W.taken sink.old) (W.taken sink.new) (W.failed sink.old) (W.failed sink.new)
+        (entry_text (texts entry.now)) result }
 {
     let [code, name, meaning, advice] = entry;
-    write_parts(
+    write_text(
         &[
             code.as_bytes(),
             b" ",
@@ -47,26 +82,12 @@ fn write_entry<W: Sink>(entry: &Entry, sink: &mut W) -> Result<(), WriteFault>
     )
 }
 
-fn write_lines<W: Sink>(entries: &[Entry], sink: &mut W) -> Result<(), WriteFault>
-    ensures ok { OnOk result (W.taken sink.new ≡ append_known (W.taken sink.old) (flat_map (λ e. entry_line (texts e)) entries.now)) }
-    ensures err { OnErr result (StopsIn (W.taken sink.old) (W.taken sink.new) (flat_map (λ e. entry_line (texts e)) entries.now)) }
-    ensures mark { OnErr result (W.failed sink.new ≡ true) }
-    ensures unmarked { OnOk result (W.failed sink.new ≡ W.failed sink.old) }
-{
-    for i in 0..entries.len() {
-        write_line(&entries[i], sink)?;
-    }
-    Ok(())
-}
-
 fn write_line<W: Sink>(entry: &Entry, sink: &mut W) -> Result<(), WriteFault>
-    ensures ok { OnOk result (W.taken sink.new ≡ append_known (W.taken sink.old) (entry_line (texts entry.now))) }
-    ensures err { OnErr result (StopsIn (W.taken sink.old) (W.taken sink.new) (entry_line (texts entry.now))) }
-    ensures mark { OnErr result (W.failed sink.new ≡ true) }
-    ensures unmarked { OnOk result (W.failed sink.new ≡ W.failed sink.old) }
+    ensures { Wrote (W.taken sink.old) (W.taken sink.new) (W.failed sink.old) (W.failed sink.new)
+        (entry_line (texts entry.now)) result }
 {
     let [code, name, meaning, _] = entry;
-    write_parts(
+    write_text(
         &[
             code.as_bytes(),
             b" ",

@@ -1,12 +1,14 @@
-//! What the codes of faults, warnings, refusals and findings mean, and what to do about each.
+//! What the codes of faults, warnings, refusals, findings and causes mean, and what to do about each.
 #![tactic(auto)]
 
+mod asked;
 mod code_table;
-mod entry;
 mod explained;
 mod explanation;
+mod plan_codes;
+mod run_codes;
+mod text_faults;
 
-pub use code_table::Entry;
-pub use entry::{entries, entry_of};
+pub use asked::is_known;
 pub use explained::codes_are_explained;
 pub use explanation::write_explanation;

@@ -1,7 +1,7 @@
 -- What the clauses of a grade come to.
 use Rattle.std.proofs.Common.{◌≡◌, ◌≢◌, ℕ, true, List, [], Option, Some, None, refl, ◌∙◌, arith}
 use Rattle.std.proofs.lemmas.Bool.{false≢true}
-use Rattle.std.specs.Prelude.{is_some}
+use Rattle.std.specs.Prelude.{is_some, IfSome, IfNone}
 use Rattle.std.specs.List.{AllByRecursion}
 use Rattle.tx_plan.specs.Plan.{Plan}
 use Rattle.tx_plan.specs.Rules.{IsPlan}
@@ -9,18 +9,15 @@ use Rattle.tx_plan.specs.Certified.{Ranks, IsCertified}
 use Rattle.tx_rank.specs.declared.bounds.Bounds.{Bounds}
 use Rattle.tx_rank.specs.declared.finding.Finding.{Finding}
 use Rattle.tx_rank.specs.declared.finding.Finding.TheVariants.{Ambiguous, Loop, Short, Long}
-use Rattle.tx_rank.specs.declared.plan_grade.Grade.{Grade}
-use Rattle.tx_rank.specs.declared.plan_grade.Grade.TheVariants.{Graded, Ungraded}
 use Rattle.tx_rank.specs.Findings.{IsTrueOf}
-use Rattle.tx_rank.specs.Grades.{AreBounds, CanBeCertified, NothingIsWrong, AreCodeBounds, AreUnmended}
-use Rattle.tx_rank.specs.Gradings.{IsGraded, OnGraded, OnUngraded}
+use Rattle.tx_rank.specs.Grades.{AreBounds, IsGrade, CanBeCertified, NothingIsWrong, AreUnmended}
 use Rattle.tx_rank.proofs.Certifying.{none_true}
 use Rattle.tx_state.specs.declared.event.Event.{Event}
 use Rattle.tx_state.specs.Sound.{IsSound}
 use Rattle.tx_state.proofs.Sound.{sound}
 use Rattle.tx_audit.specs.Counter.{counter_of, has_counter}
 use Rattle.tx_audit.proofs.Showing.{counters_show, counter_there}
-use Rattle.tx_jobs.specs.GradeJobs.{IsGradeOf}
+use Rattle.tx_jobs.specs.GradeJobs.{IsGradeOfPlan}
 
 module _ (A : Type 0) (p : Plan) (ok : IsPlan p) where
   -- a true finding that has events is not one of a sound plan
@@ -50,8 +47,14 @@ module _ (A : Type 0) (p : Plan) (ok : IsPlan p) where
         );
       }
 
-  pub grade_is : (g : Grade A) → ((ranks : Ranks) (limit spare : ℕ) → IsCertified p ranks limit spare → IsGraded g) → OnGraded (λ bounds codes. AreBounds (CanBeCertified p) bounds) g
-      → OnGraded (λ bounds codes. AreBounds (NothingIsWrong A p) bounds) g → OnGraded (λ bounds codes. AreCodeBounds p codes) g → OnUngraded (λ findings. findings ≢ []) g
-      → OnUngraded (λ findings. (limit spare : ℕ) → AllByRecursion (IsTrueOf p limit spare) findings) g → OnUngraded (AreUnmended p) g → IsGradeOf p g
-  grade_is (Graded bounds each) wherever plan clear codes some right listed = (plan, sound_bounds bounds plan clear, codes)
-  grade_is (Ungraded findings) wherever plan clear codes some right listed = record { nowhere = λ limit spare k. wherever k.0 limit spare k.1; some = some; each = right; listed = listed }
+  -- what is told of a plan
+  module _ (findings : List (Finding A)) where
+    pub plan_is : (plan : Option Bounds) → IsGrade (CanBeCertified p) plan
+        → IsGrade (NothingIsWrong A p) plan
+        → IfNone plan (findings ≢ []) → IfSome plan (λ _. findings ≡ [])
+        → ((limit spare : ℕ) → AllByRecursion (IsTrueOf p limit spare) findings)
+        → AreUnmended p findings → IsGradeOfPlan p plan findings
+    plan_is (Some b) certified clear fails clean right listed =
+        (certified, sound_bounds b certified clear, clean)
+    plan_is None certified clear fails clean right listed =
+        record { nowhere = certified; some = fails; each = right; listed = listed }

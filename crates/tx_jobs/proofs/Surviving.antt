@@ -1,5 +1,5 @@
 -- What the clauses of a search for outages come to, and what a refused text of risks leaves.
-use Rattle.std.proofs.Common.{◌≡◌, ◌≢◌, ◌∙◌, ℕ, Bool, List, [], ◌∷◌, length, refl, sym, ap}
+use Rattle.std.proofs.Common.{◌≡◌, ◌≢◌, ◌∙◌, ℕ, Bool, List, [], ◌∷◌, length, None, refl, sym, ap}
 use Rattle.std.proofs.lemmas.List.{nil_from_length}
 use Rattle.std.specs.List.{AllByRecursion}
 use Rattle.tx_text.specs.declared.text_fault.TextFault.TheVariants.{LineTooLong, BadByte, NoMemory as TextNoMemory}
@@ -11,7 +11,7 @@ use Rattle.tx_text.specs.declared.frame.FaultKind.TheVariants.{Frame, Word}
 use Rattle.tx_plan.specs.Plan.{Plan}
 use Rattle.tx_plan.specs.Certified.{Ranks, IsCertified}
 use Rattle.tx_rank.specs.Findings.{IsTrueOf}
-use Rattle.tx_rank.specs.Grades.{AreUnmended}
+use Rattle.tx_rank.specs.Grades.{AreCodeGrades, AreUnmended}
 use Rattle.tx_risk.specs.NamedRisks.{NamedRisk}
 use Rattle.tx_risk.specs.Outages.{AreAllCuts}
 use Rattle.tx_risk.specs.Survivals.{AreTried, OnTried, OnUngraded}
@@ -21,21 +21,27 @@ use Rattle.tx_risk_text.specs.declared.fault.RiskWord.{RiskWord}
 use Rattle.tx_risk_text.specs.declared.fault.RiskWord.TheVariants.{UnknownWord, WrongCount, BadName, Duplicate, UnknownName, RepeatedGroup, NoMemory as RiskNoMemory}
 use Rattle.tx_jobs.specs.declared.survive_fault.SurviveFault.{SurviveFault}
 use Rattle.tx_jobs.specs.SurviveFaults.{risks_fault, risks_fault_by, survive_mark_by}
+use Rattle.tx_jobs.specs.GradeJobs.{IsUngraded}
 use Rattle.tx_jobs.specs.SurviveJobs.{IsSurvivalOf, status_of_cuts}
 
 pub survival_is : (A : Type 0) (p : Plan) (risks : List NamedRisk) (s : Survival A)
     → ((ranks : Ranks) (limit spare : ℕ) → IsCertified p ranks limit spare → AreTried s)
-    → OnTried (AreAllCuts p risks) s → OnUngraded (λ findings. findings ≢ []) s
-    → OnUngraded (λ findings. (limit spare : ℕ)
-    → AllByRecursion (IsTrueOf p limit spare) findings) s
-    → OnUngraded (AreUnmended p) s → IsSurvivalOf p risks s
-survival_is A p risks (Tried cuts) wherever all some right listed = all
-survival_is A p risks (Ungraded findings) wherever all some right listed = record {
-  nowhere = λ limit spare k. wherever k.0 limit spare k.1;
-  some = some;
-  each = right;
-  listed = listed;
-}
+    → OnTried (AreAllCuts p risks) s
+    → OnUngraded (λ g. g.plan ≡ None) s
+    → OnUngraded (λ g. AreCodeGrades p g.codes.items) s
+    → OnUngraded (λ g. g.findings.items ≢ []) s
+    → OnUngraded (λ g. (limit spare : ℕ)
+    → AllByRecursion (IsTrueOf p limit spare) g.findings.items) s
+    → OnUngraded (λ g. AreUnmended p g.findings.items) s → IsSurvivalOf p risks s
+survival_is A p risks (Tried cuts) wherever all none codes some right listed = all
+survival_is A p risks (Ungraded grade) wherever all none codes some right listed =
+    let told : IsUngraded p grade.findings.items = record {
+      nowhere = λ limit spare k. wherever k.0 limit spare k.1;
+      some = some;
+      each = right;
+      listed = listed;
+    } in
+    (none, rw none (told, codes))
 
 risks_by : (old : Bool) (f : FaultAt RiskWord) (k : FaultKind RiskWord)
     → survive_mark_by old (risks_fault_by f k) ≡ old

@@ -1,5 +1,5 @@
 -- What `grade PLAN` answers.
-use Rattle.std.specs.Prelude.{◌≡◌, ◌≢◌, ◌⊎◌, ℕ, List, [], Result, Ok, Err}
+use Rattle.std.specs.Prelude.{◌≡◌, ◌≢◌, ◌⊎◌, if◌then◌else◌, ℕ, List, [], Option, Some, None, is_some, Result, Ok, Err}
 use Rattle.std.specs.Io.KnownBytes.{append_known}
 use Rattle.std.specs.List.{AllByRecursion}
 use Rattle.tx_text.specs.Ends.{StopsIn}
@@ -7,9 +7,9 @@ use Rattle.tx_plan.specs.Plan.{Plan}
 use Rattle.tx_state.specs.Sound.{IsSound}
 use Rattle.tx_rank.specs.declared.finding.Finding.{Finding}
 use Rattle.tx_rank.specs.declared.plan_grade.Grade.{Grade}
-use Rattle.tx_rank.specs.declared.plan_grade.Grade.TheVariants.{Graded, Ungraded}
+use Rattle.tx_rank.specs.declared.bounds.Bounds.{Bounds}
 use Rattle.tx_rank.specs.Findings.{IsTrueOf}
-use Rattle.tx_rank.specs.Grades.{AreBounds, CanBeCertified, AreCodeBounds, AreUnmended}
+use Rattle.tx_rank.specs.Grades.{AreBounds, CanBeCertified, AreCodeGrades, AreUnmended}
 use Rattle.tx_audit.specs.GradeText.{grade_text}
 use Rattle.tx_jobs.specs.declared.job_fault.JobFault.{JobFault}
 use Rattle.tx_jobs.specs.declared.job_fault.JobFault.TheVariants.{Write, NoMemory}
@@ -23,10 +23,16 @@ pub record IsUngraded {A : Type 0} (p : Plan) (findings : List (Finding A)) : Ty
   pub each : (limit spare : ℕ) → AllByRecursion (IsTrueOf p limit spare) findings
   pub listed : AreUnmended p findings
 
--- THE GRADE OF A PLAN: its bounds, with which ranks certify it and with which it is sound, and those of each of its codes; or that it has none
+-- the bounds with which ranks certify a plan and with which it is sound, and no findings; or that it
+-- has none
+abbrev pub IsGradeOfPlan : {A : Type 0} → Plan → Option Bounds → List (Finding A) → Type 0
+IsGradeOfPlan p (Some b) findings =
+    AreBounds (CanBeCertified p) b × AreBounds (IsSound p) b × (findings ≡ [])
+IsGradeOfPlan p None findings = IsUngraded p findings
+
+-- THE GRADE OF A PLAN, and those of its codes
 abbrev pub IsGradeOf : {A : Type 0} → Plan → Grade A → Type 0
-IsGradeOf p (Graded bounds each) = AreBounds (CanBeCertified p) bounds × AreBounds (IsSound p) bounds × AreCodeBounds p each.items
-IsGradeOf p (Ungraded findings) = IsUngraded p findings.items
+IsGradeOf p g = IsGradeOfPlan p g.plan g.findings.items × AreCodeGrades p g.codes.items
 
 -- the plan was graded, but a write failed within the text
 pub record GradedInPart (A : Type 0) (p : Plan) (out : Output) : Type 0 where
@@ -47,8 +53,7 @@ GradeJobAnswers plan out result = PlanRead plan (λ p. ToldGrade p out result) �
 
 -- 0 where there is a grade, else 1
 abbrev pub status_of_grade : {A : Type 0} → Grade A → ℕ
-status_of_grade (Graded bounds each) = 0
-status_of_grade (Ungraded findings) = 1
+status_of_grade g = if is_some g.plan then 0 else 1
 
 abbrev pub told_grade_status : {A : Type 0} → Result (Grade A) JobFault → Result ℕ JobFault
 told_grade_status (Ok grade) = Ok (status_of_grade grade)

@@ -1,5 +1,5 @@
 -- What `survive PLAN` answers: what its calls do, one after another.
-use Rattle.std.specs.Prelude.{◌≡◌, ◌⊎◌, ℕ, List, [], ◌∷◌, Result, Ok, Err}
+use Rattle.std.specs.Prelude.{◌≡◌, ◌⊎◌, ℕ, List, [], ◌∷◌, None, Result, Ok, Err}
 use Rattle.std.specs.Io.KnownBytes.{append_known}
 use Rattle.tx_text.specs.Ends.{StopsIn}
 use Rattle.tx_text.specs.declared.frame.FaultAt.{FaultAt}
@@ -21,13 +21,13 @@ use Rattle.tx_jobs.specs.JobFaults.{plan_fault}
 use Rattle.tx_jobs.specs.SurviveFaults.{risks_fault}
 use Rattle.tx_jobs.specs.JobEnds.{Input, Output}
 use Rattle.tx_jobs.specs.Jobs.{PlanRead, PlanRefused}
-use Rattle.tx_jobs.specs.GradeJobs.{IsUngraded}
+use Rattle.tx_jobs.specs.GradeJobs.{IsGradeOf}
 
--- WHAT OUTAGES COME TO: what each group, each exchange and each named risk cuts off alone; or the
--- plan has no grade, and why
+-- WHAT OUTAGES COME TO: what each group, each exchange and each named risk cuts off alone; or its
+-- grade, where the plan has none
 abbrev pub IsSurvivalOf : {A : Type 0} → Plan → List NamedRisk → Survival A → Type 0
 IsSurvivalOf p risks (Tried cuts) = AreAllCuts p risks cuts.items
-IsSurvivalOf p risks (Ungraded findings) = IsUngraded p findings.items
+IsSurvivalOf p risks (Ungraded grade) = (grade.plan ≡ None) × IsGradeOf p grade
 
 -- the outages were tried, but a write failed within the text
 pub record SurvivalToldInPart (A : Type 0) (p : Plan) (risks : List NamedRisk) (out : Output)
@@ -102,4 +102,4 @@ status_of_cuts (cut ∷ cuts) = 1
 
 abbrev pub status_of_survival : {A : Type 0} → Survival A → ℕ
 status_of_survival (Tried cuts) = status_of_cuts cuts.items
-status_of_survival (Ungraded findings) = 1
+status_of_survival (Ungraded grade) = 1

@@ -13,7 +13,8 @@ use tx_plantext::read_plan_from;
 use tx_rank::{Grade, grade};
 use tx_text::{Sink, Source, WriteFault};
 
-/// Reads a plan, and writes with which limits and spare numbers it is safe, and each of its codes, or what is wrong with it whatever they are. Answers the grade.
+/// Reads a plan, and writes with which limits and spare numbers it is safe, and each of its codes;
+/// and if it is safe with none, what is wrong with it whatever they are. Answers the grade.
 ///
 /// Nothing is written where the plan is refused or memory is wanting.
 pub fn grade_job<A: Allocator + Copy, P: Source, W: Sink>(
@@ -55,9 +56,9 @@ pub fn grade_status<A: Allocator + Copy, P: Source, W: Sink>(
 fn status_of<A: Allocator>(grade: &Grade<A>) -> u8
     ensures { result ≡ status_of_grade grade.now }
 {
-    match grade {
-        Grade::Graded(_, _) => 0,
-        Grade::Ungraded(_) => 1,
+    match grade.plan {
+        Some(_) => 0,
+        None => 1,
     }
 }
 

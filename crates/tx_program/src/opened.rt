@@ -8,7 +8,6 @@ use crate::input::{Input, Inputs};
 use crate::kept::Keep;
 use std::io::Read;
 use tx_commands::Command;
-use tx_explain::Entry;
 use tx_jobs::JobFault;
 
 /// How many transits a call may pass, and how many groups of a list are to spare.
@@ -101,11 +100,11 @@ pub(crate) enum Opened<'a, I: Read + Drop, R: Read + Drop> {
         job: PlanJob<'a>,
     },
     Explain {
-        entry: Option<&'static Entry>,
+        word: Option<&'a str>,
     },
 }
 
-/// The name of a file, if one is named.
+/// The name of a file or a code, if one is named.
 fn name_of(file: &Option<String>) -> Option<&str> {
     match file {
         Some(name) => Some(name.as_str()),
@@ -145,7 +144,9 @@ impl<'a, I: Read + Drop, R: Read + Drop> Opened<'a, I, R> {
                 code,
             } => Opened::trace(inputs, plan, exchange, code),
             Command::Draw { plan, routes } => Opened::draw(inputs, plan, routes),
-            Command::Explain { entry } => Ok(Opened::Explain { entry: *entry }),
+            Command::Explain { word } => Ok(Opened::Explain {
+                word: name_of(word),
+            }),
             Command::Audit {
                 plan,
                 limit,

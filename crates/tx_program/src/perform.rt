@@ -13,7 +13,7 @@ use crate::opened::{Bounds, Opened, PlanJob};
 use std::alloc::Allocator;
 use std::io::{Read, Write};
 use tx_commands::Command;
-use tx_explain::{Entry, write_explanation};
+use tx_explain::write_explanation;
 use tx_jobs::{
     Drawn, JobFault, Traced, check_status, codes_status, draw_job, grade_status, lint_job,
     pipe_job, run_checked_status, run_job, survival_status, survive_job, survive_risks_job,
@@ -78,7 +78,7 @@ fn do_job<A: Allocator + Copy, F: Folder, I: Read + Drop, O: Write + Drop>(
             bounds,
             keep,
         } => change_files(alloc, old, new, bounds, keep, folder, output)?,
-        Opened::Explain { entry } => explain(entry, output)?,
+        Opened::Explain { word } => explain(word, output)?,
     };
     Ok(status)
 }
@@ -245,10 +245,10 @@ fn numbers(bounds: Option<Bounds>) -> Option<(u8, u8)>
 
 /// `explain [CODE]`.
 fn explain<A: Allocator, O: Write + Drop>(
-    entry: Option<&'static Entry>,
+    word: Option<&str>,
     output: &Output<O, A>,
 ) -> Result<u8, JobFault> {
-    match write_explanation(entry, &mut output.sink()) {
+    match write_explanation(word, &mut output.sink()) {
         Ok(()) => Ok(0),
         Err(_) => Err(JobFault::Write),
     }

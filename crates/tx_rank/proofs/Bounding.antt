@@ -1,6 +1,6 @@
 -- Bounds of what holds together, and those that ranks by height show.
 use Rattle.std.proofs.Common.{◌≡◌, ◌≢◌, ℕ, zero, suc, ◌+◌, ◌<◌, ◌≤◌, inl, inr, max, min, true, false, eqb, eqb-true, List, [], ◌∷◌, ◌++◌, length, Option, Some, refl, sym, ap, subst, ◌∙◌, arith, length-append}
-use Rattle.std.specs.Prelude.{◌↔◌, slice_get}
+use Rattle.std.specs.Prelude.{◌↔◌}
 use Rattle.std.proofs.lemmas.Bool.{cases_lt, eqb-false}
 use Rattle.tx_plan.specs.Plan.{Plan}
 use Rattle.tx_plan.specs.Certified.{Ranks, IsCertified}
@@ -9,10 +9,9 @@ use Rattle.tx_rank.specs.declared.finding.Finding.TheVariants.{Short, Long}
 use Rattle.tx_rank.specs.Walks.{Net, net_of, Goes, end_of, IsShort, IsLong}
 use Rattle.tx_rank.specs.Heights.{RanksByHeight, AreHeights}
 use Rattle.tx_rank.specs.Nets.{Certifies}
-use Rattle.tx_rank.specs.Grades.{AreBounds, CanBeCertified, CanBeCertifiedFor, NothingIsWrong, AreCodeBounds, Suits}
+use Rattle.tx_rank.specs.Grades.{AreBounds, NothingIsWrong, Suits}
 use Rattle.tx_rank.proofs.Ranks.{Falls, all_down, once_down}
-use Rattle.tx_rank.proofs.Origins.{at_push}
-use Rattle.tx_rank.proofs.Certifying.{certifies_code, certified_codes, none_true}
+use Rattle.tx_rank.proofs.Certifying.{certifies_code}
 
 -- TOGETHER
 
@@ -120,67 +119,16 @@ module _ (n : Net) (ranks : ℕ → Option ℕ) where
         bounds_same (SuitsBelow n ranks i) (λ l s. (other : ℕ → Option ℕ) × Certifies n other l s) b p
         (λ l s. (λ k. (ranks, suits_certified l s (λ x r ranked away. k x (within x r ranked) r ranked away)), λ k x _. certified_suits k.0 l s k.1 x))
 
--- ALL CODES
+-- A CODE OF A PLAN
 
--- these ranks certify the codes before c
-abbrev pub CertifiesBelow : Plan → Ranks → (c limit spare : ℕ) → Type 0
-CertifiesBelow p ranks c limit spare = (d : ℕ) → d < c → Certifies (net_of p d) (ranks d) limit spare
-
--- the bounds of the codes before c, together and one by one
-pub record IsGradedBelow (p : Plan) (ranks : Ranks) (c : ℕ) (b : Bounds) (codes : List (ℕ × Bounds)) : Type 0 where
-  pub together : AreBounds (CertifiesBelow p ranks c) b
-  pub long : length codes ≡ c
-  pub each : (d : ℕ) (q : ℕ × Bounds) → slice_get codes d ≡ Some q → (q.0 ≡ d) × AreBounds (CanBeCertifiedFor p d) q.1
-
-module _ (p : Plan) (ranks : Ranks) where
-  module _ (heights : AreHeights p ranks) (certified : IsCertified p ranks 255 0) where
-    -- what any ranks certify, these do
-    best : (c : ℕ) → c < length p.codes → (l s : ℕ) → CanBeCertifiedFor p c l s → Certifies (net_of p c) (ranks c) l s
-    best c h l s k =
-        let own = certifies_code p ranks 255 0 certified c h in
-        suits_certified (net_of p c) (ranks c) (heights c h) own l s (certified_suits (net_of p c) (ranks c) (heights c h) own k.0 l s k.1)
-
-    -- they do so where no finding is true
-    clear_code : {A : Type 0} (c : ℕ) → c < length p.codes → (l s : ℕ) → NothingIsWrong A p l s → Certifies (net_of p c) (ranks c) l s
-    clear_code c h l s none =
-        let own = certifies_code p ranks 255 0 certified c h in
-        suits_certified (net_of p c) (ranks c) (heights c h) own l s
-        (clear_suits (net_of p c) (ranks c) (heights c h) own l s (λ x steps i. none (Short c (record { start = x; steps = steps })) (h, i)) (λ x steps i. none (Long c (record { start = x; steps = steps })) (h, i)))
-
-    pub graded_next : (c : ℕ) (a b new : Bounds) (codes : List (ℕ × Bounds)) → c < length p.codes → IsGradedBelow p ranks c a codes → AreBounds (CanBeCertifiedFor p c) b
-        → new.limit ≡ max a.limit b.limit → new.spare ≡ min a.spare b.spare → IsGradedBelow p ranks (c + 1) new (codes ++ (c, b) ∷ [])
-    graded_next c a b new codes within g q limit spare =
-        record {
-          together = bounds_both (CertifiesBelow p ranks c) (CanBeCertifiedFor p c) (CertifiesBelow p ranks (c + 1)) a b new g.together q limit spare
-              (λ l s. (
-                λ r. (λ d h. r d (omega arith), (ranks c, r c (omega arith))),
-                λ k d h. elim (eqb d c) as (λ t. eqb d c ≡ t → Certifies (net_of p d) (ranks d) l s) [
-                  | true ↦ λ e. subst (λ y. Certifies (net_of p y) (ranks y) l s) (sym (eqb-true d c e)) (best c within l s k.1)
-                  | false ↦ λ e. let away = eqb-false d c e in k.0 d (omega arith)
-                ] refl,
-              ));
-          long = let l = g.long in simp length-append (omega arith);
-          each = λ d e at. elim (at_push codes (c, b) e d at) [
-            | inl m ↦ g.each d e m
-            | inr m ↦
-                let here : d ≡ c = m.0 ∙ g.long in
-                (ap (λ (y : ℕ × Bounds). y.0) m.1 ∙ sym here, subst (λ (k : ℕ). AreBounds (CanBeCertifiedFor p k) e.1) (sym here) (subst (λ (y : ℕ × Bounds). AreBounds (CanBeCertifiedFor p c) y.1) (sym m.1) q))
-          ];
-        }
-
-    module _ (c : ℕ) (b : Bounds) (codes : List (ℕ × Bounds)) (all : c ≡ length p.codes) (g : IsGradedBelow p ranks c b codes) where
-      pub graded_plan : AreBounds (CanBeCertified p) b
-      graded_plan =
-          bounds_same (CertifiesBelow p ranks c) (CanBeCertified p) b g.together
-          (λ l s. (λ k. (ranks, certified_codes p ranks l s certified.no_prefix (λ d h. k d (omega arith))), λ k d h. best d (omega arith) l s (k.0 d, certifies_code p k.0 l s k.1 d (omega arith))))
-
-      pub graded_clear : (A : Type 0) → AreBounds (NothingIsWrong A p) b
-      graded_clear A =
-          bounds_same (CertifiesBelow p ranks c) (NothingIsWrong A p) b g.together
-          (λ l s. (
-            λ k. none_true p ranks l s (certified_codes p ranks l s certified.no_prefix (λ d h. k d (omega arith))),
-            λ none d h. clear_code {A = A} d (omega arith) l s none,
-          ))
-
-      pub graded_codes : AreCodeBounds p codes
-      graded_codes = record { long = g.long ∙ all; each = g.each }
+module _ (p : Plan) (ranks : Ranks) (heights : AreHeights p ranks)
+    (certified : IsCertified p ranks 255 0) where
+  -- these ranks certify a code where no finding is true
+  pub clear_code : {A : Type 0} (c : ℕ) → c < length p.codes → (l s : ℕ)
+      → NothingIsWrong A p l s → Certifies (net_of p c) (ranks c) l s
+  clear_code c h l s none =
+      let own = certifies_code p ranks 255 0 certified c h in
+      suits_certified (net_of p c) (ranks c) (heights c h) own l s
+      (clear_suits (net_of p c) (ranks c) (heights c h) own l s
+      (λ x steps i. none (Short c (record { start = x; steps = steps })) (h, i))
+      (λ x steps i. none (Long c (record { start = x; steps = steps })) (h, i)))

@@ -34,6 +34,10 @@ pub back_none : {X : Type 0} (xs ys : List X) → xs ++ ys ≡ [] → ys ≡ []
 back_none [] ys e = e
 back_none (x ∷ xs) ys e = absurd (let bad : ⊥ = cc in bad)
 
+pub no_pair : {A : Type 0} (o : Option (ℕ × ℕ)) → pair_findings {A = A} o ≡ [] → o ≡ None
+no_pair None e = refl
+no_pair (Some q) e = absurd (let bad : ⊥ = cc in bad)
+
 -- EACH FINDING IS TRUE
 
 pair_true : (A : Type 0) (p : Plan) (limit spare : ℕ) (o : Option (ℕ × ℕ)) → ambiguous_of p.codes ≡ o → AllByRecursion (IsTrueOf p limit spare) (pair_findings {A = A} o)
@@ -125,7 +129,3 @@ module _ {A : Type 0} (p : Plan) (limit spare : ℕ) where
           certified_codes p (ranks_of cert) limit spare
           (none_distinct p.codes (no_pair (ambiguous_of p.codes) (front_none (pair_findings (ambiguous_of p.codes)) r.rest (sym r.joined ∙ none))))
           (λ d h. r.certified (back_none (pair_findings (ambiguous_of p.codes)) r.rest (sym r.joined ∙ none)) d (omega arith))
-        where
-          no_pair : (o : Option (ℕ × ℕ)) → pair_findings {A = A} o ≡ [] → o ≡ None
-          no_pair None e = refl
-          no_pair (Some q) e = absurd (let bad : ⊥ = cc in bad)

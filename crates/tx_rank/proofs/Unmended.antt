@@ -54,6 +54,14 @@ module _ (n : Net) (net : IsNet n) where
       let k = l.long in
       omega arith
 
+-- so none of a plan is longer than 256 steps
+pub no_long : (p : Plan) → IsPlan p → (c : ℕ) → c < length p.codes
+    → (x : ℕ) (steps : List (ℕ × ℕ)) → IsLong (net_of p c) 255 x steps → ⊥
+no_long p ok c h x steps l =
+    let f = long_few (net_of p c) (is_net p ok c h) 255 x steps l in
+    let few = ok.few_exchanges in
+    omega arith
+
 -- WHATEVER THE LIMIT
 
 module _ {A : Type 0} (p : Plan) where
@@ -61,7 +69,8 @@ module _ {A : Type 0} (p : Plan) where
     code_unmended : (c : ℕ) → c < length p.codes → (fs : List (Finding A)) → AreFindingsOfCode (net_of p c) c 255 0 fs → AreFindingsOfCode (net_of p c) c limit 0 fs
     code_unmended c h fs (looped w l e) = looped w l e
     code_unmended c h fs (straight none shorts s None l e) = straight none shorts s None (λ x steps long. let f = long_few (net_of p c) (is_net p ok c h) limit x steps long in absurd (omega arith)) e
-    code_unmended c h fs (straight none shorts s (Some w) l e) = absurd (let f = long_few (net_of p c) (is_net p ok c h) 255 w.start w.steps l in let few = ok.few_exchanges in omega arith)
+    code_unmended c h fs (straight none shorts s (Some w) l e) =
+        absurd (no_long p ok c h w.start w.steps l)
 
     below_unmended : (c : ℕ) → c ≤ length p.codes → (fs : List (Finding A)) → AreFindingsBelow p 255 0 c fs → AreFindingsBelow p limit 0 c fs
     below_unmended zero h fs l = l

@@ -1,5 +1,5 @@
 -- The grade of a plan and of a code: with which limits and spare numbers some ranks certify it.
-use Rattle.std.specs.Prelude.{◌≡◌, ◌≢◌, ◌↔◌, ℕ, ◌+◌, ◌<◌, ◌≤◌, List, length, Option, Some, slice_get}
+use Rattle.std.specs.Prelude.{◌≡◌, ◌≢◌, ◌↔◌, ℕ, ◌+◌, ◌<◌, ◌≤◌, List, length, Option, Some, None, slice_get}
 use Rattle.tx_plan.specs.Plan.{Plan}
 use Rattle.tx_plan.specs.Certified.{Ranks, IsCertified}
 use Rattle.tx_rank.specs.declared.bounds.Bounds.{Bounds}
@@ -25,10 +25,17 @@ pub record AreBounds (Holds : (limit spare : ℕ) → Type 0) (b : Bounds) : Typ
   pub few : b.spare ≤ 15
   pub exactly : (limit spare : ℕ) → spare ≤ 15 → Holds limit spare ↔ ((b.limit ≤ limit) × (spare ≤ b.spare))
 
--- each code with its bounds, in order
-pub record AreCodeBounds (p : Plan) (codes : List (ℕ × Bounds)) : Type 0 where
+-- A GRADE: the bounds with which it holds; or none, where it holds with no limit and no spare
+-- number.
+abbrev pub IsGrade : ((limit spare : ℕ) → Type 0) → Option Bounds → Type 0
+IsGrade Holds (Some b) = AreBounds Holds b
+IsGrade Holds None = (limit spare : ℕ) → Holds limit spare → ⊥
+
+-- each code with its own grade, in order
+pub record AreCodeGrades (p : Plan) (codes : List (ℕ × Option Bounds)) : Type 0 where
   pub long : length codes ≡ length p.codes
-  pub each : (c : ℕ) (q : ℕ × Bounds) → slice_get codes c ≡ Some q → (q.0 ≡ c) × AreBounds (CanBeCertifiedFor p c) q.1
+  pub each : (c : ℕ) (q : ℕ × Option Bounds) → slice_get codes c ≡ Some q
+      → (q.0 ≡ c) × IsGrade (CanBeCertifiedFor p c) q.1
 
 -- WITHOUT A GRADE: the findings without a spare group, whatever the limit, if it is no smaller than the number of exchanges and so no walk is too long
 abbrev pub AreUnmended : {A : Type 0} → Plan → List (Finding A) → Type 0

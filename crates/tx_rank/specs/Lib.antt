@@ -6,5 +6,4 @@ pub mod Rankings
 pub mod Nets
 pub mod Judged
 pub mod Grades
-pub mod Gradings
 pub mod inner

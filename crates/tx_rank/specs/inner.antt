@@ -2,3 +2,4 @@ pub mod Judged
 pub mod Links
 pub mod Marks
 pub mod Seen
+pub mod Together

@@ -1,5 +1,6 @@
 // The limits and the spare numbers with which something is certified.
 ghost use Rattle.std.specs.Prelude.{◌≡◌, max, min};
+ghost use Rattle.tx_rank.specs.inner.Together.{together};
 
 /// The least transit limit and the greatest spare number, which is at most 15.
 #[derive(Clone, Copy)]
@@ -30,4 +31,11 @@ impl Bounds {
             spare: self.spare.min(other.spare),
         }
     }
+}
+
+/// Those of two things together, if each has some.
+pub fn both(one: Option<Bounds>, other: Option<Bounds>) -> Option<Bounds>
+    ensures { result ≡ together one other }
+{
+    Some(one?.both(other?))
 }

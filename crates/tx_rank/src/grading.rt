@@ -1,67 +1,97 @@
 // The grading of a plan.
-ghost use Rattle.std.specs.Prelude.{◌≡◌, ◌≢◌, ℕ, length, [], IfOk};
+ghost use Rattle.std.specs.Prelude.{◌≡◌, ◌≢◌, ◌<◌, ℕ, length, [], None, IfOk, IfSome, IfNone};
 ghost use Rattle.std.specs.List.{AllByRecursion};
-ghost use Rattle.tx_plan.specs.Certified.{Ranks, IsCertified};
-ghost use Rattle.tx_cert.specs.Certificate.{ranks_of};
-ghost use Rattle.tx_rank.specs.Heights.{AreHeights};
+ghost use Rattle.tx_cert.specs.Certificate.{rank_at as ranked_at};
+ghost use Rattle.tx_rank.specs.Walks.{net_of};
 ghost use Rattle.tx_rank.specs.Findings.{IsTrueOf};
-ghost use Rattle.tx_rank.specs.Grades.{AreBounds, CanBeCertified, NothingIsWrong, AreCodeBounds, AreUnmended};
-ghost use Rattle.tx_rank.specs.Gradings.{IsGraded, OnGraded, OnUngraded};
+ghost use Rattle.tx_rank.specs.Judged.{AreOrigins, IsJudged};
+ghost use Rattle.tx_rank.specs.Grades.{IsGrade, CanBeCertified, CanBeCertifiedFor, NothingIsWrong, AreCodeGrades, AreUnmended};
 
-use crate::bounds::Bounds;
+use crate::bounds::{Bounds, both};
 use crate::code_bounds::code_bounds;
+use crate::code_ranking::rank_code;
+use crate::code_routes::{CodeRoutes, origins_of};
+use crate::finding::Finding;
 use crate::plan_grade::Grade;
-use crate::ranking::{pair_found, rank_codes};
+use crate::ranking::pair_found;
 use std::alloc::Allocator;
 use tx_cert::Cert;
 use tx_plan::{CodeId, Plan};
 use tx_text::NoMemory;
 
-/// The grade that the ranks by height show.
-fn graded<A: Allocator + Copy>(
+/// Tells the grade of a code, or adds what no limit and no spare number mends.
+fn code_grade<A: Allocator + Copy>(
     alloc: A,
     plan: &Plan<A>,
-    cert: &Cert<A>,
-) -> Result<Grade<A>, NoMemory>
-    requires exchanges { cert.now.exchanges ≡ length plan.now.exchanges }
-    requires heights { AreHeights plan.now (ranks_of cert.now) }
-    requires certified { IsCertified plan.now (ranks_of cert.now) 255 0 }
-    ensures is_graded { IfOk result IsGraded }
-    ensures plan { IfOk result (OnGraded (λ bounds codes. AreBounds (CanBeCertified plan.now) bounds)) }
-    ensures clear { IfOk result (OnGraded (λ bounds codes. AreBounds (NothingIsWrong A plan.now) bounds)) }
-    ensures codes { IfOk result (OnGraded (λ bounds codes. AreCodeBounds plan.now codes)) }
+    origins: &[bool],
+    code: CodeId,
+    cert: &mut Cert<A>,
+    findings: &mut Vec<Finding<A>, A>,
+) -> Result<Option<Bounds>, NoMemory>
+    requires code { code < length plan.now.codes }
+    requires origins { AreOrigins plan.now origins.now }
+    requires codes { cert.old.codes ≡ length plan.now.codes }
+    requires exchanges { cert.old.exchanges ≡ length plan.now.exchanges }
+    requires blank { (x : ℕ) → ranked_at cert.old code x ≡ None }
+    ensures grade { IfOk result (IsGrade (CanBeCertifiedFor plan.now code)) }
+    ensures judged { IfOk result (λ _. IsJudged (net_of plan.now code) code 255 0
+        findings.old.items findings.new.items (ranked_at cert.new code)) }
+    ensures others { IfOk result (λ _. (d x : ℕ) → d ≢ code
+        → ranked_at cert.new d x ≡ ranked_at cert.old d x) }
+    ensures codes { cert.new.codes ≡ cert.old.codes }
+    ensures exchanges { cert.new.exchanges ≡ cert.old.exchanges }
 {
     plan.rules();
-    let mut bounds = Bounds::widest();
-    let mut codes = Vec::with_capacity(alloc, plan.codes())?;
-    for place in 0..plan.codes() {
-        let code = CodeId::at(place as u16);
-        let alone = code_bounds(plan, cert, code);
-        bounds = bounds.both(alone);
-        codes.push_reserved((code, alone));
+    let net = CodeRoutes {
+        plan,
+        origins,
+        code,
+    };
+    let before = findings.len();
+    // No walk is too long for this limit, and only an empty list is too short.
+    rank_code(alloc, &net, code, u8::MAX, 0, cert, findings)?;
+    if findings.len() > before {
+        return Ok(None);
     }
-    Ok(Grade::Graded(bounds, codes))
+    Ok(Some(code_bounds(plan, cert, code)))
 }
 
-/// Tells with which limits, and which spare numbers up to 15, some ranks certify the plan, and each of its codes alone; or what no limit and no spare number
+/// Tells with which limits, and which spare numbers up to 15, some ranks certify the plan, and each
+/// of its codes alone; and if they certify the plan with none, what no limit and no spare number
 /// mends. `Err` is want of memory.
 pub fn grade<A: Allocator + Copy>(alloc: A, plan: &Plan<A>) -> Result<Grade<A>, NoMemory>
-    // A grade is told wherever any ranks certify the plan, and it says with which limits and spare numbers they do, and so for which no finding is true.
-    ensures wherever { IfOk result (λ g. (ranks : Ranks) (limit spare : ℕ) → IsCertified plan.now ranks limit spare → IsGraded g) }
-    ensures plan { IfOk result (OnGraded (λ bounds codes. AreBounds (CanBeCertified plan.now) bounds)) }
-    ensures clear { IfOk result (OnGraded (λ bounds codes. AreBounds (NothingIsWrong A plan.now) bounds)) }
-    ensures codes { IfOk result (OnGraded (λ bounds codes. AreCodeBounds plan.now codes)) }
+    // The grade of the plan says with which limits and spare numbers some ranks certify it, and so
+    // for which no finding is true.
+    ensures plan { IfOk result (λ g. IsGrade (CanBeCertified plan.now) g.plan) }
+    ensures clear { IfOk result (λ g. IsGrade (NothingIsWrong A plan.now) g.plan) }
+    ensures codes { IfOk result (λ g. AreCodeGrades plan.now g.codes.items) }
 
-    ensures fails { IfOk result (OnUngraded (λ findings. findings ≢ [])) }
-    ensures each { IfOk result (OnUngraded (λ findings. (limit spare : ℕ) → AllByRecursion (IsTrueOf plan.now limit spare) findings)) }
-    ensures listed { IfOk result (OnUngraded (AreUnmended plan.now)) }
+    // Something is found exactly where the plan has no grade.
+    ensures fails { IfOk result (λ g. IfNone g.plan (g.findings.items ≢ [])) }
+    ensures clean { IfOk result (λ g. IfSome g.plan (λ _. g.findings.items ≡ [])) }
+    ensures each { IfOk result (λ g. (limit spare : ℕ)
+        → AllByRecursion (IsTrueOf plan.now limit spare) g.findings.items) }
+    ensures listed { IfOk result (λ g. AreUnmended plan.now g.findings.items) }
 {
     plan.rules();
+    let origins = origins_of(alloc, plan)?;
+    let mut cert = Cert::new(alloc, plan)?;
     let mut findings = pair_found(alloc, plan)?;
-    // No walk is too long for this limit, and only an empty list is too short.
-    let cert = rank_codes(alloc, plan, u8::MAX, 0, &mut findings)?;
-    if findings.is_empty() {
-        return graded(alloc, plan, &cert);
+    let mut codes = Vec::with_capacity(alloc, plan.codes())?;
+    let mut together = if findings.is_empty() {
+        Some(Bounds::widest())
+    } else {
+        None
+    };
+    for place in 0..plan.codes() {
+        let code = CodeId::at(place as u16);
+        let alone = code_grade(alloc, plan, &origins, code, &mut cert, &mut findings)?;
+        together = both(together, alone);
+        codes.push_reserved((code, alone));
     }
-    Ok(Grade::Ungraded(findings))
+    Ok(Grade {
+        plan: together,
+        codes,
+        findings,
+    })
 }

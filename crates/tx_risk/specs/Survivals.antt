@@ -1,6 +1,6 @@
 -- What a search for outages answers.
 use Rattle.std.specs.Prelude.{List}
-use Rattle.tx_rank.specs.declared.finding.Finding.{Finding}
+use Rattle.tx_rank.specs.declared.plan_grade.Grade.{Grade}
 use Rattle.tx_risk.specs.declared.cut.Cut.{Cut}
 use Rattle.tx_risk.specs.declared.surviving.Survival.{Survival}
 use Rattle.tx_risk.specs.declared.surviving.Survival.TheVariants.{Tried, Ungraded}
@@ -9,14 +9,14 @@ module _ {A : Type 0} where
   -- all outages were tried
   abbrev pub AreTried : Survival A → Type 0
   AreTried (Tried cuts) = Unit {0}
-  AreTried (Ungraded findings) = ⊥
+  AreTried (Ungraded grade) = ⊥
 
   -- it holds of what they cut off, if they were tried
   abbrev pub OnTried : (List (Cut A) → Type 0) → Survival A → Type 0
   OnTried Holds (Tried cuts) = Holds cuts.items
-  OnTried Holds (Ungraded findings) = Unit {0}
+  OnTried Holds (Ungraded grade) = Unit {0}
 
-  -- it holds of the findings, if there are some
-  abbrev pub OnUngraded : (List (Finding A) → Type 0) → Survival A → Type 0
+  -- it holds of what is told in place of a grade, if the plan has none
+  abbrev pub OnUngraded : (Grade A → Type 0) → Survival A → Type 0
   OnUngraded Holds (Tried cuts) = Unit {0}
-  OnUngraded Holds (Ungraded findings) = Holds findings.items
+  OnUngraded Holds (Ungraded grade) = Holds grade

@@ -1,9 +1,9 @@
 // Outages of a plan that has a grade.
-ghost use Rattle.std.specs.Prelude.{◌≢◌, ℕ, [], IfOk};
+ghost use Rattle.std.specs.Prelude.{◌≡◌, ◌≢◌, ℕ, [], None, IfOk};
 ghost use Rattle.std.specs.List.{AllByRecursion};
 ghost use Rattle.tx_plan.specs.Certified.{Ranks, IsCertified};
 ghost use Rattle.tx_rank.specs.Findings.{IsTrueOf};
-ghost use Rattle.tx_rank.specs.Grades.{AreUnmended};
+ghost use Rattle.tx_rank.specs.Grades.{AreCodeGrades, AreUnmended};
 ghost use Rattle.tx_risk.specs.NamedRisks.{AreRisksFor};
 ghost use Rattle.tx_risk.specs.Outages.{AreAllCuts};
 ghost use Rattle.tx_risk.specs.Survivals.{AreTried, OnTried, OnUngraded};
@@ -13,7 +13,7 @@ use crate::named_risk::NamedRisk;
 use crate::outages::all_cuts;
 use std::alloc::{Allocator, Global};
 use tx_plan::Plan;
-use tx_rank::{Finding, Grade, grade};
+use tx_rank::{Grade, grade};
 use tx_text::NoMemory;
 
 /// What the outages of a plan cut off, or why the plan has no grade.
@@ -21,8 +21,9 @@ use tx_text::NoMemory;
 pub enum Survival<A: Allocator = Global> {
     /// What each outage cuts off, by outages in order: groups, exchanges, named risks.
     Tried(Vec<Cut<A>, A>),
-    /// What is wrong with the plan, whatever limit and spare number it is to have.
-    Ungraded(Vec<Finding<A>, A>),
+    /// The plan has no grade: the grades of its codes, and what is wrong with it, whatever limit
+    /// and spare number it is to have.
+    Ungraded(Grade<A>),
 }
 
 /// Tells what each group, each exchange and each named risk cuts off if it fails alone; or why the
@@ -39,13 +40,19 @@ pub fn survive<A: Allocator + Copy>(
         → IsCertified plan.now ranks limit spare → AreTried s) }
     ensures cuts { IfOk result (OnTried (AreAllCuts plan.now risks.now)) }
 
-    ensures fails { IfOk result (OnUngraded (λ findings. findings ≢ [])) }
-    ensures each { IfOk result (OnUngraded (λ findings. (limit spare : ℕ)
-        → AllByRecursion (IsTrueOf plan.now limit spare) findings)) }
-    ensures listed { IfOk result (OnUngraded (AreUnmended plan.now)) }
+    ensures ungraded { IfOk result (OnUngraded (λ g. g.plan ≡ None)) }
+    ensures codes { IfOk result (OnUngraded (λ g. AreCodeGrades plan.now g.codes.items)) }
+    ensures fails { IfOk result (OnUngraded (λ g. g.findings.items ≢ [])) }
+    ensures each { IfOk result (OnUngraded (λ g. (limit spare : ℕ)
+        → AllByRecursion (IsTrueOf plan.now limit spare) g.findings.items)) }
+    ensures listed { IfOk result (OnUngraded (λ g. AreUnmended plan.now g.findings.items)) }
 {
-    match grade(alloc, plan)? {
-        Grade::Graded(..) => Ok(Survival::Tried(all_cuts(alloc, plan, risks)?)),
-        Grade::Ungraded(findings) => Ok(Survival::Ungraded(findings)),
+    let grade = grade(alloc, plan)?;
+    match grade.plan {
+        Some(_) => {
+            drop(grade);
+            Ok(Survival::Tried(all_cuts(alloc, plan, risks)?))
+        }
+        None => Ok(Survival::Ungraded(grade)),
     }
 }

@@ -12,7 +12,7 @@ use Rattle.tx_risk.specs.declared.surviving.Survival.TheVariants.{Tried, Ungrade
 use Rattle.tx_risk.specs.NamedRisks.{NamedRisk}
 use Rattle.tx_risk.specs.Outages.{outages}
 use Rattle.tx_audit.specs.Report.{step_text, verdict_line}
-use Rattle.tx_audit.specs.GradeText.{findings_text}
+use Rattle.tx_audit.specs.GradeText.{grade_text}
 
 -- how many outages were tried
 abbrev pub head_line : ℕ → List ℕ
@@ -67,8 +67,8 @@ module _ {A : Type 0} where
   tried_text p risks cuts =
       head_line (outages p risks) ++ (cuts_text p risks None cuts ++ verdict_line (length cuts))
 
-  -- THE REPORT: how many outages were tried, what each cuts off, and the verdict; or that the plan
-  -- has no grade, and why
+  -- THE REPORT: how many outages were tried, what each cuts off, and the verdict; or the text of
+  -- the grade, where the plan has none
   abbrev pub survival_text : Plan → List NamedRisk → Survival A → List ℕ
   survival_text p risks (Tried cuts) = tried_text p risks cuts.items
-  survival_text p risks (Ungraded findings) = findings_text p findings.items
+  survival_text p risks (Ungraded grade) = grade_text p grade

@@ -1,21 +1,20 @@
 // The writer of what outages cut off.
 ghost use Rattle.std.specs.Prelude.{◌≡◌, ◌<◌, ◌++◌, [], if◌then◌else◌, None, Some, length, slice_get};
 ghost use Rattle.tx_text.specs.Wrote.{Wrote};
-ghost use Rattle.tx_audit.specs.GradeText.{findings_text};
 ghost use Rattle.tx_risk.specs.declared.cut.Cut.{Cut};
 ghost use Rattle.tx_risk_report.specs.inner.Before.{outage_before};
 ghost use Rattle.tx_risk_report.specs.OutageReport.{head_line, risk_name, outage_line, same_outage, is_same_as, start_text, cut_line, cuts_text, tried_text, survival_text};
 
 use itoa::Buffer;
 use std::alloc::Allocator;
-use tx_audit::{write_findings, write_steps, write_verdict};
+use tx_audit::{write_grade, write_steps, write_verdict};
 use tx_plan::{CodeId, Plan};
-use tx_rank::{Finding, Walk};
+use tx_rank::Walk;
 use tx_risk::{Cut, NamedRisk, Outage, Survival};
 use tx_text::{Sink, WriteFault, write_text};
 
 /// Writes how many outages were tried, what each cuts off, and the verdict; or that the plan has no
-/// grade, and why.
+/// grade, as its grade is written.
 pub fn write_survival<A: Allocator, W: Sink>(
     plan: &Plan<A>,
     risks: &[NamedRisk<A>],
@@ -27,21 +26,8 @@ pub fn write_survival<A: Allocator, W: Sink>(
 {
     match survival {
         Survival::Tried(cuts) => write_tried(plan, risks, cuts, sink),
-        Survival::Ungraded(findings) => write_none(plan, findings, sink),
+        Survival::Ungraded(grade) => write_grade(plan, grade, sink),
     }
-}
-
-fn write_none<A: Allocator, W: Sink>(
-    plan: &Plan<A>,
-    findings: &[Finding<A>],
-    sink: &mut W,
-) -> Result<(), WriteFault>
-    ensures { Wrote (W.taken sink.old) (W.taken sink.new) (W.failed sink.old) (W.failed sink.new)
-        (findings_text plan.now findings.now) result }
-{
-    write_text(&[b"GRADE NONE\n"], sink)?;
-    write_findings(plan, findings, sink)?;
-    write_verdict(findings.len(), sink)
 }
 
 fn write_tried<A: Allocator, W: Sink>(

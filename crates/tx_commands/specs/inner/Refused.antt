@@ -1,7 +1,7 @@
 -- Why the words of a command that was found are refused.
-use Rattle.std.specs.Prelude.{◌≡◌, ℕ, true, false, ◌&&◌, ◌||◌, List, Option, None, option_and_then, codes, IsSomeAnd}
+use Rattle.std.specs.Prelude.{◌≡◌, ℕ, true, false, ◌&&◌, ◌||◌, List, Option, Some, option_map, codes, IsSomeAnd}
 use Rattle.clap.specs.Words.{Row, first_of}
-use Rattle.tx_explain.specs.Entries.{explanation}
+use Rattle.tx_explain.specs.Entries.{is_known}
 use Rattle.tx_commands.specs.Commands.{IsFoundIn}
 use Rattle.tx_commands.specs.Files.{reads_input_twice, overwrites}
 use Rattle.tx_commands.specs.Faults.{has, IsRunInPart}
@@ -15,11 +15,10 @@ pub record IsDrawInPart (name : List ℕ) (found : List Row) : Type 0 where
   pub some : (has found (codes "limit") || has found (codes "spare")) ≡ true
   pub not_all : (has found (codes "code") && (has found (codes "limit") && has found (codes "spare"))) ≡ false
 
--- `explain` has a word that the table has not
+-- `explain` has a word that asks for no entry of the table
 pub record IsNoCode (name : List ℕ) (found : List Row) : Type 0 where
   pub explain : name ≡ codes "explain"
-  pub given : has found (codes "code") ≡ true
-  pub unknown : option_and_then explanation (first_of (codes "code") found) ≡ None
+  pub unknown : option_map is_known (first_of (codes "code") found) ≡ Some false
 
 -- two files of the command clash in this way
 abbrev pub IsClash : Command → Refusal → Type 0

@@ -45,9 +45,9 @@ pub fn survival_differs(
             drop(told);
             Ok(differs)
         }
-        Survival::Ungraded(told) => {
-            let differs = findings_differ(plan, &told, findings, HIGH, 0);
-            drop(told);
+        Survival::Ungraded(grade) => {
+            let differs = findings_differ(plan, &grade.findings, findings, HIGH, 0);
+            drop(grade);
             Ok(differs)
         }
     }

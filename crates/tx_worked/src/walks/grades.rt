@@ -15,44 +15,47 @@ const LIMITS: [u8; 5] = [0, 1, 2, 3, HIGH];
 
 const SPARES: [u8; 5] = [0, 1, 2, 3, 15];
 
-/// Whether a limit and a spare number keep to bounds.
-fn keeps(bounds: Bounds, limit: u8, spare: u8) -> bool {
-    bounds.limit <= u16::from(limit) && spare <= bounds.spare
+/// Whether a limit and a spare number keep to a grade.
+fn keeps(grade: Option<Bounds>, limit: u8, spare: u8) -> bool {
+    match grade {
+        Some(bounds) => bounds.limit <= u16::from(limit) && spare <= bounds.spare,
+        None => false,
+    }
 }
 
-/// Whether something is wrong with each code exactly where the numbers do not keep to its bounds.
+/// Whether something is wrong with each code exactly where the numbers do not keep to its grade.
 fn codes_agree(
     plan: &Plan,
     surveys: &[Survey],
-    codes: &[(CodeId, Bounds)],
+    codes: &[(CodeId, Option<Bounds>)],
     limit: u8,
     spare: u8,
     wanted: &mut Vec<Wanted>,
 ) -> Result<bool, NoMemory> {
-    for (survey, (code, bounds)) in surveys.iter().zip(codes) {
+    for (survey, (code, grade)) in surveys.iter().zip(codes) {
         put_code(plan, survey, limit, spare, wanted)?;
         let right = wanted.is_empty();
-        if survey.code != *code || right != keeps(*bounds, limit, spare) {
+        if survey.code != *code || right != keeps(*grade, limit, spare) {
             return Ok(false);
         }
     }
     Ok(surveys.len() == codes.len())
 }
 
-/// Whether something is wrong with the plan, and with each code, exactly where the numbers do not keep to the bounds.
+/// Whether something is wrong with the plan, and with each code, exactly where the numbers do not
+/// keep to its grade.
 fn bounds_agree(
     plan: &Plan,
     surveys: &[Survey],
-    bounds: Bounds,
-    codes: &[(CodeId, Bounds)],
+    grade: &Grade,
     wanted: &mut Vec<Wanted>,
 ) -> Result<bool, NoMemory> {
     for limit in LIMITS {
         for spare in SPARES {
             put_wanted(plan, surveys, limit, spare, wanted)?;
             let right = wanted.is_empty();
-            if right != keeps(bounds, limit, spare)
-                || !codes_agree(plan, surveys, codes, limit, spare, wanted)?
+            if right != keeps(grade.plan, limit, spare)
+                || !codes_agree(plan, surveys, &grade.codes, limit, spare, wanted)?
             {
                 return Ok(false);
             }
@@ -69,6 +72,9 @@ fn findings_agree(
     wanted: &mut Vec<Wanted>,
 ) -> Result<bool, NoMemory> {
     put_wanted(plan, surveys, HIGH, 0, wanted)?;
+    if wanted.is_empty() {
+        return Ok(findings.is_empty());
+    }
     Ok(findings_differ(plan, findings, wanted, HIGH, 0).is_none())
 }
 
@@ -79,16 +85,9 @@ pub fn grade_agrees(
     surveys: &[Survey],
     wanted: &mut Vec<Wanted>,
 ) -> Result<bool, NoMemory> {
-    match grade(alloc, plan)? {
-        Grade::Graded(bounds, codes) => {
-            let agrees = bounds_agree(plan, surveys, bounds, &codes, wanted);
-            drop(codes);
-            agrees
-        }
-        Grade::Ungraded(findings) => {
-            let agrees = findings_agree(plan, surveys, &findings, wanted);
-            drop(findings);
-            agrees
-        }
-    }
+    let grade = grade(alloc, plan)?;
+    let agrees = bounds_agree(plan, surveys, &grade, wanted)?
+        && findings_agree(plan, surveys, &grade.findings, wanted)?;
+    drop(grade);
+    Ok(agrees)
 }

@@ -1,4 +1,11 @@
 use Rattle.tx_audit.proofs.grade_text.write_bounds.Goals as goal
 
-pub returns : goal.returns
-returns g c = rw (c.as_bytes-limit.ensures.value, c.format.ensures.text, c.as_bytes-spare.ensures.value, c.format-2.ensures.text) at c.write_text.ensures
+pub returns-in-Some : goal.returns-in-Some
+returns-in-Some g c =
+    rw c.in-Some.is
+    (rw (
+      c.as_bytes-limit.ensures.value,
+      c.format.ensures.text,
+      c.as_bytes-spare.ensures.value,
+      c.format-in-Some.ensures.text,
+    ) at c.write_text.ensures)

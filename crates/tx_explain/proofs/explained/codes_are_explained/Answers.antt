@@ -1,5 +1,8 @@
-use Rattle.tx_explain.proofs.Printed.{plans, warnings, certificates, scripts, risks, refusals, checks, findings, mendings}
+use Rattle.tx_explain.proofs.Printed.{once, plans, warnings, certificates, scripts, risks, refusals, causes, checks, findings, mendings}
 use Rattle.tx_explain.proofs.explained.codes_are_explained.Goals as goal
+
+pub returns-clause-once : goal.returns-clause-once
+returns-clause-once g c = once
 
 pub returns-clause-plans : goal.returns-clause-plans
 returns-clause-plans g c = plans
@@ -18,6 +21,9 @@ returns-clause-risks g c = risks
 
 pub returns-clause-refusals : goal.returns-clause-refusals
 returns-clause-refusals g c = refusals
+
+pub returns-clause-causes : goal.returns-clause-causes
+returns-clause-causes g c = causes
 
 pub returns-clause-checks : goal.returns-clause-checks
 returns-clause-checks g c = checks

@@ -5,7 +5,7 @@ pub returns-in-Ok-write_survival-clause-told : goal.returns-in-Ok-write_survival
 returns-in-Ok-write_survival-clause-told g c =
     let e = c.in-Ok.ensures in (
       survival_is _ c.args.plan.now c.args.risks.now c.in-Ok.survival
-          e.wherever e.cuts e.fails e.each e.listed,
+          e.wherever e.cuts e.ungraded e.codes e.fails e.each e.listed,
       c.in-Ok-write_survival.ensures.0,
     )
 
@@ -15,6 +15,6 @@ returns-in-Err-write_survival-clause-told g c =
     record {
       survival = c.in-Ok.survival;
       right = survival_is _ c.args.plan.now c.args.risks.now c.in-Ok.survival
-          e.wherever e.cuts e.fails e.each e.listed;
+          e.wherever e.cuts e.ungraded e.codes e.fails e.each e.listed;
       wrote = c.in-Err-write_survival.ensures.0;
     }

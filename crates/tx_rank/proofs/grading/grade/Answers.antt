@@ -1,63 +1,148 @@
-use Rattle.std.proofs.Common.{◌≢◌, ◌∙◌, ℕ, sym, ap, length, vec_len, [], arith, eqb-true}
+use Rattle.std.proofs.Common.{◌≡◌, ◌≢◌, ◌∙◌, ◌+◌, ◌++◌, ◌∷◌, ℕ, List, Option, None, length, vec_len, [], sym, ap, subst, arith, eqb-true}
 use Rattle.std.proofs.lemmas.Bool.{eqb-false}
-use Rattle.std.specs.List.{AllByRecursion}
-use Rattle.tx_rank.specs.Findings.{IsTrueOf}
-use Rattle.tx_rank.specs.Grades.{AreUnmended}
-use Rattle.tx_rank.proofs.Certifying.{none_true}
-use Rattle.tx_rank.proofs.Listing.{none_of, some_true}
-use Rattle.tx_rank.proofs.Unmended.{unmended, unmended_true}
-use Rattle.tx_rank.proofs.Graded.{on_ok, no_findings}
+use Rattle.tx_plan.specs.Ambiguous.{ambiguous_of}
+use Rattle.tx_cert.specs.Certificate.{rank_at}
+use Rattle.tx_rank.specs.declared.bounds.Bounds.{Bounds}
+use Rattle.tx_rank.specs.Walks.{net_of}
+use Rattle.tx_rank.specs.Findings.{pair_findings}
+use Rattle.tx_rank.specs.Judged.{IsJudged}
+use Rattle.tx_rank.specs.Grades.{IsGrade, CanBeCertifiedFor}
+use Rattle.tx_rank.proofs.Listing.{none_of, no_pair, ranked_first, ranked_next}
+use Rattle.tx_rank.proofs.Graded.{IsGradedBelow, graded_first, graded_none, graded_next, graded_plan, graded_codes, graded_listed, graded_true, graded_clean, graded_fails, graded_clear}
 use Rattle.tx_rank.proofs.grading.grade.Goals as goal
+use Rattle.tx_rank.proofs.grading.grade.Goals.{then-is_empty, else-is_empty}
 
-pub graded-requires-clause-heights : goal.graded-requires-clause-heights
-graded-requires-clause-heights g c =
-    let empty = eqb-true (vec_len c.rank_codes.new.findings) 0 (sym c.is_empty.ensures ∙ c.if-is_empty.true) in
-    c.in_ok-cert.ensures.heights (none_of c.rank_codes.new.findings.items (omega arith))
+pub loop-place-init : goal.loop-place-init
+loop-place-init g c =
+    let p = c.args.plan.now in
+    let findings = c.in_ok-findings.findings in
+    record {
+      ranked = ranked_first p 255 0 c.in_ok-cert.cert findings.items
+          c.in_ok-cert.ensures c.in_ok-findings.ensures;
+      graded = rw c.in_ok-codes.ensures.items (elim c.if-is_empty.branch [
+        | then-is_empty w ↦
+            let empty =
+            eqb-true (vec_len findings) 0 (sym c.is_empty.ensures ∙ w.if-is_empty.true) in
+            let nothing = none_of findings.items (omega arith) in
+            let none = no_pair (ambiguous_of p.codes) (sym c.in_ok-findings.ensures ∙ nothing) in
+            let e = w.widest.ensures in
+            rw w.together-is (graded_first p w.widest.result none e.limit e.spare)
+        | else-is_empty w ↦
+            let full =
+            eqb-false (vec_len findings) 0 (sym c.is_empty.ensures ∙ w.if-is_empty.false) in
+            let some : ambiguous_of p.codes ≢ None = λ e.
+            let l = ap length (c.in_ok-findings.ensures ∙ ap pair_findings e) in full (omega arith)
+            in
+            rw w.together-is (graded_none p some)
+      ]);
+      room = let r = c.in_ok-codes.ensures.capacity in let n = c.codes.ensures in omega arith;
+    }
 
-pub graded-requires-clause-certified : goal.graded-requires-clause-certified
-graded-requires-clause-certified g c =
-    let empty = eqb-true (vec_len c.rank_codes.new.findings) 0 (sym c.is_empty.ensures ∙ c.if-is_empty.true) in
-    c.in_ok-cert.ensures.certified (none_of c.rank_codes.new.findings.items (omega arith))
+pub loop-place-preserved : goal.loop-place-preserved
+loop-place-preserved g c =
+    let p = c.args.plan.now in
+    let i = c.loop-place.invariant in
+    let e = c.in_ok-alone.ensures in
+    let at = c.at-code.ensures in
+    let k = c.push_reserved.ensures in
+    let place = c.loop-place.place in
+    let alone = c.in_ok-alone.alone in
+    let one = subst (λ (d : ℕ). IsGrade (CanBeCertifiedFor p d) alone) at e.grade in
+    let before = c.loop-place.codes.items in
+    let plan = c.both-together.result in
+    let next = graded_next p place c.loop-place.together alone before i.graded one in
+    let both = subst
+    (λ (b : Option Bounds). IsGradedBelow p (place + 1) b (before ++ (place, alone) ∷ []))
+    (sym c.both-together.ensures) next in
+    let same = subst
+    (λ (d : ℕ). IsGradedBelow p (place + 1) plan (before ++ (d, alone) ∷ []))
+    (sym at) both in
+    record {
+      ranked = ranked_next p 255 0 place c.loop-place.cert c.code_grade.new.cert
+          c.loop-place.findings.items c.code_grade.new.findings.items i.ranked
+          (subst (λ (d : ℕ). IsJudged {A = g.row.A.Denot} (net_of p d) d 255 0
+          c.loop-place.findings.items c.code_grade.new.findings.items
+          (rank_at c.code_grade.new.cert d)) at e.judged)
+          (λ d x away. e.others d x (λ q. away (q ∙ at))) e.codes e.exchanges;
+      graded = subst
+          (λ (codes : List (ℕ × Option Bounds)). IsGradedBelow p (place + 1) plan codes)
+          (sym k.items) same;
+      room = let r = i.room in let q = k.capacity in omega arith;
+    }
 
-pub returns-clause-listed : goal.returns-clause-listed
-returns-clause-listed g c = unmended c.args.plan.now c.rules.ensures c.rank_codes.new.findings.items c.in_ok-cert.ensures.listed
+pub returns-clause-plan : goal.returns-clause-plan
+returns-clause-plan g c =
+    let l = c.loop-place in
+    let all : l.place ≡ length c.args.plan.now.codes =
+    let test = c.loop-place-test.false in
+    let end = l.auto.place-end in
+    let e = c.codes-place-end.ensures in
+    omega arith in
+    graded_plan c.args.plan.now c.rules.ensures l.place all l.together l.codes.items
+    l.invariant.graded
 
-pub returns-clause-each : goal.returns-clause-each
-returns-clause-each g c = unmended_true c.args.plan.now c.rank_codes.new.findings.items (unmended c.args.plan.now c.rules.ensures c.rank_codes.new.findings.items c.in_ok-cert.ensures.listed)
+pub returns-clause-clear : goal.returns-clause-clear
+returns-clause-clear g c =
+    let l = c.loop-place in
+    let all : l.place ≡ length c.args.plan.now.codes =
+    let test = c.loop-place-test.false in
+    let end = l.auto.place-end in
+    let e = c.codes-place-end.ensures in
+    omega arith in
+    graded_clear c.args.plan.now c.rules.ensures l.place all l.together l.codes.items
+    l.invariant.graded l.cert l.findings.items l.invariant.ranked
 
-pub returns-clause-wherever : goal.returns-clause-wherever
-returns-clause-wherever g c = λ ranks limit spare cert.
-    let findings = c.rank_codes.new.findings in
-    let full = eqb-false (vec_len findings) 0 (sym c.is_empty.ensures ∙ c.if-is_empty.false) in
-    let some : findings.items ≢ [] = λ e. let l = ap length e in full (omega arith) in
-    let each = unmended_true c.args.plan.now findings.items (unmended c.args.plan.now c.rules.ensures findings.items c.in_ok-cert.ensures.listed) limit spare in
-    some_true c.args.plan.now limit spare findings.items each some (none_true c.args.plan.now ranks limit spare cert)
+pub returns-clause-codes : goal.returns-clause-codes
+returns-clause-codes g c =
+    let l = c.loop-place in
+    let all : l.place ≡ length c.args.plan.now.codes =
+    let test = c.loop-place-test.false in
+    let end = l.auto.place-end in
+    let e = c.codes-place-end.ensures in
+    omega arith in
+    graded_codes c.args.plan.now c.rules.ensures l.place all l.together l.codes.items
+    l.invariant.graded
 
 pub returns-clause-fails : goal.returns-clause-fails
-returns-clause-fails g c = λ e.
-    let full = eqb-false (vec_len c.rank_codes.new.findings) 0 (sym c.is_empty.ensures ∙ c.if-is_empty.false) in
-    let l = ap length e in full (omega arith)
+returns-clause-fails g c =
+    let l = c.loop-place in
+    let all : l.place ≡ length c.args.plan.now.codes =
+    let test = c.loop-place-test.false in
+    let end = l.auto.place-end in
+    let e = c.codes-place-end.ensures in
+    omega arith in
+    graded_fails c.args.plan.now c.rules.ensures l.place all l.together l.codes.items
+    l.invariant.graded l.cert l.findings.items l.invariant.ranked
 
-pub returns-then-is_empty-clause-wherever : goal.returns-then-is_empty-clause-wherever
-returns-then-is_empty-clause-wherever g c = on_ok (λ r h ranks limit spare cert. h) c.graded.result c.graded.ensures.is_graded
+pub returns-clause-clean : goal.returns-clause-clean
+returns-clause-clean g c =
+    let l = c.loop-place in
+    let all : l.place ≡ length c.args.plan.now.codes =
+    let test = c.loop-place-test.false in
+    let end = l.auto.place-end in
+    let e = c.codes-place-end.ensures in
+    omega arith in
+    graded_clean c.args.plan.now c.rules.ensures l.place all l.together l.codes.items
+    l.invariant.graded l.cert l.findings.items l.invariant.ranked
 
-pub returns-then-is_empty-clause-fails : goal.returns-then-is_empty-clause-fails
-returns-then-is_empty-clause-fails g c = on_ok (no_findings (λ findings. findings ≢ [])) c.graded.result c.graded.ensures.is_graded
+pub returns-clause-each : goal.returns-clause-each
+returns-clause-each g c =
+    let l = c.loop-place in
+    let all : l.place ≡ length c.args.plan.now.codes =
+    let test = c.loop-place-test.false in
+    let end = l.auto.place-end in
+    let e = c.codes-place-end.ensures in
+    omega arith in
+    graded_true c.args.plan.now c.rules.ensures l.place all l.together l.codes.items
+    l.invariant.graded l.cert l.findings.items l.invariant.ranked
 
-pub returns-then-is_empty-clause-each : goal.returns-then-is_empty-clause-each
-returns-then-is_empty-clause-each g c = on_ok (no_findings (λ findings. (limit spare : ℕ) → AllByRecursion (IsTrueOf c.args.plan.now limit spare) findings)) c.graded.result c.graded.ensures.is_graded
-
-pub returns-then-is_empty-clause-listed : goal.returns-then-is_empty-clause-listed
-returns-then-is_empty-clause-listed g c = on_ok (no_findings (AreUnmended c.args.plan.now)) c.graded.result c.graded.ensures.is_graded
-
-pub graded-requires-clause-exchanges : goal.graded-requires-clause-exchanges
-graded-requires-clause-exchanges g c = c.in_ok-cert.ensures.exchanges
-
-pub returns-then-is_empty-clause-plan : goal.returns-then-is_empty-clause-plan
-returns-then-is_empty-clause-plan g c = c.graded.ensures.plan
-
-pub returns-then-is_empty-clause-clear : goal.returns-then-is_empty-clause-clear
-returns-then-is_empty-clause-clear g c = c.graded.ensures.clear
-
-pub returns-then-is_empty-clause-codes : goal.returns-then-is_empty-clause-codes
-returns-then-is_empty-clause-codes g c = c.graded.ensures.codes
+pub returns-clause-listed : goal.returns-clause-listed
+returns-clause-listed g c =
+    let l = c.loop-place in
+    let all : l.place ≡ length c.args.plan.now.codes =
+    let test = c.loop-place-test.false in
+    let end = l.auto.place-end in
+    let e = c.codes-place-end.ensures in
+    omega arith in
+    graded_listed c.args.plan.now c.rules.ensures l.place all l.together l.codes.items
+    l.invariant.graded l.cert l.findings.items l.invariant.ranked

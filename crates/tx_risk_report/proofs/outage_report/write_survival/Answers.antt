@@ -4,5 +4,4 @@ pub returns-in-Tried : goal.returns-in-Tried
 returns-in-Tried g c = rw c.in-Tried.is (rw c.deref.ensures.value at c.write_tried.ensures)
 
 pub returns-in-Ungraded : goal.returns-in-Ungraded
-returns-in-Ungraded g c =
-    rw c.in-Ungraded.is (rw c.deref-in-Ungraded.ensures.value at c.write_none.ensures)
+returns-in-Ungraded g c = rw c.in-Ungraded.is c.write_grade.ensures

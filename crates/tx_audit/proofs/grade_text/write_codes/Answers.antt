@@ -1,6 +1,6 @@
 use Rattle.tx_text.proofs.Wrote.{texts_more, texts_stopped}
 use Rattle.tx_audit.specs.GradeText.{code_line}
-use Rattle.tx_audit.proofs.grade_text.write_code_bounds.Goals as goal
+use Rattle.tx_audit.proofs.grade_text.write_codes.Goals as goal
 
 pub returns-in_err-write_code : goal.returns-in_err-write_code
 returns-in_err-write_code g c =

@@ -1,0 +1,11 @@
+use Rattle.std.proofs.Common.{◌∙◌, option_map, ap}
+use Rattle.std.specs.List.{flat_map}
+use Rattle.tx_explain.specs.Written.{told_text}
+use Rattle.tx_explain.proofs.Found.{text_of}
+use Rattle.tx_explain.proofs.explanation.write_explanation.Goals as goal
+
+pub returns : goal.returns
+returns g c =
+    let text = told_text (option_map (λ w. w.now) c.args.word) in
+    rw (text_of text c.tables.result ∙ ap (flat_map text) c.tables.ensures)
+    at c.write_tables.ensures

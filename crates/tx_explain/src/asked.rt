@@ -1,0 +1,41 @@
+// What a word asks for.
+ghost use Rattle.std.specs.Prelude.{◌≡◌};
+ghost use Rattle.std.specs.List.{list_any};
+ghost use Rattle.std.specs.Str.{str_eq_ignore_ascii_case};
+ghost use Rattle.tx_explain.specs.Entries.{texts, is_asked, is_known};
+
+use crate::code_table::{Entry, tables};
+
+/// Whether two words are the same but for capitals and small letters.
+fn is_same_word(one: &str, other: &str) -> bool
+    ensures { result ≡ str_eq_ignore_ascii_case one.now other.now }
+{
+    one.eq_ignore_ascii_case(other)
+}
+
+/// Whether a word asks for an entry: by its code or its name, in capitals or small letters.
+pub fn is_asked(word: &str, entry: &Entry) -> bool
+    ensures { result ≡ is_asked word.now (texts entry.now) }
+{
+    is_same_word(entry[0], word) || is_same_word(entry[1], word)
+}
+
+/// Whether a word asks for some entry.
+pub fn is_known(word: &str) -> bool
+    ensures { result ≡ is_known word.now }
+{
+    asks_in_some(&tables(), word)
+}
+
+fn asks_in_some(tables: &[&[Entry]], word: &str) -> bool
+    ensures { result
+        ≡ list_any (λ t. list_any (λ e. is_asked word.now (texts e)) t.now) tables.now }
+{
+    tables.iter().any(|entries| asks_in(entries, word))
+}
+
+fn asks_in(entries: &[Entry], word: &str) -> bool
+    ensures { result ≡ list_any (λ e. is_asked word.now (texts e)) entries.now }
+{
+    entries.iter().any(|entry| is_asked(word, entry))
+}

@@ -1,0 +1,114 @@
+// Codes of what is to be said of a plan.
+use crate::code_table::Entry;
+
+/// The codes of warnings (A), of a check (K) and of findings (F).
+pub static PLAN_CODES: [Entry; 18] = [
+    [
+        "A1",
+        "NothingToJudge",
+        "No code has LINES, so no call can start, and an audit says YES to anything.",
+        "Declare the lines of the codes: an exchange is an origin where a code with lines is at home.",
+    ],
+    [
+        "A2",
+        "NoLines",
+        "The code has no LINES, so nobody can be called there.",
+        "Declare its lines, or drop the code.",
+    ],
+    [
+        "A3",
+        "UnusedGroup",
+        "The group stands in no list.",
+        "Add it to a list, or drop it.",
+    ],
+    [
+        "A4",
+        "UnusedList",
+        "No call for the code of the list comes to its exchange.",
+        "Drop the list, or let another list lead there.",
+    ],
+    [
+        "A5",
+        "NoList",
+        "Calls for the code may start at the exchange, and it has neither a list nor a bar for them.",
+        "Write a ROUTE for them, or BAR them.",
+    ],
+    [
+        "A6",
+        "UnusedBar",
+        "No call can start at the exchange of the bar: no code that is at home there has LINES.",
+        "Drop the bar, or declare the lines.",
+    ],
+    [
+        "K1",
+        "Ambiguous",
+        "One code begins another.",
+        "Give one of them another code.",
+    ],
+    [
+        "K2",
+        "HomeNotZero",
+        "The home of the code has not the rank 0.",
+        "Take the certificate that the audit writes.",
+    ],
+    [
+        "K3",
+        "OriginUnranked",
+        "Calls for the code may start at the exchange, and it has no rank.",
+        "Take the certificate that the audit writes. The plan may have changed since.",
+    ],
+    [
+        "K4",
+        "TooHigh",
+        "The rank of the exchange is above L + 1.",
+        "Ask for a greater L, or shorten the ways.",
+    ],
+    [
+        "K5",
+        "Short",
+        "The list of the exchange has no more than k groups.",
+        "Add a group to it, or ask for a smaller k. If it is empty, write a ROUTE line.",
+    ],
+    [
+        "K6",
+        "TargetUnranked",
+        "The group in the list of the exchange leads to an exchange without a rank.",
+        "Take the certificate that the audit writes.",
+    ],
+    [
+        "K7",
+        "NotLower",
+        "The group in the list of the exchange leads to an exchange whose rank is not smaller.",
+        "If the audit says NO too, mend what it shows. Else take the certificate that it writes.",
+    ],
+    [
+        "F1",
+        "AMBIGUOUS",
+        "One code begins another, so a call for the shorter code may be taken for one for the longer.",
+        "Give one of them another code.",
+    ],
+    [
+        "F2",
+        "LOOP",
+        "The lists lead back to an exchange that the walk has passed.",
+        "Take one group of the loop out of the list of the exchange that stands before it in the walk, or let telexplan mend find lists. In a change, each list of the walk is the old one or the new one: if both plans are safe, change in two steps, by a plan in which no call goes so. At the end of the script of --counter the call is still up: with CLEAR 1 CALLER before its END a run prints the ticket too.",
+    ],
+    [
+        "F3",
+        "SHORT",
+        "An exchange has too few groups for the spare number, or no list for the code at all.",
+        "If the plan has no ROUTE line of the exchange for the code, its list is empty, and no k is small enough: write one, or BAR the exchanges where such calls start. Else add a group to its list, let telexplan mend find one, or ask for a smaller k. In a change it is the old list or the new one that is short.",
+    ],
+    [
+        "F4",
+        "LONG",
+        "A call can pass more transits than the limit.",
+        "Let an exchange of the walk lead on directly, let telexplan mend find lists, or ask for a greater L. In a change, do as for F2. At the end of the script of --counter the call is still up, as for F2.",
+    ],
+    [
+        "F5",
+        "UNSERVED",
+        "Calls for the code may start at the exchange, and no lists over the groups of the plan can serve it.",
+        "Add groups on the way to the home of the code, or ask for a greater L or a smaller k. Or bar such calls.",
+    ],
+];
