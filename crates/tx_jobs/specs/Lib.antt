@@ -10,6 +10,7 @@ pub mod ChangeJobs
 pub mod GradeJobs
 pub mod MendJobs
 pub mod TraceJobs
+pub mod TellingJobs
 pub mod SurviveFaults
 pub mod SurviveJobs
 pub mod Writables

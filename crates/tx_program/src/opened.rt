@@ -60,6 +60,14 @@ pub(crate) enum Opened<'a, I: Read + Drop, R: Read + Drop> {
         plan: R,
         script: R,
     },
+    RunTelling {
+        plan: R,
+        script: R,
+        /// A refused event gives another exit status.
+        strict: bool,
+        /// Each event is told before its reply.
+        echo: bool,
+    },
     Checked {
         plan: R,
         cert: R,
@@ -145,6 +153,12 @@ impl<'a, I: Read + Drop, R: Read + Drop> Opened<'a, I, R> {
                 script,
                 checked,
             } => Opened::run(folder, plan, script, checked),
+            Command::RunTelling {
+                plan,
+                script,
+                strict,
+                echo,
+            } => Opened::run_telling(folder, plan, script, *strict, *echo),
             Command::Check {
                 plan,
                 cert,
@@ -207,6 +221,22 @@ impl<'a, I: Read + Drop, R: Read + Drop> Opened<'a, I, R> {
                 Opened::checked(folder, plan, cert, script, Bounds::of(*limit, *spare))
             }
         }
+    }
+
+    fn run_telling<F: Folder<Input = R>>(
+        folder: &F,
+        plan: &String,
+        script: &String,
+        strict: bool,
+        echo: bool,
+    ) -> Result<Opened<'a, I, R>, JobFault> {
+        let (plan, script) = open_both(folder, plan.as_str(), script.as_str())?;
+        Ok(Opened::RunTelling {
+            plan,
+            script,
+            strict,
+            echo,
+        })
     }
 
     fn checked<F: Folder<Input = R>>(

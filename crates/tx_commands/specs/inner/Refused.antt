@@ -2,9 +2,16 @@
 use Rattle.std.specs.Prelude.{◌≡◌, ℕ, true, false, ◌&&◌, ◌||◌, List, Option, None, option_and_then, codes, IsSomeAnd}
 use Rattle.clap.specs.Words.{Row, first_of}
 use Rattle.tx_explain.specs.Entries.{explanation}
+use Rattle.tx_commands.specs.Commands.{is_set}
 use Rattle.tx_commands.specs.Faults.{has, IsRunInPart}
 use Rattle.tx_commands.specs.declared.refusal.Refusal.{Refusal}
-use Rattle.tx_commands.specs.declared.refusal.Refusal.TheVariants.{Together, DrawTogether, NoSuchCode}
+use Rattle.tx_commands.specs.declared.refusal.Refusal.TheVariants.{Together, CheckedTelling, DrawTogether, NoSuchCode}
+
+-- `run` has a certificate, and an option by which it tells more
+pub record IsCheckedTelling (name : List ℕ) (found : List Row) : Type 0 where
+  pub run : name ≡ codes "run"
+  pub checked : has found (codes "cert") ≡ true
+  pub telling : (is_set found (codes "strict") || is_set found (codes "echo")) ≡ true
 
 -- `draw` has a limit or a spare number, and not both with a code
 pub record IsDrawInPart (name : List ℕ) (found : List Row) : Type 0 where
@@ -21,6 +28,7 @@ pub record IsNoCode (name : List ℕ) (found : List Row) : Type 0 where
 -- The words that were found are refused for this. That a word is missing, and want of memory, are left open.
 abbrev pub IsRefused : Option (List ℕ × List Row) → Refusal → Type 0
 IsRefused command Together = IsSomeAnd command (λ c. IsRunInPart c.0 c.1)
+IsRefused command CheckedTelling = IsSomeAnd command (λ c. IsCheckedTelling c.0 c.1)
 IsRefused command DrawTogether = IsSomeAnd command (λ c. IsDrawInPart c.0 c.1)
 IsRefused command NoSuchCode = IsSomeAnd command (λ c. IsNoCode c.0 c.1)
 IsRefused command other = Unit {0}

@@ -60,6 +60,7 @@ pub enum TextKind {
 pub enum JobKind {
     Pipe,
     Run,
+    Telling,
     Codes,
     Grade,
     Check,
@@ -85,9 +86,10 @@ pub enum Driven {
     Starting,
 }
 
-static TEXTS: [(&str, TextKind); 21] = [
+static TEXTS: [(&str, TextKind); 22] = [
     ("pipe", TextKind::Job(JobKind::Pipe)),
     ("run", TextKind::Job(JobKind::Run)),
+    ("telling", TextKind::Job(JobKind::Telling)),
     ("codes", TextKind::Job(JobKind::Codes)),
     ("grade", TextKind::Job(JobKind::Grade)),
     ("check", TextKind::Job(JobKind::Check)),
@@ -207,6 +209,7 @@ pub fn job_of<'a>(kind: JobKind, head: Head<'a>) -> Job<'a> {
     match kind {
         JobKind::Pipe => Job::Pipe,
         JobKind::Run => Job::Run,
+        JobKind::Telling => Job::Telling,
         JobKind::Codes => Job::Codes,
         JobKind::Grade => Job::Grade,
         JobKind::Check => Job::Check { limit, spare },
