@@ -51,7 +51,7 @@ module _ (p : Plan) (m : Moment) (t : State) (a b : Option (List ℕ)) where
   stops_in_text (inl h) = stops_first (flat_map (ticket_text p) (tickets_made m)) h.front
   stops_in_text (inr h) =
       let behind : StopsIn (append_known a (reply_text p m.reply)) b (flat_map (ticket_text p) h.written ++ (ticket_text p h.hand ++ flat_map (ticket_text p) h.left))
-          = stops_later (flat_map (ticket_text p) h.written) refl (stops_first (flat_map (ticket_text p) h.left) h.front) in
+      = stops_later (flat_map (ticket_text p) h.written) refl (stops_first (flat_map (ticket_text p) h.left) h.front) in
       stops_later (reply_text p m.reply) refl (subst (λ l. StopsIn (append_known a (reply_text p m.reply)) b l) (sym (cut (tickets_made m) h.written h.left h.hand h.whole)) behind)
 
   untold_by : (echo : Bool) (n : ℕ) (first : Option (List ℕ)) → a ≡ append_known first (echo_asked echo p n m.event) → StopsIn a b (moment_text p m) → IsUntold p m t a b → StopsInLines p echo n m t first b

@@ -1,5 +1,5 @@
 -- A run that tells the lines of events too, from event to event, and the ways in which it ends.
-use Rattle.std.proofs.Common.{◌≡◌, ℕ, ◌+◌, ◌*◌, ◌<◌, ◌≤◌, Bool, true, cond, List, [], ◌∷◌, ◌++◌, length, Option, None, ◌⊎◌, Result, Ok, Err, codes, IfOk, IfErr, OnOk, OnErr, inl, inr, refl, sym, ap, ◌∙◌, subst, append-nil, arith}
+use Rattle.std.proofs.Common.{◌≡◌, ℕ, ◌+◌, ◌*◌, ◌^◌, ◌<◌, ◌≤◌, Bool, true, cond, List, [], ◌∷◌, ◌++◌, length, Option, None, ◌⊎◌, Result, Ok, Err, codes, IfOk, IfErr, OnOk, OnErr, inl, inr, refl, sym, ap, ◌∙◌, subst, append-nil, arith}
 use Rattle.std.specs.Prelude.{if◌then◌else◌}
 use Rattle.std.specs.List.{count_by}
 use Rattle.std.specs.Io.KnownBytes.{append_known, IsAtEnd}
@@ -36,15 +36,15 @@ use Rattle.tx_script.specs.declared.run_cause.RunCause.TheVariants.{Read, Write,
 use Rattle.tx_script.specs.declared.script_word.ScriptWord.{ScriptWord}
 use Rattle.tx_script.specs.declared.summary.Summary.{Summary}
 use Rattle.tx_script.specs.declared.tally.Tally.{Tally}
-use Rattle.tx_script.specs.Events.{event_of}
+use Rattle.tx_script.specs.Events.{Said, event_of}
 use Rattle.tx_script.specs.Script.{faulty, script_said, script_of}
 use Rattle.tx_script.specs.Output.{end_text}
 use Rattle.tx_script.specs.Answers.{IsFresh, Moved, settled, next, Begins}
 use Rattle.tx_script.specs.Telling.{told_moment, told_events}
-use Rattle.tx_script.specs.TellingAnswers.{IsTold, StopsInLines, Untold, ToldRan, TellingAnswers}
+use Rattle.tx_script.specs.TellingAnswers.{IsTold, Untold, LineTold, ToldRan, TellingAnswers}
 use Rattle.tx_script.proofs.Scripts.{SaidSoFar, at_start, header_said, event_said, fault_said, whole_said, stop_said}
 use Rattle.tx_script.proofs.Moments.{IsSoFar, none_so_far, one_answered, made_same, after_same}
-use Rattle.tx_script.proofs.Running.{IsRunning, past_header, past_line}
+use Rattle.tx_script.proofs.Running.{IsRunning, past_header, past_line, few_told}
 use Rattle.tx_script.proofs.Telling.{told_more, told_same}
 
 -- As `IsRunning` has it, and the lines of the events so far were told. What is counted is as for a run that writes nowhere.
@@ -83,8 +83,8 @@ module _ (p : Plan) (echo : Bool) (a b : Option (List ℕ)) (s t : State) (u v :
       → k ≡ tally.answered + 1 → IsTold p echo k e t r v w count → new ≡ record { answered = tally.answered + 1; refused = tally.refused + cond count.refused 1 0; tickets = tally.tickets + count.tickets } → left < size → IsTelling p echo a c s r u w U new left
   event_tells c r w n ws U e k new count left q h number told i l =
       let here : told_moment p echo k (moment p t e) ≡ told_moment p echo (length es + 1) (next p s es e) =
-          ap (λ (z : State). told_moment p echo k (moment p z e)) on.far.network ∙ told_same p echo k (state_after p s es) e
-          ∙ ap (λ z. told_moment p echo z (next p s es e)) (number ∙ ap (λ z. z + 1) on.far.answered) in
+      ap (λ (z : State). told_moment p echo k (moment p z e)) on.far.network ∙ told_same p echo k (state_after p s es) e
+      ∙ ap (λ z. told_moment p echo z (next p s es e)) (number ∙ ap (λ z. z + 1) on.far.answered) in
       record {
         events = es ++ e ∷ [];
         said = event_said p a b c es T on.said n ws U e q h;
@@ -198,16 +198,36 @@ module _ (p : Plan) (echo : Bool) (a b : Option (List ℕ)) (s t : State) (u v :
     pub end_told : step ≡ End → EndsAs b c T AtEnd Done × IsAtEnd c
     end_told is = subst (λ (x : FrameStep). GoesOn b c T U l ⊥ (Ok x)) is gives
 
-    module _ (is : step ≡ LineStep) where
+    module _ (is : step ≡ LineStep) (n : ℕ) (number : n ≡ number_of_line l) (k : ℕ) (next : k ≡ tally.answered + 1) (r : State) (w : Option (List ℕ)) (said : Said) (says : event_of p (words_of_line l) ≡ said) where
       has : ReadsOn b c T (λ e more. Has (number_of_line l) (words_of_line l) (U e more))
       has = subst (λ (x : FrameStep). GoesOn b c T U l ⊥ (Ok x)) is gives
 
-      pub line_told : (r : State) (w : Option (List ℕ)) (e : Event) (k : ℕ) (new : Tally) (count : Answered) (left : ℕ) → event_of p (words_of_line l) ≡ Ok e → k ≡ tally.answered + 1 → (step ≡ End) ⊎ (left < size) → IsTold p echo k e t r v w count
+      line_by : (new : Tally) (count : Answered) (left : ℕ) → left < size → (x : Said) → event_of p (words_of_line l) ≡ x → LineTold p echo n k x t r v w (Ok count)
           → new ≡ record { answered = tally.answered + 1; refused = tally.refused + cond count.refused 1 0; tickets = tally.tickets + count.tickets } → IsTelling p echo a c s r u w U new left
-      line_told r w e k new count left says number falls told i = event_tells c r w (number_of_line l) (words_of_line l) U e k new count left has says number told i (past_line step is falls)
+      line_by new count left falls (Ok e) says told i = event_tells c r w (number_of_line l) (words_of_line l) U e k new count left has says next told i falls
+      line_by new count left falls (Err word) says told i = absurd told
 
-      pub line_untold : (r : State) (w : Option (List ℕ)) (broken untouched : Type 0) (e : Event) (k : ℕ) (f : RunFault) (cause : RunCause) → event_of p (words_of_line l) ≡ Ok e → k ≡ tally.answered + 1 → Untold p echo k e t r v w cause → f ≡ record { event = tally.answered + 1; cause = cause } → TellingAnswers p echo (after c r w broken untouched) broken untouched (Err f)
-      line_untold r w broken untouched e k f cause says number untold i = untold_ends c r w broken untouched f (number_of_line l) (words_of_line l) U e k cause has says number untold i
+      -- a line was answered
+      pub line_told : (new : Tally) (count : Answered) (left : ℕ) → (step ≡ End) ⊎ (left < size) → LineTold p echo n k said t r v w (Ok count)
+          → new ≡ record { answered = tally.answered + 1; refused = tally.refused + cond count.refused 1 0; tickets = tally.tickets + count.tickets } → IsTelling p echo a c s r u w U new left
+      line_told new count left falls told i = line_by new count left (past_line step is falls) said says told i
 
-      pub word_told : (broken untouched : Type 0) (n : ℕ) (number : n ≡ number_of_line l) (k : ScriptWord) (f : RunFault) → event_of p (words_of_line l) ≡ Err k → f ≡ record { event = tally.answered + 1; cause = OfScript (record { line = n; kind = Word k }) } → TellingAnswers p echo (there c) broken untouched (Err f)
-      word_told broken untouched n number k f says i = word_ends c broken untouched f (number_of_line l) (words_of_line l) U k has says (i ∙ ap (λ z. record { event = tally.answered + 1; cause = OfScript (record { line = z; kind = Word k }) }) number)
+      -- its tickets can be counted
+      pub few_lines_told : IsFresh s → (count : Answered) → LineTold p echo n k said t r v w (Ok count) → tally.tickets + count.tickets < 2 ^ 64
+      few_lines_told fresh count told = by said told
+        where
+          by : (x : Said) → LineTold p echo n k x t r v w (Ok count) → tally.tickets + count.tickets < 2 ^ 64
+          by (Ok e) told = few_told p a b s t None None T tally size as_running fresh n (Ok e) (drained (moment p t e).after []) None count (record { counted = told.counted; wrote = refl; network = refl })
+          by (Err word) told = absurd told
+
+      halted_by : (broken untouched : Type 0) (f : RunFault) (cause : RunCause) (x : Said) → event_of p (words_of_line l) ≡ x → LineTold p echo n k x t r v w (Err cause) → f ≡ record { event = tally.answered + 1; cause = cause }
+          → TellingAnswers p echo (after c r w broken untouched) broken untouched (Err f)
+      halted_by broken untouched f cause (Ok e) says untold i = untold_ends c r w broken untouched f (number_of_line l) (words_of_line l) U e k cause has says next untold i
+      halted_by broken untouched f cause (Err word) says none i =
+          rw (none.network, none.written) (word_ends c broken untouched f (number_of_line l) (words_of_line l) U word has says
+          (i ∙ ap (λ z. record { event = tally.answered + 1; cause = z }) (none.fault ∙ ap (λ z. OfScript (record { line = z; kind = Word word })) number)))
+
+      -- a line was not answered whole
+      pub line_untold : (broken untouched : Type 0) (f : RunFault) (cause : RunCause) → LineTold p echo n k said t r v w (Err cause) → f ≡ record { event = tally.answered + 1; cause = cause }
+          → TellingAnswers p echo (after c r w broken untouched) broken untouched (Err f)
+      line_untold broken untouched f cause untold i = halted_by broken untouched f cause said says untold i

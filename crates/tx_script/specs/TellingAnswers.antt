@@ -22,9 +22,10 @@ use Rattle.tx_script.specs.declared.run_fault.RunFault.{RunFault}
 use Rattle.tx_script.specs.declared.run_cause.RunCause.{RunCause}
 use Rattle.tx_script.specs.declared.run_cause.RunCause.TheVariants.{Read, Write, Script as OfScript, NoMemory}
 use Rattle.tx_script.specs.declared.summary.Summary.{Summary}
+use Rattle.tx_script.specs.Events.{Said}
 use Rattle.tx_script.specs.Script.{Script, whole, faulty, script_of}
 use Rattle.tx_script.specs.Output.{end_text, summary_of, tickets_made}
-use Rattle.tx_script.specs.Answered.{count_of, IsUndone}
+use Rattle.tx_script.specs.Answered.{count_of, IsUndone, IsNoEvent}
 use Rattle.tx_script.specs.Answers.{Moved, settled, next, IsWhole, Begins, is_reader_room}
 use Rattle.tx_script.specs.Telling.{told_moment, told_events, told_output}
 
@@ -56,6 +57,12 @@ Untold p echo n e s t a b NoMemory = IsUndone p e s t a b
 abbrev pub EventTold : Plan → (echo : Bool) → ℕ → Event → State → State → Option (List ℕ) → Option (List ℕ) → Result Answered RunCause → Type 0
 EventTold p echo n e s t a b (Ok count) = IsTold p echo n e s t a b count
 EventTold p echo n e s t a b (Err cause) = Untold p echo n e s t a b cause
+
+-- THE ANSWER TO A LINE n, whose words say an event or have a fault; the next event has the number k
+abbrev pub LineTold : Plan → (echo : Bool) → (n k : ℕ) → Said → State → State → Option (List ℕ) → Option (List ℕ) → Result Answered RunCause → Type 0
+LineTold p echo n k (Ok e) s t a b r = EventTold p echo k e s t a b r
+LineTold p echo n k (Err word) s t a b (Ok count) = ⊥
+LineTold p echo n k (Err word) s t a b (Err cause) = IsNoEvent n word s t a b cause
 
 -- ---- a run
 

@@ -11,7 +11,7 @@ use crate::run_fault::RunFault;
 use crate::runner::{KEY, finish, frame_cause, script_fault};
 use crate::summary::Summary;
 use crate::tally::Tally;
-use crate::told::tell;
+use crate::told::tell_line;
 use std::alloc::Allocator;
 use tx_plan::Plan;
 use tx_state::Network;
@@ -74,23 +74,17 @@ fn tell_lines<A: Allocator, B: Allocator, N: Network, R: Source, W: Sink>(
     'lines: loop {
         match frame.advance(source) {
             Ok(FrameStep::Header(_)) => {}
-            Ok(FrameStep::Line) => match event_of(frame.words(), plan) {
-                Ok(event) => {
-                    let number = tally.next_number();
-                    match tell(echo, number, event, plan, net, sink) {
-                        Ok(answered) => tally.count(answered),
-                        Err(cause) => {
-                            drop(frame);
-                            return Err(tally.stopped(cause));
-                        }
+            Ok(FrameStep::Line) => {
+                let said = event_of(frame.words(), plan);
+                let number = tally.next_number();
+                match tell_line(frame.number(), said, number, echo, plan, net, sink) {
+                    Ok(answered) => tally.count(answered),
+                    Err(cause) => {
+                        drop(frame);
+                        return Err(tally.stopped(cause));
                     }
                 }
-                Err(word) => {
-                    let cause = script_fault(frame.number(), FaultKind::Word(word));
-                    drop(frame);
-                    return Err(tally.stopped(cause));
-                }
-            },
+            }
             Ok(FrameStep::End) => {
                 drop(frame);
                 return finish(&tally, net, sink);
