@@ -26,7 +26,7 @@ use Rattle.tx_plan.specs.Plan.{Plan}
 use Rattle.tx_state.specs.declared.event.Event.{Event}
 use Rattle.tx_state.specs.State.{State}
 use Rattle.tx_state.specs.Refusals.{refusal}
-use Rattle.tx_state.specs.Runs.{Moment, moment, run, state_after}
+use Rattle.tx_state.specs.Runs.{moment, run, state_after}
 use Rattle.tx_state.specs.Sound.{is_refused}
 use Rattle.tx_state.specs.Drained.{drained}
 use Rattle.tx_script.specs.declared.answer.Answered.{Answered}
