@@ -431,7 +431,7 @@ def case_of(example):
         plan, script, cert = texts
         return f"checked{bounds}", b"---\n".join([plan, cert, script])
     drawn = " ".join(["draw"] + [it for it in map(example.option, ["--code", "--limit", "--spare"]) if it])
-    kinds = {"run": "run", "draw": drawn, "codes": "codes", "grade": "grade"} | {it: it + bounds for it in ("check", "audit", "change", "mend")}
+    kinds = {"run": "telling" if "--echo" in example.words else "run", "draw": drawn, "codes": "codes", "grade": "grade"} | {it: it + bounds for it in ("check", "audit", "change", "mend")}
     kinds |= {"survive": "survive" if example.option("--risks") else "survive alone", "trace": " ".join(["trace", *example.words[2:]]), "lint": " ".join(example.words)}
     return (kinds[verb], b"---\n".join(texts)) if verb in kinds else None
 

@@ -1,12 +1,14 @@
 -- What words ask for.
-use Rattle.std.specs.Prelude.{◌≡◌, ◌≤◌, ℕ, true, List, Option, None, Some, map, option_map, codes, string_bytes, String}
+use Rattle.std.specs.Prelude.{◌≡◌, ◌≤◌, ℕ, Bool, true, false, List, Option, None, Some, map, option_map, codes, string_bytes, String}
 use Rattle.std.specs.Borrow.{Bor}
+use Rattle.std.specs.Option.{option_map_or}
+use Rattle.std.specs.Str.{bytes_eq}
 use Rattle.std.specs.Str.Parse.{IsNumeral, digits_value, without_leading_plus}
 use Rattle.clap.specs.Words.{Row, first_of, one_of, subcommand_of}
 use Rattle.tx_explain.specs.Entries.{is_known}
 use Rattle.tx_commands.specs.Grammar.{program_words}
 use Rattle.tx_commands.specs.declared.command.Command.{Command}
-use Rattle.tx_commands.specs.declared.command.Command.TheVariants.{Pipe, Run, Check, Lint, Codes, Audit, Change, Mend, Survive, Grade, Trace, Draw, Explain}
+use Rattle.tx_commands.specs.declared.command.Command.TheVariants.{Pipe, Run, RunTelling, Check, Lint, Codes, Audit, Change, Mend, Survive, Grade, Trace, Draw, Explain}
 
 -- a limit is at most 62, and a spare number at most 15
 abbrev pub IsInRange : Command → Type 0
@@ -29,14 +31,29 @@ pub record Gives (found : List Row) (id : List ℕ) (n : ℕ) : Type 0 where
   pub numeral : IsNumeral 10 (without_leading_plus text)
   pub value : n ≡ digits_value 10 (without_leading_plus text)
 
+-- the words of a command have this option, which takes no word
+abbrev pub is_set : List Row → List ℕ → Bool
+is_set found id = option_map_or (λ word. bytes_eq word (codes "true")) (first_of id found) false
+
+-- they have none of those by which `run` tells more
+pub record TellsNoMore (found : List Row) : Type 0 where
+  pub strict : is_set found (codes "strict") ≡ false
+  pub echo : is_set found (codes "echo") ≡ false
+
 -- what was found behind the name of a command asks for this
 abbrev pub Asks : List ℕ → List Row → Command → Type 0
 Asks name found Pipe = ⊥
 Asks name found (Run plan script None) =
     (name ≡ codes "run") × Names found (codes "plan") plan × Names found (codes "script") script × (first_of (codes "cert") found ≡ None)
-    × (first_of (codes "limit") found ≡ None) × (first_of (codes "spare") found ≡ None)
+    × (first_of (codes "limit") found ≡ None) × (first_of (codes "spare") found ≡ None) × TellsNoMore found
 Asks name found (Run plan script (Some (cert, limit, spare))) =
     (name ≡ codes "run") × Names found (codes "plan") plan × Names found (codes "script") script × Names found (codes "cert") cert × Gives found (codes "limit") limit × Gives found (codes "spare") spare
+    × TellsNoMore found
+Asks name found (RunTelling plan script strict echo) =
+    (name ≡ codes "run") × Names found (codes "plan") plan × Names found (codes "script") script
+    × (first_of (codes "cert") found ≡ None) × (first_of (codes "limit") found ≡ None)
+    × (first_of (codes "spare") found ≡ None)
+    × (is_set found (codes "strict") ≡ strict) × (is_set found (codes "echo") ≡ echo)
 Asks name found (Check plan cert limit spare) =
     (name ≡ codes "check") × Names found (codes "plan") plan × Names found (codes "cert") cert × Gives found (codes "limit") limit × Gives found (codes "spare") spare
 Asks name found (Lint plan) = (name ≡ codes "lint") × Names found (codes "plan") plan

@@ -2,7 +2,7 @@
 use Rattle.std.specs.Prelude.{ℕ, Bool, false, ◌&&◌, ◌||◌, List, [], ◌∷◌, Option, None, Some, option_map, bytes_eq, codes, string_bytes}
 use Rattle.std.specs.List.{list_any}
 use Rattle.tx_commands.specs.declared.command.Command.{Command}
-use Rattle.tx_commands.specs.declared.command.Command.TheVariants.{Pipe, Run, Check, Codes, Audit, Change, Mend, Survive, Grade, Trace, Draw, Explain, Lint}
+use Rattle.tx_commands.specs.declared.command.Command.TheVariants.{Pipe, Run, RunTelling, Check, Codes, Audit, Change, Mend, Survive, Grade, Trace, Draw, Explain, Lint}
 
 -- those of these files that are named
 abbrev pub given : List (Option (List ℕ)) → List (List ℕ)
@@ -15,6 +15,7 @@ abbrev pub files_read : Command → List (List ℕ)
 files_read Pipe = []
 files_read (Run plan script checked) =
     string_bytes plan ∷ string_bytes script ∷ given (option_map (λ c. string_bytes c.0) checked ∷ [])
+files_read (RunTelling plan script strict echo) = string_bytes plan ∷ string_bytes script ∷ []
 files_read (Check plan cert limit spare) = string_bytes plan ∷ string_bytes cert ∷ []
 files_read (Lint plan) = string_bytes plan ∷ []
 files_read (Codes plan) = string_bytes plan ∷ []

@@ -1,7 +1,7 @@
 -- The words that the program takes, as the library of command lines sees them: commands, whose files go by place and whose options go by name.
 use Rattle.std.specs.Prelude.{ℕ, List, Some, true, codes, pos}
 use Rattle.clap.specs.Words.{App, Rule, new_app, new_rule, with_rule, with_subcommand}
-use Rattle.clap.specs.declared.builder.action.ArgAction.TheVariants.{Set}
+use Rattle.clap.specs.declared.builder.action.ArgAction.TheVariants.{Set, SetTrue}
 use Rattle.clap.specs.declared.builder.value_parser.ValueParser.TheVariants.{Signed}
 
 -- a file, which has to be named
@@ -11,6 +11,10 @@ file id = record (new_rule id) { value_names = 1; action = Some Set; required = 
 -- an option with a word
 abbrev pub option : List ℕ → Rule
 option id = record (new_rule id) { long = Some id; value_names = 1; action = Some Set }
+
+-- an option without a word
+abbrev pub flag : List ℕ → Rule
+flag id = record (new_rule id) { long = Some id; action = Some SetTrue }
 
 -- an option with a number from 0 to the greatest
 abbrev pub number_option : List ℕ → ℕ → Rule
@@ -30,7 +34,10 @@ abbrev pub plan_words : List ℕ → App
 plan_words name = with_rule (new_app name) (file (codes "plan"))
 
 abbrev pub run_words : App
-run_words = with_rule (with_rule (with_rule (with_rule (plan_words (codes "run")) (file (codes "script"))) (option (codes "cert"))) limit) spare
+run_words =
+    with_rule (with_rule (with_rule (with_rule (with_rule (with_rule
+    (plan_words (codes "run")) (file (codes "script"))) (option (codes "cert"))) limit) spare)
+    (flag (codes "strict"))) (flag (codes "echo"))
 
 abbrev pub check_words : App
 check_words = with_rule (with_rule (with_rule (plan_words (codes "check")) (file (codes "cert"))) (needed limit)) (needed spare)

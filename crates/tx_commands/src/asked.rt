@@ -1,7 +1,7 @@
 // What the words of each command ask for.
 ghost use Rattle.std.specs.Prelude.{◌≡◌, ◌≤◌, Some, IfOk, IfErr, IfSome, codes, option_map, string_bytes};
 ghost use Rattle.clap.specs.Words.{first_of, found_of, rows_of};
-ghost use Rattle.tx_commands.specs.Commands.{IsInRange, Names, Gives, Asks};
+ghost use Rattle.tx_commands.specs.Commands.{IsInRange, Names, Gives, is_set, Asks};
 ghost use Rattle.tx_commands.specs.Faults.{has};
 ghost use Rattle.tx_commands.specs.inner.Refused.{IsRefused};
 
@@ -30,6 +30,16 @@ fn is_given(matches: &ArgMatches<'_>, id: &str) -> bool
     ensures { result ≡ has (rows_of (found_of matches.now)) id.now }
 {
     matches.get_str(id).is_some()
+}
+
+/// Whether an option that takes no word was given.
+fn is_set(matches: &ArgMatches<'_>, id: &str) -> bool
+    ensures { result ≡ is_set (rows_of (found_of matches.now)) id.now }
+{
+    match matches.get_str(id) {
+        Some(word) => word == "true",
+        None => false,
+    }
 }
 
 /// The number of an option, tested once more against its range.
@@ -197,11 +207,22 @@ fn run_of(alloc: Global, plan: String, matches: &ArgMatches<'_>) -> Result<Comma
         },
         _ => return Err(Refusal::Together),
     };
-    Ok(Command::Run {
-        plan,
-        script,
-        checked,
-    })
+    let strict = is_set(matches, "strict");
+    let echo = is_set(matches, "echo");
+    match checked {
+        None if strict || echo => Ok(Command::RunTelling {
+            plan,
+            script,
+            strict,
+            echo,
+        }),
+        Some(_) if strict || echo => Err(Refusal::CheckedTelling),
+        checked => Ok(Command::Run {
+            plan,
+            script,
+            checked,
+        }),
+    }
 }
 
 /// The words of `draw` behind the plan.

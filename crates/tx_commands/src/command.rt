@@ -11,6 +11,14 @@ pub enum Command {
         script: String,
         checked: Option<(String, u8, u8)>,
     },
+    /// `run PLAN SCRIPT` where more is told: by the status that an event was refused, or the line of
+    /// each event before its reply.
+    RunTelling {
+        plan: String,
+        script: String,
+        strict: bool,
+        echo: bool,
+    },
     /// `check PLAN CERT --limit L --spare K`: at most L transits, with K groups to spare.
     Check {
         plan: String,

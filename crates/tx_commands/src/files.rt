@@ -42,6 +42,9 @@ fn files_read(command: &Command) -> [Option<&str>; 3]
             script,
             checked,
         } => [Some(plan.as_str()), Some(script.as_str()), cert_of(checked)],
+        Command::RunTelling { plan, script, .. } => {
+            [Some(plan.as_str()), Some(script.as_str()), None]
+        }
         Command::Check { plan, cert, .. } => [Some(plan.as_str()), Some(cert.as_str()), None],
         Command::Change { old, new, .. } => [Some(old.as_str()), Some(new.as_str()), None],
         Command::Survive { plan, risks } => [Some(plan.as_str()), name_of(risks), None],

@@ -4,7 +4,7 @@ ghost use Rattle.clap.specs.Words.{AddsSubcommand, app_of};
 ghost use Rattle.clap.specs.declared.builder.command.Command.{Command};
 ghost use Rattle.tx_commands.specs.Grammar as grammar;
 
-use crate::arguments::{over_plan, with_bounds, with_file, with_option, word};
+use crate::arguments::{over_plan, with_bounds, with_file, with_flag, with_option, word};
 use crate::help;
 use std::alloc::{AllocError, Global};
 
@@ -35,7 +35,19 @@ fn run_grammar<'a>(alloc: Global) -> Result<clap::Command<'a>, AllocError>
         "Run only if this certificate shows that the plan is safe, else print
 the verdict; goes with --limit and --spare",
     );
-    with_bounds(run, alloc, false)
+    let run = with_bounds(run, alloc, false);
+    let run = with_flag(
+        run,
+        alloc,
+        "strict",
+        "End with status 1 if an event was refused",
+    );
+    with_flag(
+        run,
+        alloc,
+        "echo",
+        "Print each event with its number before its reply",
+    )
 }
 
 fn check_grammar<'a>(alloc: Global) -> Result<clap::Command<'a>, AllocError>

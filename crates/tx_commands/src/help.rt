@@ -58,8 +58,9 @@ want of memory, 64 for refused words";
 
 pub(crate) const RUN: &str = "Example: telexplan run own.plan own.script
 
-Exit status: 0 after the run, 1 after a NO to the certificate, 2 for a refused text, 3 for a
-failed read or write, 4 for want of memory, 64 for refused words";
+Exit status: 0 after the run, 1 after a NO to the certificate (with --strict: after a refused event
+too), 2 for a refused text, 3 for a failed read or write, 4 for want of memory, 64 for refused
+words";
 
 pub(crate) const CODES: &str = "Example: telexplan codes own.plan
 

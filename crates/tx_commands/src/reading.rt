@@ -81,6 +81,11 @@ fn words_fault(grammar: &mut clap::Command<'_>, refusal: Refusal) -> Result<Word
             ErrorKind::MissingSubcommand,
             "a command is missing",
         ),
+        Refusal::CheckedTelling => in_its_words(
+            grammar,
+            ErrorKind::ArgumentConflict,
+            "--strict and --echo do not go with --cert",
+        ),
         Refusal::DrawTogether => in_its_words(
             grammar,
             ErrorKind::MissingRequiredArgument,

@@ -11,6 +11,8 @@ pub(crate) enum Refusal {
     Incomplete,
     /// `run` has some of its three options, and not all.
     Together,
+    /// `run` has a certificate, and is to tell more.
+    CheckedTelling,
     /// `draw` has one of `--limit` and `--spare` without the other, or both without `--code`.
     DrawTogether,
     /// `explain` has a word that is no code.

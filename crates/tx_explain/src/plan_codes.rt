@@ -48,7 +48,7 @@ pub static PLAN_CODES: [Entry; 18] = [
     [
         "K2",
         "HomeNotZero",
-        "The home of the code has not the rank 0.",
+        "The home of the code does not have the rank 0.",
         "Take the certificate that the audit writes.",
     ],
     [
@@ -91,7 +91,7 @@ pub static PLAN_CODES: [Entry; 18] = [
         "F2",
         "LOOP",
         "The lists lead back to an exchange that the walk has passed.",
-        "Take one group of the loop out of the list of the exchange that stands before it in the walk, or let telexplan mend find lists. In a change, each list of the walk is the old one or the new one: if both plans are safe, change in two steps, by a plan in which no call goes so. At the end of the script of --counter the call is still up: with CLEAR 1 CALLER before its END a run prints the ticket too.",
+        "Take one group of the loop out of the list of the exchange that comes before it in the walk, or let telexplan mend find lists. In a change, each list of the walk is the old one or the new one: if both plans are safe, change in two steps, by a plan in which no call goes so. At the end of the script of --counter the call is still up: with CLEAR 1 CALLER before its END a run prints the ticket too.",
     ],
     [
         "F3",

@@ -14,19 +14,19 @@ pub static TEXT_FAULTS: [Entry; 51] = [
         "X2",
         "BadByte",
         "A line has a byte that is neither a tab nor printable ASCII.",
-        "Look for letters with accents, for quotes of a word processor, and for a CR inside the line.",
+        "Look for letters with accents, for quotes and spaces of a word processor, for a byte order mark at the start of the file, and for a CR inside the line.",
     ],
     [
         "X3",
         "NoMemory",
         "No memory was left for the reader's line.",
-        "Give the program more memory. It tells this as telexplan: no memory.",
+        "Give the program more memory. It reports this as telexplan: no memory.",
     ],
     [
         "P3",
         "UnknownWord",
-        "The first word of the line is none of a plan, or a group is neither ONEWAY nor BOTHWAY.",
-        "Correct the word. BAR wants the header PLAN 2.",
+        "The first word of the line is not one that begins a line of a plan, or a group is neither ONEWAY nor BOTHWAY.",
+        "Correct the word; it is in capitals. BAR needs the header PLAN 2.",
     ],
     [
         "P4",
@@ -37,7 +37,7 @@ pub static TEXT_FAULTS: [Entry; 51] = [
     [
         "P5",
         "BadName",
-        "An exchange or a group is no name.",
+        "The name of an exchange or a group is not valid.",
         "Write 1 to 8 capitals and figures, a letter first.",
     ],
     [
@@ -85,13 +85,13 @@ pub static TEXT_FAULTS: [Entry; 51] = [
     [
         "P13",
         "NotOutgoing",
-        "The exchange may not seize a group of its list: it is no end of it, or the far end of a one-way group.",
+        "The exchange may not seize a group of its list: it is not an end of it, or it is the far end of a one-way group.",
         "Take the group out of the list. If the exchange is its far end, BOTHWAY lets it seize the group.",
     ],
     [
         "P14",
         "RepeatedGroup",
-        "A group stands twice in a list.",
+        "A group is in a list twice.",
         "Drop one.",
     ],
     [
@@ -110,7 +110,7 @@ pub static TEXT_FAULTS: [Entry; 51] = [
         "P17",
         "NoHeader",
         "The first line with words is not PLAN 1 or PLAN 2.",
-        "Begin the text with it, or see whether the files are in the right order: the plan comes first.",
+        "Begin the text with it, in capitals, or see whether the files are in the right order: the plan comes first.",
     ],
     [
         "P18",
@@ -118,18 +118,18 @@ pub static TEXT_FAULTS: [Entry; 51] = [
         "The text ends without END, or in the middle of a line.",
         "See whether the file was cut off.",
     ],
-    ["P19", "AfterEnd", "Words stand behind END.", "Drop them."],
+    ["P19", "AfterEnd", "Words come after END.", "Drop them."],
     [
         "P20",
         "ReadFault",
         "The source of the text failed.",
-        "See whether the file can be read. The program tells this as telexplan: read fault.",
+        "See whether the file can be read. The program reports this as telexplan: read fault.",
     ],
     [
         "P21",
         "NoMemory",
         "No memory was left.",
-        "Give the program more memory. It tells this as telexplan: no memory.",
+        "Give the program more memory. It reports this as telexplan: no memory.",
     ],
     [
         "P22",
@@ -179,23 +179,23 @@ pub static TEXT_FAULTS: [Entry; 51] = [
         "The text ends without END, or in the middle of a line.",
         "See whether the file was cut off.",
     ],
-    ["C8", "AfterEnd", "Words stand behind END.", "Drop them."],
+    ["C8", "AfterEnd", "Words come after END.", "Drop them."],
     [
         "C9",
         "NoMemory",
         "No memory was left.",
-        "Give the program more memory. It tells this as telexplan: no memory.",
+        "Give the program more memory. It reports this as telexplan: no memory.",
     ],
     [
         "C10",
         "ReadFault",
         "The source of the text failed.",
-        "See whether the file can be read. The program tells this as telexplan: read fault.",
+        "See whether the file can be read. The program reports this as telexplan: read fault.",
     ],
     [
         "S1",
         "UnknownWord",
-        "The first word of the line is no event, or who clears is neither CALLER nor CALLED.",
+        "The first word of the line is not that of an event, or who clears is neither CALLER nor CALLED.",
         "Correct the word.",
     ],
     [
@@ -220,7 +220,7 @@ pub static TEXT_FAULTS: [Entry; 51] = [
         "S5",
         "NoHeader",
         "The first line with words is not SCRIPT 1.",
-        "Begin the text with it. On standard input it stands behind the plan's END.",
+        "Begin the text with it. On standard input it comes after the plan's END.",
     ],
     [
         "S6",
@@ -231,7 +231,7 @@ pub static TEXT_FAULTS: [Entry; 51] = [
     [
         "S7",
         "AfterEnd",
-        "Words stand behind END.",
+        "Words come after END.",
         "The events before it were run. Drop the words.",
     ],
     [
@@ -243,13 +243,13 @@ pub static TEXT_FAULTS: [Entry; 51] = [
     [
         "Q2",
         "WrongCount",
-        "The risk has no name or no groups, or words stand behind END on its line.",
+        "The risk has no name or no groups, or words come after END on its line.",
         "Write RISK, a name, and one or more groups.",
     ],
     [
         "Q3",
         "BadName",
-        "The name of the risk is no name.",
+        "The name of the risk is not valid.",
         "Write 1 to 8 capitals and figures, a letter first.",
     ],
     [
@@ -267,7 +267,7 @@ pub static TEXT_FAULTS: [Entry; 51] = [
     [
         "Q6",
         "RepeatedGroup",
-        "A group stands twice in a risk.",
+        "A group is in a risk twice.",
         "Drop one.",
     ],
     [
@@ -282,17 +282,17 @@ pub static TEXT_FAULTS: [Entry; 51] = [
         "The text ends without END, or in the middle of a line.",
         "See whether the file was cut off.",
     ],
-    ["Q9", "AfterEnd", "Words stand behind END.", "Drop them."],
+    ["Q9", "AfterEnd", "Words come after END.", "Drop them."],
     [
         "Q10",
         "NoMemory",
         "No memory was left.",
-        "Give the program more memory. It tells this as telexplan: no memory.",
+        "Give the program more memory. It reports this as telexplan: no memory.",
     ],
     [
         "Q11",
         "ReadFault",
         "The source of the text failed.",
-        "See whether the file can be read. The program tells this as telexplan: read fault.",
+        "See whether the file can be read. The program reports this as telexplan: read fault.",
     ],
 ];

@@ -11,6 +11,7 @@ pub mod GradeJobs
 pub mod MendJobs
 pub mod LintJobs
 pub mod TraceJobs
+pub mod TellingJobs
 pub mod SurviveFaults
 pub mod SurviveJobs
 pub mod Writables

@@ -26,6 +26,7 @@ mod simulate;
 mod survive;
 mod survive_fault;
 mod survive_fault_line;
+mod telling;
 mod trace;
 mod traced;
 
@@ -52,5 +53,6 @@ pub use run_checked::{run_checked_job, run_checked_status};
 pub use survive::{survival_status, survive_job, survive_risks_job};
 pub use survive_fault::SurviveFault;
 pub use survive_fault_line::write_survive_fault;
+pub use telling::{replies_status, run_telling_job};
 pub use trace::trace_job;
 pub use traced::Traced;

@@ -64,6 +64,14 @@ pub(crate) enum Opened<'a, I: Read + Drop, R: Read + Drop> {
         plan: Input<I, R>,
         script: Input<I, R>,
     },
+    RunTelling {
+        plan: Input<I, R>,
+        script: Input<I, R>,
+        /// A refused event gives another exit status.
+        strict: bool,
+        /// Each event is told before its reply.
+        echo: bool,
+    },
     Checked {
         plan: Input<I, R>,
         cert: Input<I, R>,
@@ -128,6 +136,12 @@ impl<'a, I: Read + Drop, R: Read + Drop> Opened<'a, I, R> {
                 script,
                 checked,
             } => Opened::run(inputs, plan, script, checked),
+            Command::RunTelling {
+                plan,
+                script,
+                strict,
+                echo,
+            } => Opened::run_telling(inputs, plan, script, *strict, *echo),
             Command::Check {
                 plan,
                 cert,
@@ -200,6 +214,22 @@ impl<'a, I: Read + Drop, R: Read + Drop> Opened<'a, I, R> {
                 Opened::checked(inputs, plan, cert, script, Bounds::of(*limit, *spare))
             }
         }
+    }
+
+    fn run_telling<F: Folder<Input = R>>(
+        inputs: &mut Inputs<'_, F, I>,
+        plan: &String,
+        script: &String,
+        strict: bool,
+        echo: bool,
+    ) -> Result<Opened<'a, I, R>, JobFault> {
+        let (plan, script) = inputs.open_both(plan.as_str(), script.as_str())?;
+        Ok(Opened::RunTelling {
+            plan,
+            script,
+            strict,
+            echo,
+        })
     }
 
     fn checked<F: Folder<Input = R>>(

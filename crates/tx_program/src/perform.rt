@@ -16,8 +16,8 @@ use tx_commands::Command;
 use tx_explain::write_explanation;
 use tx_jobs::{
     Drawn, JobFault, Traced, check_status, codes_status, draw_job, grade_status, lint_job,
-    pipe_job, run_checked_status, run_job, survival_status, survive_job, survive_risks_job,
-    trace_job,
+    pipe_job, replies_status, run_checked_status, run_job, run_telling_job, survival_status,
+    survive_job, survive_risks_job, trace_job,
 };
 use tx_text::Source;
 
@@ -57,6 +57,12 @@ fn do_job<A: Allocator + Copy, F: Folder, I: Read + Drop, O: Write + Drop>(
     let status = match opened {
         Opened::Pipe { input } => run_input(alloc, input, output)?,
         Opened::Run { plan, script } => run_files(alloc, plan, script, output)?,
+        Opened::RunTelling {
+            plan,
+            script,
+            strict,
+            echo,
+        } => run_telling_files(alloc, plan, script, strict, echo, output)?,
         Opened::Checked {
             plan,
             cert,
@@ -113,6 +119,38 @@ fn run_script<A: Allocator + Copy, P: Source, R: Read + Drop, O: Write + Drop>(
 ) -> Result<u8, JobFault> {
     let mut script = output.source(alloc, script)?;
     run_job(alloc, plan, &mut script, &mut output.sink()).and(Ok(0))
+}
+
+/// `run PLAN SCRIPT` with `--strict` or `--echo`.
+fn run_telling_files<A: Allocator + Copy, P: Read + Drop, R: Read + Drop, O: Write + Drop>(
+    alloc: A,
+    plan: P,
+    script: R,
+    strict: bool,
+    echo: bool,
+    output: &Output<O, A>,
+) -> Result<u8, JobFault> {
+    let mut plan = output.source(alloc, plan)?;
+    tell_script(alloc, &mut plan, script, strict, echo, output)
+}
+
+/// Runs the script over the plan, and tells what is asked for. A function of its own, since each exit lets go of what is open there.
+fn tell_script<A: Allocator + Copy, P: Source, R: Read + Drop, O: Write + Drop>(
+    alloc: A,
+    plan: &mut P,
+    script: R,
+    strict: bool,
+    echo: bool,
+    output: &Output<O, A>,
+) -> Result<u8, JobFault> {
+    let mut script = output.source(alloc, script)?;
+    let mut sink = output.sink();
+    let summary = if echo {
+        run_telling_job(alloc, echo, plan, &mut script, &mut sink)?
+    } else {
+        run_job(alloc, plan, &mut script, &mut sink)?
+    };
+    Ok(replies_status(&summary, strict))
 }
 
 /// `run PLAN SCRIPT --cert CERT --limit L --spare K`.

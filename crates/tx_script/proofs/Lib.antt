@@ -7,3 +7,5 @@ pub mod Moments
 pub mod Draining
 pub mod Answering
 pub mod Running
+pub mod Telling
+pub mod TellingRuns

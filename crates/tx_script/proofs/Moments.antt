@@ -22,7 +22,7 @@ use Rattle.tx_script.specs.Answered.{count_of}
 use Rattle.tx_script.specs.Answers.{IsFresh, settled, next}
 use Rattle.tx_script.proofs.Balance.{step_within}
 
-run_push : (p : Plan) (s : State) (es : List Event) (e : Event) → run p s (es ++ e ∷ []) ≡ run p s es ++ moment p (state_after p s es) e ∷ []
+pub run_push : (p : Plan) (s : State) (es : List Event) (e : Event) → run p s (es ++ e ∷ []) ≡ run p s es ++ moment p (state_after p s es) e ∷ []
 run_push p s [] e = refl
 run_push p s (f ∷ es) e = ap (λ ms. moment p s f ∷ ms) (run_push p (step p s f).1 es e)
 

@@ -5,3 +5,5 @@ pub mod Output
 pub mod Untold
 pub mod Answers
 pub mod Answered
+pub mod Telling
+pub mod TellingAnswers

@@ -51,7 +51,7 @@ pub(crate) fn answer<B: Allocator, N: Network, W: Sink>(
 }
 
 #[inline(always)]
-fn is_refused(reply: &Reply) -> bool
+pub(crate) fn is_refused(reply: &Reply) -> bool
     ensures { result ≡ is_refused reply.now }
 {
     matches!(reply, Reply::Refused(_))
@@ -59,7 +59,7 @@ fn is_refused(reply: &Reply) -> bool
 
 /// Takes the tickets out of a network and writes them, the oldest first. Tells how many there were.
 #[inline(always)]
-fn write_tickets<B: Allocator, N: Network, W: Sink>(
+pub(crate) fn write_tickets<B: Allocator, N: Network, W: Sink>(
     plan: &Plan<B>,
     net: &mut N,
     sink: &mut W,

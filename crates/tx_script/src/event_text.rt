@@ -35,7 +35,7 @@ pub fn write_event<A: Allocator, W: Sink>(
 }
 
 /// The same for any event: of an id that the plan has not, no name is written.
-fn write_said<A: Allocator, W: Sink>(
+pub(crate) fn write_said<A: Allocator, W: Sink>(
     event: &Event,
     plan: &Plan<A>,
     sink: &mut W,

@@ -20,6 +20,7 @@
 
 mod answer;
 mod answer_line;
+mod echo;
 mod event_line;
 mod event_text;
 mod event_words;
@@ -29,6 +30,8 @@ mod runner;
 mod script_word;
 mod summary;
 mod tally;
+mod teller;
+mod told;
 mod verb;
 
 pub use event_line::{event_lines_read_back, read_event};
@@ -38,3 +41,4 @@ pub use run_fault::RunFault;
 pub use runner::run;
 pub use script_word::{ScriptFault, ScriptKind, ScriptWord, code_and_name};
 pub use summary::Summary;
+pub use teller::run_telling;

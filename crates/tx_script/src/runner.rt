@@ -28,7 +28,7 @@ use tx_text::{
     WriteFault, write_parts,
 };
 
-const KEY: &[u8] = b"SCRIPT";
+pub(crate) const KEY: &[u8] = b"SCRIPT";
 
 /// Runs the script that comes from a source over a network of the plan that has no open call and no ticket. Writes the reply and the tickets of each event,
 /// and at the script's end the line END EVENTS. `Err` tells at which event the run stopped, and why.
@@ -119,14 +119,14 @@ fn run_lines<A: Allocator, B: Allocator, N: Network, R: Source, W: Sink>(
     }
 }
 
-fn script_fault(line: u64, kind: ScriptKind) -> RunCause
+pub(crate) fn script_fault(line: u64, kind: ScriptKind) -> RunCause
     ensures { result ≡ RunCause.Script (record { line = line; kind = kind }) }
 {
     RunCause::Script(FaultAt { line, kind })
 }
 
 /// A failure to read is a cause of its own.
-fn frame_cause(stop: FrameStop) -> RunCause
+pub(crate) fn frame_cause(stop: FrameStop) -> RunCause
     ensures { result ≡ (if is_read stop.fault then RunCause.Read else RunCause.Script (record { line = stop.line; kind = FaultKind.Frame stop.fault })) }
 {
     match stop.fault {
@@ -136,7 +136,11 @@ fn frame_cause(stop: FrameStop) -> RunCause
 }
 
 /// Writes the last line, and tells what was counted.
-fn finish<N: Network, W: Sink>(tally: &Tally, net: &N, sink: &mut W) -> Result<Summary, RunFault>
+pub(crate) fn finish<N: Network, W: Sink>(
+    tally: &Tally,
+    net: &N,
+    sink: &mut W,
+) -> Result<Summary, RunFault>
     requires { tally.now.answered < 2 ^ 63 }
     ensures summary { IfOk result (λ s. s ≡ record { events = (N.state net.now).events; refused = tally.now.refused; tickets = tally.now.tickets; open_calls = length (N.state net.now).calls }) }
     ensures ok { OnOk result (W.taken sink.new ≡ append_known (W.taken sink.old) (end_text (N.state net.now))) }

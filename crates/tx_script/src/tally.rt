@@ -37,6 +37,14 @@ impl Tally {
         self.tickets += event.tickets;
     }
 
+    /// The number of the next event, from 1.
+    pub(crate) fn next_number(&self) -> u64
+        requires { self.now.answered < 2 ^ 63 }
+        ensures { result ≡ self.now.answered + 1 }
+    {
+        self.answered + 1
+    }
+
     /// The run stopped in the next event.
     pub(crate) fn stopped(&self, cause: RunCause) -> RunFault
         requires { self.now.answered < 2 ^ 63 }

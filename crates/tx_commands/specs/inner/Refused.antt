@@ -2,12 +2,18 @@
 use Rattle.std.specs.Prelude.{◌≡◌, ℕ, true, false, ◌&&◌, ◌||◌, List, Option, Some, option_map, codes, IsSomeAnd}
 use Rattle.clap.specs.Words.{Row, first_of}
 use Rattle.tx_explain.specs.Entries.{is_known}
-use Rattle.tx_commands.specs.Commands.{IsFoundIn}
+use Rattle.tx_commands.specs.Commands.{IsFoundIn, is_set}
 use Rattle.tx_commands.specs.Files.{reads_input_twice, overwrites}
 use Rattle.tx_commands.specs.Faults.{has, IsRunInPart}
 use Rattle.tx_commands.specs.declared.command.Command.{Command}
 use Rattle.tx_commands.specs.declared.refusal.Refusal.{Refusal}
-use Rattle.tx_commands.specs.declared.refusal.Refusal.TheVariants.{Together, DrawTogether, NoSuchCode, InputTwice, Overwrites}
+use Rattle.tx_commands.specs.declared.refusal.Refusal.TheVariants.{Together, CheckedTelling, DrawTogether, NoSuchCode, InputTwice, Overwrites}
+
+-- `run` has a certificate, and an option by which it tells more
+pub record IsCheckedTelling (name : List ℕ) (found : List Row) : Type 0 where
+  pub run : name ≡ codes "run"
+  pub checked : has found (codes "cert") ≡ true
+  pub telling : (is_set found (codes "strict") || is_set found (codes "echo")) ≡ true
 
 -- `draw` has a limit or a spare number, and not both with a code
 pub record IsDrawInPart (name : List ℕ) (found : List Row) : Type 0 where
@@ -33,6 +39,7 @@ AskForClash found refusal = (command : Command) × IsFoundIn found command × Is
 -- The words that were found are refused for this. That a word is missing, and want of memory, are left open.
 abbrev pub IsRefused : Option (List ℕ × List Row) → Refusal → Type 0
 IsRefused command Together = IsSomeAnd command (λ c. IsRunInPart c.0 c.1)
+IsRefused command CheckedTelling = IsSomeAnd command (λ c. IsCheckedTelling c.0 c.1)
 IsRefused command DrawTogether = IsSomeAnd command (λ c. IsDrawInPart c.0 c.1)
 IsRefused command NoSuchCode = IsSomeAnd command (λ c. IsNoCode c.0 c.1)
 IsRefused command InputTwice = AskForClash command InputTwice

@@ -60,6 +60,7 @@ pub enum TextKind {
 pub enum JobKind {
     Pipe,
     Run,
+    Telling,
     Codes,
     Grade,
     Lint,
@@ -89,6 +90,7 @@ pub enum Driven {
 static TEXTS: [(&str, TextKind); 22] = [
     ("pipe", TextKind::Job(JobKind::Pipe)),
     ("run", TextKind::Job(JobKind::Run)),
+    ("telling", TextKind::Job(JobKind::Telling)),
     ("codes", TextKind::Job(JobKind::Codes)),
     ("grade", TextKind::Job(JobKind::Grade)),
     ("lint", TextKind::Job(JobKind::Lint)),
@@ -209,6 +211,7 @@ pub fn job_of<'a>(kind: JobKind, head: Head<'a>) -> Job<'a> {
     match kind {
         JobKind::Pipe => Job::Pipe,
         JobKind::Run => Job::Run,
+        JobKind::Telling => Job::Telling,
         JobKind::Codes => Job::Codes,
         JobKind::Grade => Job::Grade,
         JobKind::Lint => Job::Lint { file: head.first },

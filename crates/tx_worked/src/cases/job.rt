@@ -6,6 +6,8 @@ use crate::cases::case::two_texts;
 pub enum Job<'a> {
     Pipe,
     Run,
+    /// A run that tells each event before its reply, and whether one was refused.
+    Telling,
     Codes,
     Grade,
     /// What is to be said of the text of a plan, whose file is named so.
@@ -61,6 +63,7 @@ pub fn job_name(job: Job<'_>) -> &'static [u8] {
     match job {
         Job::Pipe => b"pipe",
         Job::Run => b"run",
+        Job::Telling => b"telling",
         Job::Codes => b"codes",
         Job::Grade => b"grade",
         Job::Lint { .. } => b"lint",
@@ -89,7 +92,7 @@ pub fn sources(job: Job<'_>) -> u8 {
         | Job::Draw
         | Job::DrawCode { .. }
         | Job::DrawFinding { .. } => 1,
-        Job::Run | Job::Check { .. } | Job::Change { .. } | Job::Survive => 2,
+        Job::Run | Job::Telling | Job::Check { .. } | Job::Change { .. } | Job::Survive => 2,
         Job::Checked { .. } => 3,
     }
 }

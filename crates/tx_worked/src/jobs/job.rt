@@ -8,7 +8,7 @@ use itoa::Buffer;
 use std::alloc::{Allocator, Global};
 use tx_jobs::{
     Drawn, JobFault, Traced, check_status, codes_status, draw_job, grade_status, lint_job,
-    pipe_job, run_checked_status, run_job, trace_job,
+    pipe_job, replies_status, run_checked_status, run_job, run_telling_job, trace_job,
 };
 use tx_text::{MemorySink, MemorySource};
 
@@ -129,6 +129,10 @@ fn do_job<A: Allocator + Copy>(
 ) -> Result<u8, JobFault> {
     match job {
         Job::Pipe | Job::Run => status(run_job(alloc, first, second, out)),
+        Job::Telling => match run_telling_job(alloc, true, first, second, out) {
+            Ok(summary) => Ok(replies_status(&summary, true)),
+            Err(fault) => Err(fault),
+        },
         Job::Check { limit, spare } => {
             check_status(alloc, first, second, limit.min(62), spare.min(15), out)
         }

@@ -1,0 +1,71 @@
+// The job of `run PLAN SCRIPT --echo`, and the exit status of a run that is to tell whether an
+// event was refused.
+ghost use Rattle.std.specs.Prelude.{◌≡◌};
+ghost use Rattle.tx_text.specs.Calls.{CallsAtMost, source_calls};
+ghost use Rattle.tx_jobs.specs.JobFaults.{mark_after};
+ghost use Rattle.tx_jobs.specs.JobEnds.{input, output};
+ghost use Rattle.tx_jobs.specs.TellingJobs.{ScriptTold, TellingJobAnswers, status_of_replies};
+
+use crate::job_fault::JobFault;
+use std::alloc::Allocator;
+use tx_engine::Engine;
+use tx_plan::Plan;
+use tx_plantext::read_plan_from;
+use tx_script::{Summary, run_telling};
+use tx_text::{Sink, Source};
+
+/// Reads a plan, and then runs a script over it as `run_job` does. Where the lines of events are asked for, the line of each stands before its reply.
+pub fn run_telling_job<A: Allocator + Copy, P: Source, R: Source, W: Sink>(
+    alloc: A,
+    echo: bool,
+    plan: &mut P,
+    script: &mut R,
+    out: &mut W,
+) -> Result<Summary, JobFault>
+    ensures answers { TellingJobAnswers echo (input P.rest P.failed P.called plan.old plan.new) (input R.rest R.failed R.called script.old script.new) (output W.taken out.old out.new) result }
+    ensures mark { W.failed out.new ≡ mark_after (W.failed out.old) result }
+    ensures plan_calls { CallsAtMost P.called source_calls plan.old plan.new }
+    ensures script_calls { CallsAtMost R.called source_calls script.old script.new }
+{
+    match read_plan_from(alloc, plan) {
+        Ok(plan) => {
+            plan.rules();
+            let told = tell_script(alloc, echo, &plan, script, out);
+            drop(plan);
+            told
+        }
+        Err(fault) => Err(JobFault::of_plan(fault)),
+    }
+}
+
+/// Runs a script over a network of the plan, from its opening state, and tells its events.
+fn tell_script<A: Allocator + Copy, R: Source, W: Sink>(
+    alloc: A,
+    echo: bool,
+    plan: &Plan<A>,
+    script: &mut R,
+    out: &mut W,
+) -> Result<Summary, JobFault>
+    ensures answers { ScriptTold plan.now echo (input R.rest R.failed R.called script.old script.new) (output W.taken out.old out.new) result }
+    ensures mark { W.failed out.new ≡ mark_after (W.failed out.old) result }
+    ensures calls { CallsAtMost R.called source_calls script.old script.new }
+{
+    match Engine::new(alloc, plan) {
+        Err(_) => Err(JobFault::NoMemory),
+        Ok(mut network) => {
+            let told = run_telling(alloc, echo, plan, &mut network, script, out);
+            network.close();
+            match told {
+                Ok(summary) => Ok(summary),
+                Err(fault) => Err(JobFault::of_run(fault)),
+            }
+        }
+    }
+}
+
+/// The exit status of a run: 1 where it is to be strict and an event was refused, else 0.
+pub fn replies_status(summary: &Summary, strict: bool) -> u8
+    ensures { result ≡ status_of_replies strict summary.now }
+{
+    u8::from(strict && summary.refused != 0)
+}

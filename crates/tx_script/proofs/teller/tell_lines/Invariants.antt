@@ -1,0 +1,18 @@
+use Rattle.std.proofs.Common.{◌≡◌, None}
+use Rattle.tx_text.specs.Calls.{Went, source_calls}
+use Rattle.tx_text.specs.Told.{reading_size}
+use Rattle.tx_text.specs.Framing.{to_come}
+use Rattle.tx_script.proofs.TellingRuns.{IsTelling}
+use Rattle.tx_script.proofs.teller.tell_lines.Given as goal
+
+abbrev pub invariant-lines : goal.invariant-lines
+invariant-lines g l = record {
+  plan : g.N.Network.plan l.net ≡ l.plan;
+  tells : IsTelling l.plan l.echo (g.R.Source.rest l.fn.source) (g.R.Source.rest l.source) (g.N.Network.state l.fn.net) (g.N.Network.state l.net) (g.W.Sink.taken l.fn.sink) (g.W.Sink.taken l.sink) (to_come l.frame) l.tally (reading_size l.frame.reader);
+  mark : g.W.Sink.failed l.sink ≡ g.W.Sink.failed l.fn.sink;
+  sound : l.frame.reader.feed.fault ≡ None;
+  went : Went g.R.Source.called source_calls l.frame.reader.left l.fn.source l.source;
+}
+
+abbrev pub decreases-lines : goal.decreases-lines
+decreases-lines g l = reading_size l.frame.reader
