@@ -10,7 +10,7 @@ use Rattle.tx_state.specs.declared.event.Event.{Event}
 use Rattle.tx_state.specs.declared.reply.Reply.{Reply}
 use Rattle.tx_state.specs.Ended.{Ended}
 use Rattle.tx_state.specs.State.{State}
-use Rattle.tx_state.specs.Runs.{Moment, moment, run, state_after}
+use Rattle.tx_state.specs.Runs.{Moment, moment, run}
 use Rattle.tx_state.specs.Drained.{drained}
 use Rattle.tx_tickets.specs.Texts.{reply_text, ticket_text}
 use Rattle.tx_script.specs.Output.{tickets_made, moment_text}

@@ -1,7 +1,6 @@
-use Rattle.std.proofs.Common.{[], ◌++◌, sym, ap, ◌∙◌, refl, arith}
+use Rattle.std.proofs.Common.{[], sym, ap, ◌∙◌, arith}
 use Rattle.std.specs.Io.KnownBytes.{append_known}
 use Rattle.std.proofs.lemmas.Result.{err_from_is_err_and}
-use Rattle.tx_text.proofs.Writing.{append_known_twice}
 use Rattle.tx_state.specs.Drained.{drained}
 use Rattle.tx_state.specs.State.{State}
 use Rattle.tx_state.specs.Runs.{moment}
@@ -9,7 +8,7 @@ use Rattle.tx_tickets.specs.Texts.{reply_text}
 use Rattle.tx_tickets.proofs.Taking.{then_took}
 use Rattle.tx_script.specs.Output.{moment_text}
 use Rattle.tx_script.specs.Telling.{echo_asked}
-use Rattle.tx_script.proofs.Answering.{IsAnswer, is_answer, counted_as, untold_reply, untold_tickets}
+use Rattle.tx_script.proofs.Answering.{is_answer, counted_as, untold_reply, untold_tickets}
 use Rattle.tx_script.proofs.Telling.{untold_lines, untold_echo}
 use Rattle.tx_script.proofs.told.tell.Goals as goal
 
