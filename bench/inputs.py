@@ -116,6 +116,14 @@ class Network:
         tried = {it: {self.far(group, it) for group in self.lists[it, code]} for it in behind}
         self.lists[exchange, code][-1] = next(self.between[exchange, it][0] for it in behind if exchange in tried[it])
 
+    def turn(self):
+        """Turns a list for each code: what was chosen first is now the last choice. So a plan of as many codes as this has so many lists changed, and is as safe."""
+        for code in range(len(self.codes)):
+            exchange = self.random.choice([it for it in range(len(self.exchanges)) if it != self.homes[code]])
+            first, *others = self.lists[exchange, code]
+            self.lists[exchange, code] = [*others, first]
+
+
 class Traffic:
     """Calls over a network one after another, so that a number of them is open: the lines of a script."""
 
@@ -226,11 +234,12 @@ class Inputs:
             self.lines = lines if key == self.key else {}
 
     def network(self, kind):
-        shapes = {"mid": (15, 240, 960, 1600, 4), "limits": (64, 1000, 4096, 4096, 7), "bad": (64, 1000, 4096, 4096, 7)}
         if kind not in self.networks:
-            self.networks[kind] = Network(self.seed, *shapes[kind])
+            self.networks[kind] = Network(self.seed, *((15, 240, 960, 1600, 4) if kind == "mid" else (64, 1000, 4096, 4096, 7)))
             if kind == "bad":
                 self.networks[kind].spoil()
+            if kind == "turned":
+                self.networks[kind].turn()
         return self.networks[kind]
 
     def text(self, file):

@@ -5,14 +5,15 @@
        tools/examples.py --cases
 
 Runs each example of examples/list with a built program (crates/telexplan/out/telexplan where none is named), in a folder of its own, and compares what it prints,
-its exit status and the files that it makes with what stands in examples/. A fault stands on standard error, and nothing else does. Then checks README.md and docs/FORMATS.md: each block there says, in a comment before
+its exit status and the files that it makes with what stands in examples/. A fault stands on standard error, and nothing else does. An example that begins with a
+script in Python runs that, with the program as its first word; no case shows it. Then checks README.md and docs/FORMATS.md: each block there says, in a comment before
 it, what it shows, and has to show just that; the table of codes has to be the program's and to have the codes of the definitions, the map of the crates has to be that
 of crates.txt, what the pages name has to be there, each link of theirs has to lead to a file and a heading that are there, the player of the gate, crates/tx_worked,
 has to have the examples and the pictures as they stand, all pictures of the plans of crates/tx_worked have to be ones that can be read, and docs/telexplan.bash and
 docs/telexplan.1 have to have the commands and options that the program's help tells. Prints a line for each difference; the status is 1 if there is one.
 
 --pages runs nothing: it checks the pages and the player's cases alone. Each example is such a case, and the gate plays them, so the pages then show what the
-program prints.
+program prints, but for those that a script in Python runs.
 
 --write writes the outputs and the files that are made, for you to read through: they are right only once somebody has.
 --cases writes the examples as cases for the player of the gate: the file crates/tx_worked/data/cases/examples. Other runs of this tool see that it is the same.
@@ -35,7 +36,7 @@ import tempfile
 
 TOP = os.path.dirname(os.path.dirname(os.path.abspath(__file__)))
 PAGES = ["README.md", "docs/FORMATS.md"]
-NAMING = ["CONTRIBUTING.md", "docs/ARCHITECTURE.md", "docs/DECISIONS.md", "docs/GLOSSARY.md", "docs/HEADLINE.md", "docs/MEASURED.md", "docs/PROOFS.md"]
+NAMING = ["CHANGELOG.md", "CONTRIBUTING.md", "docs/ARCHITECTURE.md", "docs/DECISIONS.md", "docs/GLOSSARY.md", "docs/HEADLINE.md", "docs/MEASURED.md", "docs/PROOFS.md"]
 MADE = ["crates/telexplan/out/telexplan"]
 PLAYED = "crates/tx_worked/data/cases"
 
@@ -48,7 +49,8 @@ class Example:
         words = command.split()
         bar = words.index("|") if "|" in words else -1
         self.input = words[1:bar] if bar > 0 else []
-        self.words = words[bar + 2 :]
+        self.driver = words[0] if words[0].endswith(".py") else None
+        self.words = words[words.index("telexplan") + 1 :]
         made = [b for a, b in zip(self.words, self.words[1:]) if a in ("--counter", "--mixture", "--plan") or (a == "--cert" and self.words[0] != "run")]
         self.made = made
         self.files = [it for it in self.words if it.startswith("examples/") and it not in made]
@@ -84,7 +86,8 @@ def run(program, example):
             if os.path.exists(os.path.join(TOP, it)):
                 shutil.copyfile(os.path.join(TOP, it), os.path.join(room, it))
         given = b"".join(read(it) for it in example.input)
-        ran = subprocess.run(program + example.words, cwd=room, input=given, capture_output=True, timeout=60)
+        driver = [sys.executable, os.path.join(TOP, example.driver)] if example.driver else []
+        ran = subprocess.run(driver + program + example.words, cwd=room, input=given, capture_output=True, timeout=60)
         made = {}
         for it in sorted(os.listdir(os.path.join(room, "examples"))):
             path = f"examples/{it}"
@@ -105,7 +108,7 @@ def difference(wanted, given):
 def check_examples(program, tell):
     named = {"examples/list", "examples/README.md"} | images()
     for example in examples():
-        named.update(example.files + example.input + example.made + [out_of(example)])
+        named.update(example.files + example.input + example.made + [out_of(example), example.driver])
         status, printed, fault, made = run(program, example)
         if status != example.status:
             tell(f"{example.name}: the status is {status} and not {example.status}")
@@ -423,7 +426,7 @@ def case_of(example):
         plan, script, cert = texts
         return f"checked{bounds}", b"---\n".join([plan, cert, script])
     drawn = " ".join(["draw"] + [it for it in map(example.option, ["--code", "--limit", "--spare"]) if it])
-    kinds = {"run": "run", "draw": drawn, "codes": "codes", "grade": "grade"} | {it: it + bounds for it in ("check", "audit", "change", "mend")}
+    kinds = {"run": "telling" if "--echo" in example.words else "run", "draw": drawn, "codes": "codes", "grade": "grade"} | {it: it + bounds for it in ("check", "audit", "change", "mend")}
     kinds |= {"survive": "survive" if example.option("--risks") else "survive alone", "trace": " ".join(["trace", *example.words[2:]])}
     return (kinds[verb], b"---\n".join(texts)) if verb in kinds else None
 
@@ -470,7 +473,7 @@ def check_ends(tell):
     told = list(told_at_ends())
     for example in examples():
         wanted = " ".join(example.words), read(out_of(example)).decode(), [str(example.status)]
-        if not case_of(example) and wanted not in told:
+        if not case_of(example) and not example.driver and wanted not in told:
             tell(f"crates/tx_worked: no case has what {example.name} prints")
 
 

@@ -12,4 +12,3 @@ pub mod Writable
 pub mod ReadBack
 pub mod Loops
 pub mod Firsts
-pub mod OwnRanks

@@ -97,4 +97,3 @@ module _ {V E : Type 0} (items : V → List Event) (made : Option (List Event)) 
   some_made b (Ok (Some v)) h e = ap is_some h ∙ e
   some_made b (Ok None) h e = ap is_some h ∙ e
   some_made b (Err e) h e' = tt
-

@@ -1,7 +1,6 @@
 -- Why a mending has no whole report, as a job tells it.
 use Rattle.std.proofs.Common.{◌≡◌, ℕ, Bool, Err, refl, sym, subst}
 use Rattle.tx_plan.specs.Plan.{Plan}
-use Rattle.tx_mend.specs.declared.mending.Mending.{Mending}
 use Rattle.tx_mend_report.specs.declared.reporting.MendFault.{MendFault}
 use Rattle.tx_mend_report.specs.declared.reporting.MendFault.TheVariants.{Write, NoMemory}
 use Rattle.tx_mend_report.specs.MendAnswers.{MendAnswers, mark_after as mend_mark_after}
@@ -18,6 +17,7 @@ module _ (A : Type 0) (p : Plan) (limit spare : ℕ) (out : Output) where
   pub mend_told : (f : MendFault) (j : JobFault) → j ≡ mend_fault f → MendAnswers {A = A} p limit spare out.old out.new out.silent (Err f) → ToldMending {A = A} p limit spare out (Err j)
   mend_told f j e h = subst (λ (k : JobFault). ToldMending {A = A} p limit spare out (Err k)) (sym e) (told_by f h)
 
-pub mend_marked : {X : Type 0} (old : Bool) (f : MendFault) → mend_mark_after {X = X} old (Err f) ≡ mark_by old (mend_fault f)
+-- a fault leaves the same mark, whatever an answer would have been
+pub mend_marked : (old : Bool) (f : MendFault) → mend_mark_after {X = ℕ} old (Err f) ≡ mark_by old (mend_fault f)
 mend_marked old Write = refl
 mend_marked old NoMemory = refl

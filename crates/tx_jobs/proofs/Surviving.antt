@@ -1,5 +1,6 @@
 -- What the clauses of a search for outages come to, and what a refused text of risks leaves.
-use Rattle.std.proofs.Common.{◌≡◌, ◌≢◌, ◌∙◌, ℕ, Bool, List, [], refl, sym, ap}
+use Rattle.std.proofs.Common.{◌≡◌, ◌≢◌, ◌∙◌, ℕ, Bool, List, [], ◌∷◌, length, refl, sym, ap}
+use Rattle.std.proofs.lemmas.List.{nil_from_length}
 use Rattle.std.specs.List.{AllByRecursion}
 use Rattle.tx_text.specs.declared.text_fault.TextFault.TheVariants.{LineTooLong, BadByte, NoMemory as TextNoMemory}
 use Rattle.tx_text.specs.declared.line_fault.LineFault.TheVariants.{Text, Read as LineRead}
@@ -20,7 +21,7 @@ use Rattle.tx_risk_text.specs.declared.fault.RiskWord.{RiskWord}
 use Rattle.tx_risk_text.specs.declared.fault.RiskWord.TheVariants.{UnknownWord, WrongCount, BadName, Duplicate, UnknownName, RepeatedGroup, NoMemory as RiskNoMemory}
 use Rattle.tx_jobs.specs.declared.survive_fault.SurviveFault.{SurviveFault}
 use Rattle.tx_jobs.specs.SurviveFaults.{risks_fault, risks_fault_by, survive_mark_by}
-use Rattle.tx_jobs.specs.SurviveJobs.{IsSurvivalOf}
+use Rattle.tx_jobs.specs.SurviveJobs.{IsSurvivalOf, status_of_cuts}
 
 pub survival_is : (A : Type 0) (p : Plan) (risks : List NamedRisk) (s : Survival A)
     → ((ranks : Ranks) (limit spare : ℕ) → IsCertified p ranks limit spare → AreTried s)
@@ -55,3 +56,11 @@ risks_by old f (Word RiskNoMemory) = refl
 pub risks_mark : (old : Bool) (f : FaultAt RiskWord) (told : SurviveFault) → told ≡ risks_fault f
     → old ≡ survive_mark_by old told
 risks_mark old f told e = sym (ap (survive_mark_by old) e ∙ risks_by old f f.kind)
+
+-- the status of cuts, by how many there are
+pub none_cut : {A : Type 0} (cuts : List A) → length cuts ≡ 0 → status_of_cuts cuts ≡ 0
+none_cut cuts e = ap status_of_cuts (nil_from_length cuts e)
+
+pub some_cut : {A : Type 0} (cuts : List A) → length cuts ≢ 0 → status_of_cuts cuts ≡ 1
+some_cut [] h = absurd (h refl)
+some_cut (cut ∷ cuts) h = refl

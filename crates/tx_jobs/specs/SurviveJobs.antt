@@ -1,5 +1,5 @@
 -- What `survive PLAN` answers: what its calls do, one after another.
-use Rattle.std.specs.Prelude.{◌≡◌, ◌==◌, ◌⊎◌, ℕ, List, [], length, if◌then◌else◌, Result, Ok, Err}
+use Rattle.std.specs.Prelude.{◌≡◌, ◌⊎◌, ℕ, List, [], ◌∷◌, Result, Ok, Err}
 use Rattle.std.specs.Io.KnownBytes.{append_known}
 use Rattle.tx_text.specs.Ends.{StopsIn}
 use Rattle.tx_text.specs.declared.frame.FaultAt.{FaultAt}
@@ -96,6 +96,10 @@ SurviveRisksJobAnswers plan risks out result =
     ⊎ RefusedFirst plan (risks.unread × out.silent) result
 
 -- THE EXIT STATUS: 0 where nothing is cut off, else 1; 1 too where the plan has no grade
+abbrev pub status_of_cuts : {A : Type 0} → List A → ℕ
+status_of_cuts [] = 0
+status_of_cuts (cut ∷ cuts) = 1
+
 abbrev pub status_of_survival : {A : Type 0} → Survival A → ℕ
-status_of_survival (Tried cuts) = if length cuts.items == 0 then 0 else 1
+status_of_survival (Tried cuts) = status_of_cuts cuts.items
 status_of_survival (Ungraded findings) = 1

@@ -21,7 +21,7 @@ use Rattle.tx_plan.specs.Rerouted.{rerouted}
 use Rattle.tx_mend.specs.Routings.{IsRouting, IsFalling, CanBeServed, CanBeKept, CanBeMended}
 use Rattle.tx_mend.specs.LeastRanks.{places, RanksOfCode, outgoing, leads_on, can_follow, does_follow, least_rank, present_rank, keeps_routes}
 use Rattle.tx_mend.specs.Mended.{routes_of, unserved_for, unserved}
-use Rattle.tx_mend.specs.Laws.{LeastRanksServe, KeepsWhatCanBeKept}
+use Rattle.tx_mend.specs.Laws.{LeastRanksAreAttained, LeastRanksServe, KeepsWhatCanBeKept}
 use Rattle.tx_mend.specs.Lists.{least_list, list_of_rank, full_list}
 use Rattle.tx_mend.specs.inner.Full.{full}
 use Rattle.tx_mend.proofs.Distinct.{some_among, among_range, range_among}
@@ -182,23 +182,33 @@ module _ (p : Plan) (ok : IsPlan p) where
     least_leads : (c x r g : ℕ) → least_rank p c limit spare x ≡ Some r → Among g (least_list p limit spare c x) → Leads p (least_rank p c limit spare) x r g
     least_leads c x r g e m = filled_leads p ok limit spare c small x r g (subst (λ (o : Option ℕ). Among g (list_of_rank p (least_rank p c limit spare) c spare x o)) e m)
 
+    abbrev Attaining : Plan
+    Attaining = rerouted p (routes_of p (least_list p limit spare)) p.bars
+
+    attaining : IsRouting p Attaining
+    attaining = routing (least_list p limit spare) (λ x c. is_least_list p ok limit spare c small x)
+
+    -- the least ranks fall along the lists by them
+    least_falls : (c : ℕ) → c < length p.codes → IsFalling Attaining (λ d. least_rank p d limit spare) c limit spare
+    least_falls c known = falling (least_list p limit spare) (λ x c. is_least_list p ok limit spare c small x) (λ d. least_rank p d limit spare) c limit spare known (record {
+      home = at_home (home_of p c) (can_follow p spare) (suc limit);
+      low = within (home_of p c) (can_follow p spare) (suc limit);
+      inside = least_inside c;
+      enough = least_enough c;
+      leads = λ x r g e away m. least_leads c x r g e m;
+    })
+
     served : (c x : ℕ) → c < length p.codes → is_some (least_rank p c limit spare x) ≡ true → CanBeServed p c limit spare x
     served c x known h = by (least_rank p c limit spare x) refl h
       where
         by : (o : Option ℕ) → least_rank p c limit spare x ≡ o → is_some o ≡ true → CanBeServed p c limit spare x
         by None e s = absurd (false≢true s)
         by (Some r) e s = record {
-          routing = rerouted p (routes_of p (least_list p limit spare)) p.bars;
+          routing = Attaining;
           ranks = λ d. least_rank p d limit spare;
           rank = r;
-          same = routing (least_list p limit spare) (λ x c. is_least_list p ok limit spare c small x);
-          falling = falling (least_list p limit spare) (λ x c. is_least_list p ok limit spare c small x) (λ d. least_rank p d limit spare) c limit spare known (record {
-            home = at_home (home_of p c) (can_follow p spare) (suc limit);
-            low = within (home_of p c) (can_follow p spare) (suc limit);
-            inside = least_inside c;
-            enough = least_enough c;
-            leads = λ x r g e away m. least_leads c x r g e m;
-          });
+          same = attaining;
+          falling = least_falls c known;
           ranked = e;
         }
 
@@ -317,6 +327,9 @@ module _ (p : Plan) (ok : IsPlan p) where
     distinct_all k =
         let same : k.routing ≡ rerouted p k.routing.routes p.bars = k.same.same in
         distinct_none p.codes (subst (λ (q : Plan). IsCertified q k.ranks limit spare) same k.certified).no_prefix
+
+pub attained : LeastRanksAreAttained
+attained p ok limit spare small = (Attaining p ok limit spare small, attaining p ok limit spare small, least_falls p ok limit spare small)
 
 pub serves : LeastRanksServe
 serves p ok code limit spare x known small = (

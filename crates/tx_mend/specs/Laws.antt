@@ -7,10 +7,17 @@ use Rattle.tx_plan.specs.Ambiguous.{ambiguous_of}
 use Rattle.tx_plan.specs.Certified.{Ranks, IsCertified}
 use Rattle.tx_rank.specs.Walks.{net_of}
 use Rattle.tx_rank.specs.Heights.{IsReached}
-use Rattle.tx_mend.specs.Routings.{IsRouting, CanBeServed, CanBeKept, CanBeMended}
+use Rattle.tx_mend.specs.Routings.{IsRouting, IsFalling, CanBeServed, CanBeKept, CanBeMended}
 use Rattle.tx_mend.specs.LeastRanks.{least_rank, keeps_routes}
 use Rattle.tx_mend.specs.Lists.{mended_list}
 use Rattle.tx_mend.specs.Mended.{mended, unserved}
+
+-- LEAST RANKS ARE ATTAINED: along some routes of the network the least ranks fall, for all codes at
+-- once.
+abbrev pub LeastRanksAreAttained : Type 0
+LeastRanksAreAttained = (p : Plan) → IsPlan p → (limit spare : ℕ) → spare ≤ 15
+    → (q : Plan) × IsRouting p q × ((code : ℕ) → code < length p.codes
+    → IsFalling q (λ c. least_rank p c limit spare) code limit spare)
 
 -- An exchange has a least rank exactly where it can be served.
 abbrev pub LeastRanksServe : Type 0

@@ -1,11 +1,12 @@
 // The laws of mending.
 ghost use Rattle.tx_mend.specs.LeastRanks.{LeastRanksAreLeast};
-ghost use Rattle.tx_mend.specs.Laws.{LeastRanksServe, KeepsWhatCanBeKept, MendedIsMended, MendingIsExact, NoListWithoutCalls, CertifiedStays};
+ghost use Rattle.tx_mend.specs.Laws.{LeastRanksAreAttained, LeastRanksServe, KeepsWhatCanBeKept, MendedIsMended, MendingIsExact, NoListWithoutCalls, CertifiedStays};
 
-/// No ranks of any routes of a network are smaller than its least ranks. Does nothing: its contract
-/// is a law.
+/// No ranks of any routes of a network are smaller than its least ranks, and along some routes the
+/// least ranks fall. Does nothing: its contract is a law.
 pub fn least_ranks_are_least()
-    ensures { LeastRanksAreLeast }
+    ensures least { LeastRanksAreLeast }
+    ensures attained { LeastRanksAreAttained }
 {}
 
 /// An exchange has a least rank for a code exactly where some routes of the network can serve it.

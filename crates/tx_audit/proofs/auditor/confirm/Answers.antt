@@ -1,4 +1,4 @@
-use Rattle.tx_audit.proofs.OwnRanks.{certified_for}
+use Rattle.tx_check.proofs.OwnRanks.{certified_for}
 use Rattle.tx_audit.proofs.auditor.confirm.Goals as goal
 
 pub unreachable-requires : goal.unreachable-requires

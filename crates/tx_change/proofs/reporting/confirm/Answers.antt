@@ -1,4 +1,4 @@
-use Rattle.tx_audit.proofs.OwnRanks.{certified_for}
+use Rattle.tx_check.proofs.OwnRanks.{certified_for}
 use Rattle.tx_change.proofs.Cleared.{certificate_along}
 use Rattle.tx_change.proofs.reporting.confirm.Goals as goal
 

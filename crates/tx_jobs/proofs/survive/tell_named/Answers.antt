@@ -1,5 +1,7 @@
 use Rattle.std.proofs.Common.{Err, ap, inl, inr, refl, sym, subst}
 use Rattle.tx_risk.specs.NamedRisks.{AreRisksFor}
+use Rattle.tx_jobs.specs.JobEnds.{output}
+use Rattle.tx_jobs.specs.SurviveJobs.{ToldSurvival}
 use Rattle.tx_jobs.proofs.Surviving.{risks_mark}
 use Rattle.tx_jobs.proofs.survive.tell_named.Goals as goal
 
@@ -20,7 +22,7 @@ returns-in-Err-told-clause-answers g c = inl (record {
   risks = c.in-Ok.risks;
   fit = c.in-Ok.ensures.fits;
   read = c.in-Ok.ensures.answer;
-  goes_on = rw c.as_slice.ensures at c.in-Err-told.ensures.told;
+  goes_on = subst (λ risks. ToldSurvival c.args.plan.now risks (output g.W.Sink.taken c.args.out.now c.tell_survival-told.new.out) (Err c.in-Err-told.fault)) c.as_slice.ensures c.in-Err-told.ensures.told;
 })
 
 pub returns-in-Err-clause-answers : goal.returns-in-Err-clause-answers

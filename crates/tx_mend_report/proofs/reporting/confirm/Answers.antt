@@ -1,4 +1,4 @@
-use Rattle.tx_mend_report.proofs.OwnRanks.{certified_for}
+use Rattle.tx_check.proofs.OwnRanks.{certified_for}
 use Rattle.tx_mend_report.proofs.reporting.confirm.Goals as goal
 
 pub unreachable-requires : goal.unreachable-requires
