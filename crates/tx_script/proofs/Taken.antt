@@ -21,7 +21,9 @@ use Rattle.tx_state.specs.declared.event.Event.TheVariants.{Key, Route, Confirm,
 use Rattle.tx_state.specs.declared.cause.Cause.{Cause}
 use Rattle.tx_state.specs.declared.cause.Cause.TheVariants.{Lost as ByLoss}
 use Rattle.tx_state.specs.declared.hop.Hop.{Hop}
-use Rattle.tx_state.specs.Call.{Call, Phase, Standing, Calling, Connected, circuit_called, is_numbered}
+use Rattle.tx_state.specs.declared.phase.Phase.{Phase}
+use Rattle.tx_state.specs.declared.phase.Phase.TheVariants.{Standing, Calling, Connected}
+use Rattle.tx_state.specs.Call.{Call, circuit_called, is_numbered}
 use Rattle.tx_state.specs.State.{State}
 use Rattle.tx_state.specs.InUse.{circuits_used, circuits_carried, seizes, uses_group}
 use Rattle.tx_state.specs.Invariant.{Holds}

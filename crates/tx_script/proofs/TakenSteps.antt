@@ -23,7 +23,9 @@ use Rattle.tx_state.specs.declared.refusal.Refusal.{Refusal}
 use Rattle.tx_state.specs.declared.refusal.Refusal.TheVariants.{UnknownCall}
 use Rattle.tx_state.specs.declared.reply.Reply.{Reply}
 use Rattle.tx_state.specs.declared.reply.Reply.TheVariants.{Refused}
-use Rattle.tx_state.specs.Call.{Phase, Standing, Calling, Connected, Call, place_of, call_of, is_standing, is_numbered, is_first}
+use Rattle.tx_state.specs.declared.phase.Phase.{Phase}
+use Rattle.tx_state.specs.declared.phase.Phase.TheVariants.{Standing, Calling, Connected}
+use Rattle.tx_state.specs.Call.{Call, place_of, call_of, is_standing, is_numbered, is_first}
 use Rattle.tx_state.specs.State.{State}
 use Rattle.tx_state.specs.InUse.{choice, seizes, seizes_from}
 use Rattle.tx_state.specs.Lines.{line_answer}
