@@ -417,6 +417,11 @@ def check_map(tell):
 # CASES FOR THE PLAYER OF THE GATE
 
 
+def telling_of(words):
+    """The kind of the case of a run, by what it tells."""
+    return {(True, False): "telling", (False, True): "telling summary", (True, True): "telling both"}.get(("--echo" in words, "--summary" in words), "run")
+
+
 def case_of(example):
     """The kind of a case, and its texts; None where no case shows the example."""
     if example.input and not example.words:
@@ -431,7 +436,7 @@ def case_of(example):
         plan, script, cert = texts
         return f"checked{bounds}", b"---\n".join([plan, cert, script])
     drawn = " ".join(["draw"] + [it for it in map(example.option, ["--code", "--limit", "--spare"]) if it])
-    kinds = {"run": "telling" if "--echo" in example.words else "run", "draw": drawn, "codes": "codes", "grade": "grade"} | {it: it + bounds for it in ("check", "audit", "change", "mend")}
+    kinds = {"run": telling_of(example.words), "draw": drawn, "codes": "codes", "grade": "grade"} | {it: it + bounds for it in ("check", "audit", "change", "mend")}
     kinds |= {"survive": "survive" if example.option("--risks") else "survive alone", "trace": " ".join(["trace", *example.words[2:]]), "lint": " ".join(example.words)}
     return (kinds[verb], b"---\n".join(texts)) if verb in kinds else None
 

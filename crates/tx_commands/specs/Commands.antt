@@ -39,6 +39,7 @@ is_set found id = option_map_or (λ word. bytes_eq word (codes "true")) (first_o
 pub record TellsNoMore (found : List Row) : Type 0 where
   pub strict : is_set found (codes "strict") ≡ false
   pub echo : is_set found (codes "echo") ≡ false
+  pub summary : is_set found (codes "summary") ≡ false
 
 -- what was found behind the name of a command asks for this
 abbrev pub Asks : List ℕ → List Row → Command → Type 0
@@ -49,11 +50,12 @@ Asks name found (Run plan script None) =
 Asks name found (Run plan script (Some (cert, limit, spare))) =
     (name ≡ codes "run") × Names found (codes "plan") plan × Names found (codes "script") script × Names found (codes "cert") cert × Gives found (codes "limit") limit × Gives found (codes "spare") spare
     × TellsNoMore found
-Asks name found (RunTelling plan script strict echo) =
+Asks name found (RunTelling plan script strict telling) =
     (name ≡ codes "run") × Names found (codes "plan") plan × Names found (codes "script") script
     × (first_of (codes "cert") found ≡ None) × (first_of (codes "limit") found ≡ None)
     × (first_of (codes "spare") found ≡ None)
-    × (is_set found (codes "strict") ≡ strict) × (is_set found (codes "echo") ≡ echo)
+    × (is_set found (codes "strict") ≡ strict) × (is_set found (codes "echo") ≡ telling.echo)
+    × (is_set found (codes "summary") ≡ telling.summary)
 Asks name found (Check plan cert limit spare) =
     (name ≡ codes "check") × Names found (codes "plan") plan × Names found (codes "cert") cert × Gives found (codes "limit") limit × Gives found (codes "spare") spare
 Asks name found (Lint plan) = (name ≡ codes "lint") × Names found (codes "plan") plan

@@ -35,9 +35,9 @@ plan_words name = with_rule (new_app name) (file (codes "plan"))
 
 abbrev pub run_words : App
 run_words =
-    with_rule (with_rule (with_rule (with_rule (with_rule (with_rule
+    with_rule (with_rule (with_rule (with_rule (with_rule (with_rule (with_rule
     (plan_words (codes "run")) (file (codes "script"))) (option (codes "cert"))) limit) spare)
-    (flag (codes "strict"))) (flag (codes "echo"))
+    (flag (codes "strict"))) (flag (codes "echo"))) (flag (codes "summary"))
 
 abbrev pub check_words : App
 check_words = with_rule (with_rule (with_rule (plan_words (codes "check")) (file (codes "cert"))) (needed limit)) (needed spare)

@@ -10,6 +10,7 @@ use crate::refusal::Refusal;
 use clap::ArgMatches;
 use std::alloc::{AllocError, Global};
 use tx_explain::is_known;
+use tx_script::Telling;
 
 /// The word of an id.
 pub(crate) fn text(
@@ -208,15 +209,19 @@ fn run_of(alloc: Global, plan: String, matches: &ArgMatches<'_>) -> Result<Comma
         _ => return Err(Refusal::Together),
     };
     let strict = is_set(matches, "strict");
-    let echo = is_set(matches, "echo");
+    let telling = Telling {
+        echo: is_set(matches, "echo"),
+        summary: is_set(matches, "summary"),
+    };
+    let more = strict || telling.echo || telling.summary;
     match checked {
-        None if strict || echo => Ok(Command::RunTelling {
+        None if more => Ok(Command::RunTelling {
             plan,
             script,
             strict,
-            echo,
+            telling,
         }),
-        Some(_) if strict || echo => Err(Refusal::CheckedTelling),
+        Some(_) if more => Err(Refusal::CheckedTelling),
         checked => Ok(Command::Run {
             plan,
             script,

@@ -1,4 +1,5 @@
 // Commands.
+use tx_script::Telling;
 
 /// What the words ask for.
 #[derive(Debug, Drop)]
@@ -11,13 +12,13 @@ pub enum Command {
         script: String,
         checked: Option<(String, u8, u8)>,
     },
-    /// `run PLAN SCRIPT` where more is told: by the status that an event was refused, or the line of
-    /// each event before its reply.
+    /// `run PLAN SCRIPT` where more is told: by the status that an event was refused, the line of each
+    /// event before its reply, or a summary.
     RunTelling {
         plan: String,
         script: String,
         strict: bool,
-        echo: bool,
+        telling: Telling,
     },
     /// `check PLAN CERT --limit L --spare K`: at most L transits, with K groups to spare.
     Check {

@@ -42,11 +42,17 @@ the verdict; goes with --limit and --spare",
         "strict",
         "End with status 1 if an event was refused",
     );
-    with_flag(
+    let run = with_flag(
         run,
         alloc,
         "echo",
         "Print each event with its number before its reply",
+    );
+    with_flag(
+        run,
+        alloc,
+        "summary",
+        "At the end, print how calls ended, and the most circuits of each group that were taken at once",
     )
 }
 

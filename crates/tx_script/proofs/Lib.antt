@@ -9,3 +9,7 @@ pub mod Answering
 pub mod Running
 pub mod Telling
 pub mod TellingRuns
+pub mod Taken
+pub mod TakenSteps
+pub mod Counting
+pub mod Ended

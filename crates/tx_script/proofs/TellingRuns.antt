@@ -1,7 +1,10 @@
 -- A run that tells the lines of events too, from event to event, and the ways in which it ends.
-use Rattle.std.proofs.Common.{◌≡◌, ℕ, ◌+◌, ◌*◌, ◌^◌, ◌<◌, ◌≤◌, Bool, true, cond, List, [], ◌∷◌, ◌++◌, length, Option, None, ◌⊎◌, Result, Ok, Err, codes, IfOk, IfErr, OnOk, OnErr, inl, inr, refl, sym, ap, ◌∙◌, subst, append-nil, arith}
-use Rattle.std.specs.Prelude.{if◌then◌else◌}
-use Rattle.std.specs.List.{count_by}
+use Rattle.std.proofs.Common.{◌≡◌, ℕ, ◌+◌, ◌*◌, ◌^◌, ◌<◌, ◌≤◌, Bool, true, cond, List, [], ◌∷◌, ◌++◌, length, Option, None, ◌⊎◌, Result, Ok, Err, codes, IfOk, IfErr, OnOk, OnErr, inl, inr, refl, sym, ap, ap₂, ◌∙◌, subst, append-nil, arith}
+use Rattle.std.specs.Prelude.{if◌then◌else◌, get_or, replicate}
+use Rattle.std.specs.List.{count_by, flat_map}
+use Rattle.std.proofs.lemmas.Bool.{cases_lt}
+use Rattle.std.proofs.lemmas.List.{get_or_past}
+use Rattle.std.proofs.lemmas.List.Concat.{flat_map-append, length-flat_map}
 use Rattle.std.specs.Io.KnownBytes.{append_known, IsAtEnd}
 use Rattle.tx_text.specs.declared.text_fault.TextFault.TheVariants.{LineTooLong, BadByte, NoMemory as TextNoMemory}
 use Rattle.tx_text.specs.declared.line_fault.LineFault.TheVariants.{Text, Read as line_read}
@@ -23,12 +26,17 @@ use Rattle.tx_text.specs.Said.{is_no_room}
 use Rattle.tx_text.proofs.NoRoom.{IsSaid, none_stops}
 use Rattle.tx_text.proofs.Writing.{append_known-nil, append_known_twice}
 use Rattle.tx_plan.specs.Plan.{Plan}
+use Rattle.tx_plan.specs.Rules.{IsPlan}
+use Rattle.tx_entries.specs.declared.circuit.Circuit.{Circuit}
 use Rattle.tx_state.specs.declared.event.Event.{Event}
 use Rattle.tx_state.specs.State.{State}
 use Rattle.tx_state.specs.Refusals.{refusal}
 use Rattle.tx_state.specs.Runs.{moment, run, state_after}
 use Rattle.tx_state.specs.Sound.{is_refused}
 use Rattle.tx_state.specs.Drained.{drained}
+use Rattle.tx_state.specs.Invariant.{Holds}
+use Rattle.tx_state.proofs.Invariant.{inv_opening}
+use Rattle.tx_state.proofs.Steps.{step_keeps}
 use Rattle.tx_script.specs.declared.answer.Answered.{Answered}
 use Rattle.tx_script.specs.declared.run_fault.RunFault.{RunFault}
 use Rattle.tx_script.specs.declared.run_cause.RunCause.{RunCause}
@@ -36,37 +44,52 @@ use Rattle.tx_script.specs.declared.run_cause.RunCause.TheVariants.{Read, Write,
 use Rattle.tx_script.specs.declared.script_word.ScriptWord.{ScriptWord}
 use Rattle.tx_script.specs.declared.summary.Summary.{Summary}
 use Rattle.tx_script.specs.declared.tally.Tally.{Tally}
+use Rattle.tx_script.specs.declared.telling.Telling.{Telling}
+use Rattle.tx_script.specs.declared.group_use.GroupUse.{GroupUse}
+use Rattle.tx_script.specs.Summaries.{calls_line, summary_text}
+use Rattle.tx_script.specs.Taken.{is_taken}
+use Rattle.tx_script.specs.inner.Counting.{AreFew, all_ended, are_idle, followed, idle, still, summary_of_counts}
 use Rattle.tx_script.specs.Events.{Said, event_of}
 use Rattle.tx_script.specs.Script.{faulty, script_said, script_of}
-use Rattle.tx_script.specs.Output.{end_text}
+use Rattle.tx_script.specs.Output.{end_text, tickets_made}
 use Rattle.tx_script.specs.Answers.{IsFresh, Moved, settled, next, Begins}
-use Rattle.tx_script.specs.Telling.{told_moment, told_events}
-use Rattle.tx_script.specs.TellingAnswers.{IsTold, Untold, LineTold, ToldRan, TellingAnswers}
+use Rattle.tx_script.specs.Telling.{if_asked, told_moment, told_events, told_last}
+use Rattle.tx_script.specs.TellingAnswers.{IsUnused, IsTold, Untold, LineTold, ToldRan, TellingAnswers}
 use Rattle.tx_script.proofs.Scripts.{SaidSoFar, at_start, header_said, event_said, fault_said, whole_said, stop_said}
-use Rattle.tx_script.proofs.Moments.{IsSoFar, none_so_far, one_answered, made_same, after_same}
+use Rattle.tx_script.proofs.Moments.{IsSoFar, none_so_far, one_answered, run_push, few_tickets, reply_same, made_same, after_same}
 use Rattle.tx_script.proofs.Running.{IsRunning, past_header, past_line, few_told}
 use Rattle.tx_script.proofs.Telling.{told_more, told_same}
+use Rattle.tx_script.proofs.TakenSteps.{taken_step}
+use Rattle.tx_script.proofs.Counting.{AreGroupUses, none_used, uses_step, used_drained, peaks_told}
+use Rattle.tx_script.proofs.Ended.{AreEnded, none_ended, ended_all, ended_within, ended_told}
 
--- As `IsRunning` has it, and the lines of the events so far were told. What is counted is as for a run that writes nowhere.
-pub record IsTelling (p : Plan) (echo : Bool) (a b : Option (List ℕ)) (s t : State) (u v : Option (List ℕ)) (T : Ending → List ℕ → Framed) (tally : Tally) (size : ℕ) : Type 0 where
+-- As `IsRunning` has it, and the lines of the events so far were told, and their calls and circuits counted. What else is counted is as for a run that
+-- writes nowhere.
+pub record IsTelling (p : Plan) (echo : Bool) (a b : Option (List ℕ)) (s t : State) (u v : Option (List ℕ)) (T : Ending → List ℕ → Framed) (tally : Tally) (size : ℕ) (calls : List ℕ) (us : List GroupUse) : Type 0 where
   pub events : List Event
   pub said : SaidSoFar p a b events T
   pub far : IsSoFar p s t None None events tally
   pub wrote : v ≡ append_known u (told_events p echo s events)
   pub bounded : tally.answered + size ≤ 4097 * source_calls
+  pub holds : Holds p t
+  pub ended : AreEnded (flat_map tickets_made (run p s events)) calls
+  pub used : AreGroupUses p (run p s events) t us
 
 -- nothing was read yet
-pub start_tells : {A : Type 0} (p : Plan) (echo : Bool) (a : Option (List ℕ)) (s : State) (u : Option (List ℕ)) (v : FrameReader A) (tally : Tally) → v.key.now ≡ codes "SCRIPT" → v.most ≡ 1 → v.reader ≡ reading_start → v.phase ≡ Start → v.number ≡ 1
-    → IsFresh s → tally ≡ record { answered = 0; refused = 0; tickets = 0 } → IsTelling p echo a a s s u u (to_come v) tally (reading_size v.reader)
-start_tells p echo a s u v tally key most reader phase number fresh i = record {
+pub start_tells : {A : Type 0} (p : Plan) → IsPlan p → (echo : Bool) (a : Option (List ℕ)) (s : State) (u : Option (List ℕ)) (v : FrameReader A) (tally : Tally) (calls : List ℕ) (us : List GroupUse) → v.key.now ≡ codes "SCRIPT" → v.most ≡ 1 → v.reader ≡ reading_start → v.phase ≡ Start → v.number ≡ 1
+    → IsFresh s → IsUnused s → tally ≡ record { answered = 0; refused = 0; tickets = 0 } → calls ≡ replicate 9 0 → us ≡ are_idle p → IsTelling p echo a a s s u u (to_come v) tally (reading_size v.reader) calls us
+start_tells p ok echo a s u v tally calls us key most reader phase number fresh unused i none idle = record {
   events = [];
   said = at_start p a v key most reader phase number;
   far = none_so_far p s None tally fresh i;
   wrote = append_known-nil u;
   bounded = (let n = ap (λ (z : Tally). z.answered) i in let m = ap reading_size reader in omega arith);
+  holds = rw (fresh.no_calls, unused) (inv_opening p s.numbers);
+  ended = none_ended calls none;
+  used = subst (λ l. AreGroupUses p [] s l) (sym idle) (none_used p ok s fresh unused);
 }
 
-module _ (p : Plan) (echo : Bool) (a b : Option (List ℕ)) (s t : State) (u v : Option (List ℕ)) (T : Ending → List ℕ → Framed) (tally : Tally) (size : ℕ) (on : IsTelling p echo a b s t u v T tally size) where
+module _ (p : Plan) (tel : Telling) (a b : Option (List ℕ)) (s t : State) (u v : Option (List ℕ)) (T : Ending → List ℕ → Framed) (tally : Tally) (size : ℕ) (calls : List ℕ) (us : List GroupUse) (on : IsTelling p tel.echo a b s t u v T tally size calls us) where
   abbrev es : List Event
   es = on.events
 
@@ -75,24 +98,77 @@ module _ (p : Plan) (echo : Bool) (a b : Option (List ℕ)) (s t : State) (u v :
   as_running = record { events = es; said = on.said; far = on.far; bounded = on.bounded }
 
   -- the header came
-  header_tells : (c : Option (List ℕ)) (w : ℕ) (U : Ending → List ℕ → Framed) (left : ℕ) → ReadsOn b c T (λ e more. Headed w (U e more)) → left < size → IsTelling p echo a c s t u v U tally left
-  header_tells c w U left q l = record { events = es; said = header_said p a b c es T on.said w U q; far = on.far; wrote = on.wrote; bounded = (let h = on.bounded in omega arith) }
+  header_tells : (c : Option (List ℕ)) (w : ℕ) (U : Ending → List ℕ → Framed) (left : ℕ) → ReadsOn b c T (λ e more. Headed w (U e more)) → left < size → IsTelling p tel.echo a c s t u v U tally left calls us
+  header_tells c w U left q l = record { events = es; said = header_said p a b c es T on.said w U q; far = on.far; wrote = on.wrote; bounded = (let h = on.bounded in omega arith); holds = on.holds; ended = on.ended; used = on.used }
+
+  -- what an event does to the counts
+  module _ (ok : IsPlan p) (e : Event) where
+    abbrev here : Moment
+    here = moment p t e
+
+    same_made : tickets_made here ≡ tickets_made (next p s es e)
+    same_made = ap (λ (z : State). tickets_made (moment p z e)) on.far.network ∙ made_same p (state_after p s es) e
+
+    ended_after : AreEnded (flat_map tickets_made (run p s (es ++ e ∷ []))) (all_ended calls (tickets_made here))
+    ended_after =
+        let ms = run p s es in
+        let all : flat_map tickets_made (run p s (es ++ e ∷ [])) ≡ flat_map tickets_made ms ++ tickets_made here =
+        ap (flat_map tickets_made) (run_push p s es e) ∙ flat_map-append tickets_made ms (next p s es e ∷ []) ∙ ap (λ l. flat_map tickets_made ms ++ l) (append-nil (tickets_made (next p s es e)) ∙ sym same_made) in
+        subst (λ l. AreEnded l (all_ended calls (tickets_made here))) (sym all) (ended_all (flat_map tickets_made ms) (tickets_made here) calls on.ended)
+
+    same_reply : here.reply ≡ (next p s es e).reply
+    same_reply = ap (λ (z : State). (moment p z e).reply) on.far.network ∙ reply_same p (state_after p s es) e
+
+    same_after : drained here.after [] ≡ drained (next p s es e).after []
+    same_after = ap (λ (z : State). drained (moment p z e).after []) on.far.network ∙ after_same p (state_after p s es) e []
+
+    law : (y : Circuit) → is_taken (next p s es e).after y ≡ still e (next p s es e).reply y (is_taken t y)
+    law y = sym (ap (λ (z : State). is_taken z y) same_after) ∙ taken_step p t on.holds e y ∙ ap (λ r. still e r y (is_taken t y)) same_reply
+
+    used_after : AreGroupUses p (run p s (es ++ e ∷ [])) (drained here.after []) (followed e here.reply us)
+    used_after =
+        let m = next p s es e in
+        let q = uses_step p (run p s es) t m us on.used e m.reply law in
+        subst (λ ms. AreGroupUses p ms (drained here.after []) (followed e here.reply us)) (sym (run_push p s es e))
+        (subst (λ z. AreGroupUses p (run p s es ++ m ∷ []) z (followed e here.reply us)) (sym same_after)
+        (subst (λ r. AreGroupUses p (run p s es ++ m ∷ []) (drained m.after []) (followed e r us)) (sym same_reply) (used_drained p (run p s es ++ m ∷ []) m.after (followed e m.reply us) q)))
 
   -- an event came, and was told
-  event_tells : (c : Option (List ℕ)) (r : State) (w : Option (List ℕ)) (n : ℕ) (ws : List (List ℕ)) (U : Ending → List ℕ → Framed) (e : Event) (k : ℕ) (new : Tally) (count : Answered) (left : ℕ) → ReadsOn b c T (λ e more. Has n ws (U e more)) → event_of p ws ≡ Ok e
-      → k ≡ tally.answered + 1 → IsTold p echo k e t r v w count → new ≡ record { answered = tally.answered + 1; refused = tally.refused + cond count.refused 1 0; tickets = tally.tickets + count.tickets } → left < size → IsTelling p echo a c s r u w U new left
-  event_tells c r w n ws U e k new count left q h number told i l =
-      let here : told_moment p echo k (moment p t e) ≡ told_moment p echo (length es + 1) (next p s es e) =
-      ap (λ (z : State). told_moment p echo k (moment p z e)) on.far.network ∙ told_same p echo k (state_after p s es) e
-      ∙ ap (λ z. told_moment p echo z (next p s es e)) (number ∙ ap (λ z. z + 1) on.far.answered) in
+  event_tells : (ok : IsPlan p) (c : Option (List ℕ)) (r : State) (w : Option (List ℕ)) (n : ℕ) (ws : List (List ℕ)) (U : Ending → List ℕ → Framed) (e : Event) (k : ℕ) (new : Tally) (count : Answered) (left : ℕ) (more : List ℕ) (uses : List GroupUse) → ReadsOn b c T (λ e more. Has n ws (U e more)) → event_of p ws ≡ Ok e
+      → k ≡ tally.answered + 1 → IsTold p tel.echo k e t r v w count → more ≡ all_ended calls (tickets_made (moment p t e)) → uses ≡ followed e (moment p t e).reply us
+      → new ≡ record { answered = tally.answered + 1; refused = tally.refused + cond count.refused 1 0; tickets = tally.tickets + count.tickets } → left < size → IsTelling p tel.echo a c s r u w U new left more uses
+  event_tells ok c r w n ws U e k new count left more uses q h number told ends follows i l =
+      let same : told_moment p tel.echo k (moment p t e) ≡ told_moment p tel.echo (length es + 1) (next p s es e) =
+      ap (λ (z : State). told_moment p tel.echo k (moment p z e)) on.far.network ∙ told_same p tel.echo k (state_after p s es) e
+      ∙ ap (λ z. told_moment p tel.echo z (next p s es e)) (number ∙ ap (λ z. z + 1) on.far.answered) in
       record {
         events = es ++ e ∷ [];
         said = event_said p a b c es T on.said n ws U e q h;
         far = one_answered p s t r None None None es e tally new count on.far told.counted refl told.network i;
-        wrote = told.wrote ∙ ap (λ z. append_known z (told_moment p echo k (moment p t e))) on.wrote ∙ append_known_twice u (told_events p echo s es) (told_moment p echo k (moment p t e))
-            ∙ ap (λ z. append_known u (told_events p echo s es ++ z)) here ∙ ap (append_known u) (sym (told_more p echo s es e));
+        wrote = told.wrote ∙ ap (λ z. append_known z (told_moment p tel.echo k (moment p t e))) on.wrote ∙ append_known_twice u (told_events p tel.echo s es) (told_moment p tel.echo k (moment p t e))
+            ∙ ap (λ z. append_known u (told_events p tel.echo s es ++ z)) same ∙ ap (append_known u) (sym (told_more p tel.echo s es e));
         bounded = (let h = on.bounded in let j = ap (λ (z : Tally). z.answered) i in omega arith);
+        holds = subst (λ (z : State). Holds p z) (sym told.network) (step_keeps p ok t on.holds e);
+        ended = subst (λ l. AreEnded (flat_map tickets_made (run p s (es ++ e ∷ []))) l) (sym ends) (ended_after ok e);
+        used = subst (λ l. AreGroupUses p (run p s (es ++ e ∷ [])) r l) (sym follows) (subst (λ z. AreGroupUses p (run p s (es ++ e ∷ [])) z (followed e (moment p t e).reply us)) (sym told.network) (used_after ok e));
       }
+
+  -- there is room to count the calls of one event more
+  pub few_ended : IsFresh s → (k : ℕ) → get_or calls k 0 < 2 ^ 63
+  few_ended fresh k =
+      let w = ended_within (flat_map tickets_made (run p s es)) calls on.ended k in
+      let l = length-flat_map tickets_made (run p s es) in
+      let few = few_tickets p s es in
+      let n = on.far.answered in
+      let z = ap length fresh.no_calls in
+      let h = on.bounded in
+      omega arith
+
+  pub few_circuits : AreFew us
+  few_circuits g = elim (cases_lt g (length us)) [
+    | inl l ↦ (on.used.each g l).few
+    | inr l ↦ subst (λ (z : GroupUse). z.circuits ≤ 240) (sym (get_or_past us g (idle 0) l)) (omega arith)
+  ]
 
   -- ---- the ends
 
@@ -103,20 +179,20 @@ module _ (p : Plan) (echo : Bool) (a b : Option (List ℕ)) (s t : State) (u v :
     abbrev there : Moved
     there = record { rest_old = a; rest_new = c; taken_old = u; taken_new = v; state_old = s; state_new = t }
 
-    ran : (n : ℕ) (k : FaultKind ScriptWord) → ToldRan p echo there (faulty es n k)
-    ran n k = record { wrote = on.wrote ∙ ap (append_known u) (sym (append-nil (told_events p echo s es))); network = on.far.network }
+    ran : (n : ℕ) (k : FaultKind ScriptWord) → ToldRan p tel there (faulty es n k)
+    ran n k = record { wrote = on.wrote ∙ ap (append_known u) (sym (append-nil (told_events p tel.echo s es))); network = on.far.network }
 
     module _ (broken untouched : Type 0) (f : RunFault) where
       -- a line says no event
       word_ends : (n : ℕ) (ws : List (List ℕ)) (U : Ending → List ℕ → Framed) (k : ScriptWord) → ReadsOn b c T (λ e more. Has n ws (U e more)) → event_of p ws ≡ Err k
-          → f ≡ record { event = tally.answered + 1; cause = OfScript (record { line = n; kind = Word k }) } → TellingAnswers p echo there broken untouched (Err f)
+          → f ≡ record { event = tally.answered + 1; cause = OfScript (record { line = n; kind = Word k }) } → TellingAnswers p tel there broken untouched (Err f)
       word_ends n ws U k q h i =
-          subst (λ (z : RunFault). TellingAnswers p echo there broken untouched (Err z)) (sym i)
+          subst (λ (z : RunFault). TellingAnswers p tel there broken untouched (Err z)) (sym i)
           (record { events = es; place = place; text = inl (fault_said p a b c es T on.said n ws U k q h); ran = ran n (Word k) })
 
       -- the frame is faulty, or the source failed
       stop_by : (n : ℕ) (k : FrameFault) → (is_no_room k ≡ true → ⊥) → Stopped a c (script_of p) broken (is_read k) (faulty es n (Frame k))
-          → TellingAnswers p echo there broken untouched (Err (record { event = tally.answered + 1; cause = if is_read k then Read else OfScript (record { line = n; kind = Frame k }) }))
+          → TellingAnswers p tel there broken untouched (Err (record { event = tally.answered + 1; cause = if is_read k then Read else OfScript (record { line = n; kind = Frame k }) }))
       stop_by n (of_line line_read) none q = record { events = es; line = n; place = place; text = q.0; failed = q.1; ran = ran n (Frame (of_line line_read)) }
       stop_by n (of_line (Text LineTooLong)) none q = record { events = es; place = place; text = q; ran = ran n (Frame (of_line (Text LineTooLong))) }
       stop_by n (of_line (Text BadByte)) none q = record { events = es; place = place; text = q; ran = ran n (Frame (of_line (Text BadByte))) }
@@ -124,16 +200,16 @@ module _ (p : Plan) (echo : Bool) (a b : Option (List ℕ)) (s t : State) (u v :
       stop_by n (of_form x) none q = record { events = es; place = place; text = q; ran = ran n (Frame (of_form x)) }
 
       pub stop_ends : (n : ℕ) (k : FrameFault) → ((e : Ending) (more : List ℕ) → IsSaid (T e more)) → Stopped b c T broken (is_read k) (Stop n k)
-          → f ≡ record { event = tally.answered + 1; cause = if is_read k then Read else OfScript (record { line = n; kind = Frame k }) } → TellingAnswers p echo there broken untouched (Err f)
+          → f ≡ record { event = tally.answered + 1; cause = if is_read k then Read else OfScript (record { line = n; kind = Frame k }) } → TellingAnswers p tel there broken untouched (Err f)
       stop_ends n k said q i =
-          subst (λ (z : RunFault). TellingAnswers p echo there broken untouched (Err z)) (sym i) (stop_by n k (none_stops b c T n k broken (is_read k) said q) (stop_said p a b c es T on.said n k broken q))
+          subst (λ (z : RunFault). TellingAnswers p tel there broken untouched (Err z)) (sym i) (stop_by n k (none_stops b c T n k broken (is_read k) said q) (stop_said p a b c es T on.said n k broken q))
 
   -- an event was not told whole
   module _ (c : Option (List ℕ)) (r : State) (w : Option (List ℕ)) (broken untouched : Type 0) where
     abbrev after : Moved
     after = record { rest_old = a; rest_new = c; taken_old = u; taken_new = w; state_old = s; state_new = r }
 
-    untold_by : (e : Event) (k : ℕ) → Begins p after (es ++ e ∷ []) → k ≡ length es + 1 → (cause : RunCause) → Untold p echo k e (settled p s es) r (append_known u (told_events p echo s es)) w cause → TellingAnswers p echo after broken untouched (Err (record { event = k; cause = cause }))
+    untold_by : (e : Event) (k : ℕ) → Begins p after (es ++ e ∷ []) → k ≡ length es + 1 → (cause : RunCause) → Untold p tel.echo k e (settled p s es) r (append_known u (told_events p tel.echo s es)) w cause → TellingAnswers p tel after broken untouched (Err (record { event = k; cause = cause }))
     untold_by e k text is Read h = absurd h
     untold_by e k text is Write h =
         let q = state_after p s es in
@@ -143,7 +219,7 @@ module _ (p : Plan) (echo : Bool) (a b : Option (List ℕ)) (s t : State) (u v :
           place = is;
           text = text;
           lines = record {
-            front = subst (λ z. StopsIn (append_known u (told_events p echo s es)) w z) (told_same p echo k q e) h.front;
+            front = subst (λ z. StopsIn (append_known u (told_events p tel.echo s es)) w z) (told_same p tel.echo k q e) h.front;
             taken = h.taken;
             left = h.left;
             made = sym (made_same p q e) ∙ h.made;
@@ -151,83 +227,101 @@ module _ (p : Plan) (echo : Bool) (a b : Option (List ℕ)) (s t : State) (u v :
           };
         })
     untold_by e k text is (OfScript f) h = absurd h
-    untold_by e k text is NoMemory h = record { events = es; hand = e; place = is; text = text; wrote = h.written; network = h.network; asks = h.asks; unrefused = ap (λ (z : State). refusal p z e) h.network ∙ h.unrefused }
+    untold_by e k text is NoMemory h = inl (record { events = es; hand = e; place = is; text = text; wrote = h.written; network = h.network; asks = h.asks; unrefused = ap (λ (z : State). refusal p z e) h.network ∙ h.unrefused })
 
     untold_ends : (f : RunFault) (n : ℕ) (ws : List (List ℕ)) (U : Ending → List ℕ → Framed) (e : Event) (k : ℕ) (cause : RunCause) → ReadsOn b c T (λ e more. Has n ws (U e more)) → event_of p ws ≡ Ok e
-        → k ≡ tally.answered + 1 → Untold p echo k e t r v w cause → f ≡ record { event = tally.answered + 1; cause = cause } → TellingAnswers p echo after broken untouched (Err f)
+        → k ≡ tally.answered + 1 → Untold p tel.echo k e t r v w cause → f ≡ record { event = tally.answered + 1; cause = cause } → TellingAnswers p tel after broken untouched (Err f)
     untold_ends f n ws U e k cause q h number untold i =
         let text : Begins p after (es ++ e ∷ []) = record { to_come = λ e more. script_said p (U e more); reads = event_said p a b c es T on.said n ws U e q h } in
-        let here = subst (λ (z : Option (List ℕ)). Untold p echo k e (settled p s es) r z w cause) on.wrote (subst (λ (z : State). Untold p echo k e z r v w cause) on.far.network untold) in
-        subst (λ (z : RunFault). TellingAnswers p echo after broken untouched (Err z)) (ap (λ n. record { event = n; cause = cause }) number ∙ sym i) (untold_by e k text (number ∙ place) cause here)
+        let here = subst (λ (z : Option (List ℕ)). Untold p tel.echo k e (settled p s es) r z w cause) on.wrote (subst (λ (z : State). Untold p tel.echo k e z r v w cause) on.far.network untold) in
+        subst (λ (z : RunFault). TellingAnswers p tel after broken untouched (Err z)) (ap (λ n. record { event = n; cause = cause }) number ∙ sym i) (untold_by e k text (number ∙ place) cause here)
 
   -- the text is whole
   module _ (c : Option (List ℕ)) (w : Option (List ℕ)) (broken untouched : Type 0) where
     abbrev last : Moved
     last = record { rest_old = a; rest_new = c; taken_old = u; taken_new = w; state_old = s; state_new = t }
 
-    same_end : end_text t ≡ end_text (state_after p s es)
-    same_end = ap end_text on.far.network
+    -- what is told of the counts is the summary
+    same_summary : summary_of_counts p calls us (length t.calls) ≡ summary_text p (run p s es) (state_after p s es)
+    same_summary =
+        let ms = run p s es in
+        let now_open = ap (λ (z : State). length z.calls) on.far.network in
+        ap₂ (λ (x y : List ℕ). x ++ y) (ended_told (flat_map tickets_made ms) calls on.ended)
+        (ap₂ (λ (x y : List ℕ). x ++ y) (ap (calls_line (codes "OPEN")) now_open) (ap (λ l. l ++ codes "END SUMMARY\n") (peaks_told p ms t us on.used)))
+
+    same_end : end_text t ++ if_asked tel.summary (summary_of_counts p calls us (length t.calls)) ≡ told_last p tel s es None
+    same_end = ap (λ l. l ++ if_asked tel.summary (summary_of_counts p calls us (length t.calls))) (ap end_text on.far.network) ∙ ap (λ l. end_text (state_after p s es) ++ if_asked tel.summary l) same_summary
+
+    abbrev end_now : List ℕ
+    end_now = end_text t ++ if_asked tel.summary (summary_of_counts p calls us (length t.calls))
 
     pub whole_ends : (o : Result Summary RunFault) → EndsAs b c T AtEnd Done × IsAtEnd c
-        → IfOk o (λ z. z ≡ record { events = t.events; refused = tally.refused; tickets = tally.tickets; open_calls = length t.calls }) → OnOk o (w ≡ append_known v (end_text t))
-        → IfErr o (λ f. f ≡ record { event = tally.answered + 1; cause = Write }) → OnErr o (StopsIn v w (end_text t)) → TellingAnswers p echo last broken untouched o
+        → IfOk o (λ z. z ≡ record { events = t.events; refused = tally.refused; tickets = tally.tickets; open_calls = length t.calls }) → OnOk o (w ≡ append_known v end_now)
+        → IfErr o (λ f. f ≡ record { event = tally.answered + 1; cause = Write }) → OnErr o (StopsIn v w end_now) → TellingAnswers p tel last broken untouched o
     whole_ends (Ok z) q counted wrote fault stop = record {
       events = es;
       text = (whole_said p a b c es T on.said q.0, q.1);
-      ran = record { wrote = wrote ∙ ap (λ l. append_known v l) same_end ∙ ap (λ l. append_known l (end_text (state_after p s es))) on.wrote ∙ append_known_twice u (told_events p echo s es) (end_text (state_after p s es)); network = on.far.network };
+      ran = record { wrote = wrote ∙ ap (λ l. append_known v l) same_end ∙ ap (λ l. append_known l (told_last p tel s es None)) on.wrote ∙ append_known_twice u (told_events p tel.echo s es) (told_last p tel s es None); network = on.far.network };
       counted = counted ∙ ap (λ (n : State). record { events = n.events; refused = tally.refused; tickets = tally.tickets; open_calls = length n.calls }) on.far.network
           ∙ ap (λ n. record { events = (state_after p s es).events; refused = n; tickets = tally.tickets; open_calls = length (state_after p s es).calls }) on.far.refused
           ∙ ap (λ n. record { events = (state_after p s es).events; refused = count_by (λ m. is_refused m.reply) (run p s es); tickets = n; open_calls = length (state_after p s es).calls }) on.far.tickets;
     }
     whole_ends (Err f) q counted wrote fault stop =
-        subst (λ (z : RunFault). TellingAnswers p echo last broken untouched (Err z)) (sym fault)
+        subst (λ (z : RunFault). TellingAnswers p tel last broken untouched (Err z)) (sym fault)
         (inr (record {
           events = es;
           place = place;
           text = (whole_said p a b c es T on.said q.0, q.1);
-          front = subst (λ l. StopsIn (append_known u (told_events p echo s es)) w l) same_end (subst (λ z. StopsIn z w (end_text t)) on.wrote stop);
+          front = subst (λ l. StopsIn (append_known u (told_events p tel.echo s es)) w l) same_end (subst (λ z. StopsIn z w end_now) on.wrote stop);
           network = on.far.network;
         }))
 
   -- ---- a step of the frame
 
   module _ (c : Option (List ℕ)) (step : FrameStep) (U : Ending → List ℕ → Framed) (l : Option Line) (gives : GoesOn b c T U l ⊥ (Ok step)) where
-    pub header_told : (n left : ℕ) → step ≡ Header n → (step ≡ End) ⊎ (left < size) → IsTelling p echo a c s t u v U tally left
+    pub header_told : (n left : ℕ) → step ≡ Header n → (step ≡ End) ⊎ (left < size) → IsTelling p tel.echo a c s t u v U tally left calls us
     header_told n left is falls = header_tells c n U left (subst (λ (x : FrameStep). GoesOn b c T U l ⊥ (Ok x)) is gives) (past_header step n is falls)
 
     pub end_told : step ≡ End → EndsAs b c T AtEnd Done × IsAtEnd c
     end_told is = subst (λ (x : FrameStep). GoesOn b c T U l ⊥ (Ok x)) is gives
 
-    module _ (is : step ≡ LineStep) (n : ℕ) (number : n ≡ number_of_line l) (k : ℕ) (next : k ≡ tally.answered + 1) (r : State) (w : Option (List ℕ)) (said : Said) (says : event_of p (words_of_line l) ≡ said) where
+    module _ (is : step ≡ LineStep) (n : ℕ) (number : n ≡ number_of_line l) (k : ℕ) (numbered : k ≡ tally.answered + 1) (r : State) (w : Option (List ℕ)) (said : Said) (says : event_of p (words_of_line l) ≡ said) where
       has : ReadsOn b c T (λ e more. Has (number_of_line l) (words_of_line l) (U e more))
       has = subst (λ (x : FrameStep). GoesOn b c T U l ⊥ (Ok x)) is gives
 
-      line_by : (new : Tally) (count : Answered) (left : ℕ) → left < size → (x : Said) → event_of p (words_of_line l) ≡ x → LineTold p echo n k x t r v w (Ok count)
-          → new ≡ record { answered = tally.answered + 1; refused = tally.refused + cond count.refused 1 0; tickets = tally.tickets + count.tickets } → IsTelling p echo a c s r u w U new left
-      line_by new count left falls (Ok e) says told i = event_tells c r w (number_of_line l) (words_of_line l) U e k new count left has says next told i falls
-      line_by new count left falls (Err word) says told i = absurd told
+      -- what a line that says an event does to the counts
+      abbrev CallsAfter : Said → List ℕ → Type 0
+      CallsAfter x more = IfOk x (λ e. more ≡ all_ended calls (tickets_made (moment p t e)))
+
+      abbrev UsesAfter : Said → List GroupUse → Type 0
+      UsesAfter x uses = IfOk x (λ e. uses ≡ followed e (moment p t e).reply us)
+
+      line_by : (ok : IsPlan p) (new : Tally) (count : Answered) (left : ℕ) (more : List ℕ) (uses : List GroupUse) → left < size → (x : Said) → event_of p (words_of_line l) ≡ x → LineTold p tel.echo n k x t r v w (Ok count) → CallsAfter x more → UsesAfter x uses
+          → new ≡ record { answered = tally.answered + 1; refused = tally.refused + cond count.refused 1 0; tickets = tally.tickets + count.tickets } → IsTelling p tel.echo a c s r u w U new left more uses
+      line_by ok new count left more uses falls (Ok e) says told ends follows i = event_tells ok c r w (number_of_line l) (words_of_line l) U e k new count left more uses has says numbered told ends follows i falls
+      line_by ok new count left more uses falls (Err word) says told ends follows i = absurd told
 
       -- a line was answered
-      pub line_told : (new : Tally) (count : Answered) (left : ℕ) → (step ≡ End) ⊎ (left < size) → LineTold p echo n k said t r v w (Ok count)
-          → new ≡ record { answered = tally.answered + 1; refused = tally.refused + cond count.refused 1 0; tickets = tally.tickets + count.tickets } → IsTelling p echo a c s r u w U new left
-      line_told new count left falls told i = line_by new count left (past_line step is falls) said says told i
+      pub line_told : (ok : IsPlan p) (new : Tally) (count : Answered) (left : ℕ) (more : List ℕ) (uses : List GroupUse) → (step ≡ End) ⊎ (left < size) → LineTold p tel.echo n k said t r v w (Ok count) → CallsAfter said more → UsesAfter said uses
+          → new ≡ record { answered = tally.answered + 1; refused = tally.refused + cond count.refused 1 0; tickets = tally.tickets + count.tickets } → IsTelling p tel.echo a c s r u w U new left more uses
+      line_told ok new count left more uses falls told ends follows i = line_by ok new count left more uses (past_line step is falls) said says told ends follows i
 
       -- its tickets can be counted
-      pub few_lines_told : IsFresh s → (count : Answered) → LineTold p echo n k said t r v w (Ok count) → tally.tickets + count.tickets < 2 ^ 64
+      pub few_lines_told : IsFresh s → (count : Answered) → LineTold p tel.echo n k said t r v w (Ok count) → tally.tickets + count.tickets < 2 ^ 64
       few_lines_told fresh count told = by said told
         where
-          by : (x : Said) → LineTold p echo n k x t r v w (Ok count) → tally.tickets + count.tickets < 2 ^ 64
+          by : (x : Said) → LineTold p tel.echo n k x t r v w (Ok count) → tally.tickets + count.tickets < 2 ^ 64
           by (Ok e) told = few_told p a b s t None None T tally size as_running fresh n (Ok e) (drained (moment p t e).after []) None count (record { counted = told.counted; wrote = refl; network = refl })
           by (Err word) told = absurd told
 
-      halted_by : (broken untouched : Type 0) (f : RunFault) (cause : RunCause) (x : Said) → event_of p (words_of_line l) ≡ x → LineTold p echo n k x t r v w (Err cause) → f ≡ record { event = tally.answered + 1; cause = cause }
-          → TellingAnswers p echo (after c r w broken untouched) broken untouched (Err f)
-      halted_by broken untouched f cause (Ok e) says untold i = untold_ends c r w broken untouched f (number_of_line l) (words_of_line l) U e k cause has says next untold i
+      halted_by : (broken untouched : Type 0) (f : RunFault) (cause : RunCause) (x : Said) → event_of p (words_of_line l) ≡ x → LineTold p tel.echo n k x t r v w (Err cause) → f ≡ record { event = tally.answered + 1; cause = cause }
+          → TellingAnswers p tel (after c r w broken untouched) broken untouched (Err f)
+      halted_by broken untouched f cause (Ok e) says untold i = untold_ends c r w broken untouched f (number_of_line l) (words_of_line l) U e k cause has says numbered untold i
       halted_by broken untouched f cause (Err word) says none i =
           rw (none.network, none.written) (word_ends c broken untouched f (number_of_line l) (words_of_line l) U word has says
           (i ∙ ap (λ z. record { event = tally.answered + 1; cause = z }) (none.fault ∙ ap (λ z. OfScript (record { line = z; kind = Word word })) number)))
 
       -- a line was not answered whole
-      pub line_untold : (broken untouched : Type 0) (f : RunFault) (cause : RunCause) → LineTold p echo n k said t r v w (Err cause) → f ≡ record { event = tally.answered + 1; cause = cause }
-          → TellingAnswers p echo (after c r w broken untouched) broken untouched (Err f)
+      pub line_untold : (broken untouched : Type 0) (f : RunFault) (cause : RunCause) → LineTold p tel.echo n k said t r v w (Err cause) → f ≡ record { event = tally.answered + 1; cause = cause }
+          → TellingAnswers p tel (after c r w broken untouched) broken untouched (Err f)
       line_untold broken untouched f cause untold i = halted_by broken untouched f cause said says untold i

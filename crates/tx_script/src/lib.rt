@@ -20,17 +20,21 @@
 
 mod answer;
 mod answer_line;
+mod counts;
 mod echo;
 mod event_line;
 mod event_text;
 mod event_words;
+mod group_use;
 mod run_cause;
 mod run_fault;
 mod runner;
 mod script_word;
 mod summary;
+mod summary_text;
 mod tally;
 mod teller;
+mod telling;
 mod told;
 mod verb;
 
@@ -42,3 +46,4 @@ pub use runner::run;
 pub use script_word::{ScriptFault, ScriptKind, ScriptWord, code_and_name};
 pub use summary::Summary;
 pub use teller::run_telling;
+pub use telling::Telling;

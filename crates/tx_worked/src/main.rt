@@ -6,7 +6,8 @@
 //! two, then a line `--- prints`, and behind it what has to be printed. Texts and what is printed may have the marks of `spell`. Where a law is broken, a line
 //! with `BROKEN` is printed, so the case differs.
 //!
-//! - `pipe` has a plan and a script in one text, `run` in two, and so has `telling`, which tells each event and has the status 1 where one was refused; `both` has them in one, which is played in both ways. `codes`, `grade` and `audit L K` have a plan,
+//! - `pipe` has a plan and a script in one text, `run` in two, and so has `telling`, which tells each event, and has the status 1 where one was refused.
+//!   `telling summary` tells a summary in place of that, and `telling both` both; `both` has them in one, which is played in both ways. `codes`, `grade` and `audit L K` have a plan,
 //!   `check L K` a plan and a certificate, `checked L K` (a run after a Yes) these and a script. An audit writes behind its report the certificate that it
 //!   found, or the script of the first finding that has one. `change L K` has an old plan and a
 //!   new one, and writes behind its report the certificate, or the mixture of the first finding
