@@ -1,288 +1,120 @@
--- What is counted of a run so far, and one event more.
-use Rattle.std.proofs.Common.{◌≡◌, ◌≢◌, ℕ, zero, suc, ◌+◌, ◌<◌, ◌≤◌, ◌==◌, Bool, true, false, not, ◌&&◌, ◌||◌, cond, List, [], ◌∷◌, ◌++◌, length, get_or, Option, Some, None, refl, sym, ap, ap₂, ◌∙◌, subst, eqb-true, eq-eqb, arith, length-append}
-use Rattle.std.proofs.lemmas.Bool.{false≢true, and_parts, ne_eqb, cases_eq}
-use Rattle.std.proofs.lemmas.List.{get_or-set_same, get_or-set_other, get_or-replicate, get_or-map, length-replicate, length-set, length-map}
-use Rattle.std.proofs.lemmas.Option.{get_or_from_slice_get}
-use Rattle.std.proofs.lemmas.List.Sums.{sum_by_push}
-use Rattle.std.specs.Prelude.{if◌then◌else◌, max, slice_get, slice_set, replicate}
-use Rattle.std.specs.List.{count_by, flat_map, range_with_len}
-use Rattle.std.specs.Option.{option_map_or}
-use Rattle.tx_plan.specs.Orders.{same_circuit}
-use Rattle.tx_plan.specs.Plan.{Plan, Group}
-use Rattle.tx_plan.specs.Rules.{IsPlan, IsGroup}
-use Rattle.tx_plan.specs.Circuits.{count_of, upward}
-use Rattle.tx_entries.specs.declared.circuit.Circuit.{Circuit}
+-- What was counted over a run tells its summary.
+use Rattle.std.proofs.Common.{◌≡◌, ℕ, ◌+◌, ◌^◌, ◌<◌, ◌≤◌, List, [], ◌∷◌, ◌++◌, length, get_or, Option, Some, None, Bool, refl, sym, ap, ap₂, ◌∙◌, subst, arith, append_assoc, append-nil}
+use Rattle.std.specs.Prelude.{option_map, is_some}
+use Rattle.std.specs.List.{flat_map, range_with_len}
+use Rattle.std.proofs.lemmas.List.Concat.{flat_map-append, length-flat_map}
+use Rattle.tx_plan.specs.Plan.{Plan}
+use Rattle.tx_plan.specs.Rules.{IsPlan}
+use Rattle.tx_tickets.specs.Texts.{cause_text}
 use Rattle.tx_state.specs.declared.event.Event.{Event}
-use Rattle.tx_state.specs.declared.event.Event.TheVariants.{Key, Route, Confirm, Clear, Released, Fail, Restore, Block, Unblock, CircuitOut, CircuitIn, LineFault, LineMend, LineAway, LineBack}
 use Rattle.tx_state.specs.declared.reply.Reply.{Reply}
-use Rattle.tx_state.specs.declared.reply.Reply.TheVariants.{Keyed, Seized, At, Connected, Answered, HeadOn, Cleared, Done, Lost, Refused}
+use Rattle.tx_state.specs.Ended.{Ended}
+use Rattle.tx_state.specs.Invariant.{Holds}
 use Rattle.tx_state.specs.State.{State}
-use Rattle.tx_state.specs.Runs.{Moment}
-use Rattle.tx_state.specs.Drained.{drained}
-use Rattle.tx_state.proofs.Lists.{at_place}
-use Rattle.tx_state.specs.Sound.{is_refused}
-use Rattle.tx_script.specs.declared.group_use.GroupUse.{GroupUse}
+use Rattle.tx_state.specs.Step.{step}
+use Rattle.tx_state.specs.Runs.{Moment, moment, run, state_after}
+use Rattle.tx_state.proofs.Invariant.{inv_opening}
+use Rattle.tx_state.proofs.Steps.{step_keeps}
 use Rattle.tx_script.specs.Answers.{IsFresh}
-use Rattle.tx_script.specs.TellingAnswers.{IsUnused}
-use Rattle.tx_script.specs.Summaries.{peak_line}
-use Rattle.tx_script.specs.Taken.{is_taken, taken_of, peak}
-use Rattle.tx_script.specs.inner.Counting.{still, count_in, marked, counted, cleared, idle, are_idle, use_at, change_at, followed}
+use Rattle.tx_script.specs.Output.{tickets_made, end_text}
+use Rattle.tx_script.specs.Summaries.{calls_line, causes, ended_by, peak_line, summary_text}
+use Rattle.tx_script.specs.Taken.{peak}
+use Rattle.tx_script.specs.Telling.{told_last}
+use Rattle.tx_script.specs.TellingAnswers.{NoneReleasing}
+use Rattle.tx_script.specs.inner.Counting.{Counted, AreFew, AreNew, AreForGroups, asked_of, count_for, counted_on, counted_over, ends_counted, uses_counted, nothing_counted, counts_text, last_lines, use_at}
+use Rattle.tx_script.proofs.Ended.{AreEnded, none_ended, ended_all, ended_within, ended_told}
+use Rattle.tx_script.proofs.GroupUses.{AreGroupUses, none_used, uses_step, peaks_told}
+use Rattle.tx_script.proofs.Moments.{few_tickets}
+use Rattle.tx_script.proofs.TakenSteps.{taken_step}
 
--- ---- counts over the numbers of a group
+-- ---- one moment more
 
-less : (a b : Bool) → (a ≡ true → b ≡ true) → cond a 1 0 ≤ cond b 1 0
-less true true e = omega arith
-less true false e = absurd (false≢true (e refl))
-less false true e = omega arith
-less false false e = omega arith
+pub over_push : (p : Plan) (ms : List Moment) (m : Moment) (c : Counted) → counted_over p (ms ++ m ∷ []) c ≡ counted_on p m (counted_over p ms c)
+over_push p [] m c = refl
+over_push p (x ∷ ms) m c = over_push p ms m (counted_on p x c)
 
-upward_same : (f h : ℕ → Bool) (k : ℕ) → ((n : ℕ) → n ≤ k → f n ≡ h n) → count_by f (upward k) ≡ count_by h (upward k)
-upward_same f h zero e = refl
-upward_same f h (suc k) e =
-    sum_by_push (λ n. cond (f n) 1 0) (upward k) (suc k)
-    ∙ ap (λ z. z + cond (f (suc k)) 1 0) (upward_same f h k (λ n l. e n (omega arith)))
-    ∙ ap (λ z. count_by h (upward k) + cond z 1 0) (e (suc k) (omega arith))
-    ∙ sym (sum_by_push (λ n. cond (h n) 1 0) (upward k) (suc k))
+pub map_twice : (f h k : Counted → Counted) → ((c : Counted) → f (h c) ≡ k c) → (counts : Option Counted) → option_map f (option_map h counts) ≡ option_map k counts
+map_twice f h k same None = refl
+map_twice f h k same (Some c) = ap Some (same c)
 
-upward_less : (f h : ℕ → Bool) (k : ℕ) → ((n : ℕ) → n ≤ k → f n ≡ true → h n ≡ true) → count_by f (upward k) ≤ count_by h (upward k)
-upward_less f h zero e = omega arith
-upward_less f h (suc k) e =
-    let a = sum_by_push (λ n. cond (f n) 1 0) (upward k) (suc k) in
-    let b = sum_by_push (λ n. cond (h n) 1 0) (upward k) (suc k) in
-    let rest = upward_less f h k (λ n l. e n (omega arith)) in
-    let one = less (f (suc k)) (h (suc k)) (e (suc k) (omega arith)) in
+pub map_none : (f : Counted → Counted) → ((c : Counted) → c ≡ f c) → (counts : Option Counted) → counts ≡ option_map f counts
+map_none f same None = refl
+map_none f same (Some c) = ap Some (same c)
+
+-- what the reply does to the counts, and then the tickets
+pub counted_twice : (p : Plan) (m : Moment) (reply : Reply) (tickets : List Ended) → m.reply ≡ reply → tickets_made m ≡ tickets → (counts : Option Counted)
+    → option_map (ends_counted tickets) (option_map (uses_counted p m.event reply) counts) ≡ option_map (counted_on p m) counts
+counted_twice p m reply tickets replied made None = refl
+counted_twice p m reply tickets replied made (Some c) = rw (sym replied, sym made) refl
+
+-- the reply leaves room for the calls
+pub few_used : (p : Plan) (e : Event) (reply : Reply) (old : Option Counted) → AreFew old → (new : Option Counted) → new ≡ option_map (uses_counted p e reply) old → AreFew new
+few_used p e reply None few new is = subst AreFew (sym is) tt
+few_used p e reply (Some c) few new is = subst AreFew (sym is) few
+
+-- ---- calls that ended
+
+ended_over : (p : Plan) (ms : List Moment) (ts : List Ended) (c : Counted) → AreEnded ts c.calls → AreEnded (ts ++ flat_map tickets_made ms) (counted_over p ms c).calls
+ended_over p [] ts c are = subst (λ l. AreEnded l c.calls) (sym (append-nil ts)) are
+ended_over p (m ∷ ms) ts c are =
+    subst (λ l. AreEnded l (counted_over p (m ∷ ms) c).calls) (append_assoc ts (tickets_made m) (flat_map tickets_made ms))
+    (ended_over p ms (ts ++ tickets_made m) (counted_on p m c) (ended_all ts (tickets_made m) c.calls are))
+
+ended_from_none : (p : Plan) (ms : List Moment) → AreEnded (flat_map tickets_made ms) (counted_over p ms (nothing_counted p)).calls
+ended_from_none p ms = ended_over p ms [] (nothing_counted p) (none_ended (nothing_counted p).calls refl)
+
+-- no count wraps
+few_over : (p : Plan) (s : State) (es : List Event) → IsFresh s → length es < 2 ^ 63 → (k : ℕ) → get_or (counted_over p (run p s es) (nothing_counted p)).calls k 0 < 2 ^ 63
+few_over p s es fresh l k =
+    let ms = run p s es in
+    let w = ended_within (flat_map tickets_made ms) (counted_over p ms (nothing_counted p)).calls (ended_from_none p ms) k in
+    let n = length-flat_map tickets_made ms in
+    let few = few_tickets p s es in
+    let z = ap length fresh.no_calls in
     omega arith
 
--- ---- peaks
+-- ---- groups
 
-max_three : (a b c : ℕ) → max a (max b c) ≡ max (max a b) c
-max_three a b c = omega arith
+module _ (p : Plan) (ok : IsPlan p) where
+  uses_over : (done : List Moment) (s : State) → Holds p s → (es : List Event) (c : Counted) → AreGroupUses p done s c.groups → AreGroupUses p (done ++ run p s es) (state_after p s es) (counted_over p (run p s es) c).groups
+  uses_over done s h [] c are = subst (λ ms. AreGroupUses p ms s c.groups) (sym (append-nil done)) are
+  uses_over done s h (e ∷ es) c are =
+      let m = moment p s e in
+      let next = (step p s e).1 in
+      subst (λ ms. AreGroupUses p ms (state_after p next es) (counted_over p (m ∷ run p next es) c).groups) (append_assoc done (m ∷ []) (run p next es))
+      (uses_over (done ++ m ∷ []) next (step_keeps p ok s h e) es (counted_on p m c) (uses_step p done s m c.groups are e m.reply (taken_step p s h e)))
 
-max_least : (a b : ℕ) → b ≤ a → max a b ≡ a
-max_least a b l = omega arith
+  module _ (s : State) (fresh : IsFresh s) (released : NoneReleasing s) where
+    holds : Holds p s
+    holds = rw (fresh.no_calls, released) (inv_opening p s.numbers)
 
-max_turned : (a : ℕ) → max a 0 ≡ max 0 a
-max_turned a = omega arith
+    uses_from_none : (es : List Event) → AreGroupUses p (run p s es) (state_after p s es) (counted_over p (run p s es) (nothing_counted p)).groups
+    uses_from_none es = uses_over [] s holds es (nothing_counted p) (none_used p ok s fresh released)
 
-peak_push : (p : Plan) (g : ℕ) (ms : List Moment) (m : Moment) → peak p g (ms ++ m ∷ []) ≡ max (peak p g ms) (taken_of p g m.after)
-peak_push p g [] m = max_turned (taken_of p g m.after)
-peak_push p g (x ∷ ms) m = ap (max (taken_of p g x.after)) (peak_push p g ms m) ∙ max_three (taken_of p g x.after) (peak p g ms) (taken_of p g m.after)
+    -- THE SUMMARY is told of what was counted over the run
+    told_over : (es : List Event) (opened : ℕ) → opened ≡ length (state_after p s es).calls → counts_text p (counted_over p (run p s es) (nothing_counted p)) opened ≡ summary_text p (run p s es) (state_after p s es)
+    told_over es opened e =
+        let ms = run p s es in
+        let c = counted_over p ms (nothing_counted p) in
+        let a : flat_map (λ k. calls_line (cause_text k) (count_for c.calls k)) causes ≡ flat_map (λ k. calls_line (cause_text k) (ended_by (flat_map tickets_made ms) k)) causes = ended_told (flat_map tickets_made ms) c.calls (ended_from_none p ms) in
+        let b : flat_map (λ g. peak_line p g (use_at c.groups g).most) (range_with_len 0 (length p.groups)) ≡ flat_map (λ g. peak_line p g (peak p g ms)) (range_with_len 0 (length p.groups)) = peaks_told p ms (state_after p s es) c.groups (uses_from_none es) in
+        cc (a, b, e)
 
--- ---- one group
+-- ---- where it is asked for
 
-abbrev pub nth : ℕ → ℕ → Circuit
-nth g n = record { group = g; number = n }
+module _ (p : Plan) (ok : IsPlan p) (s : State) (fresh : IsFresh s) (es : List Event) where
+  pub few_counts : (first now : Option Counted) → AreNew p s first → now ≡ option_map (counted_over p (run p s es)) first → length es < 2 ^ 63 → AreFew now
+  few_counts None now new is l = subst AreFew (sym is) tt
+  few_counts (Some c) now new is l = subst AreFew (sym (is ∙ ap (λ z. Some (counted_over p (run p s es) z)) new.0)) (few_over p s es fresh l)
 
--- what is kept of a group tells which of its circuits are taken, and the most that were after an event
-pub record IsGroupUse (p : Plan) (ms : List Moment) (s : State) (g : ℕ) (u : GroupUse) : Type 0 where
-  pub circuits : u.circuits ≡ count_of p g
-  pub few : u.circuits ≤ 240
-  pub size : length u.taken ≡ 241
-  pub taken : (n : ℕ) → n ≤ 240 → get_or u.taken n false ≡ is_taken s (nth g n)
-  pub most : u.most ≡ peak p g ms
-  pub within : taken_of p g s ≤ u.most
+  pub rows_counted : (first now : Option Counted) → AreNew p s first → now ≡ option_map (counted_over p (run p s es)) first → AreForGroups p now
+  rows_counted None now new is = subst (AreForGroups p) (sym is) tt
+  rows_counted (Some c) now new is = subst (AreForGroups p) (sym (is ∙ ap (λ z. Some (counted_over p (run p s es) z)) new.0)) ((uses_from_none p ok s fresh new.1 es).all)
 
-module _ (p : Plan) (ms : List Moment) (s : State) (g : ℕ) (m : Moment) where
-  -- no more circuits are taken than before
-  no_more : (u : GroupUse) → IsGroupUse p ms s g u → (taken : List Bool) → length taken ≡ 241 → ((n : ℕ) → n ≤ 240 → get_or taken n false ≡ is_taken m.after (nth g n)) → ((n : ℕ) → is_taken m.after (nth g n) ≡ true → is_taken s (nth g n) ≡ true) → IsGroupUse p (ms ++ m ∷ []) m.after g (record u { taken = taken })
-  no_more u is taken size tells fewer =
-      let fall : taken_of p g m.after ≤ taken_of p g s = upward_less (λ n. is_taken m.after (nth g n)) (λ n. is_taken s (nth g n)) (count_of p g) (λ n l h. fewer n h) in
-      let w = is.within in
-      let top = ap (λ z. z) is.most in
-      record {
-        circuits = is.circuits;
-        few = is.few;
-        size = size;
-        taken = tells;
-        most = is.most ∙ sym (peak_push p g ms m ∙ max_least (peak p g ms) (taken_of p g m.after) (omega arith));
-        within = omega arith;
-      }
-
-  -- as many as before
-  as_many : (u : GroupUse) → IsGroupUse p ms s g u → ((n : ℕ) → is_taken m.after (nth g n) ≡ is_taken s (nth g n)) → IsGroupUse p (ms ++ m ∷ []) m.after g u
-  as_many u is same = no_more u is u.taken is.size (λ n l. is.taken n l ∙ sym (same n)) (λ n h. sym (same n) ∙ h)
-
-  -- another mark on one circuit
-  mark_same : (u : GroupUse) (k : ℕ) (b : Bool) → length u.taken ≡ 241 → (n : ℕ) → n ≤ 240 → k ≡ n → get_or (slice_set u.taken k b) n false ≡ b
-  mark_same u k b size n l e = subst (λ z. get_or (slice_set u.taken k b) z false ≡ b) e (get_or-set_same u.taken k b false (omega arith))
-
-  -- a circuit of the group is seized
-  one_more : (u : GroupUse) → IsGroupUse p ms s g u → (k : ℕ) → ((n : ℕ) → is_taken m.after (nth g n) ≡ ((k == n) || is_taken s (nth g n))) → IsGroupUse p (ms ++ m ∷ []) m.after g (counted (marked k true u))
-  one_more u is k law =
-      let tells : (n : ℕ) → n ≤ 240 → get_or (slice_set u.taken k true) n false ≡ is_taken m.after (nth g n) = told in
-      let all : count_in (slice_set u.taken k true) u.circuits ≡ taken_of p g m.after =
-      upward_same (λ n. get_or (slice_set u.taken k true) n false) (λ n. is_taken m.after (nth g n)) u.circuits (λ n l. let f = is.few in tells n (omega arith))
-      ∙ ap (λ z. count_by (λ n. is_taken m.after (nth g n)) (upward z)) is.circuits in
-      let top : max u.most (count_in (slice_set u.taken k true) u.circuits) ≡ peak p g (ms ++ m ∷ []) =
-      ap (λ z. max z (count_in (slice_set u.taken k true) u.circuits)) is.most ∙ ap (max (peak p g ms)) all ∙ sym (peak_push p g ms m) in
-      record {
-        circuits = is.circuits;
-        few = is.few;
-        size = length-set u.taken k true ∙ is.size;
-        taken = tells;
-        most = top;
-        within = reached (taken_of p g m.after) (count_in (slice_set u.taken k true) u.circuits) u.most all;
-      }
-    where
-      reached : (a b c : ℕ) → b ≡ a → a ≤ max c b
-      reached a b c e = omega arith
-
-      told : (n : ℕ) → n ≤ 240 → get_or (slice_set u.taken k true) n false ≡ is_taken m.after (nth g n)
-      told n l = elim (cases_eq k n) [
-        | inl e ↦ mark_same u k true is.size n l e ∙ sym (law n ∙ ap (λ b. b || is_taken s (nth g n)) (eq-eqb k n e))
-        | inr ne ↦ get_or-set_other u.taken k n true false (λ e. ne (sym e)) ∙ is.taken n l ∙ sym (law n ∙ ap (λ b. b || is_taken s (nth g n)) (ne_eqb k n ne))
-      ]
-
-  -- a circuit of the group is released
-  one_less : (u : GroupUse) → IsGroupUse p ms s g u → (k : ℕ) → ((n : ℕ) → is_taken m.after (nth g n) ≡ (not (k == n) && is_taken s (nth g n))) → IsGroupUse p (ms ++ m ∷ []) m.after g (marked k false u)
-  one_less u is k law = no_more u is (slice_set u.taken k false) (length-set u.taken k false ∙ is.size) told (λ n h. (and_parts (not (k == n)) (is_taken s (nth g n)) (sym (law n) ∙ h)).1)
-    where
-      told : (n : ℕ) → n ≤ 240 → get_or (slice_set u.taken k false) n false ≡ is_taken m.after (nth g n)
-      told n l = elim (cases_eq k n) [
-        | inl e ↦ mark_same u k false is.size n l e ∙ sym (law n ∙ ap (λ b. not b && is_taken s (nth g n)) (eq-eqb k n e))
-        | inr ne ↦ get_or-set_other u.taken k n false false (λ e. ne (sym e)) ∙ is.taken n l ∙ sym (law n ∙ ap (λ b. not b && is_taken s (nth g n)) (ne_eqb k n ne))
-      ]
-
-  -- the group failed
-  none_left : (u : GroupUse) → IsGroupUse p ms s g u → ((n : ℕ) → is_taken m.after (nth g n) ≡ false) → IsGroupUse p (ms ++ m ∷ []) m.after g (cleared u)
-  none_left u is law = no_more u is (replicate 241 false) (length-replicate 241 false) (λ n l. get_or-replicate 241 n false false (omega arith) ∙ sym (law n)) (λ n h. absurd (false≢true (sym (law n) ∙ h)))
-
--- ---- all groups
-
--- there is a row for each group of the plan
-pub record AreGroupUses (p : Plan) (ms : List Moment) (s : State) (us : List GroupUse) : Type 0 where
-  pub all : length us ≡ length p.groups
-  pub each : (g : ℕ) → g < length us → IsGroupUse p ms s g (use_at us g)
-
-module _ (p : Plan) (ms : List Moment) (s : State) (m : Moment) (us : List GroupUse) (are : AreGroupUses p ms s us) where
-  -- no group changes
-  none_changes : ((y : Circuit) → is_taken m.after y ≡ is_taken s y) → AreGroupUses p (ms ++ m ∷ []) m.after us
-  none_changes same = record { all = are.all; each = λ g l. as_many p ms s g m (use_at us g) (are.each g l) (λ n. same (nth g n)) }
-
-  -- one group changes
-  one_changes : (i : ℕ) (change : GroupUse → GroupUse) → (i < length us → IsGroupUse p (ms ++ m ∷ []) m.after i (change (use_at us i))) → ((g n : ℕ) → i ≢ g → is_taken m.after (nth g n) ≡ is_taken s (nth g n))
-      → AreGroupUses p (ms ++ m ∷ []) m.after (change_at i change us)
-  one_changes i change mine others = record {
-    all = length-set us i (change (use_at us i)) ∙ are.all;
-    each = λ g l. at g (let q = length-set us i (change (use_at us i)) in omega arith);
-  }
-    where
-      at : (g : ℕ) → g < length us → IsGroupUse p (ms ++ m ∷ []) m.after g (use_at (change_at i change us) g)
-      at g l = elim (cases_eq i g) [
-        | inl e ↦ subst (λ z. IsGroupUse p (ms ++ m ∷ []) m.after z (use_at (change_at i change us) z)) e
-            (subst (λ u. IsGroupUse p (ms ++ m ∷ []) m.after i u) (sym (get_or-set_same us i (change (use_at us i)) (idle 0) (omega arith))) (mine (omega arith)))
-        | inr ne ↦ subst (λ u. IsGroupUse p (ms ++ m ∷ []) m.after g u) (sym (get_or-set_other us i g (change (use_at us i)) (idle 0) (λ e. ne (sym e)))) (as_many p ms s g m (use_at us g) (are.each g l) (λ n. others g n ne))
-      ]
-
-  module _ (x : Circuit) where
-    mine : (n : ℕ) → same_circuit x (nth x.group n) ≡ (x.number == n)
-    mine n = ap (λ b. b && (x.number == n)) (eq-eqb x.group x.group refl)
-
-    other's : (g n : ℕ) → x.group ≢ g → same_circuit x (nth g n) ≡ false
-    other's g n ne = ap (λ b. b && (x.number == n)) (ne_eqb x.group g ne)
-
-    seized : ((y : Circuit) → is_taken m.after y ≡ (same_circuit x y || is_taken s y)) → AreGroupUses p (ms ++ m ∷ []) m.after (change_at x.group (λ u. counted (marked x.number true u)) us)
-    seized law = one_changes x.group (λ u. counted (marked x.number true u))
-        (λ l. one_more p ms s x.group m (use_at us x.group) (are.each x.group l) x.number (λ n. law (nth x.group n) ∙ ap (λ b. b || is_taken s (nth x.group n)) (mine n)))
-        (λ g n ne. law (nth g n) ∙ ap (λ b. b || is_taken s (nth g n)) (other's g n ne))
-
-    released : ((y : Circuit) → is_taken m.after y ≡ (not (same_circuit x y) && is_taken s y)) → AreGroupUses p (ms ++ m ∷ []) m.after (change_at x.group (marked x.number false) us)
-    released law = one_changes x.group (marked x.number false)
-        (λ l. one_less p ms s x.group m (use_at us x.group) (are.each x.group l) x.number (λ n. law (nth x.group n) ∙ ap (λ b. not b && is_taken s (nth x.group n)) (mine n)))
-        (λ g n ne. law (nth g n) ∙ ap (λ b. not b && is_taken s (nth g n)) (other's g n ne))
-
-  failed : (i : ℕ) → ((y : Circuit) → is_taken m.after y ≡ (not (y.group == i) && is_taken s y)) → AreGroupUses p (ms ++ m ∷ []) m.after (change_at i cleared us)
-  failed i law = one_changes i cleared
-      (λ l. none_left p ms s i m (use_at us i) (are.each i l) (λ n. law (nth i n) ∙ ap (λ b. not b && is_taken s (nth i n)) (eq-eqb i i refl)))
-      (λ g n ne. law (nth g n) ∙ ap (λ b. not b && is_taken s (nth g n)) (ne_eqb g i (λ e. ne (sym e))))
-
-  routed_step : (n : ℕ) (r : Reply) → ((y : Circuit) → is_taken m.after y ≡ still (Route n) r y (is_taken s y)) → AreGroupUses p (ms ++ m ∷ []) m.after (followed (Route n) r us)
-  routed_step n (Keyed k) law = none_changes law
-  routed_step n (Seized x) law = seized x law
-  routed_step n (At x) law = none_changes law
-  routed_step n (Connected l) law = none_changes law
-  routed_step n (Answered k) law = none_changes law
-  routed_step n (HeadOn a b c d) law = none_changes law
-  routed_step n Cleared law = none_changes law
-  routed_step n Done law = none_changes law
-  routed_step n (Lost k) law = none_changes law
-  routed_step n (Refused k) law = none_changes law
-
-  -- one event more
-  pub uses_step : (e : Event) (r : Reply) → ((y : Circuit) → is_taken m.after y ≡ still e r y (is_taken s y)) → AreGroupUses p (ms ++ m ∷ []) m.after (followed e r us)
-  uses_step (Route n) r law = routed_step n r law
-  uses_step (Released x) r law = at (is_refused r) law
-    where
-      at : (b : Bool) → ((y : Circuit) → is_taken m.after y ≡ (if b then is_taken s y else not (same_circuit x y) && is_taken s y)) → AreGroupUses p (ms ++ m ∷ []) m.after (if b then us else change_at x.group (marked x.number false) us)
-      at true law = none_changes law
-      at false law = released x law
-  uses_step (Fail g) r law = at (is_refused r) law
-    where
-      at : (b : Bool) → ((y : Circuit) → is_taken m.after y ≡ (if b then is_taken s y else not (y.group == g) && is_taken s y)) → AreGroupUses p (ms ++ m ∷ []) m.after (if b then us else change_at g cleared us)
-      at true law = none_changes law
-      at false law = failed g law
-  uses_step (Key line keyed) r law = none_changes law
-  uses_step (Confirm n) r law = none_changes law
-  uses_step (Clear n party) r law = none_changes law
-  uses_step (Restore g) r law = none_changes law
-  uses_step (Block g) r law = none_changes law
-  uses_step (Unblock g) r law = none_changes law
-  uses_step (CircuitOut x) r law = none_changes law
-  uses_step (CircuitIn x) r law = none_changes law
-  uses_step (LineFault l) r law = none_changes law
-  uses_step (LineMend l) r law = none_changes law
-  uses_step (LineAway l) r law = none_changes law
-  uses_step (LineBack l) r law = none_changes law
-
--- ---- at the start, and with tickets taken
-
-upward_none : (f : ℕ → Bool) (k : ℕ) → ((n : ℕ) → f n ≡ false) → count_by f (upward k) ≤ 0
-upward_none f zero e = omega arith
-upward_none f (suc k) e =
-    let a = sum_by_push (λ n. cond (f n) 1 0) (upward k) (suc k) in
-    let z : cond (f (suc k)) 1 0 ≡ 0 = ap (λ b. cond b 1 0) (e (suc k)) in
-    let rest = upward_none f k e in
-    omega arith
-
--- nothing is taken where there are no calls and no circuit is releasing
-none_taken : (s : State) → IsFresh s → IsUnused s → (y : Circuit) → is_taken s y ≡ false
-none_taken s fresh unused y = rw (fresh.no_calls, unused) refl
-
-pub none_used : (p : Plan) → IsPlan p → (s : State) → IsFresh s → IsUnused s → AreGroupUses p [] s (are_idle p)
-none_used p ok s fresh unused = record { all = length-map p.groups (λ r. idle r.count); each = λ g l. at g (slice_get p.groups g) refl (let q = length-map p.groups (λ r. idle r.count) in omega arith) }
-  where
-    past : (rows : List Group) (g : ℕ) → slice_get rows g ≡ None → g < length rows → ⊥
-    past [] g e l = omega arith
-    past (r ∷ rows) zero e l = cc
-    past (r ∷ rows) (suc g) e l = past rows g e (omega arith)
-
-    at : (g : ℕ) (o : Option Group) → slice_get p.groups g ≡ o → g < length p.groups → IsGroupUse p [] s g (use_at (are_idle p) g)
-    at g None e l = absurd (past p.groups g e l)
-    at g (Some r) e l =
-        let row : use_at (are_idle p) g ≡ idle r.count = get_or-map (λ (r : Group). idle r.count) p.groups g r (idle 0) l ∙ ap (λ (r : Group). idle r.count) (get_or_from_slice_get p.groups g r r e) in
-        let none = none_taken s fresh unused in
-        subst (λ u. IsGroupUse p [] s g u) (sym row) (record {
-          circuits = sym (ap (λ o. option_map_or (λ (r : Group). r.count) o 0) e);
-          few = (at_place (IsGroup p) p.groups ok.groups g r e).few;
-          size = length-replicate 241 false;
-          taken = λ n l. get_or-replicate 241 n false false (omega arith) ∙ sym (none (nth g n));
-          most = refl;
-          within = upward_none (λ n. is_taken s (nth g n)) (count_of p g) (λ n. none (nth g n));
-        })
-
--- the tickets that were taken are no matter
-pub used_drained : (p : Plan) (ms : List Moment) (s : State) (us : List GroupUse) → AreGroupUses p ms s us → AreGroupUses p ms (drained s []) us
-used_drained p ms s us are = record {
-  all = are.all;
-  each = λ g l. let u = are.each g l in record { circuits = u.circuits; few = u.few; size = u.size; taken = u.taken; most = u.most; within = u.within };
-}
-
--- ---- what is told of it
-
-flat_same : (f h : ℕ → List ℕ) (a n : ℕ) → ((g : ℕ) → g < a + n → f g ≡ h g) → flat_map f (range_with_len a n) ≡ flat_map h (range_with_len a n)
-flat_same f h a zero e = refl
-flat_same f h a (suc n) e = ap₂ (λ (x y : List ℕ). x ++ y) (e a (omega arith)) (flat_same f h (a + 1) n (λ g l. e g (omega arith)))
-
-pub peaks_told : (p : Plan) (ms : List Moment) (s : State) (us : List GroupUse) → AreGroupUses p ms s us
-    → flat_map (λ g. peak_line p g (use_at us g).most) (range_with_len 0 (length p.groups)) ≡ flat_map (λ g. peak_line p g (peak p g ms)) (range_with_len 0 (length p.groups))
-peaks_told p ms s us are = flat_same (λ g. peak_line p g (use_at us g).most) (λ g. peak_line p g (peak p g ms)) 0 (length p.groups) (λ g l. ap (peak_line p g) ((are.each g (let q = are.all in omega arith)).most))
+  -- the last lines
+  pub last_told : (echo : Bool) (first now : Option Counted) (t : State) → AreNew p s first → now ≡ option_map (counted_over p (run p s es)) first → end_text t ≡ end_text (state_after p s es) → length t.calls ≡ length (state_after p s es).calls
+      → last_lines p now t ≡ told_last p (asked_of echo first) s es None
+  last_told echo None now t new is ends opened = ap (λ z. last_lines p z t) is ∙ ap (λ l. l ++ []) ends
+  last_told echo (Some c) now t new is ends opened =
+      ap (λ z. last_lines p z t) (is ∙ ap (λ z. Some (counted_over p (run p s es) z)) new.0)
+      ∙ ap₂ (λ (x y : List ℕ). x ++ y) ends (told_over p ok s fresh new.1 es (length t.calls) opened)

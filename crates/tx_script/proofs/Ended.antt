@@ -1,9 +1,9 @@
 -- How many calls ended by each cause, and one call more.
-use Rattle.std.proofs.Common.{◌≡◌, ℕ, ◌+◌, ◌^◌, ◌<◌, ◌≤◌, ◌==◌, Bool, true, false, cond, List, [], ◌∷◌, ◌++◌, length, drop, get_or, Some, None, inl, inr, refl, sym, ap, ap₂, ◌∙◌, subst, eq-eqb, arith, append-nil, append_assoc}
+use Rattle.std.proofs.Common.{◌≡◌, ℕ, ◌+◌, ◌^◌, ◌<◌, ◌≤◌, ◌==◌, Bool, true, false, cond, List, [], ◌∷◌, ◌++◌, length, drop, get_or, Option, Some, None, inl, inr, refl, sym, ap, ap₂, ◌∙◌, subst, eq-eqb, arith, append-nil, append_assoc}
 use Rattle.std.proofs.lemmas.Bool.{ne_eqb, cases_eq, cases_lt}
 use Rattle.std.proofs.lemmas.List.{get_or-set_same, get_or-set_other, get_or-replicate, get_or_past, length-set, length-replicate}
 use Rattle.std.proofs.lemmas.List.Sums.{sum_by_push, count_by-le-length}
-use Rattle.std.specs.Prelude.{replicate, slice_get, slice_set}
+use Rattle.std.specs.Prelude.{replicate, slice_get, slice_set, option_map, IfSome}
 use Rattle.std.specs.List.{count_by, flat_map}
 use Rattle.tx_state.specs.declared.cause.Cause.{Cause}
 use Rattle.tx_state.specs.declared.cause.Cause.TheVariants.{Service as ByService, ClearedByCaller, ClearedByCalled, Lost as ByLoss}
@@ -12,7 +12,7 @@ use Rattle.tx_tickets.specs.Texts.{cause_text}
 use Rattle.tx_state.specs.Ended.{Ended}
 use Rattle.tx_state.proofs.Lists.{first_of, none_in}
 use Rattle.tx_script.specs.Summaries.{calls_line, causes, place_of, ended_by}
-use Rattle.tx_script.specs.inner.Counting.{one_ended, all_ended}
+use Rattle.tx_script.specs.inner.Counting.{Counted, AreFew, count_for, ends_counted, one_ended, all_ended}
 
 -- the counts stand by the places of the causes
 pub record AreEnded (ts : List Ended) (calls : List ℕ) : Type 0 where
@@ -80,28 +80,43 @@ one_within calls cause k = elim (cases_eq (place_of cause) k) [
 
 -- ---- tickets that are taken out of a network and counted, one after another
 
--- what the tickets that are left will make of the counts is what all make of those at the start, and there is room for it
-pub record IsCountingTickets (old calls : List ℕ) (all left : List Ended) : Type 0 where
-  pub same : all_ended calls left ≡ all_ended old all
-  pub room : (k : ℕ) → get_or calls k 0 + length left ≤ get_or old k 0 + length all
+-- there is room to count so many calls more
+abbrev pub HasRoom : Option Counted → ℕ → Type 0
+HasRoom None n = Unit {0}
+HasRoom (Some c) n = (k : ℕ) → get_or c.calls k 0 + n < 2 ^ 64
 
-pub counting_start : (calls : List ℕ) (all : List Ended) → IsCountingTickets calls calls all all
-counting_start calls all = record { same = refl; room = λ k. omega arith }
+abbrev pub with_one : Cause → Option Counted → Option Counted
+with_one cause counts = option_map (λ c. record c { calls = one_ended c.calls cause }) counts
 
-module _ (old calls : List ℕ) (all left : List Ended) (on : IsCountingTickets old calls all left) where
-  pub counting_more : (t : Ended) (rest : List Ended) → slice_get left 0 ≡ Some t → rest ≡ drop 1 left → IsCountingTickets old (one_ended calls t.cause) all rest
-  counting_more t rest h e =
-      let split : left ≡ t ∷ rest = first_of left t h ∙ ap (λ l. t ∷ l) (sym e) in
-      record {
-        same = sym (ap (all_ended calls) split) ∙ on.same;
-        room = λ k. let n = ap length split in let r = on.room k in let o = one_within calls t.cause k in omega arith;
-      }
+pub room_first : (counts : Option Counted) (n : ℕ) → AreFew counts → n < 2 ^ 63 + 1 → HasRoom counts n
+room_first None n few l = tt
+room_first (Some c) n few l = λ k. let f = few k in omega arith
 
-  pub counting_room : (t : Ended) → slice_get left 0 ≡ Some t → (k : ℕ) → get_or old k 0 + length all < 2 ^ 64 → get_or calls k 0 + 1 < 2 ^ 64
-  counting_room t h k few = let n = ap length (first_of left t h) in let r = on.room k in omega arith
+module _ (left : List Ended) (t : Ended) (h : slice_get left 0 ≡ Some t) where
+  split : left ≡ t ∷ drop 1 left
+  split = first_of left t h
 
-  pub counting_end : slice_get left 0 ≡ None → calls ≡ all_ended old all
-  counting_end h = sym (ap (all_ended calls) (none_in left h)) ∙ on.same
+  pub ends_more : (counts : Option Counted) → option_map (ends_counted (drop 1 left)) (with_one t.cause counts) ≡ option_map (ends_counted left) counts
+  ends_more counts = by counts ∙ ap (λ l. option_map (ends_counted l) counts) (sym split)
+    where
+      by : (counts : Option Counted) → option_map (ends_counted (drop 1 left)) (with_one t.cause counts) ≡ option_map (ends_counted (t ∷ drop 1 left)) counts
+      by None = refl
+      by (Some c) = refl
+
+  pub room_more : (counts : Option Counted) → HasRoom counts (length left) → HasRoom (with_one t.cause counts) (length (drop 1 left))
+  room_more None room = tt
+  room_more (Some c) room = λ k. let n = ap length split in let r = room k in let o = one_within c.calls t.cause k in omega arith
+
+  pub room_for_one : (counts : Option Counted) → HasRoom counts (length left) → IfSome counts (λ c. get_or c.calls (place_of t.cause) 0 + 1 < 2 ^ 64)
+  room_for_one None room = tt
+  room_for_one (Some c) room = let n = ap length split in let r = room (place_of t.cause) in omega arith
+
+pub ends_none : (left : List Ended) (counts : Option Counted) → slice_get left 0 ≡ None → counts ≡ option_map (ends_counted left) counts
+ends_none left counts h = by counts ∙ ap (λ l. option_map (ends_counted l) counts) (sym (none_in left h))
+  where
+    by : (counts : Option Counted) → counts ≡ option_map (ends_counted []) counts
+    by None = refl
+    by (Some c) = refl
 
 -- ---- what is told of them
 

@@ -6,10 +6,12 @@ pub mod Scripts
 pub mod Moments
 pub mod Draining
 pub mod Answering
-pub mod Running
-pub mod Telling
-pub mod TellingRuns
 pub mod Taken
 pub mod TakenSteps
-pub mod Counting
+pub mod GroupUses
 pub mod Ended
+pub mod Counting
+pub mod Told
+pub mod Running
+pub mod RunEnds
+pub mod Silent

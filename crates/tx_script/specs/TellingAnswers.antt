@@ -1,4 +1,4 @@
--- What a run answers that tells the lines of events too, and what it wrote.
+-- What a run answers that may tell more than replies and tickets, and what it wrote.
 use Rattle.std.specs.Prelude.{◌≡◌, ◌⊎◌, ℕ, ◌+◌, Bool, true, false, List, [], ◌∷◌, ◌++◌, length, Option, None, Result, Ok, Err}
 use Rattle.std.specs.FinSet as set
 use Rattle.std.specs.Io.KnownBytes.{append_known}
@@ -11,7 +11,6 @@ use Rattle.tx_text.specs.Told.{Cut}
 use Rattle.tx_text.specs.Frame.{EndsAs, Stands}
 use Rattle.tx_plan.specs.Plan.{Plan}
 use Rattle.tx_state.specs.declared.event.Event.{Event}
-use Rattle.tx_state.specs.Ended.{Ended}
 use Rattle.tx_state.specs.State.{State}
 use Rattle.tx_state.specs.Refusals.{refusal}
 use Rattle.tx_state.specs.Step.{takes_memory}
@@ -29,11 +28,12 @@ use Rattle.tx_script.specs.Output.{summary_of, tickets_made}
 use Rattle.tx_script.specs.Answered.{count_of, IsUndone, IsNoEvent}
 use Rattle.tx_script.specs.Answers.{Moved, settled, next, IsWhole, Begins, is_reader_room}
 use Rattle.tx_script.specs.declared.telling.Telling.{Telling}
-use Rattle.tx_script.specs.Telling.{told_moment, told_events, told_last, told_output}
+use Rattle.tx_script.specs.Telling.{echo_text, echo_asked, told_moment, told_events, told_last, told_output}
+use Rattle.tx_script.specs.Untold.{IsUntold}
 
--- nothing was ever seized
-abbrev pub IsUnused : State → Type 0
-IsUnused s = s.releasing ≡ set.empty
+-- no circuit is still to be released
+abbrev pub NoneReleasing : State → Type 0
+NoneReleasing s = s.releasing ≡ set.empty
 
 -- ---- one event
 
@@ -45,13 +45,14 @@ pub record IsTold (p : Plan) (echo : Bool) (n : ℕ) (e : Event) (s t : State) (
   pub wrote : b ≡ append_known a (told_moment p echo n (moment p s e))
   pub network : t ≡ drained (moment p s e).after []
 
--- The event was done, and a write failed in its lines. Of its tickets the first ones were taken.
-pub record StopsInLines (p : Plan) (echo : Bool) (n : ℕ) (m : Moment) (t : State) (a b : Option (List ℕ)) : Type 0 where
-  pub front : StopsIn a b (told_moment p echo n m)
-  pub taken : List Ended
-  pub left : List Ended
-  pub made : tickets_made m ≡ taken ++ left
-  pub network : t ≡ drained m.after left
+-- A write failed in the event's own line, and no ticket was taken.
+pub record StopsAtEcho (p : Plan) (n : ℕ) (m : Moment) (t : State) (a b : Option (List ℕ)) : Type 0 where
+  pub front : StopsIn a b (echo_text p n m.event)
+  pub network : t ≡ drained m.after (tickets_made m)
+
+-- The event was done, and a write failed in its own line, where that is asked for, or behind it.
+abbrev pub StopsInLines : Plan → (echo : Bool) → ℕ → Moment → State → Option (List ℕ) → Option (List ℕ) → Type 0
+StopsInLines p echo n m t a b = ((echo ≡ true) × StopsAtEcho p n m t a b) ⊎ IsUntold p m t (append_known a (echo_asked echo p n m.event)) b
 
 abbrev pub Untold : Plan → (echo : Bool) → ℕ → Event → State → State → Option (List ℕ) → Option (List ℕ) → RunCause → Type 0
 Untold p echo n e s t a b Read = ⊥
@@ -132,13 +133,18 @@ abbrev pub FaultyTold : Plan → Telling → Moved → Type 0 → Bool → ℕ �
 FaultyTold p t x untouched true event line kind = (event ≡ 1) × (line ≡ 1) × untouched
 FaultyTold p t x untouched false event line kind = ToldToFault p t x event line kind
 
+-- Without memory for what is to be counted the first event is told, and nothing was touched.
+pub record HadNoTable (t : Telling) (untouched : Type 0) (event : ℕ) : Type 0 where
+  pub asked : t.summary ≡ true
+  pub place : event ≡ 1
+  pub none : untouched
+
 abbrev pub StoppedTelling : Plan → Telling → Moved → (broken untouched : Type 0) → ℕ → RunCause → Type 0
 StoppedTelling p t x broken untouched event Read = ToldToCut p t x broken event
 StoppedTelling p t x broken untouched event Write = StoppedInEvent p t x event ⊎ StoppedAtEnd p t x event
 StoppedTelling p t x broken untouched event (OfScript f) = FaultyTold p t x untouched (is_reader_room f.kind) event f.line f.kind
-StoppedTelling p t x broken untouched event NoMemory = ToldOutOfMemory p t x event ⊎ ((event ≡ 1) × untouched)
+StoppedTelling p t x broken untouched event NoMemory = ToldOutOfMemory p t x event ⊎ HadNoTable t untouched event
 
--- Without memory for what is counted the first event is told, and nothing was touched.
 -- WHAT A RUN THAT TELLS MORE ANSWERS. Broken says that the source failed or met the bound on calls, untouched that nothing was read, written or done.
 abbrev pub TellingAnswers : Plan → Telling → Moved → (broken untouched : Type 0) → Result Summary RunFault → Type 0
 TellingAnswers p t x broken untouched (Ok summary) = ToldWhole p t x summary

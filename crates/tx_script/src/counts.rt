@@ -1,10 +1,13 @@
 // What is counted of a run for its summary.
-ghost use Rattle.std.specs.Prelude.{◌≡◌, ◌+◌, ◌<◌, true, false, ◌^◌, IfOk, get_or, length, replicate};
+ghost use Rattle.std.specs.Prelude.{◌≡◌, ◌+◌, ◌<◌, ◌^◌, true, IfOk};
+ghost use Rattle.tx_plan.specs.Circuits.{count_of};
 ghost use Rattle.tx_script.specs.Summaries.{place_of};
-ghost use Rattle.tx_script.specs.inner.Counting.{AreFew, are_idle, change_at, cleared, counted, followed, marked, one_ended};
+ghost use Rattle.tx_script.specs.inner.Counting.{change_at, cleared, count_for, counted, followed, marked, nothing_counted, one_ended, uses_counted};
 
+use crate::answer::is_refused;
 use crate::group_use::GroupUse;
 use std::alloc::Allocator;
+use std::marker::Model;
 use tx_plan::{Circuit, GroupId, Plan};
 use tx_state::{Cause, Event, Reply, Service};
 use tx_text::NoMemory;
@@ -13,8 +16,16 @@ use tx_text::NoMemory;
 #[derive(Drop)]
 pub(crate) struct Counts<A: Allocator> {
     /// By the places of the causes.
-    pub calls: [u64; 9],
-    pub groups: Vec<GroupUse, A>,
+    calls: [u64; 9],
+    groups: Vec<GroupUse, A>,
+}
+
+impl<A: Allocator> Model for Counts<A> {
+    ghost use Rattle.tx_script.specs.inner.Counting.{Counted};
+
+    ghost Value = { Counted };
+
+    ghost view = { λ c. record { calls = c.calls; groups = c.groups.items } };
 }
 
 /// The place of a cause among all causes.
@@ -38,71 +49,88 @@ fn place_of(cause: Cause) -> usize
 impl<A: Allocator> Counts<A> {
     /// Nothing was counted yet.
     pub(crate) fn new<B: Allocator>(alloc: A, plan: &Plan<B>) -> Result<Counts<A>, NoMemory>
-        ensures calls { IfOk result (λ c. c.calls ≡ replicate 9 0) }
-        ensures groups { IfOk result (λ c. c.groups.items ≡ are_idle plan.now) }
+        ensures { IfOk result (λ c. c ≡ nothing_counted plan.now) }
     {
-        let mut groups = Vec::with_capacity(alloc, plan.groups())?;
-        for place in 0..plan.groups() {
-            groups.push_reserved(GroupUse::new(plan.group_count(GroupId::at(place as u16))));
-        }
+        let groups = Vec::from_elem(alloc, GroupUse::new(), plan.groups())?;
         Ok(Counts {
             calls: [0; 9],
             groups,
         })
     }
 
+    /// How many calls ended by a cause.
+    pub(crate) fn ended_by(&self, cause: Cause) -> u64
+        ensures { result ≡ count_for self.now.calls cause }
+    {
+        self.calls[place_of(cause)]
+    }
+
+    /// How the circuits of each group were used.
+    pub(crate) fn groups(&self) -> &[GroupUse]
+        ensures { result.now ≡ self.now.groups }
+    {
+        &self.groups
+    }
+
     /// A call ended.
     pub(crate) fn ended(&mut self, cause: Cause)
-        requires { get_or self.old.calls (place_of cause) 0 + 1 < 2 ^ 64 }
-        ensures calls { self.new.calls ≡ one_ended self.old.calls cause }
-        ensures groups { self.new.groups ≡ self.old.groups }
+        requires { count_for self.old.calls cause + 1 < 2 ^ 64 }
+        ensures { self.new ≡ record self.old { calls = one_ended self.old.calls cause } }
     {
         self.calls[place_of(cause)] += 1;
     }
 
     /// An event was answered.
-    pub(crate) fn answered(&mut self, event: &Event, reply: &Reply)
-        requires { AreFew self.old.groups.items }
-        ensures calls { self.new.calls ≡ self.old.calls }
-        ensures groups { self.new.groups.items ≡ followed event.now reply.now self.old.groups.items }
+    pub(crate) fn answered<B: Allocator>(&mut self, plan: &Plan<B>, event: &Event, reply: &Reply)
+        ensures { self.new ≡ uses_counted plan.now event.now reply.now self.old }
     {
-        match (event, reply) {
-            (Event::Route(_), Reply::Seized(circuit)) => self.seize(circuit),
-            (Event::Released(_) | Event::Fail(_), Reply::Refused(_)) => {}
-            (Event::Released(circuit), _) => self.release(circuit),
-            (Event::Fail(group), _) => self.clear(*group),
+        match event {
+            Event::Route(_) => {
+                if let Reply::Seized(circuit) = reply {
+                    self.seize(plan, circuit);
+                }
+            }
+            Event::Released(circuit) => {
+                if !is_refused(reply) {
+                    self.release(circuit);
+                }
+            }
+            Event::Fail(group) => {
+                if !is_refused(reply) {
+                    self.clear(*group);
+                }
+            }
             _ => {}
         }
     }
 
-    fn seize(&mut self, circuit: &Circuit)
-        requires { AreFew self.old.groups.items }
-        ensures calls { self.new.calls ≡ self.old.calls }
-        ensures groups { self.new.groups.items ≡ change_at circuit.now.group (λ u. counted (marked circuit.now.number true u)) self.old.groups.items }
+    fn seize<B: Allocator>(&mut self, plan: &Plan<B>, circuit: &Circuit)
+        ensures { self.new ≡ record self.old { groups = change_at circuit.now.group (λ u. counted (count_of plan.now circuit.now.group) (marked circuit.now.number true u)) self.old.groups } }
     {
-        let at = circuit.group.index();
-        if at < self.groups.len() {
-            self.groups[at] = self.groups[at].marked(circuit.number, true).counted();
+        let place = circuit.group.index();
+        if place < self.groups.len() {
+            let group = &mut self.groups[place];
+            group.seize(circuit.number, plan.group_count(circuit.group));
         }
     }
 
     fn release(&mut self, circuit: &Circuit)
-        ensures calls { self.new.calls ≡ self.old.calls }
-        ensures groups { self.new.groups.items ≡ change_at circuit.now.group (marked circuit.now.number false) self.old.groups.items }
+        ensures { self.new ≡ record self.old { groups = change_at circuit.now.group (marked circuit.now.number false) self.old.groups } }
     {
-        let at = circuit.group.index();
-        if at < self.groups.len() {
-            self.groups[at] = self.groups[at].marked(circuit.number, false);
+        let place = circuit.group.index();
+        if place < self.groups.len() {
+            let group = &mut self.groups[place];
+            group.mark(circuit.number, false);
         }
     }
 
     fn clear(&mut self, group: GroupId)
-        ensures calls { self.new.calls ≡ self.old.calls }
-        ensures groups { self.new.groups.items ≡ change_at group cleared self.old.groups.items }
+        ensures { self.new ≡ record self.old { groups = change_at group cleared self.old.groups } }
     {
-        let at = group.index();
-        if at < self.groups.len() {
-            self.groups[at] = self.groups[at].cleared();
+        let place = group.index();
+        if place < self.groups.len() {
+            let group = &mut self.groups[place];
+            group.clear();
         }
     }
 }
