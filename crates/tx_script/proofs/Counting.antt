@@ -1,5 +1,5 @@
 -- What was counted over a run tells its summary.
-use Rattle.std.proofs.Common.{◌≡◌, ℕ, ◌+◌, ◌^◌, ◌<◌, ◌≤◌, List, [], ◌∷◌, ◌++◌, length, get_or, Option, Some, None, Bool, refl, sym, ap, ap₂, ◌∙◌, subst, arith, append_assoc, append-nil}
+use Rattle.std.proofs.Common.{◌≡◌, ℕ, ◌+◌, ◌^◌, ◌<◌, ◌≤◌, List, [], ◌∷◌, ◌++◌, length, get_or, Option, Some, None, Bool, true, false, refl, sym, ap, ap₂, ◌∙◌, subst, arith, append_assoc, append-nil}
 use Rattle.std.specs.Prelude.{option_map, is_some}
 use Rattle.std.specs.List.{flat_map, range_with_len}
 use Rattle.std.proofs.lemmas.List.Concat.{flat_map-append, length-flat_map}
@@ -19,9 +19,10 @@ use Rattle.tx_script.specs.Answers.{IsFresh}
 use Rattle.tx_script.specs.Output.{tickets_made, end_text}
 use Rattle.tx_script.specs.Summaries.{calls_line, causes, ended_by, peak_line, summary_text}
 use Rattle.tx_script.specs.Taken.{peak}
+use Rattle.tx_script.specs.declared.telling.Telling.{Telling}
 use Rattle.tx_script.specs.Telling.{told_last}
 use Rattle.tx_script.specs.TellingAnswers.{NoneReleasing}
-use Rattle.tx_script.specs.inner.Counting.{Counted, AreFew, AreNew, AreForGroups, asked_of, count_for, counted_on, counted_over, ends_counted, uses_counted, nothing_counted, counts_text, last_lines, use_at}
+use Rattle.tx_script.specs.inner.Counting.{Counted, AreFew, AreNew, AreForGroups, asked_of, counts_for, count_for, counted_on, counted_over, ends_counted, uses_counted, nothing_counted, counts_text, last_lines, use_at}
 use Rattle.tx_script.proofs.Ended.{AreEnded, none_ended, ended_all, ended_within, ended_told}
 use Rattle.tx_script.proofs.GroupUses.{AreGroupUses, none_used, uses_step, peaks_told}
 use Rattle.tx_script.proofs.Moments.{few_tickets}
@@ -101,6 +102,17 @@ module _ (p : Plan) (ok : IsPlan p) where
         cc (a, b, e)
 
 -- ---- where it is asked for
+
+pub new_counts : (p : Plan) (s : State) → NoneReleasing s → (summary : Bool) → AreNew p s (counts_for p summary)
+new_counts p s released true = (refl, released)
+new_counts p s released false = tt
+
+pub asked_is : (p : Plan) (t : Telling) → asked_of t.echo (counts_for p t.summary) ≡ t
+asked_is p t = by t.summary refl
+  where
+    by : (summary : Bool) → t.summary ≡ summary → asked_of t.echo (counts_for p t.summary) ≡ t
+    by true e = rw e (ap (λ b. record { echo = t.echo; summary = b }) (sym e))
+    by false e = rw e (ap (λ b. record { echo = t.echo; summary = b }) (sym e))
 
 module _ (p : Plan) (ok : IsPlan p) (s : State) (fresh : IsFresh s) (es : List Event) where
   pub few_counts : (first now : Option Counted) → AreNew p s first → now ≡ option_map (counted_over p (run p s es)) first → length es < 2 ^ 63 → AreFew now

@@ -1,7 +1,7 @@
 // What is told of events beside replies and tickets.
-ghost use Rattle.std.specs.Prelude.{◌≡◌, ◌+◌, ◌<◌, ◌^◌, IfOk, IfSome, None, Some, get_or, if◌then◌else◌, option_map};
+ghost use Rattle.std.specs.Prelude.{◌≡◌, ◌+◌, ◌<◌, ◌^◌, IfOk, OnErr, IfSome, None, true, get_or, option_map};
 ghost use Rattle.tx_script.specs.Summaries.{place_of};
-ghost use Rattle.tx_script.specs.inner.Counting.{nothing_counted, one_ended, uses_counted};
+ghost use Rattle.tx_script.specs.inner.Counting.{counts_for, one_ended, uses_counted};
 
 use crate::counts::Counts;
 use crate::telling::Telling;
@@ -34,7 +34,8 @@ impl<A: Allocator> Teller<A> {
         telling: Telling,
         plan: &Plan<B>,
     ) -> Result<Teller<A>, NoMemory>
-        ensures { IfOk result (λ t. t ≡ record { echo = telling.echo; counts = if telling.summary then Some (nothing_counted plan.now) else None }) }
+        ensures ok { IfOk result (λ t. t ≡ record { echo = telling.echo; counts = counts_for plan.now telling.summary }) }
+        ensures err { OnErr result (telling.summary ≡ true) }
     {
         let counts = if telling.summary {
             Some(Counts::new(alloc, plan)?)

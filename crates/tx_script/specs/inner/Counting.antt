@@ -109,6 +109,9 @@ counted_over p (m ∷ ms) c = counted_over p ms (counted_on p m c)
 
 -- ---- what is asked for
 
+abbrev pub counts_for : Plan → (summary : Bool) → Option Counted
+counts_for p summary = if summary then Some (nothing_counted p) else None
+
 abbrev pub asked_of : (echo : Bool) → Option Counted → Telling
 asked_of echo counts = record { echo = echo; summary = is_some counts }
 
