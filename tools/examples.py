@@ -5,12 +5,13 @@
        tools/examples.py --cases
 
 Runs each example of examples/list with a built program (crates/telexplan/out/telexplan where none is named), in a folder of its own, and compares what it prints,
-its exit status and the files that it makes with what stands in examples/. A fault stands on standard error, and nothing else does. An example that begins with a
-script in Python runs that, with the program as its first word; no case shows it. Then checks README.md and docs/FORMATS.md: each block there says, in a comment before
-it, what it shows, and has to show just that; the table of codes has to be the program's and to have the codes of the definitions, the map of the crates has to be that
-of crates.txt, what the pages name has to be there, each link of theirs has to lead to a file and a heading that are there, the player of the gate, crates/tx_worked,
-has to have the examples and the pictures as they stand, all pictures of the plans of crates/tx_worked have to be ones that can be read, and docs/telexplan.bash and
-docs/telexplan.1 have to have the commands and options that the program's help tells. Prints a line for each difference; the status is 1 if there is one.
+its exit status and the files that it makes with what stands in examples/. A fault stands on standard error, but for those that `lint` finds, and nothing else does.
+An example that begins with a script in Python runs that, with the program as its first word; no case shows it. Then checks README.md and docs/FORMATS.md: each block
+there says, in a comment before it, what it shows, and has to show just that; the table of codes has to be the program's and to have the codes of the definitions,
+the map of the crates has to be that of crates.txt, what the pages name has to be there, each link of theirs has to lead to a file and a heading that are there, the
+player of the gate, crates/tx_worked, has to have the examples and the pictures as they stand, all pictures of the plans of crates/tx_worked have to be ones that can
+be read, and docs/telexplan.bash and docs/telexplan.1 have to have the commands and options that the program's help tells. Prints a line for each difference; the
+status is 1 if there is one.
 
 --pages runs nothing: it checks the pages and the player's cases alone. Each example is such a case, and the gate plays them, so the pages then show what the
 program prints, but for those that a script in Python runs.
@@ -113,7 +114,8 @@ def check_examples(program, tell):
         status, printed, fault, made = run(program, example)
         if status != example.status:
             tell(f"{example.name}: the status is {status} and not {example.status}")
-        if bool(fault) != (status > 1) or fault and not fault.startswith((b"telexplan: ", b"error: ")):
+        is_listed = example.words[:1] == ["lint"] and status == 2
+        if bool(fault) != (status > 1 and not is_listed) or fault and not fault.startswith((b"telexplan: ", b"error: ")):
             tell(f"{example.name}: standard error has {fault!r}")
         if printed + fault != read(out_of(example)):
             tell(f"{example.name}: {difference(read(out_of(example)), printed + fault)}")
