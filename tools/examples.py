@@ -136,6 +136,26 @@ def check_arguments(program, tell):
         tell(f"a word that is no UTF-8 text: the status is {ran.returncode}, and standard error has {ran.stderr!r}")
 
 
+def check_made(program, tell):
+    """A file that takes the place of another one has its permissions, a link to that one leads to it, and nothing is left beside it. A pipe is written to at once. No case
+    can say it."""
+    audit = ["audit", os.path.join(TOP, "examples/three.plan"), "--limit", "1", "--spare", "1", "--cert"]
+    with tempfile.TemporaryDirectory() as room:
+        old, link = os.path.join(room, "old"), os.path.join(room, "link")
+        with open(old, "w") as it:
+            it.write("old\n")
+        os.chmod(old, 0o640)
+        os.symlink("old", link)
+        subprocess.run(program + audit + [link], capture_output=True, timeout=60)
+        if read(old) != read("examples/three.cert") or os.stat(old).st_mode & 0o777 != 0o640:
+            tell("a file that is made by a link has other bytes or permissions")
+        if not os.path.islink(link) or sorted(os.listdir(room)) != ["link", "old"]:
+            tell(f"a file that is made by a link leaves {sorted(os.listdir(room))}")
+    ran = subprocess.run(program + audit + ["/dev/stdout"], capture_output=True, timeout=60)
+    if (ran.returncode, ran.stdout) != (0, read("examples/three-audit.out") + read("examples/three.cert")):
+        tell(f"a certificate to a pipe: the status is {ran.returncode}, and standard output has {ran.stdout!r}")
+
+
 def in_examples(ending):
     return {f"examples/{it}" for it in os.listdir(os.path.join(TOP, "examples")) if it.endswith(ending)}
 
@@ -552,6 +572,7 @@ def main(words):
     if not only_pages:
         check_examples(program, told.append)
         check_arguments(program, told.append)
+        check_made(program, told.append)
     check_pages(told.append)
     check_names(told.append)
     check_links(told.append)
