@@ -1,0 +1,70 @@
+-- What a run that tells its events answers from the opening state, as a job tells it.
+use Rattle.std.proofs.Common.{◌≡◌, ◌∙◌, Bool, true, false, ℕ, Result, Ok, Err, subst}
+use Rattle.tx_text.specs.declared.frame.FaultKind.{FaultKind}
+use Rattle.tx_plan.specs.Plan.{Plan}
+use Rattle.tx_state.specs.State.{State, opening}
+use Rattle.tx_script.specs.declared.script_word.ScriptWord.{ScriptWord}
+use Rattle.tx_script.specs.declared.summary.Summary.{Summary}
+use Rattle.tx_script.specs.declared.run_fault.RunFault.{RunFault}
+use Rattle.tx_script.specs.declared.run_cause.RunCause.{RunCause}
+use Rattle.tx_script.specs.declared.run_cause.RunCause.TheVariants.{Read, Write, Script, NoMemory}
+use Rattle.tx_script.specs.Answers.{Moved, is_reader_room}
+use Rattle.tx_script.specs.TellingAnswers.{FaultyTold, StoppedTelling, TellingAnswers}
+use Rattle.tx_jobs.specs.declared.job_fault.JobFault.{JobFault}
+use Rattle.tx_jobs.specs.JobEnds.{Input, Output}
+use Rattle.tx_jobs.specs.Jobs.{told_run}
+use Rattle.tx_jobs.specs.TellingJobs.{ToldPlan}
+
+-- a run that left less untouched has the same answer
+module _ (p : Plan) (echo : Bool) (x : Moved) (broken D E : Type 0) (f : D → E) where
+  faulty_with : (room : Bool) (event line : ℕ) (kind : FaultKind ScriptWord)
+      → FaultyTold p echo x D room event line kind → FaultyTold p echo x E room event line kind
+  faulty_with true event line kind h = (h.0, h.1, f h.2)
+  faulty_with false event line kind h = h
+
+  stopped_with : (event : ℕ) (cause : RunCause)
+      → StoppedTelling p echo x broken D event cause → StoppedTelling p echo x broken E event cause
+  stopped_with event Read h = h
+  stopped_with event Write h = h
+  stopped_with event NoMemory h = h
+  stopped_with event (Script s) h =
+      faulty_with (is_reader_room s.kind) event s.line s.kind h
+
+  answers_with : (r : Result Summary RunFault)
+      → TellingAnswers p echo x broken D r → TellingAnswers p echo x broken E r
+  answers_with (Ok s) h = h
+  answers_with (Err q) h = stopped_with q.event q.cause h
+
+-- the state with which the run began is the opening one
+pub told_plan : {p : Plan} {echo : Bool} {script : Input} {out : Output} {D : Type 0}
+    {old new : State} (r : Result Summary RunFault) (result : Result Summary JobFault)
+    → TellingAnswers p echo
+    (record {
+      rest_old = script.old;
+      rest_new = script.new;
+      taken_old = out.old;
+      taken_new = out.new;
+      state_old = old;
+      state_new = new;
+    })
+    script.broken D r
+    → old ≡ opening 0 0 → (D → (script.unread × out.silent) × (new ≡ old))
+    → result ≡ told_run r → ToldPlan p echo script out result
+told_plan {p} {echo} {script} {out} {D} {old} {new} r result ran opened quiet told =
+    let moved : State → Moved = λ s. record {
+      rest_old = script.old;
+      rest_new = script.new;
+      taken_old = out.old;
+      taken_new = out.new;
+      state_old = s;
+      state_new = new;
+    } in
+    let E : Type 0 = (script.unread × out.silent) × (new ≡ opening 0 0) in
+    let all = answers_with p echo (moved old) script.broken D E
+        (λ d. ((quiet d).0, (quiet d).1 ∙ opened)) r ran in
+    record {
+      state = new;
+      answer = r;
+      ran = subst (λ s. TellingAnswers p echo (moved s) script.broken E r) opened all;
+      told = told;
+    }
