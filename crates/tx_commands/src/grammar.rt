@@ -86,7 +86,7 @@ fn lint_grammar<'a>(alloc: Global) -> Result<clap::Command<'a>, AllocError>
     over_plan(
         alloc,
         "lint",
-        "Tell all faults of a plan's text, or else what is of no use in the plan or likely not meant",
+        "Tell all faults of a plan's text, or else what in it is of no use or likely not meant",
         help::LINT,
     )
 }
