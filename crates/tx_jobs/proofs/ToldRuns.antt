@@ -61,7 +61,7 @@ told_plan {p} {echo} {script} {out} {D} {old} {new} r result ran opened quiet to
     } in
     let E : Type 0 = (script.unread × out.silent) × (new ≡ opening 0 0) in
     let all = answers_with p echo (moved old) script.broken D E
-        (λ d. ((quiet d).0, (quiet d).1 ∙ opened)) r ran in
+    (λ d. ((quiet d).0, (quiet d).1 ∙ opened)) r ran in
     record {
       state = new;
       answer = r;
