@@ -12,8 +12,8 @@ pub enum Command {
         script: String,
         checked: Option<(String, u8, u8)>,
     },
-    /// `run PLAN SCRIPT` where more is told: by the status that an event was refused, the line of each
-    /// event before its reply, or a summary.
+    /// `run PLAN SCRIPT` where more is told: by the status that an event was refused, the line of
+    /// each event before its reply, or a summary.
     RunTelling {
         plan: String,
         script: String,
@@ -35,7 +35,8 @@ pub enum Command {
     Codes {
         plan: String,
     },
-    /// `audit PLAN --limit L --spare K`: the certificate goes to a file, if one is named, and so does the counter script.
+    /// `audit PLAN --limit L --spare K`: the certificate goes to a file, if one is named, and so
+    /// does the counter script.
     Audit {
         plan: String,
         limit: u8,
@@ -54,8 +55,8 @@ pub enum Command {
         mixture: Option<String>,
         counter: Option<String>,
     },
-    /// `mend PLAN --limit L --spare K`: the mended plan goes to a file, if one is named, and so does
-    /// its certificate.
+    /// `mend PLAN --limit L --spare K`: the mended plan goes to a file, if one is named, and so
+    /// does its certificate.
     Mend {
         plan: String,
         limit: u8,
@@ -78,7 +79,8 @@ pub enum Command {
         exchange: String,
         code: String,
     },
-    /// `draw PLAN [--code C [--limit L --spare K]]`: a picture of the plan, or of the routes for a code, with what an audit finds first if numbers are given.
+    /// `draw PLAN [--code C [--limit L --spare K]]`: a picture of the plan, or of the routes for a
+    /// code, with what an audit finds first if numbers are given.
     Draw {
         plan: String,
         routes: Option<(String, Option<(u8, u8)>)>,

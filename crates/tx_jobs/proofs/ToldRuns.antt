@@ -1,9 +1,10 @@
 -- What a run that tells its events answers from the opening state, as a job tells it.
-use Rattle.std.proofs.Common.{◌≡◌, ◌∙◌, Bool, true, false, ℕ, Result, Ok, Err, subst}
+use Rattle.std.proofs.Common.{◌≡◌, ◌∙◌, Bool, true, false, ℕ, Result, Ok, Err, inl, inr, subst}
 use Rattle.tx_text.specs.declared.frame.FaultKind.{FaultKind}
 use Rattle.tx_plan.specs.Plan.{Plan}
 use Rattle.tx_state.specs.State.{State, opening}
 use Rattle.tx_script.specs.declared.script_word.ScriptWord.{ScriptWord}
+use Rattle.tx_script.specs.declared.telling.Telling.{Telling}
 use Rattle.tx_script.specs.declared.summary.Summary.{Summary}
 use Rattle.tx_script.specs.declared.run_fault.RunFault.{RunFault}
 use Rattle.tx_script.specs.declared.run_cause.RunCause.{RunCause}
@@ -16,29 +17,30 @@ use Rattle.tx_jobs.specs.Jobs.{told_run}
 use Rattle.tx_jobs.specs.TellingJobs.{ToldPlan}
 
 -- a run that left less untouched has the same answer
-module _ (p : Plan) (echo : Bool) (x : Moved) (broken D E : Type 0) (f : D → E) where
+module _ (p : Plan) (t : Telling) (x : Moved) (broken D E : Type 0) (f : D → E) where
   faulty_with : (room : Bool) (event line : ℕ) (kind : FaultKind ScriptWord)
-      → FaultyTold p echo x D room event line kind → FaultyTold p echo x E room event line kind
+      → FaultyTold p t x D room event line kind → FaultyTold p t x E room event line kind
   faulty_with true event line kind h = (h.0, h.1, f h.2)
   faulty_with false event line kind h = h
 
   stopped_with : (event : ℕ) (cause : RunCause)
-      → StoppedTelling p echo x broken D event cause → StoppedTelling p echo x broken E event cause
+      → StoppedTelling p t x broken D event cause → StoppedTelling p t x broken E event cause
   stopped_with event Read h = h
   stopped_with event Write h = h
-  stopped_with event NoMemory h = h
+  stopped_with event NoMemory (inl h) = inl h
+  stopped_with event NoMemory (inr h) = inr (record { asked = h.asked; place = h.place; none = f h.none })
   stopped_with event (Script s) h =
       faulty_with (is_reader_room s.kind) event s.line s.kind h
 
   answers_with : (r : Result Summary RunFault)
-      → TellingAnswers p echo x broken D r → TellingAnswers p echo x broken E r
+      → TellingAnswers p t x broken D r → TellingAnswers p t x broken E r
   answers_with (Ok s) h = h
   answers_with (Err q) h = stopped_with q.event q.cause h
 
 -- the state with which the run began is the opening one
-pub told_plan : {p : Plan} {echo : Bool} {script : Input} {out : Output} {D : Type 0}
+pub told_plan : {p : Plan} {t : Telling} {script : Input} {out : Output} {D : Type 0}
     {old new : State} (r : Result Summary RunFault) (result : Result Summary JobFault)
-    → TellingAnswers p echo
+    → TellingAnswers p t
     (record {
       rest_old = script.old;
       rest_new = script.new;
@@ -49,8 +51,8 @@ pub told_plan : {p : Plan} {echo : Bool} {script : Input} {out : Output} {D : Ty
     })
     script.broken D r
     → old ≡ opening 0 0 → (D → (script.unread × out.silent) × (new ≡ old))
-    → result ≡ told_run r → ToldPlan p echo script out result
-told_plan {p} {echo} {script} {out} {D} {old} {new} r result ran opened quiet told =
+    → result ≡ told_run r → ToldPlan p t script out result
+told_plan {p} {t} {script} {out} {D} {old} {new} r result ran opened quiet told =
     let moved : State → Moved = λ s. record {
       rest_old = script.old;
       rest_new = script.new;
@@ -60,11 +62,11 @@ told_plan {p} {echo} {script} {out} {D} {old} {new} r result ran opened quiet to
       state_new = new;
     } in
     let E : Type 0 = (script.unread × out.silent) × (new ≡ opening 0 0) in
-    let all = answers_with p echo (moved old) script.broken D E
+    let all = answers_with p t (moved old) script.broken D E
     (λ d. ((quiet d).0, (quiet d).1 ∙ opened)) r ran in
     record {
       state = new;
       answer = r;
-      ran = subst (λ s. TellingAnswers p echo (moved s) script.broken E r) opened all;
+      ran = subst (λ s. TellingAnswers p t (moved s) script.broken E r) opened all;
       told = told;
     }

@@ -23,8 +23,8 @@ pub record IsUngraded {A : Type 0} (p : Plan) (findings : List (Finding A)) : Ty
   pub each : (limit spare : ℕ) → AllByRecursion (IsTrueOf p limit spare) findings
   pub listed : AreUnmended p findings
 
--- the bounds with which ranks certify a plan and with which it is sound, and no findings; or that it
--- has none
+-- the bounds with which ranks certify a plan and with which it is sound, and no findings; or that
+-- it has none
 abbrev pub IsGradeOfPlan : {A : Type 0} → Plan → Option Bounds → List (Finding A) → Type 0
 IsGradeOfPlan p (Some b) findings =
     AreBounds (CanBeCertified p) b × AreBounds (IsSound p) b × (findings ≡ [])

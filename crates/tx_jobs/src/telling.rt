@@ -1,5 +1,5 @@
-// The job of `run PLAN SCRIPT` with `--echo` or `--summary`, and the exit status of a run that is to tell whether an
-// event was refused.
+// The job of `run PLAN SCRIPT` where more is told, and the exit status of a run that is to tell
+// whether an event was refused.
 ghost use Rattle.std.specs.Prelude.{◌≡◌};
 ghost use Rattle.tx_text.specs.Calls.{CallsAtMost, source_calls};
 ghost use Rattle.tx_jobs.specs.JobFaults.{mark_after};
@@ -14,8 +14,8 @@ use tx_plantext::read_plan_from;
 use tx_script::{Summary, Telling, run_telling};
 use tx_text::{Sink, Source};
 
-/// Reads a plan, and then runs a script over it as `run_job` does. Where they are asked for, the line of each event stands
-/// before its reply, and the summary behind the line END EVENTS.
+/// Reads a plan, and then runs a script over it as `run_job` does. Where they are asked for, the
+/// line of each event stands before its reply, and the summary behind the line END EVENTS.
 pub fn run_telling_job<A: Allocator + Copy, P: Source, R: Source, W: Sink>(
     alloc: A,
     telling: Telling,
@@ -23,7 +23,10 @@ pub fn run_telling_job<A: Allocator + Copy, P: Source, R: Source, W: Sink>(
     script: &mut R,
     out: &mut W,
 ) -> Result<Summary, JobFault>
-    ensures answers { TellingJobAnswers telling (input P.rest P.failed P.called plan.old plan.new) (input R.rest R.failed R.called script.old script.new) (output W.taken out.old out.new) result }
+    ensures answers { TellingJobAnswers telling
+        (input P.rest P.failed P.called plan.old plan.new)
+        (input R.rest R.failed R.called script.old script.new)
+        (output W.taken out.old out.new) result }
     ensures mark { W.failed out.new ≡ mark_after (W.failed out.old) result }
     ensures plan_calls { CallsAtMost P.called source_calls plan.old plan.new }
     ensures script_calls { CallsAtMost R.called source_calls script.old script.new }
@@ -39,7 +42,7 @@ pub fn run_telling_job<A: Allocator + Copy, P: Source, R: Source, W: Sink>(
     }
 }
 
-/// Runs a script over a network of the plan, from its opening state, and tells its events.
+/// Runs a script over a network of the plan, from its opening state, and tells what is asked for.
 fn tell_script<A: Allocator + Copy, R: Source, W: Sink>(
     alloc: A,
     telling: Telling,
@@ -47,7 +50,9 @@ fn tell_script<A: Allocator + Copy, R: Source, W: Sink>(
     script: &mut R,
     out: &mut W,
 ) -> Result<Summary, JobFault>
-    ensures answers { ScriptTold plan.now telling (input R.rest R.failed R.called script.old script.new) (output W.taken out.old out.new) result }
+    ensures answers { ScriptTold plan.now telling
+        (input R.rest R.failed R.called script.old script.new)
+        (output W.taken out.old out.new) result }
     ensures mark { W.failed out.new ≡ mark_after (W.failed out.old) result }
     ensures calls { CallsAtMost R.called source_calls script.old script.new }
 {

@@ -135,7 +135,8 @@ fn run_telling_files<A: Allocator + Copy, P: Read + Drop, R: Read + Drop, O: Wri
     tell_script(alloc, &mut plan, script, strict, telling, output)
 }
 
-/// Runs the script over the plan, and tells what is asked for. A function of its own, since each exit lets go of what is open there.
+/// Runs the script over the plan, and tells what is asked for. A function of its own, since each
+/// exit lets go of what is open there.
 fn tell_script<A: Allocator + Copy, P: Source, R: Read + Drop, O: Write + Drop>(
     alloc: A,
     plan: &mut P,
@@ -145,12 +146,7 @@ fn tell_script<A: Allocator + Copy, P: Source, R: Read + Drop, O: Write + Drop>(
     output: &Output<O, A>,
 ) -> Result<u8, JobFault> {
     let mut script = output.source(alloc, script)?;
-    let mut sink = output.sink();
-    let summary = if telling.echo || telling.summary {
-        run_telling_job(alloc, telling, plan, &mut script, &mut sink)?
-    } else {
-        run_job(alloc, plan, &mut script, &mut sink)?
-    };
+    let summary = run_telling_job(alloc, telling, plan, &mut script, &mut output.sink())?;
     Ok(replies_status(&summary, strict))
 }
 

@@ -28,9 +28,10 @@ pub struct Ends<'a, F, I: Drop, O: Drop, E: Drop> {
 /// a No (of `codes`: where codes are ambiguous; of `grade` and `survive`: where there is no grade
 /// too; of `lint`: after warnings), 2 for a refused text (of `lint`: after faults), 3 for a failed
 /// read or write (of help too), 4 for want of memory, 64 for refused words, and for a code to draw,
-/// or an exchange or a code to trace, that the plan has not. Without words, on a terminal, it prints
-/// its help. A fault is told by one line on standard error, and refused words by what the library of
-/// command lines says. The words are read with `alloc`, and what they ask for is done with `memory`.
+/// or an exchange or a code to trace, that the plan has not. Without words, on a terminal, it
+/// prints its help. A fault is told by one line on standard error, and refused words by what the
+/// library of command lines says. The words are read with `alloc`, and what they ask for is done
+/// with `memory`.
 pub fn run_words<
     A: Allocator + Copy,
     F: Folder,
@@ -41,9 +42,10 @@ pub fn run_words<
     ensures refused { AskNothing words.now → IsRefusedWith words.now result }
 {
     if words.is_empty() && ends.input.is_terminal() {
-        return do_words(alloc, memory, &["--help"], ends);
+        do_words(alloc, memory, &["--help"], ends)
+    } else {
+        do_words(alloc, memory, words, ends)
     }
-    do_words(alloc, memory, words, ends)
 }
 
 /// The same, whatever the input is.

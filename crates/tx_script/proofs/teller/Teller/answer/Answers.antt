@@ -13,7 +13,7 @@ use Rattle.tx_script.specs.inner.Counting.{ends_counted}
 use Rattle.tx_script.proofs.Answering.{is_answer, counted_as, untold_reply, untold_tickets}
 use Rattle.tx_script.proofs.Counting.{few_used, counted_twice}
 use Rattle.tx_script.proofs.Told.{untold_echo}
-use Rattle.tx_script.proofs.answer.Teller.answer.Goals as goal
+use Rattle.tx_script.proofs.teller.Teller.answer.Goals as goal
 
 pub write_tickets-requires : goal.write_tickets-requires
 write_tickets-requires g c =

@@ -4,7 +4,7 @@ use Rattle.tx_state.specs.State.{State}
 use Rattle.tx_text.proofs.Writing.{on_err}
 use Rattle.tx_script.proofs.Draining.{drain_start, drain_end, drain_more, drain_stop, drain_within, drain_smaller}
 use Rattle.tx_script.proofs.Ended.{room_first, room_more, room_for_one, ends_more, ends_none}
-use Rattle.tx_script.proofs.answer.Teller.write_tickets.Goals as goal
+use Rattle.tx_script.proofs.teller.Teller.write_tickets.Goals as goal
 
 pub loop-ticket-init : goal.loop-ticket-init
 loop-ticket-init g c = record {

@@ -3,7 +3,7 @@ use Rattle.std.specs.Prelude.{option_map}
 use Rattle.tx_script.specs.inner.Counting.{ends_counted}
 use Rattle.tx_script.proofs.Draining.{IsDraining}
 use Rattle.tx_script.proofs.Ended.{HasRoom}
-use Rattle.tx_script.proofs.answer.Teller.write_tickets.Given as goal
+use Rattle.tx_script.proofs.teller.Teller.write_tickets.Given as goal
 
 abbrev pub invariant-loop-ticket : goal.invariant-loop-ticket
 invariant-loop-ticket g l = record {
