@@ -1,4 +1,6 @@
 use Rattle.std.proofs.Common.{Ok, Err, ap, inl, refl}
+use Rattle.tx_text.specs.Calls.{source_calls}
+use Rattle.tx_text.proofs.CallCounts.{went_none, calls_so_far}
 use Rattle.tx_jobs.proofs.RefusedTexts.{run_mark}
 use Rattle.tx_jobs.proofs.ToldRuns.{told_plan}
 use Rattle.tx_jobs.proofs.telling.tell_script.Goals as goal
@@ -19,3 +21,8 @@ pub returns-in-Err-told-clause-mark : goal.returns-in-Err-told-clause-mark
 returns-in-Err-told-clause-mark g c =
     run_mark (g.W.Sink.failed c.args.out.now) _ c.in-Err-told.fault c.of_run.result
     c.of_run.ensures c.in-Err-told.ensures.mark
+
+pub returns-in-Err-clause-calls : goal.returns-in-Err-clause-calls
+returns-in-Err-clause-calls g c =
+    calls_so_far g.R.Source.called source_calls source_calls _ _
+    (went_none g.R.Source.called source_calls _)
