@@ -8,14 +8,14 @@ use Rattle.tx_jobs.proofs.telling.tell_script.Goals as goal
 pub returns-in-Ok-told-clause-answers : goal.returns-in-Ok-told-clause-answers
 returns-in-Ok-told-clause-answers g c =
     let opened = ap (λ n. n.state) c.in-Ok.ensures in
-    inl (told_plan (Ok c.in-Ok-told.summary) _ c.in-Ok-told.ensures.answers opened
-    (λ u. ((u.0, u.1), ap (λ n. n.state) u.2)) refl)
+    inl (told_plan (λ n. n.state) _ _ (Ok c.in-Ok-told.summary) _ c.in-Ok-told.ensures.answers
+    opened refl)
 
 pub returns-in-Err-told-clause-answers : goal.returns-in-Err-told-clause-answers
 returns-in-Err-told-clause-answers g c =
     let opened = ap (λ n. n.state) c.in-Ok.ensures in
-    inl (told_plan (Err c.in-Err-told.fault) _ c.in-Err-told.ensures.answers opened
-    (λ u. ((u.0, u.1), ap (λ n. n.state) u.2)) (ap Err c.of_run.ensures))
+    inl (told_plan (λ n. n.state) _ _ (Err c.in-Err-told.fault) _ c.in-Err-told.ensures.answers
+    opened (ap Err c.of_run.ensures))
 
 pub returns-in-Err-told-clause-mark : goal.returns-in-Err-told-clause-mark
 returns-in-Err-told-clause-mark g c =
