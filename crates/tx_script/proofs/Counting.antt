@@ -1,7 +1,8 @@
 -- What was counted over a run tells its summary.
-use Rattle.std.proofs.Common.{◌≡◌, ℕ, ◌+◌, ◌^◌, ◌<◌, ◌≤◌, List, [], ◌∷◌, ◌++◌, length, get_or, Option, Some, None, Bool, true, false, refl, sym, ap, ap₂, ◌∙◌, subst, arith, append_assoc, append-nil}
+use Rattle.std.proofs.Common.{◌≡◌, ℕ, ◌+◌, ◌^◌, ◌<◌, ◌≤◌, codes, List, [], ◌∷◌, ◌++◌, length, get_or, Option, Some, None, Bool, true, false, refl, sym, ap, ap₂, ◌∙◌, subst, arith, append_assoc, append-nil}
 use Rattle.std.specs.Prelude.{option_map, is_some}
 use Rattle.std.specs.List.{flat_map, range_with_len}
+use Rattle.std.specs.FinSet as set
 use Rattle.std.proofs.lemmas.List.Concat.{flat_map-append, length-flat_map}
 use Rattle.tx_plan.specs.Plan.{Plan}
 use Rattle.tx_plan.specs.Rules.{IsPlan}
@@ -9,7 +10,7 @@ use Rattle.tx_tickets.specs.Texts.{cause_text}
 use Rattle.tx_state.specs.declared.event.Event.{Event}
 use Rattle.tx_state.specs.declared.reply.Reply.{Reply}
 use Rattle.tx_state.specs.Ended.{Ended}
-use Rattle.tx_state.specs.Invariant.{Holds}
+use Rattle.tx_state.specs.Invariant.{Inv, Holds}
 use Rattle.tx_state.specs.State.{State}
 use Rattle.tx_state.specs.Step.{step}
 use Rattle.tx_state.specs.Runs.{Moment, moment, run, state_after}
@@ -87,7 +88,7 @@ module _ (p : Plan) (ok : IsPlan p) where
 
   module _ (s : State) (fresh : IsFresh s) (released : NoneReleasing s) where
     holds : Holds p s
-    holds = rw (fresh.no_calls, released) (inv_opening p s.numbers)
+    holds = subst (λ r. Inv p s.calls r s.numbers) (sym released) (subst (λ cs. Inv p cs set.empty s.numbers) (sym fresh.no_calls) (inv_opening p s.numbers))
 
     uses_from_none : (es : List Event) → AreGroupUses p (run p s es) (state_after p s es) (counted_over p (run p s es) (nothing_counted p)).groups
     uses_from_none es = uses_over [] s holds es (nothing_counted p) (none_used p ok s fresh released)
@@ -97,9 +98,12 @@ module _ (p : Plan) (ok : IsPlan p) where
     told_over es opened e =
         let ms = run p s es in
         let c = counted_over p ms (nothing_counted p) in
-        let a : flat_map (λ k. calls_line (cause_text k) (count_for c.calls k)) causes ≡ flat_map (λ k. calls_line (cause_text k) (ended_by (flat_map tickets_made ms) k)) causes = ended_told (flat_map tickets_made ms) c.calls (ended_from_none p ms) in
-        let b : flat_map (λ g. peak_line p g (use_at c.groups g).most) (range_with_len 0 (length p.groups)) ≡ flat_map (λ g. peak_line p g (peak p g ms)) (range_with_len 0 (length p.groups)) = peaks_told p ms (state_after p s es) c.groups (uses_from_none es) in
-        cc (a, b, e)
+        let told : List ℕ → ℕ → List ℕ → List ℕ = λ x n y. x ++ (calls_line (codes "OPEN") n ++ (y ++ codes "END SUMMARY\n")) in
+        let ended = flat_map (λ k. calls_line (cause_text k) (ended_by (flat_map tickets_made ms) k)) causes in
+        let most = flat_map (λ g. peak_line p g (use_at c.groups g).most) (range_with_len 0 (length p.groups)) in
+        ap (λ x. told x opened most) (ended_told (flat_map tickets_made ms) c.calls (ended_from_none p ms))
+        ∙ ap (told ended opened) (peaks_told p ms (state_after p s es) c.groups (uses_from_none es))
+        ∙ ap (λ n. told ended n (flat_map (λ g. peak_line p g (peak p g ms)) (range_with_len 0 (length p.groups)))) e
 
 -- ---- where it is asked for
 

@@ -6,9 +6,10 @@ use Rattle.std.proofs.lemmas.List.{get_or-set_same, get_or-set_other, get_or-rep
 use Rattle.std.proofs.lemmas.Option.{get_or_from_slice_get}
 use Rattle.std.proofs.lemmas.List.Sums.{sum_by_push}
 use Rattle.std.specs.Prelude.{if◌then◌else◌, max, slice_get, slice_set, replicate}
-use Rattle.std.specs.List.{count_by, flat_map, range_with_len}
+use Rattle.std.specs.List.{count_by, flat_map, list_any, range_with_len}
 use Rattle.std.specs.Option.{option_map_or}
-use Rattle.tx_plan.specs.Orders.{same_circuit}
+use Rattle.std.specs.FinSet as set
+use Rattle.tx_plan.specs.Orders.{circuit_cmp, same_circuit}
 use Rattle.tx_plan.specs.Plan.{Plan, Group}
 use Rattle.tx_plan.specs.Rules.{IsPlan, IsGroup}
 use Rattle.tx_plan.specs.Circuits.{count_of, upward}
@@ -25,7 +26,7 @@ use Rattle.tx_script.specs.declared.group_use.GroupUse.{GroupUse}
 use Rattle.tx_script.specs.Answers.{IsFresh}
 use Rattle.tx_script.specs.TellingAnswers.{NoneReleasing}
 use Rattle.tx_script.specs.Summaries.{peak_line}
-use Rattle.tx_script.specs.Taken.{is_taken, taken_of, peak}
+use Rattle.tx_script.specs.Taken.{uses, is_taken, taken_of, peak}
 use Rattle.tx_script.specs.inner.Counting.{still, count_in, marked, counted, cleared, idle, use_at, change_at, followed}
 
 -- ---- counts over the numbers of a group
@@ -259,7 +260,10 @@ upward_none f (suc k) e =
 
 -- nothing is taken where there are no calls and no circuit is releasing
 none_taken : (s : State) → IsFresh s → NoneReleasing s → (y : Circuit) → is_taken s y ≡ false
-none_taken s fresh released y = rw (fresh.no_calls, released) refl
+none_taken s fresh released y =
+    ap (λ (r : set.FinSet circuit_cmp). set.contains r y || list_any (uses y) s.calls) released
+    ∙ ap (λ b. b || list_any (uses y) s.calls) (set.contains-empty circuit_cmp y)
+    ∙ ap (list_any (uses y)) fresh.no_calls
 
 past : (rows : List Group) (g : ℕ) → slice_get rows g ≡ None → g < length rows → ⊥
 past [] g e l = omega arith

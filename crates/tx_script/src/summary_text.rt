@@ -55,7 +55,8 @@ fn write_ended<A: Allocator, W: Sink>(counts: &Counts<A>, sink: &mut W) -> Resul
 {
     let causes = causes();
     for i in 0..causes.len() {
-        write_calls(cause_word(causes[i]), counts.ended_by(causes[i]), sink)?;
+        let cause = causes[i];
+        write_calls(cause_word(cause), counts.ended_by(cause), sink)?;
     }
     Ok(())
 }
