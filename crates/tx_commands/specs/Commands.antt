@@ -52,12 +52,12 @@ Asks name found (Run plan script (Some (cert, limit, spare))) =
     (name ≡ codes "run") × Names found (codes "plan") plan × Names found (codes "script") script
     × Names found (codes "cert") cert × Gives found (codes "limit") limit
     × Gives found (codes "spare") spare × TellsNoMore found
-Asks name found (RunTelling plan script strict telling) =
+Asks name found (RunTelling plan script strict echo summary) =
     (name ≡ codes "run") × Names found (codes "plan") plan × Names found (codes "script") script
     × (first_of (codes "cert") found ≡ None) × (first_of (codes "limit") found ≡ None)
     × (first_of (codes "spare") found ≡ None)
-    × (is_set found (codes "strict") ≡ strict) × (is_set found (codes "echo") ≡ telling.echo)
-    × (is_set found (codes "summary") ≡ telling.summary)
+    × (is_set found (codes "strict") ≡ strict) × (is_set found (codes "echo") ≡ echo)
+    × (is_set found (codes "summary") ≡ summary)
 Asks name found (Check plan cert limit spare) =
     (name ≡ codes "check") × Names found (codes "plan") plan × Names found (codes "cert") cert
     × Gives found (codes "limit") limit × Gives found (codes "spare") spare

@@ -10,7 +10,6 @@ use crate::refusal::Refusal;
 use clap::ArgMatches;
 use std::alloc::{AllocError, Global};
 use tx_explain::is_known;
-use tx_script::Telling;
 
 /// The word of an id.
 pub(crate) fn text(
@@ -212,17 +211,16 @@ fn run_of(alloc: Global, plan: String, matches: &ArgMatches<'_>) -> Result<Comma
         _ => return Err(Refusal::Together),
     };
     let strict = is_set(matches, "strict");
-    let telling = Telling {
-        echo: is_set(matches, "echo"),
-        summary: is_set(matches, "summary"),
-    };
-    let more = strict || telling.echo || telling.summary;
+    let echo = is_set(matches, "echo");
+    let summary = is_set(matches, "summary");
+    let more = strict || echo || summary;
     match checked {
         None if more => Ok(Command::RunTelling {
             plan,
             script,
             strict,
-            telling,
+            echo,
+            summary,
         }),
         Some(_) if more => Err(Refusal::CheckedTelling),
         checked => Ok(Command::Run {

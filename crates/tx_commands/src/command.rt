@@ -1,5 +1,4 @@
 // Commands.
-use tx_script::Telling;
 
 /// What the words ask for.
 #[derive(Debug, Drop)]
@@ -18,7 +17,8 @@ pub enum Command {
         plan: String,
         script: String,
         strict: bool,
-        telling: Telling,
+        echo: bool,
+        summary: bool,
     },
     /// `check PLAN CERT --limit L --spare K`: at most L transits, with K groups to spare.
     Check {

@@ -52,7 +52,8 @@ the verdict; goes with --limit and --spare",
         run,
         alloc,
         "summary",
-        "At the end, print how calls ended, and the most circuits of each group that were taken at once",
+        "Print at the end how calls ended, and the most circuits of each group
+that were taken at once",
     )
 }
 

@@ -140,8 +140,15 @@ impl<'a, I: Read + Drop, R: Read + Drop> Opened<'a, I, R> {
                 plan,
                 script,
                 strict,
-                telling,
-            } => Opened::run_telling(inputs, plan, script, *strict, *telling),
+                echo,
+                summary,
+            } => {
+                let telling = Telling {
+                    echo: *echo,
+                    summary: *summary,
+                };
+                Opened::run_telling(inputs, plan, script, *strict, telling)
+            }
             Command::Check {
                 plan,
                 cert,

@@ -13,7 +13,8 @@ use Rattle.tx_commands.specs.declared.refusal.Refusal.TheVariants.{Together, Che
 pub record IsCheckedTelling (name : List ℕ) (found : List Row) : Type 0 where
   pub run : name ≡ codes "run"
   pub checked : has found (codes "cert") ≡ true
-  pub telling : (is_set found (codes "strict") || (is_set found (codes "echo") || is_set found (codes "summary"))) ≡ true
+  pub telling : (is_set found (codes "strict")
+      || (is_set found (codes "echo") || is_set found (codes "summary"))) ≡ true
 
 -- `draw` has a limit or a spare number, and not both with a code
 pub record IsDrawInPart (name : List ℕ) (found : List Row) : Type 0 where
