@@ -12,7 +12,7 @@ use Rattle.tx_tickets.specs.Texts.{cause_text}
 use Rattle.tx_state.specs.Ended.{Ended}
 use Rattle.tx_state.proofs.Lists.{first_of, none_in}
 use Rattle.tx_script.specs.Summaries.{calls_line, causes, place_of, ended_by}
-use Rattle.tx_script.specs.inner.Counting.{Counted, AreFew, count_for, ends_counted, one_ended, all_ended}
+use Rattle.tx_script.specs.inner.Counting.{Counted, AreFew, count_for, ends_counted, one_counted, one_ended, all_ended}
 
 -- the counts stand by the places of the causes
 pub record AreEnded (ts : List Ended) (calls : List ℕ) : Type 0 where
@@ -85,9 +85,6 @@ abbrev pub HasRoom : Option Counted → ℕ → Type 0
 HasRoom None n = Unit {0}
 HasRoom (Some c) n = (k : ℕ) → get_or c.calls k 0 + n < 2 ^ 64
 
-abbrev pub with_one : Cause → Option Counted → Option Counted
-with_one cause counts = option_map (λ c. record c { calls = one_ended c.calls cause }) counts
-
 pub room_first : (counts : Option Counted) (n : ℕ) → AreFew counts → n < 2 ^ 63 + 1 → HasRoom counts n
 room_first None n few l = tt
 room_first (Some c) n few l = λ k. let f = few k in omega arith
@@ -96,18 +93,18 @@ module _ (left : List Ended) (t : Ended) (h : slice_get left 0 ≡ Some t) where
   split : left ≡ t ∷ drop 1 left
   split = first_of left t h
 
-  pub ends_more : (counts : Option Counted) → option_map (ends_counted (drop 1 left)) (with_one t.cause counts) ≡ option_map (ends_counted left) counts
+  pub ends_more : (counts : Option Counted) → option_map (ends_counted (drop 1 left)) (option_map (one_counted t.cause) counts) ≡ option_map (ends_counted left) counts
   ends_more counts = by counts ∙ ap (λ l. option_map (ends_counted l) counts) (sym split)
     where
-      by : (counts : Option Counted) → option_map (ends_counted (drop 1 left)) (with_one t.cause counts) ≡ option_map (ends_counted (t ∷ drop 1 left)) counts
+      by : (counts : Option Counted) → option_map (ends_counted (drop 1 left)) (option_map (one_counted t.cause) counts) ≡ option_map (ends_counted (t ∷ drop 1 left)) counts
       by None = refl
       by (Some c) = refl
 
-  pub room_more : (counts : Option Counted) → HasRoom counts (length left) → HasRoom (with_one t.cause counts) (length (drop 1 left))
+  pub room_more : (counts : Option Counted) → HasRoom counts (length left) → HasRoom (option_map (one_counted t.cause) counts) (length (drop 1 left))
   room_more None room = tt
   room_more (Some c) room = λ k. let n = ap length split in let r = room k in let o = one_within c.calls t.cause k in omega arith
 
-  pub room_for_one : (counts : Option Counted) → HasRoom counts (length left) → IfSome counts (λ c. get_or c.calls (place_of t.cause) 0 + 1 < 2 ^ 64)
+  pub room_for_one : (counts : Option Counted) → HasRoom counts (length left) → IfSome counts (λ c. count_for c.calls t.cause + 1 < 2 ^ 64)
   room_for_one None room = tt
   room_for_one (Some c) room = let n = ap length split in let r = room (place_of t.cause) in omega arith
 

@@ -1,8 +1,8 @@
 // What is counted of a run for its summary.
-ghost use Rattle.std.specs.Prelude.{◌≡◌, ◌+◌, ◌<◌, ◌^◌, true, IfOk};
+ghost use Rattle.std.specs.Prelude.{◌≡◌, ◌+◌, ◌<◌, ◌^◌, true, false, IfOk};
 ghost use Rattle.tx_plan.specs.Circuits.{count_of};
 ghost use Rattle.tx_script.specs.Summaries.{place_of};
-ghost use Rattle.tx_script.specs.inner.Counting.{change_at, cleared, count_for, counted, followed, marked, nothing_counted, one_ended, uses_counted};
+ghost use Rattle.tx_script.specs.inner.Counting.{change_at, cleared, count_for, counted, followed, marked, nothing_counted, one_counted, uses_counted};
 
 use crate::answer::is_refused;
 use crate::group_use::GroupUse;
@@ -75,7 +75,7 @@ impl<A: Allocator> Counts<A> {
     /// A call ended.
     pub(crate) fn ended(&mut self, cause: Cause)
         requires { count_for self.old.calls cause + 1 < 2 ^ 64 }
-        ensures { self.new ≡ record self.old { calls = one_ended self.old.calls cause } }
+        ensures { self.new ≡ one_counted cause self.old }
     {
         self.calls[place_of(cause)] += 1;
     }

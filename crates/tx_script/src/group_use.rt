@@ -1,5 +1,5 @@
 // The use of a group.
-ghost use Rattle.std.specs.Prelude.{◌≡◌, ◌≤◌};
+ghost use Rattle.std.specs.Prelude.{◌≡◌, ◌≤◌, true};
 ghost use Rattle.tx_script.specs.inner.Counting.{cleared, count_in, counted, idle, marked};
 
 /// Which circuits of a group are taken, by their numbers, and the most that were at once.

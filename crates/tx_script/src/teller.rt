@@ -1,7 +1,6 @@
 // What is told of events beside replies and tickets.
-ghost use Rattle.std.specs.Prelude.{◌≡◌, ◌+◌, ◌<◌, ◌^◌, IfOk, OnErr, IfSome, None, true, get_or, option_map};
-ghost use Rattle.tx_script.specs.Summaries.{place_of};
-ghost use Rattle.tx_script.specs.inner.Counting.{counts_for, one_ended, uses_counted};
+ghost use Rattle.std.specs.Prelude.{◌≡◌, ◌+◌, ◌<◌, ◌^◌, IfOk, OnErr, IfSome, None, true, false, option_map};
+ghost use Rattle.tx_script.specs.inner.Counting.{count_for, counts_for, one_counted, uses_counted};
 
 use crate::counts::Counts;
 use crate::telling::Telling;
@@ -51,9 +50,9 @@ impl<A: Allocator> Teller<A> {
     /// A call ended.
     #[inline(always)]
     pub(crate) fn ended(&mut self, cause: Cause)
-        requires { IfSome self.old.counts (λ c. get_or c.calls (place_of cause) 0 + 1 < 2 ^ 64) }
+        requires { IfSome self.old.counts (λ c. count_for c.calls cause + 1 < 2 ^ 64) }
         ensures echo { self.new.echo ≡ self.old.echo }
-        ensures counts { self.new.counts ≡ option_map (λ c. record c { calls = one_ended c.calls cause }) self.old.counts }
+        ensures counts { self.new.counts ≡ option_map (one_counted cause) self.old.counts }
     {
         if let Some(counts) = &mut self.counts {
             counts.ended(cause);

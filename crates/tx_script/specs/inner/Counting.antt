@@ -93,6 +93,9 @@ all_ended calls (t ∷ ts) = all_ended (one_ended calls t.cause) ts
 abbrev pub nothing_counted : Plan → Counted
 nothing_counted p = record { calls = replicate 9 0; groups = replicate (length p.groups) idle }
 
+abbrev pub one_counted : Cause → Counted → Counted
+one_counted cause c = record c { calls = one_ended c.calls cause }
+
 abbrev pub ends_counted : List Ended → Counted → Counted
 ends_counted ts c = record c { calls = all_ended c.calls ts }
 
