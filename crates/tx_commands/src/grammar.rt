@@ -86,7 +86,7 @@ fn lint_grammar<'a>(alloc: Global) -> Result<clap::Command<'a>, AllocError>
     over_plan(
         alloc,
         "lint",
-        "Tell all faults of a plan's text, or else what is of no use in the plan or likely not meant",
+        "Tell all faults of a plan's text, or else what in it is of no use or likely not meant",
         help::LINT,
     )
 }
@@ -286,7 +286,8 @@ fn with_command<'a>(
     program: Result<clap::Command<'a>, AllocError>,
     command: Result<clap::Command<'a>, AllocError>,
 ) -> Result<clap::Command<'a>, AllocError>
-    ensures { IfOk result (λ c. (top : Command) × (words : Command) × (program.entry ≡ Ok top) × (command.entry ≡ Ok words) × AddsSubcommand top words c) }
+    ensures { IfOk result (λ c. (top : Command) × (words : Command)
+        × (program.entry ≡ Ok top) × (command.entry ≡ Ok words) × AddsSubcommand top words c) }
 {
     match program {
         Ok(top) => match command {

@@ -5,9 +5,9 @@ use std::alloc::Allocator;
 
 /// The code of an entry asks for that entry alone; a name may be that of several, as `Short`.
 ///
-/// Each code that is printed has an entry: of a fault of a text, of a warning, of a finding, and of
-/// what no lists can serve by the name that is printed with it, of a refusal, of why a call ended and
-/// of a fault of a check by its code.
+/// Each code that is printed has an entry. That of a fault of a text, of a warning, of a finding and
+/// of what no lists can serve has the name that is printed behind the code. A refusal, why a call
+/// ended and a fault of a check are printed by the code alone.
 pub fn codes_are_explained<A: Allocator>()
     ensures once { CodesAreDistinct }
     ensures plans { PlanFaultsAreExplained }

@@ -1,5 +1,5 @@
 -- What a run that tells its events answers from the opening state, as a job tells it.
-use Rattle.std.proofs.Common.{◌≡◌, ◌∙◌, Bool, true, false, ℕ, Result, Ok, Err, subst}
+use Rattle.std.proofs.Common.{◌≡◌, ◌∙◌, ap, Bool, true, false, ℕ, Result, Ok, Err, subst}
 use Rattle.tx_text.specs.declared.frame.FaultKind.{FaultKind}
 use Rattle.tx_plan.specs.Plan.{Plan}
 use Rattle.tx_state.specs.State.{State, opening}
@@ -35,35 +35,36 @@ module _ (p : Plan) (echo : Bool) (x : Moved) (broken D E : Type 0) (f : D → E
   answers_with (Ok s) h = h
   answers_with (Err q) h = stopped_with q.event q.cause h
 
--- the state with which the run began is the opening one
-pub told_plan : {p : Plan} {echo : Bool} {script : Input} {out : Output} {D : Type 0}
-    {old new : State} (r : Result Summary RunFault) (result : Result Summary JobFault)
+-- the network with which the run began was in the opening state
+pub told_plan : {p : Plan} {echo : Bool} {script : Input} {out : Output} {N : Type 0}
+    (state : N → State) (old new : N) (r : Result Summary RunFault)
+    (result : Result Summary JobFault)
     → TellingAnswers p echo
     (record {
       rest_old = script.old;
       rest_new = script.new;
       taken_old = out.old;
       taken_new = out.new;
-      state_old = old;
-      state_new = new;
+      state_old = state old;
+      state_new = state new;
     })
-    script.broken D r
-    → old ≡ opening 0 0 → (D → (script.unread × out.silent) × (new ≡ old))
-    → result ≡ told_run r → ToldPlan p echo script out result
-told_plan {p} {echo} {script} {out} {D} {old} {new} r result ran opened quiet told =
+    script.broken (script.unread × out.silent × (new ≡ old)) r
+    → state old ≡ opening 0 0 → result ≡ told_run r → ToldPlan p echo script out result
+told_plan {p} {echo} {script} {out} {N} state old new r result ran opened told =
     let moved : State → Moved = λ s. record {
       rest_old = script.old;
       rest_new = script.new;
       taken_old = out.old;
       taken_new = out.new;
       state_old = s;
-      state_new = new;
+      state_new = state new;
     } in
-    let E : Type 0 = (script.unread × out.silent) × (new ≡ opening 0 0) in
-    let all = answers_with p echo (moved old) script.broken D E
-        (λ d. ((quiet d).0, (quiet d).1 ∙ opened)) r ran in
+    let D : Type 0 = script.unread × out.silent × (new ≡ old) in
+    let E : Type 0 = (script.unread × out.silent) × (state new ≡ opening 0 0) in
+    let quiet : D → E = λ d. ((d.0, d.1), ap state d.2 ∙ opened) in
+    let all = answers_with p echo (moved (state old)) script.broken D E quiet r ran in
     record {
-      state = new;
+      state = state new;
       answer = r;
       ran = subst (λ s. TellingAnswers p echo (moved s) script.broken E r) opened all;
       told = told;

@@ -2,10 +2,8 @@
 // the ranking and the grade answer. It runs the events of each finding over the plain network too, and judges by the replies whether they show it.
 
 mod compare;
-mod families;
 mod grades;
 mod judge;
-mod lists;
 mod refusals;
 mod replay;
 mod scripts;
@@ -19,9 +17,7 @@ mod walks;
 mod wanted;
 
 pub(crate) use compare::{Difference, findings_differ, ranks_differ, shows};
-pub(crate) use families::{count_plans, count_ways, put_plan};
 pub(crate) use judge::{NUMBERS, play_family};
-pub(crate) use lists::put_words;
 pub(crate) use replay::Replay;
 pub(crate) use scripts::is_right;
 pub(crate) use stop::{WalksDiffer, tell_stop};

@@ -87,7 +87,7 @@ pub enum Driven {
     Starting,
 }
 
-static TEXTS: [(&str, TextKind); 22] = [
+static TEXTS: [(&str, TextKind); 23] = [
     ("pipe", TextKind::Job(JobKind::Pipe)),
     ("run", TextKind::Job(JobKind::Run)),
     ("telling", TextKind::Job(JobKind::Telling)),

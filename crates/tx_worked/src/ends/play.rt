@@ -2,7 +2,7 @@
 ghost use Rattle.tx_commands.specs.Commands.{IsInRange};
 
 use crate::cases::{EndCase, Log, Refusing, What};
-use crate::stage::Stage;
+use crate::ends::stage::Stage;
 use tx_program::{Command, Folder, WordsFault, read_command, run_command, run_words};
 
 /// Plays a case, and tells what happens.

@@ -1,6 +1,6 @@
 // Cases of the program: at its ends, and where its words or arguments are refused for want of memory.
 use crate::cases::{EndCase, Log, Told, named, tell, tell_broken, tell_count};
-use crate::end_play::play;
+use crate::ends::play::play;
 use std::alloc::Global;
 use std::io;
 use tx_program::{WordsFault, refuse_arguments, tell_words};
