@@ -9,14 +9,14 @@ use Rattle.tx_jobs.proofs.telling.tell_script.Goals as goal
 pub returns-in-Ok-told-clause-answers : goal.returns-in-Ok-told-clause-answers
 returns-in-Ok-told-clause-answers g c =
     let opened = ap (λ n. n.state) c.in-Ok.ensures in
-    inl (told_plan (λ (n : Net). n.state) _ _ (Ok c.in-Ok-told.summary) _ c.in-Ok-told.ensures.answers
-    opened refl)
+    inl (told_plan (λ (n : Net). n.state) c.in-Ok.network c.run_telling-told.new.net
+    (Ok c.in-Ok-told.summary) _ c.in-Ok-told.ensures.answers opened refl)
 
 pub returns-in-Err-told-clause-answers : goal.returns-in-Err-told-clause-answers
 returns-in-Err-told-clause-answers g c =
     let opened = ap (λ n. n.state) c.in-Ok.ensures in
-    inl (told_plan (λ (n : Net). n.state) _ _ (Err c.in-Err-told.fault) _ c.in-Err-told.ensures.answers
-    opened (ap Err c.of_run.ensures))
+    inl (told_plan (λ (n : Net). n.state) c.in-Ok.network c.run_telling-told.new.net
+    (Err c.in-Err-told.fault) _ c.in-Err-told.ensures.answers opened (ap Err c.of_run.ensures))
 
 pub returns-in-Err-told-clause-mark : goal.returns-in-Err-told-clause-mark
 returns-in-Err-told-clause-mark g c =
