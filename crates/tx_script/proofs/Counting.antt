@@ -23,7 +23,7 @@ use Rattle.tx_script.specs.Taken.{peak}
 use Rattle.tx_script.specs.declared.telling.Telling.{Telling}
 use Rattle.tx_script.specs.Telling.{told_last}
 use Rattle.tx_script.specs.TellingAnswers.{NoneReleasing}
-use Rattle.tx_script.specs.inner.Counting.{Counted, AreFew, AreNew, AreForGroups, asked_of, counts_for, count_for, counted_on, counted_over, ends_counted, uses_counted, nothing_counted, counts_text, last_lines, use_at}
+use Rattle.tx_script.specs.inner.Counting.{Counted, AreFew, AreNew, asked_of, counts_for, count_for, counted_on, counted_over, ends_counted, uses_counted, nothing_counted, counts_text, last_lines, use_at}
 use Rattle.tx_script.proofs.Ended.{AreEnded, none_ended, ended_all, ended_within, ended_told}
 use Rattle.tx_script.proofs.GroupUses.{AreGroupUses, none_used, uses_step, peaks_told}
 use Rattle.tx_script.proofs.Moments.{few_tickets}
@@ -115,17 +115,13 @@ pub asked_is : (p : Plan) (t : Telling) → asked_of t.echo (counts_for p t.summ
 asked_is p t = by t.summary refl
   where
     by : (summary : Bool) → t.summary ≡ summary → asked_of t.echo (counts_for p t.summary) ≡ t
-    by true e = rw e (ap (λ b. record { echo = t.echo; summary = b }) (sym e))
-    by false e = rw e (ap (λ b. record { echo = t.echo; summary = b }) (sym e))
+    by true e = rw e refl
+    by false e = rw e refl
 
 module _ (p : Plan) (ok : IsPlan p) (s : State) (fresh : IsFresh s) (es : List Event) where
   pub few_counts : (first now : Option Counted) → AreNew p s first → now ≡ option_map (counted_over p (run p s es)) first → length es < 2 ^ 63 → AreFew now
   few_counts None now new is l = subst AreFew (sym is) tt
   few_counts (Some c) now new is l = subst AreFew (sym (is ∙ ap (λ z. Some (counted_over p (run p s es) z)) new.0)) (few_over p s es fresh l)
-
-  pub rows_counted : (first now : Option Counted) → AreNew p s first → now ≡ option_map (counted_over p (run p s es)) first → AreForGroups p now
-  rows_counted None now new is = subst (AreForGroups p) (sym is) tt
-  rows_counted (Some c) now new is = subst (AreForGroups p) (sym (is ∙ ap (λ z. Some (counted_over p (run p s es) z)) new.0)) ((uses_from_none p ok s fresh new.1 es).all)
 
   -- the last lines
   pub last_told : (echo : Bool) (first now : Option Counted) (t : State) → AreNew p s first → now ≡ option_map (counted_over p (run p s es)) first → end_text t ≡ end_text (state_after p s es) → length t.calls ≡ length (state_after p s es).calls

@@ -59,7 +59,7 @@ ended_all ts (t ∷ more) calls are = subst (λ l. AreEnded l (all_ended (one_en
 
 -- no call ended yet
 pub none_ended : (calls : List ℕ) → calls ≡ replicate 9 0 → AreEnded [] calls
-none_ended calls e = subst (λ l. AreEnded [] l) (sym e) (record { all = length-replicate 9 0; each = λ k l. get_or-replicate 9 k 0 0 l })
+none_ended calls e = subst (λ l. AreEnded [] l) (sym e) (record { all = length-replicate {A = ℕ} 9 0; each = λ k l. get_or-replicate {A = ℕ} 9 k 0 0 l })
 
 -- a count is at most that of all calls
 pub ended_within : (ts : List Ended) (calls : List ℕ) → AreEnded ts calls → (k : ℕ) → get_or calls k 0 ≤ length ts

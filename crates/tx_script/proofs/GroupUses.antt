@@ -1,5 +1,5 @@
 -- The circuits that are taken, as they are marked, and one event more.
-use Rattle.std.proofs.Common.{◌≡◌, ◌≢◌, ℕ, zero, suc, ◌+◌, ◌<◌, ◌≤◌, ◌==◌, Bool, true, false, not, ◌&&◌, ◌||◌, cond, List, [], ◌∷◌, ◌++◌, length, get_or, Option, Some, None, refl, sym, ap, ap₂, ◌∙◌, subst, eqb-true, eq-eqb, arith, length-append}
+use Rattle.std.proofs.Common.{◌≡◌, ◌≢◌, ℕ, zero, suc, ◌+◌, ◌<◌, ◌≤◌, ◌==◌, Bool, true, false, not, ◌&&◌, ◌||◌, cond, List, [], ◌∷◌, ◌++◌, length, get_or, Option, Some, None, inl, inr, refl, sym, ap, ap₂, ◌∙◌, subst, eqb-true, eq-eqb, arith, length-append}
 use Rattle.std.proofs.Math.Numerals.{add-one}
 use Rattle.std.proofs.lemmas.Bool.{false≢true, and_parts, ne_eqb, cases_eq}
 use Rattle.std.proofs.lemmas.List.{get_or-set_same, get_or-set_other, get_or-replicate, get_or-map, length-replicate, length-set, length-map}
@@ -250,11 +250,15 @@ module _ (p : Plan) (ms : List Moment) (s : State) (m : Moment) (us : List Group
 
 -- ---- at the start
 
+none_at : (b : Bool) → b ≡ false → cond b 1 0 ≤ 0
+none_at true e = absurd (false≢true (sym e))
+none_at false e = omega arith
+
 upward_none : (f : ℕ → Bool) (k : ℕ) → ((n : ℕ) → f n ≡ false) → count_by f (upward k) ≤ 0
 upward_none f zero e = omega arith
 upward_none f (suc k) e =
     let a = sum_by_push (λ n. cond (f n) 1 0) (upward k) (suc k) in
-    let z : cond (f (suc k)) 1 0 ≡ 0 = ap (λ b. cond b 1 0) (e (suc k)) in
+    let z = none_at (f (suc k)) (e (suc k)) in
     let rest = upward_none f k e in
     omega arith
 

@@ -34,11 +34,11 @@ use Rattle.tx_script.specs.Answered.{count_of}
 use Rattle.tx_script.specs.Answers.{IsFresh, settled, next, mark_by}
 use Rattle.tx_script.specs.Telling.{told_moment, told_events}
 use Rattle.tx_script.specs.TellingAnswers.{IsTold, LineTold}
-use Rattle.tx_script.specs.inner.Counting.{Counted, AreFew, AreNew, AreForGroups, counted_on, counted_over}
+use Rattle.tx_script.specs.inner.Counting.{Counted, AreFew, AreNew, counted_on, counted_over}
 use Rattle.tx_script.proofs.Scripts.{SaidSoFar, at_start, header_said, event_said}
 use Rattle.tx_script.proofs.Moments.{run_push, one_more, few_tickets, length_run, reply_same, made_same, after_same}
 use Rattle.tx_script.proofs.Told.{told_more, told_same}
-use Rattle.tx_script.proofs.Counting.{over_push, map_twice, map_none, few_counts, rows_counted}
+use Rattle.tx_script.proofs.Counting.{over_push, map_twice, map_none, few_counts}
 
 -- Some events were read, answered and counted: a and b are what the source had to give before and has now, u and v what the sink had taken, s and t
 -- the network, first and now what was counted for the summary, T is what is to come, and size bounds it.
@@ -115,9 +115,6 @@ module _ (p : Plan) (echo : Bool) (first now : Option Counted) (a b : Option (Li
 
   pub few_counted : IsPlan p → IsFresh s → AreNew p s first → AreFew now
   few_counted ok fresh new = few_counts p ok s fresh es first now new on.counts few_events
-
-  pub all_groups : IsPlan p → IsFresh s → AreNew p s first → AreForGroups p now
-  all_groups ok fresh new = rows_counted p ok s fresh es first now new on.counts
 
   -- its tickets were taken
   pub none_left : t.tickets ≡ []

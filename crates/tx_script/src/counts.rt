@@ -2,7 +2,7 @@
 ghost use Rattle.std.specs.Prelude.{◌≡◌, ◌+◌, ◌<◌, ◌^◌, true, false, IfOk};
 ghost use Rattle.tx_plan.specs.Circuits.{count_of};
 ghost use Rattle.tx_script.specs.Summaries.{place_of};
-ghost use Rattle.tx_script.specs.inner.Counting.{change_at, cleared, count_for, counted, followed, marked, nothing_counted, one_counted, uses_counted};
+ghost use Rattle.tx_script.specs.inner.Counting.{change_at, cleared, count_for, counted, followed, marked, nothing_counted, one_counted, use_at, uses_counted};
 
 use crate::answer::is_refused;
 use crate::group_use::GroupUse;
@@ -65,11 +65,14 @@ impl<A: Allocator> Counts<A> {
         self.calls[place_of(cause)]
     }
 
-    /// How the circuits of each group were used.
-    pub(crate) fn groups(&self) -> &[GroupUse]
-        ensures { result.now ≡ self.now.groups }
+    /// The most circuits of a group that were taken at once.
+    pub(crate) fn most_of(&self, group: GroupId) -> u32
+        ensures { result ≡ (use_at self.now.groups group).most }
     {
-        &self.groups
+        match self.groups.get(group.index()) {
+            Some(group) => group.most,
+            None => 0,
+        }
     }
 
     /// A call ended.

@@ -5,7 +5,7 @@ ghost use Rattle.tx_text.specs.Ends.{StopsIn};
 ghost use Rattle.tx_text.specs.Wrote.{Wrote};
 ghost use Rattle.tx_script.specs.Answers.{mark_after};
 ghost use Rattle.tx_script.specs.Output.{end_line};
-ghost use Rattle.tx_script.specs.inner.Counting.{AreForGroups, asked_text, last_lines};
+ghost use Rattle.tx_script.specs.inner.Counting.{asked_text, last_lines};
 
 use crate::counts::Counts;
 use crate::run_cause::RunCause;
@@ -27,8 +27,7 @@ pub(crate) fn finish<A: Allocator, B: Allocator, N: Network, W: Sink>(
     net: &N,
     sink: &mut W,
 ) -> Result<Summary, RunFault>
-    requires answered { tally.now.answered < 2 ^ 63 }
-    requires groups { AreForGroups plan.now counts.now }
+    requires { tally.now.answered < 2 ^ 63 }
     ensures summary { IfOk result (λ s. s ≡ record { events = (N.state net.now).events; refused = tally.now.refused; tickets = tally.now.tickets; open_calls = length (N.state net.now).calls }) }
     ensures ok { OnOk result (W.taken sink.new ≡ append_known (W.taken sink.old) (last_lines plan.now counts.now (N.state net.now))) }
     ensures fault { IfErr result (λ f. f ≡ record { event = tally.now.answered + 1; cause = RunCause.Write }) }
@@ -55,7 +54,6 @@ fn write_last_lines<A: Allocator, B: Allocator, W: Sink>(
     plan: &Plan<B>,
     sink: &mut W,
 ) -> Result<(), WriteFault>
-    requires { AreForGroups plan.now counts.now }
     ensures { Wrote (W.taken sink.old) (W.taken sink.new) (W.failed sink.old) (W.failed sink.new)
         (end_line events open_calls ++ asked_text plan.now counts.now open_calls) result }
 {
@@ -72,14 +70,7 @@ fn write_end<W: Sink>(events: u64, open_calls: u64, sink: &mut W) -> Result<(), 
 {
     let mut accepted = Buffer::new();
     let mut open = Buffer::new();
-    write_text(
-        &[
-            b"END EVENTS ",
-            accepted.format(events).as_bytes(),
-            b" OPEN ",
-            open.format(open_calls).as_bytes(),
-            b"\n",
-        ],
-        sink,
-    )
+    let events = accepted.format(events).as_bytes();
+    let calls = open.format(open_calls).as_bytes();
+    write_text(&[b"END EVENTS ", events, b" OPEN ", calls, b"\n"], sink)
 }

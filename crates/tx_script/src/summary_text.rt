@@ -21,7 +21,6 @@ pub(crate) fn write_summary<A: Allocator, B: Allocator, W: Sink>(
     plan: &Plan<B>,
     sink: &mut W,
 ) -> Result<(), WriteFault>
-    requires { length counts.now.groups ≡ length plan.now.groups }
     ensures { Wrote (W.taken sink.old) (W.taken sink.new) (W.failed sink.old) (W.failed sink.new)
         (counts_text plan.now counts.now open_calls) result }
 {
@@ -67,14 +66,13 @@ fn write_peaks<A: Allocator, B: Allocator, W: Sink>(
     plan: &Plan<B>,
     sink: &mut W,
 ) -> Result<(), WriteFault>
-    requires { length counts.now.groups ≡ length plan.now.groups }
     ensures { Wrote (W.taken sink.old) (W.taken sink.new) (W.failed sink.old) (W.failed sink.new)
         (flat_map (λ g. peak_line plan.now g (use_at counts.now.groups g).most) (range_with_len 0 (length plan.now.groups))) result }
 {
     plan.rules();
-    let groups = counts.groups();
     for place in 0..plan.groups() {
-        write_peak(GroupId::at(place as u16), groups[place].most, plan, sink)?;
+        let group = GroupId::at(place as u16);
+        write_peak(group, counts.most_of(group), plan, sink)?;
     }
     Ok(())
 }

@@ -128,11 +128,6 @@ abbrev pub AreNew : Plan → State → Option Counted → Type 0
 AreNew p s None = Unit {0}
 AreNew p s (Some c) = (c ≡ nothing_counted p) × NoneReleasing s
 
--- there is a row for each group
-abbrev pub AreForGroups : Plan → Option Counted → Type 0
-AreForGroups p None = Unit {0}
-AreForGroups p (Some c) = length c.groups ≡ length p.groups
-
 -- what is told of what was counted, and of so many open calls
 abbrev pub counts_text : Plan → Counted → ℕ → List ℕ
 counts_text p c opened = summary_by p (count_for c.calls) opened (λ g. (use_at c.groups g).most)

@@ -9,7 +9,7 @@ use Rattle.tx_script.specs.declared.run_cause.RunCause.{RunCause}
 use Rattle.tx_script.specs.Answers.{mark_after}
 use Rattle.tx_script.specs.Events.{event_of}
 use Rattle.tx_script.proofs.EventWords.{said_by}
-use Rattle.tx_script.proofs.Running.{past_header, past_line, start_runs, few_answered, few_refused, few_calls, few_told, few_counted, all_groups, none_left, line_mark, stop_mark}
+use Rattle.tx_script.proofs.Running.{past_header, past_line, start_runs, few_answered, few_refused, few_calls, few_told, few_counted, none_left, line_mark, stop_mark}
 use Rattle.tx_script.proofs.RunEnds.{header_came, line_came, line_halted, end_came, stop_ends, whole_ends}
 use Rattle.tx_script.proofs.runner.run_lines.Given.{Over}
 use Rattle.tx_script.proofs.runner.run_lines.Goals as goal
@@ -101,7 +101,7 @@ lines-preserved g c =
     }
 
 pub finish-requires : goal.finish-requires
-finish-requires g c = record { answered = few_answered _ _ _ _ _ _ _ _ _ _ _ _ _ c.lines.invariant.runs; groups = all_groups _ _ _ _ _ _ _ _ _ _ _ _ _ c.lines.invariant.runs c.rules.ensures c.requires.fresh c.requires.counts }
+finish-requires g c = few_answered _ _ _ _ _ _ _ _ _ _ _ _ _ c.lines.invariant.runs
 
 pub stopped-requires : goal.stopped-requires
 stopped-requires g c = few_answered _ _ _ _ _ _ _ _ _ _ _ _ _ c.lines.invariant.runs

@@ -20,7 +20,7 @@ write_tickets-requires g c =
     let s = g.N.Network.state c.args.net.now in
     let t = g.N.Network.state c.apply-applied.new.self in
     let a = is_answer c.args.plan.now (g.N.Network.plan c.args.net.now) s c.args.event c.in-Ok.reply t c.requires.plan c.requires.taken (rw c.in-Ok.is at c.apply-applied.ensures.step) in
-    record { few = omega (arith, c.requires.few, a.few); counted = few_used _ _ _ _ c.requires.counted _ c.answered.ensures.counts }
+    record { few = omega (arith, c.requires.few, a.few); counted = few_used c.args.plan.now c.args.event c.in-Ok.reply c.args.self.now.counts c.requires.counted c.answered.new.self.counts c.answered.ensures.counts }
 
 pub returns-in_err-write_asked_echo-clause-answers : goal.returns-in_err-write_asked_echo-clause-answers
 returns-in_err-write_asked_echo-clause-answers g c =
@@ -40,7 +40,7 @@ returns-in_err-write_reply-clause-answers g c =
     let reply = c.in-Ok.reply in
     let a = is_answer p (g.N.Network.plan c.args.net.now) s c.args.event reply t c.requires.plan c.requires.taken (rw c.in-Ok.is at c.apply-applied.ensures.step) in
     let e = err_from_is_err_and c.from_residual-in_err-write_reply.result c.from_residual-in_err-write_reply.ensures.1 in
-    rw (e.1, e.2) (inr (rw c.in_ok-write_asked_echo.ensures.0 at untold_reply p s c.args.event reply t _ _ a c.in_err-write_reply.ensures.err))
+    rw (e.1, e.2) (inr (rw c.in_ok-write_asked_echo.ensures.0 at (untold_reply p s c.args.event reply t _ _ a c.in_err-write_reply.ensures.err)))
 
 pub returns-in_err-tickets-clause-answers : goal.returns-in_err-tickets-clause-answers
 returns-in_err-tickets-clause-answers g c =
@@ -50,7 +50,7 @@ returns-in_err-tickets-clause-answers g c =
     let reply = c.in-Ok.reply in
     let a = is_answer p (g.N.Network.plan c.args.net.now) s c.args.event reply t c.requires.plan c.requires.taken (rw c.in-Ok.is at c.apply-applied.ensures.step) in
     let e = err_from_is_err_and c.from_residual-in_err-tickets.result c.from_residual-in_err-tickets.ensures.1 in
-    rw (e.1, e.2) (inr (rw c.in_ok-write_asked_echo.ensures.0 at untold_tickets p s c.args.event reply t _ _ _ _ a c.in_ok-write_reply.ensures.ok c.in_err-tickets.ensures.err))
+    rw (e.1, e.2) (inr (rw c.in_ok-write_asked_echo.ensures.0 at (untold_tickets p s c.args.event reply t _ _ _ _ a c.in_ok-write_reply.ensures.ok c.in_err-tickets.ensures.err)))
 
 pub returns-clause-answers : goal.returns-clause-answers
 returns-clause-answers g c =

@@ -1,5 +1,6 @@
 use Rattle.std.proofs.Common.{◌∙◌, refl, sym, ap, arith}
 use Rattle.std.proofs.Math.Facts.{Fits-of_lt}
+use Rattle.tx_state.specs.Ended.{Ended}
 use Rattle.tx_state.specs.State.{State}
 use Rattle.tx_text.proofs.Writing.{on_err}
 use Rattle.tx_script.proofs.Draining.{drain_start, drain_end, drain_more, drain_stop, drain_within, drain_smaller}
@@ -17,7 +18,9 @@ loop-ticket-init g c = record {
 }
 
 pub ended-requires : goal.ended-requires
-ended-requires g c = room_for_one (g.N.Network.state c.loop-ticket.net).tickets _ (sym c.in-Some.ensures.first) c.loop-ticket.self.counts c.loop-ticket.invariant.room
+ended-requires g c =
+    rw (ap (λ (t : Ended). t.cause) c.ticket.view_is)
+    (room_for_one (g.N.Network.state c.loop-ticket.net).tickets _ (sym c.in-Some.ensures.first) c.loop-ticket.self.counts c.loop-ticket.invariant.room)
 
 pub loop-ticket-preserved : goal.loop-ticket-preserved
 loop-ticket-preserved g c =
@@ -25,14 +28,15 @@ loop-ticket-preserved g c =
     let left = (g.N.Network.state c.loop-ticket.net).tickets in
     let first = sym c.in-Some.ensures.first in
     let ended = c.ended.ensures.counts in
+    let same = ap (λ (t : Ended). t.cause) c.ticket.view_is in
     let rest = ap (λ (s : State). s.tickets) c.next_ticket.ensures.rest in
     record {
       plan = c.next_ticket.ensures.plan ∙ v.plan;
       draining = drain_more _ _ _ _ _ _ v.draining _ first _ _ c.next_ticket.ensures.rest c.in_ok-write_ticket.ensures.ok;
       mark = c.in_ok-write_ticket.ensures.unmarked ∙ v.mark;
       echo = c.ended.ensures.echo ∙ v.echo;
-      counts = rw (rest, ended) (ends_more left _ first c.loop-ticket.self.counts ∙ v.counts);
-      room = rw (rest, ended) (room_more left _ first c.loop-ticket.self.counts v.room);
+      counts = rw (rest, ended, same) (ends_more left _ first c.loop-ticket.self.counts ∙ v.counts);
+      room = rw (rest, ended, same) (room_more left _ first c.loop-ticket.self.counts v.room);
     }
 
 pub returns-in_err-write_ticket-clause-err : goal.returns-in_err-write_ticket-clause-err
