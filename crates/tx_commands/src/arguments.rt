@@ -89,6 +89,17 @@ pub(crate) fn with_option<'a>(
     with_arg(command, option(alloc, id, shown, help))
 }
 
+/// An option without a word.
+fn flag<'a>(alloc: Global, id: &'a str, help: &'a str) -> Arg<'a>
+    ensures rule { rule_of result ≡ grammar.flag id.now }
+    ensures local { result.global ≡ false }
+{
+    Arg::new(alloc, id)
+        .long(id)
+        .help(help)
+        .action(ArgAction::SetTrue)
+}
+
 /// Adds an option without a word.
 pub(crate) fn with_flag<'a>(
     command: Result<clap::Command<'a>, AllocError>,
@@ -100,17 +111,6 @@ pub(crate) fn with_flag<'a>(
         → IfOk result (λ c. app_of c ≡ with_rule app (grammar.flag id.now)) }
 {
     with_arg(command, flag(alloc, id, help))
-}
-
-/// An option without a word.
-fn flag<'a>(alloc: Global, id: &'a str, help: &'a str) -> Arg<'a>
-    ensures rule { rule_of result ≡ grammar.flag id.now }
-    ensures local { result.global ≡ false }
-{
-    Arg::new(alloc, id)
-        .long(id)
-        .help(help)
-        .action(ArgAction::SetTrue)
 }
 
 fn limit<'a>(alloc: Global) -> Arg<'a>

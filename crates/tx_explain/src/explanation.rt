@@ -53,12 +53,8 @@ fn write_told<W: Sink>(entry: &Entry, word: Option<&str>, sink: &mut W) -> Resul
         (told_text (option_map (λ w. w.now) word.entry) (texts entry.now)) result }
 {
     match word {
-        Some(word) => {
-            if is_asked(word, entry) {
-                return write_entry(entry, sink);
-            }
-            Ok(())
-        }
+        Some(word) if is_asked(word, entry) => write_entry(entry, sink),
+        Some(_) => Ok(()),
         None => write_line(entry, sink),
     }
 }
