@@ -1,5 +1,5 @@
 -- What words ask for.
-use Rattle.std.specs.Prelude.{◌≡◌, ◌≤◌, ℕ, Bool, true, false, List, Option, None, Some, map, option_map, codes, string_bytes, String}
+use Rattle.std.specs.Prelude.{◌≡◌, ◌≤◌, ℕ, Bool, true, false, List, Option, None, Some, map, option_map, codes, string_bytes, String, ◌||◌}
 use Rattle.std.specs.Borrow.{Bor}
 use Rattle.std.specs.Option.{option_map_or}
 use Rattle.std.specs.Str.{bytes_eq}
@@ -58,6 +58,7 @@ Asks name found (RunTelling plan script strict echo summary) =
     × (first_of (codes "spare") found ≡ None)
     × (is_set found (codes "strict") ≡ strict) × (is_set found (codes "echo") ≡ echo)
     × (is_set found (codes "summary") ≡ summary)
+    × (((strict || echo) || summary) ≡ true)
 Asks name found (Check plan cert limit spare) =
     (name ≡ codes "check") × Names found (codes "plan") plan × Names found (codes "cert") cert
     × Gives found (codes "limit") limit × Gives found (codes "spare") spare
