@@ -2,7 +2,7 @@
 use Rattle.std.proofs.Common.{◌≡◌, ◌∙◌, ap, Bool, true, false, ℕ, Result, Ok, Err, inl, inr, subst}
 use Rattle.tx_text.specs.declared.frame.FaultKind.{FaultKind}
 use Rattle.tx_plan.specs.Plan.{Plan}
-use Rattle.tx_state.specs.State.{State, opening}
+use Rattle.tx_machine.specs.State.{State, opening}
 use Rattle.tx_script.specs.declared.script_word.ScriptWord.{ScriptWord}
 use Rattle.tx_script.specs.declared.telling.Telling.{Telling}
 use Rattle.tx_script.specs.declared.summary.Summary.{Summary}

@@ -2,7 +2,7 @@
 -- was refused.
 use Rattle.std.specs.Prelude.{◌≡◌, ◌⊎◌, ℕ, Bool, not, ◌&&◌, ◌==◌, if◌then◌else◌, Result}
 use Rattle.tx_plan.specs.Plan.{Plan}
-use Rattle.tx_state.specs.State.{State, opening}
+use Rattle.tx_machine.specs.State.{State, opening}
 use Rattle.tx_script.specs.declared.summary.Summary.{Summary}
 use Rattle.tx_script.specs.declared.run_fault.RunFault.{RunFault}
 use Rattle.tx_script.specs.declared.telling.Telling.{Telling}

@@ -7,15 +7,15 @@ use Rattle.std.proofs.lemmas.List.Concat.{flat_map-append, length-flat_map}
 use Rattle.tx_plan.specs.Plan.{Plan}
 use Rattle.tx_plan.specs.Rules.{IsPlan}
 use Rattle.tx_tickets.specs.Texts.{cause_text}
-use Rattle.tx_state.specs.declared.event.Event.{Event}
-use Rattle.tx_state.specs.declared.reply.Reply.{Reply}
-use Rattle.tx_state.specs.Ended.{Ended}
-use Rattle.tx_state.specs.Invariant.{Inv, Holds}
-use Rattle.tx_state.specs.State.{State}
-use Rattle.tx_state.specs.Step.{step}
-use Rattle.tx_state.specs.Runs.{Moment, moment, run, state_after}
-use Rattle.tx_state.proofs.Invariant.{inv_opening}
-use Rattle.tx_state.proofs.Steps.{step_keeps}
+use Rattle.tx_machine.specs.declared.event.Event.{Event}
+use Rattle.tx_machine.specs.declared.reply.Reply.{Reply}
+use Rattle.tx_machine.specs.Ended.{Ended}
+use Rattle.tx_machine.specs.Invariant.{Inv, Holds}
+use Rattle.tx_machine.specs.State.{State}
+use Rattle.tx_machine.specs.Step.{step}
+use Rattle.tx_machine.specs.Runs.{Moment, moment, run, state_after}
+use Rattle.tx_machine.proofs.Invariant.{inv_opening}
+use Rattle.tx_machine.proofs.Steps.{step_keeps}
 use Rattle.tx_script.specs.Answers.{IsFresh}
 use Rattle.tx_script.specs.Output.{tickets_made, end_text}
 use Rattle.tx_script.specs.Summaries.{calls_line, causes, ended_by, peak_line, summary_text}

@@ -14,14 +14,14 @@ use Rattle.tx_plan.specs.Plan.{Plan, Group}
 use Rattle.tx_plan.specs.Rules.{IsPlan, IsGroup}
 use Rattle.tx_plan.specs.Circuits.{count_of, upward}
 use Rattle.tx_entries.specs.declared.circuit.Circuit.{Circuit}
-use Rattle.tx_state.specs.declared.event.Event.{Event}
-use Rattle.tx_state.specs.declared.event.Event.TheVariants.{Key, Route, Confirm, Clear, Released, Fail, Restore, Block, Unblock, CircuitOut, CircuitIn, LineFault, LineMend, LineAway, LineBack}
-use Rattle.tx_state.specs.declared.reply.Reply.{Reply}
-use Rattle.tx_state.specs.declared.reply.Reply.TheVariants.{Keyed, Seized, At, Connected, Answered, HeadOn, Cleared, Done, Lost, Refused}
-use Rattle.tx_state.specs.State.{State}
-use Rattle.tx_state.specs.Runs.{Moment}
-use Rattle.tx_state.proofs.Lists.{at_place}
-use Rattle.tx_state.specs.Sound.{is_refused}
+use Rattle.tx_machine.specs.declared.event.Event.{Event}
+use Rattle.tx_machine.specs.declared.event.Event.TheVariants.{Key, Route, Confirm, Clear, Released, Fail, Restore, Block, Unblock, CircuitOut, CircuitIn, LineFault, LineMend, LineAway, LineBack}
+use Rattle.tx_machine.specs.declared.reply.Reply.{Reply}
+use Rattle.tx_machine.specs.declared.reply.Reply.TheVariants.{Keyed, Seized, At, Connected, Answered, HeadOn, Cleared, Done, Lost, Refused}
+use Rattle.tx_machine.specs.State.{State}
+use Rattle.tx_machine.specs.Runs.{Moment}
+use Rattle.tx_machine.proofs.Lists.{at_place}
+use Rattle.tx_machine.specs.Sound.{is_refused}
 use Rattle.tx_script.specs.declared.group_use.GroupUse.{GroupUse}
 use Rattle.tx_script.specs.Answers.{IsFresh}
 use Rattle.tx_script.specs.TellingAnswers.{NoneReleasing}

@@ -7,9 +7,9 @@ use Rattle.tx_text.specs.declared.frame.FaultKind.{FaultKind}
 use Rattle.tx_text.specs.Ends.{StopsIn}
 use Rattle.tx_text.proofs.Writing.{append_known-nil}
 use Rattle.tx_plan.specs.Plan.{Plan}
-use Rattle.tx_state.specs.declared.event.Event.{Event}
-use Rattle.tx_state.specs.State.{State}
-use Rattle.tx_state.specs.Runs.{Moment, run, state_after}
+use Rattle.tx_machine.specs.declared.event.Event.{Event}
+use Rattle.tx_machine.specs.State.{State}
+use Rattle.tx_machine.specs.Runs.{Moment, run, state_after}
 use Rattle.tx_script.specs.declared.run_fault.RunFault.{RunFault}
 use Rattle.tx_script.specs.declared.run_cause.RunCause.{RunCause}
 use Rattle.tx_script.specs.declared.run_cause.RunCause.TheVariants.{Read, Write, Script as OfScript, NoMemory}

@@ -16,24 +16,24 @@ use Rattle.tx_plan.proofs.Among.{among_cases, among_left, among_right, among_map
 use Rattle.tx_entries.specs.declared.circuit.Circuit.{Circuit}
 use Rattle.tx_entries.specs.declared.line.Line.{Line}
 use Rattle.tx_entries.proofs.Named.{circuits_total, same_circuit-is, same_circuit-itself, circuit_tie, exact_circuits, in_insert, in_union}
-use Rattle.tx_state.specs.declared.event.Event.{Event}
-use Rattle.tx_state.specs.declared.event.Event.TheVariants.{Key, Route, Confirm, Clear, Released, Fail, Restore, Block, Unblock, CircuitOut, CircuitIn, LineFault, LineMend, LineAway, LineBack}
-use Rattle.tx_state.specs.declared.cause.Cause.{Cause}
-use Rattle.tx_state.specs.declared.cause.Cause.TheVariants.{Lost as ByLoss}
-use Rattle.tx_state.specs.declared.hop.Hop.{Hop}
-use Rattle.tx_state.specs.declared.phase.Phase.{Phase}
-use Rattle.tx_state.specs.declared.phase.Phase.TheVariants.{Standing, Calling, Connected}
-use Rattle.tx_state.specs.Call.{Call, circuit_called, is_numbered}
-use Rattle.tx_state.specs.State.{State}
-use Rattle.tx_state.specs.InUse.{circuits_used, circuits_carried, seizes, uses_group}
-use Rattle.tx_state.specs.Invariant.{Holds}
-use Rattle.tx_state.specs.Routing.{set_call, in_phase}
-use Rattle.tx_state.specs.Ending.{given_up, end_calls}
-use Rattle.tx_state.specs.Confirming.{carried_on, thrown_back, collide}
-use Rattle.tx_state.specs.Step.{keyed_call, keyed_in, failed_at}
-use Rattle.tx_state.proofs.Lists.{any_mem, mem_any, none_any, any_none}
-use Rattle.tx_state.proofs.Uses.{calling_on}
-use Rattle.tx_state.proofs.Invariant.{set_cases}
+use Rattle.tx_machine.specs.declared.event.Event.{Event}
+use Rattle.tx_machine.specs.declared.event.Event.TheVariants.{Key, Route, Confirm, Clear, Released, Fail, Restore, Block, Unblock, CircuitOut, CircuitIn, LineFault, LineMend, LineAway, LineBack}
+use Rattle.tx_machine.specs.declared.cause.Cause.{Cause}
+use Rattle.tx_machine.specs.declared.cause.Cause.TheVariants.{Lost as ByLoss}
+use Rattle.tx_machine.specs.declared.hop.Hop.{Hop}
+use Rattle.tx_machine.specs.declared.phase.Phase.{Phase}
+use Rattle.tx_machine.specs.declared.phase.Phase.TheVariants.{Standing, Calling, Connected}
+use Rattle.tx_machine.specs.Call.{Call, circuit_called, is_numbered}
+use Rattle.tx_machine.specs.State.{State}
+use Rattle.tx_machine.specs.InUse.{circuits_used, circuits_carried, seizes, uses_group}
+use Rattle.tx_machine.specs.Invariant.{Holds}
+use Rattle.tx_machine.specs.Routing.{set_call, in_phase}
+use Rattle.tx_machine.specs.Ending.{given_up, end_calls}
+use Rattle.tx_machine.specs.Confirming.{carried_on, thrown_back, collide}
+use Rattle.tx_machine.specs.Step.{keyed_call, keyed_in, failed_at}
+use Rattle.tx_machine.proofs.Lists.{any_mem, mem_any, none_any, any_none}
+use Rattle.tx_machine.proofs.Uses.{calling_on}
+use Rattle.tx_machine.proofs.Invariant.{set_cases}
 use Rattle.tx_script.specs.Taken.{uses, is_taken}
 
 -- ---- what is taken, said of members

@@ -6,10 +6,10 @@ use Rattle.tx_plan.specs.Orders.{same_circuit}
 use Rattle.tx_plan.specs.Plan.{Plan}
 use Rattle.tx_plan.specs.Circuits.{count_of, upward}
 use Rattle.tx_entries.specs.declared.circuit.Circuit.{Circuit}
-use Rattle.tx_state.specs.Call.{Call}
-use Rattle.tx_state.specs.State.{State}
-use Rattle.tx_state.specs.InUse.{circuits_used}
-use Rattle.tx_state.specs.Runs.{Moment}
+use Rattle.tx_machine.specs.Call.{Call}
+use Rattle.tx_machine.specs.State.{State}
+use Rattle.tx_machine.specs.InUse.{circuits_used}
+use Rattle.tx_machine.specs.Runs.{Moment}
 
 -- a call uses a circuit if it carries it or has seized it
 abbrev pub uses : Circuit → Call → Bool

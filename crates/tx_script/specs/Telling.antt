@@ -2,9 +2,9 @@
 use Rattle.std.specs.Prelude.{ℕ, ◌+◌, Bool, if◌then◌else◌, List, [], ◌∷◌, ◌++◌, Option, None, Some, codes, decimal}
 use Rattle.tx_text.specs.declared.frame.FaultKind.{FaultKind}
 use Rattle.tx_plan.specs.Plan.{Plan}
-use Rattle.tx_state.specs.declared.event.Event.{Event}
-use Rattle.tx_state.specs.State.{State}
-use Rattle.tx_state.specs.Runs.{Moment, run, state_after}
+use Rattle.tx_machine.specs.declared.event.Event.{Event}
+use Rattle.tx_machine.specs.State.{State}
+use Rattle.tx_machine.specs.Runs.{Moment, run, state_after}
 use Rattle.tx_script.specs.declared.script_word.ScriptWord.{ScriptWord}
 use Rattle.tx_script.specs.declared.telling.Telling.{Telling}
 use Rattle.tx_script.specs.Events.{event_text}

@@ -2,9 +2,9 @@
 ghost use Rattle.std.specs.Prelude.{◌≡◌, ◌+◌, ◌<◌, ◌^◌, [], true, OnOk, OnErr, IfOk, length, option_map};
 ghost use Rattle.std.specs.List.{flat_map};
 ghost use Rattle.std.specs.Io.KnownBytes.{append_known};
-ghost use Rattle.tx_state.specs.Drained.{drained};
-ghost use Rattle.tx_state.specs.Runs.{moment};
-ghost use Rattle.tx_state.specs.Sound.{is_refused};
+ghost use Rattle.tx_machine.specs.Drained.{drained};
+ghost use Rattle.tx_machine.specs.Runs.{moment};
+ghost use Rattle.tx_machine.specs.Sound.{is_refused};
 ghost use Rattle.tx_tickets.specs.Texts.{ticket_text};
 ghost use Rattle.tx_script.specs.Answered.{mark_with};
 ghost use Rattle.tx_script.specs.TellingAnswers.{EventTold, LineTold};
@@ -17,7 +17,7 @@ use crate::script_word::ScriptWord;
 use crate::teller::Teller;
 use std::alloc::Allocator;
 use tx_plan::Plan;
-use tx_state::{Event, Network, Reply};
+use tx_machine::{Event, Network, Reply};
 use tx_text::{FaultAt, FaultKind, Sink, WriteFault};
 use tx_tickets::{write_reply, write_ticket};
 

@@ -9,7 +9,7 @@ use crate::group_use::GroupUse;
 use std::alloc::Allocator;
 use std::marker::Model;
 use tx_plan::{Circuit, GroupId, Plan};
-use tx_state::{Cause, Event, Reply, Service};
+use tx_machine::{Cause, Event, Reply, Service};
 use tx_text::NoMemory;
 
 /// How many calls ended by each cause, and how the circuits of each group were used.

@@ -16,7 +16,7 @@ use crate::tally::Tally;
 use itoa::Buffer;
 use std::alloc::Allocator;
 use tx_plan::Plan;
-use tx_state::Network;
+use tx_machine::Network;
 use tx_text::{Sink, WriteFault, write_text};
 
 /// Writes the line END EVENTS and, where it is asked for, the summary. Tells what was counted.

@@ -10,7 +10,7 @@ use crate::counts::Counts;
 use itoa::Buffer;
 use std::alloc::Allocator;
 use tx_plan::{GroupId, Plan};
-use tx_state::{Cause, Service};
+use tx_machine::{Cause, Service};
 use tx_text::{Sink, WriteFault, write_text};
 use tx_tickets::cause_word;
 

@@ -6,7 +6,7 @@ use crate::counts::Counts;
 use crate::telling::Telling;
 use std::alloc::Allocator;
 use tx_plan::Plan;
-use tx_state::{Cause, Event, Reply};
+use tx_machine::{Cause, Event, Reply};
 use tx_text::NoMemory;
 
 /// Whether the line of each event is told, and what is counted for the summary, where that is asked for.

@@ -5,15 +5,15 @@ use Rattle.tx_plan.specs.Orders.{same_circuit}
 use Rattle.tx_plan.specs.Plan.{Plan}
 use Rattle.tx_plan.specs.Circuits.{count_of, upward}
 use Rattle.tx_entries.specs.declared.circuit.Circuit.{Circuit}
-use Rattle.tx_state.specs.declared.cause.Cause.{Cause}
-use Rattle.tx_state.specs.declared.event.Event.{Event}
-use Rattle.tx_state.specs.declared.event.Event.TheVariants.{Route, Released, Fail}
-use Rattle.tx_state.specs.declared.reply.Reply.{Reply}
-use Rattle.tx_state.specs.declared.reply.Reply.TheVariants.{Seized}
-use Rattle.tx_state.specs.Ended.{Ended}
-use Rattle.tx_state.specs.Runs.{Moment}
-use Rattle.tx_state.specs.State.{State}
-use Rattle.tx_state.specs.Sound.{is_refused}
+use Rattle.tx_machine.specs.declared.cause.Cause.{Cause}
+use Rattle.tx_machine.specs.declared.event.Event.{Event}
+use Rattle.tx_machine.specs.declared.event.Event.TheVariants.{Route, Released, Fail}
+use Rattle.tx_machine.specs.declared.reply.Reply.{Reply}
+use Rattle.tx_machine.specs.declared.reply.Reply.TheVariants.{Seized}
+use Rattle.tx_machine.specs.Ended.{Ended}
+use Rattle.tx_machine.specs.Runs.{Moment}
+use Rattle.tx_machine.specs.State.{State}
+use Rattle.tx_machine.specs.Sound.{is_refused}
 use Rattle.tx_script.specs.Output.{tickets_made, end_text}
 use Rattle.tx_script.specs.Summaries.{place_of, summary_by}
 use Rattle.tx_script.specs.TellingAnswers.{NoneReleasing}

@@ -1,7 +1,7 @@
 use Rattle.std.proofs.Common.{Ok, Err, ap, inl, refl}
 use Rattle.tx_text.specs.Calls.{source_calls}
 use Rattle.tx_text.proofs.CallCounts.{went_none, calls_so_far}
-use Rattle.tx_state.specs.State.{Net}
+use Rattle.tx_machine.specs.State.{Net}
 use Rattle.tx_jobs.proofs.RefusedTexts.{run_mark}
 use Rattle.tx_jobs.proofs.ToldRuns.{told_plan}
 use Rattle.tx_jobs.proofs.telling.tell_script.Goals as goal
