@@ -15,7 +15,7 @@ use tx_script::{Summary, Telling, run_telling};
 use tx_text::{Sink, Source};
 
 /// Reads a plan, and then runs a script over it as `run_job` does. Where they are asked for, the
-/// line of each event stands before its reply, and the summary behind the line END EVENTS.
+/// line of each event stands before its reply, and the summary after the line END EVENTS.
 pub fn run_telling_job<A: Allocator + Copy, P: Source, R: Source, W: Sink>(
     alloc: A,
     telling: Telling,
@@ -42,7 +42,7 @@ pub fn run_telling_job<A: Allocator + Copy, P: Source, R: Source, W: Sink>(
     }
 }
 
-/// Runs a script over a network of the plan, from its opening state, and tells what is asked for.
+/// Runs a script over a network of the plan, from its opening state, and returns what is asked for.
 fn tell_script<A: Allocator + Copy, R: Source, W: Sink>(
     alloc: A,
     telling: Telling,

@@ -1,4 +1,4 @@
--- What is told of a whole run, behind its last line: how its calls ended, and how many circuits of each group were taken at once.
+-- What is told of a whole run, after its last line: how its calls ended, and how many circuits of each group were taken at once.
 use Rattle.std.specs.Prelude.{ℕ, Bool, ◌==◌, if◌then◌else◌, List, [], ◌∷◌, ◌++◌, length, codes, decimal}
 use Rattle.std.specs.List.{flat_map, count_by, range_with_len}
 use Rattle.tx_plan.specs.Plan.{Plan, group_name}

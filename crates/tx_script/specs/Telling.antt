@@ -39,7 +39,7 @@ told_events p echo s es = told_moments p echo 1 (run p s es)
 abbrev pub if_asked : Bool → List ℕ → List ℕ
 if_asked asked text = if asked then text else []
 
--- behind the last line the summary; after a fault neither
+-- after the last line the summary; after a fault neither
 abbrev pub told_last : Plan → Telling → State → List Event → Option (ℕ × FaultKind ScriptWord) → List ℕ
 told_last p t s es None = end_text (state_after p s es) ++ if_asked t.summary (summary_text p (run p s es) (state_after p s es))
 told_last p t s es (Some x) = []

@@ -50,7 +50,7 @@ pub record StopsAtEcho (p : Plan) (n : ℕ) (m : Moment) (t : State) (a b : Opti
   pub front : StopsIn a b (echo_text p n m.event)
   pub network : t ≡ drained m.after (tickets_made m)
 
--- The event was done, and a write failed in its own line, where that is asked for, or behind it.
+-- The event was done, and a write failed in its own line, where that is asked for, or after it.
 abbrev pub StopsInLines : Plan → (echo : Bool) → ℕ → Moment → State → Option (List ℕ) → Option (List ℕ) → Type 0
 StopsInLines p echo n m t a b = ((echo ≡ true) × StopsAtEcho p n m t a b) ⊎ IsUntold p m t (append_known a (echo_asked echo p n m.event)) b
 
@@ -120,7 +120,7 @@ pub record StoppedInEvent (p : Plan) (t : Telling) (x : Moved) (event : ℕ) : T
   pub text : Begins p x (events ++ hand ∷ [])
   pub lines : StopsInLines p t.echo event (next p x.state_old events hand) x.state_new (append_known x.taken_old (told_events p t.echo x.state_old events)) x.taken_new
 
--- A write failed behind the lines of all events: these were written, and of the last line and the summary a front and not all.
+-- A write failed after the lines of all events: these were written, and of the last line and the summary a front and not all.
 pub record StoppedAtEnd (p : Plan) (t : Telling) (x : Moved) (event : ℕ) : Type 0 where
   pub events : List Event
   pub place : event ≡ length events + 1

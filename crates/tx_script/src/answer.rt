@@ -101,7 +101,7 @@ impl<A: Allocator> Teller<A> {
         })
     }
 
-    /// Takes the tickets out of a network and writes them, the oldest first. Tells how many there were.
+    /// Takes the tickets out of a network and writes them, the oldest first. Returns how many there were.
     #[inline(always)]
     fn write_tickets<B: Allocator, N: Network, W: Sink>(
         &mut self,

@@ -19,7 +19,7 @@ use tx_plan::Plan;
 use tx_machine::Network;
 use tx_text::{Sink, WriteFault, write_text};
 
-/// Writes the line END EVENTS and, where it is asked for, the summary. Tells what was counted.
+/// Writes the line END EVENTS and, where it is asked for, the summary. Returns what was counted.
 pub(crate) fn finish<A: Allocator, B: Allocator, N: Network, W: Sink>(
     tally: &Tally,
     counts: &Option<Counts<A>>,

@@ -56,7 +56,7 @@ pub fn run<A: Allocator, B: Allocator, N: Network, R: Source, W: Sink>(
 }
 
 /// Runs a script as `run` does, over a network no circuit of which is releasing. Where the lines of events are asked for, the line of each stands before
-/// its reply, with its number, as `EVENT 2 ROUTE 1`. Numbers begin at 1, and refused events have one too. Where the summary is asked for, it stands behind
+/// its reply, with its number, as `EVENT 2 ROUTE 1`. Numbers begin at 1, and refused events have one too. Where the summary is asked for, it stands after
 /// the line END EVENTS.
 pub fn run_telling<A: Allocator + Copy, B: Allocator, N: Network, R: Source, W: Sink>(
     alloc: A,

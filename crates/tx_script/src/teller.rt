@@ -27,7 +27,7 @@ impl<A: Allocator> Teller<A> {
         }
     }
 
-    /// Tells what is asked for. Nothing was counted yet.
+    /// Returns what is asked for. Nothing was counted yet.
     pub(crate) fn new<B: Allocator>(
         alloc: A,
         telling: Telling,

@@ -5,6 +5,6 @@
 pub struct Telling {
     /// The line of each event, with its number, before its reply.
     pub echo: bool,
-    /// What was counted, behind the line END EVENTS.
+    /// What was counted, after the line END EVENTS.
     pub summary: bool,
 }

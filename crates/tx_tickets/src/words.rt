@@ -20,7 +20,7 @@ pub(crate) fn service_word<'a>(service: Service) -> &'a [u8]
     }
 }
 
-/// The word that stands for a cause behind BY.
+/// The word that stands for a cause after BY.
 #[inline(always)]
 pub fn cause_word<'a>(cause: Cause) -> &'a [u8]
     ensures text { result.now ≡ cause_text cause }

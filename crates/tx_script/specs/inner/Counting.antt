@@ -136,6 +136,6 @@ abbrev pub asked_text : Plan → Option Counted → ℕ → List ℕ
 asked_text p None opened = []
 asked_text p (Some c) opened = counts_text p c opened
 
--- the lines behind those of all events
+-- the lines after those of all events
 abbrev pub last_lines : Plan → Option Counted → State → List ℕ
 last_lines p counts s = end_text s ++ asked_text p counts (length s.calls)
