@@ -54,7 +54,7 @@ fn write_last_lines<A: Allocator, B: Allocator, W: Sink>(
     plan: &Plan<B>,
     sink: &mut W,
 ) -> Result<(), WriteFault>
-    ensures { Wrote (W.taken sink.old) (W.taken sink.new) (W.failed sink.old) (W.failed sink.new)
+    ensures { Wrote W.taken W.failed sink.old sink.new
         (end_line events open_calls ++ asked_text plan.now counts.now open_calls) result }
 {
     write_end(events, open_calls, sink)?;
@@ -65,7 +65,7 @@ fn write_last_lines<A: Allocator, B: Allocator, W: Sink>(
 }
 
 fn write_end<W: Sink>(events: u64, open_calls: u64, sink: &mut W) -> Result<(), WriteFault>
-    ensures { Wrote (W.taken sink.old) (W.taken sink.new) (W.failed sink.old) (W.failed sink.new)
+    ensures { Wrote W.taken W.failed sink.old sink.new
         (end_line events open_calls) result }
 {
     let mut accepted = Buffer::new();

@@ -21,7 +21,7 @@ pub(crate) fn write_summary<A: Allocator, B: Allocator, W: Sink>(
     plan: &Plan<B>,
     sink: &mut W,
 ) -> Result<(), WriteFault>
-    ensures { Wrote (W.taken sink.old) (W.taken sink.new) (W.failed sink.old) (W.failed sink.new)
+    ensures { Wrote W.taken W.failed sink.old sink.new
         (counts_text plan.now counts.now open_calls) result }
 {
     write_ended(counts, sink)?;
@@ -49,7 +49,7 @@ fn causes() -> [Cause; 9]
 
 /// Writes how many calls ended by each cause.
 fn write_ended<A: Allocator, W: Sink>(counts: &Counts<A>, sink: &mut W) -> Result<(), WriteFault>
-    ensures { Wrote (W.taken sink.old) (W.taken sink.new) (W.failed sink.old) (W.failed sink.new)
+    ensures { Wrote W.taken W.failed sink.old sink.new
         (flat_map (λ cause. calls_line (cause_text cause) (count_for counts.now.calls cause)) causes) result }
 {
     let causes = causes();
@@ -66,7 +66,7 @@ fn write_peaks<A: Allocator, B: Allocator, W: Sink>(
     plan: &Plan<B>,
     sink: &mut W,
 ) -> Result<(), WriteFault>
-    ensures { Wrote (W.taken sink.old) (W.taken sink.new) (W.failed sink.old) (W.failed sink.new)
+    ensures { Wrote W.taken W.failed sink.old sink.new
         (flat_map (λ g. peak_line plan.now g (use_at counts.now.groups g).most) (range_with_len 0 (length plan.now.groups))) result }
 {
     plan.rules();
@@ -79,7 +79,7 @@ fn write_peaks<A: Allocator, B: Allocator, W: Sink>(
 
 /// Writes how many calls there are of a kind, where there are some.
 fn write_calls<W: Sink>(word: &[u8], count: u64, sink: &mut W) -> Result<(), WriteFault>
-    ensures { Wrote (W.taken sink.old) (W.taken sink.new) (W.failed sink.old) (W.failed sink.new)
+    ensures { Wrote W.taken W.failed sink.old sink.new
         (calls_line word.now count) result }
 {
     if count == 0 {
@@ -97,7 +97,7 @@ fn write_peak<B: Allocator, W: Sink>(
     plan: &Plan<B>,
     sink: &mut W,
 ) -> Result<(), WriteFault>
-    ensures { Wrote (W.taken sink.old) (W.taken sink.new) (W.failed sink.old) (W.failed sink.new)
+    ensures { Wrote W.taken W.failed sink.old sink.new
         (peak_line plan.now group most) result }
 {
     if most == 0 {
