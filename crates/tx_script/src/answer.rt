@@ -28,7 +28,6 @@ pub(crate) struct Answered {
     pub tickets: u64,
 }
 
-#[inline(always)]
 pub(crate) fn is_refused(reply: &Reply) -> bool
     ensures { result ≡ is_refused reply.now }
 {
@@ -37,7 +36,6 @@ pub(crate) fn is_refused(reply: &Reply) -> bool
 
 impl<A: Allocator> Teller<A> {
     /// Answers a line of this number, whose words say an event or have a fault, over a network whose tickets were taken. The event has a number of its own.
-    #[inline(always)]
     pub(crate) fn answer_line<B: Allocator, N: Network, W: Sink>(
         &mut self,
         line: u64,
@@ -67,7 +65,6 @@ impl<A: Allocator> Teller<A> {
     }
 
     /// Applies the event of this number to a network whose tickets were taken. Then writes its line, if that is asked for, the reply and the tickets.
-    #[inline(always)]
     fn answer<B: Allocator, N: Network, W: Sink>(
         &mut self,
         number: u64,
@@ -102,7 +99,6 @@ impl<A: Allocator> Teller<A> {
     }
 
     /// Takes the tickets out of a network and writes them, the oldest first. Returns how many there were.
-    #[inline(always)]
     fn write_tickets<B: Allocator, N: Network, W: Sink>(
         &mut self,
         plan: &Plan<B>,

@@ -48,7 +48,6 @@ impl<A: Allocator> Teller<A> {
     }
 
     /// A call ended.
-    #[inline(always)]
     pub(crate) fn ended(&mut self, cause: Cause)
         requires { IfSome self.old.counts (λ c. count_for c.calls cause + 1 < 2 ^ 64) }
         ensures echo { self.new.echo ≡ self.old.echo }
@@ -60,7 +59,6 @@ impl<A: Allocator> Teller<A> {
     }
 
     /// An event was answered.
-    #[inline(always)]
     pub(crate) fn answered<B: Allocator>(&mut self, plan: &Plan<B>, event: &Event, reply: &Reply)
         ensures echo { self.new.echo ≡ self.old.echo }
         ensures counts { self.new.counts ≡ option_map (uses_counted plan.now event.now reply.now) self.old.counts }
