@@ -16,7 +16,8 @@ files_read Pipe = []
 files_read (Run plan script checked) =
     string_bytes plan ∷ string_bytes script
     ∷ given (option_map (λ c. string_bytes c.0) checked ∷ [])
-files_read (RunTelling plan script strict echo summary) = string_bytes plan ∷ string_bytes script ∷ []
+files_read (RunTelling plan script strict echo summary) =
+    string_bytes plan ∷ string_bytes script ∷ []
 files_read (Check plan cert limit spare) = string_bytes plan ∷ string_bytes cert ∷ []
 files_read (Lint plan) = string_bytes plan ∷ []
 files_read (Codes plan) = string_bytes plan ∷ []

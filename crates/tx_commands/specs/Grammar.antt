@@ -1,4 +1,5 @@
--- The words that the program takes, as the library of command lines sees them: commands, whose files
+-- The words that the program takes, as the library of command lines sees them: commands, whose
+-- files
 -- go by place and whose options go by name.
 use Rattle.std.specs.Prelude.{ℕ, List, Some, true, codes, pos}
 use Rattle.clap.specs.Words.{App, Rule, new_app, new_rule, with_rule, with_subcommand}
@@ -78,10 +79,9 @@ trace_words =
 
 -- a command whose words are two plans
 abbrev pub change_words : App
-change_words =
-    with_rule (with_rule (with_rule (with_rule (with_rule (with_rule (with_rule
-    (new_app (codes "change")) (file (codes "old"))) (file (codes "new")))
-    (needed limit)) (needed spare)) (option (codes "cert"))) (option (codes "mixture"))) (option (codes "counter"))
+change_words = with_rule (with_rule (with_rule (with_rule (with_rule (with_rule (with_rule
+    (new_app (codes "change")) (file (codes "old"))) (file (codes "new"))) (needed limit))
+    (needed spare)) (option (codes "cert"))) (option (codes "mixture"))) (option (codes "counter"))
 
 abbrev pub draw_words : App
 draw_words =

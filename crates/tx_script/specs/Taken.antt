@@ -21,7 +21,8 @@ is_taken s x = set.contains s.releasing x || list_any (uses x) s.calls
 
 -- how many circuits of a group are taken
 abbrev pub taken_of : Plan → ℕ → State → ℕ
-taken_of p g s = count_by (λ n. is_taken s (record { group = g; number = n })) (upward (count_of p g))
+taken_of p g s = count_by (λ n. is_taken s (record { group = g; number = n }))
+    (upward (count_of p g))
 
 -- the most that were taken at once after an event of a run
 abbrev pub peak : Plan → ℕ → List Moment → ℕ

@@ -40,10 +40,13 @@ abbrev pub if_asked : Bool → List ℕ → List ℕ
 if_asked asked text = if asked then text else []
 
 -- after the last line the summary; after a fault neither
-abbrev pub told_last : Plan → Telling → State → List Event → Option (ℕ × FaultKind ScriptWord) → List ℕ
-told_last p t s es None = end_text (state_after p s es) ++ if_asked t.summary (summary_text p (run p s es) (state_after p s es))
+abbrev pub told_last : Plan → Telling → State
+    → List Event → Option (ℕ × FaultKind ScriptWord) → List ℕ
+told_last p t s es None = end_text (state_after p s es)
+    ++ if_asked t.summary (summary_text p (run p s es) (state_after p s es))
 told_last p t s es (Some x) = []
 
 -- THE OUTPUT of a script from a state on
 abbrev pub told_output : Plan → Telling → State → Script → List ℕ
-told_output p t s script = told_events p t.echo s script.events ++ told_last p t s script.events script.fault
+told_output p t s script = told_events p t.echo s script.events
+    ++ told_last p t s script.events script.fault

@@ -40,33 +40,40 @@ NoneReleasing s = s.releasing ≡ set.empty
 -- In what follows s and a are the state and what was written before, t and b after.
 
 -- the event was done and counted, its lines were written, and its tickets were taken
-pub record IsTold (p : Plan) (echo : Bool) (n : ℕ) (e : Event) (s t : State) (a b : Option (List ℕ)) (count : Answered) : Type 0 where
+pub record IsTold (p : Plan) (echo : Bool) (n : ℕ)
+    (e : Event) (s t : State) (a b : Option (List ℕ)) (count : Answered) : Type 0 where
   pub counted : count ≡ count_of (moment p s e)
   pub wrote : b ≡ append_known a (told_moment p echo n (moment p s e))
   pub network : t ≡ drained (moment p s e).after []
 
 -- A write failed in the event's own line, and no ticket was taken.
-pub record StopsAtEcho (p : Plan) (n : ℕ) (m : Moment) (t : State) (a b : Option (List ℕ)) : Type 0 where
+pub record StopsAtEcho (p : Plan) (n : ℕ) (m : Moment)
+    (t : State) (a b : Option (List ℕ)) : Type 0 where
   pub front : StopsIn a b (echo_text p n m.event)
   pub network : t ≡ drained m.after (tickets_made m)
 
 -- The event was done, and a write failed in its own line, where that is asked for, or after it.
-abbrev pub StopsInLines : Plan → (echo : Bool) → ℕ → Moment → State → Option (List ℕ) → Option (List ℕ) → Type 0
-StopsInLines p echo n m t a b = ((echo ≡ true) × StopsAtEcho p n m t a b) ⊎ IsUntold p m t (append_known a (echo_asked echo p n m.event)) b
+abbrev pub StopsInLines : Plan → (echo : Bool)
+    → ℕ → Moment → State → Option (List ℕ) → Option (List ℕ) → Type 0
+StopsInLines p echo n m t a b = ((echo ≡ true) × StopsAtEcho p n m t a b)
+    ⊎ IsUntold p m t (append_known a (echo_asked echo p n m.event)) b
 
-abbrev pub Untold : Plan → (echo : Bool) → ℕ → Event → State → State → Option (List ℕ) → Option (List ℕ) → RunCause → Type 0
+abbrev pub Untold : Plan → (echo : Bool) → ℕ → Event
+    → State → State → Option (List ℕ) → Option (List ℕ) → RunCause → Type 0
 Untold p echo n e s t a b Read = ⊥
 Untold p echo n e s t a b Write = StopsInLines p echo n (moment p s e) t a b
 Untold p echo n e s t a b (OfScript f) = ⊥
 Untold p echo n e s t a b NoMemory = IsUndone p e s t a b
 
 -- THE ANSWER TO AN EVENT of this number
-abbrev pub EventTold : Plan → (echo : Bool) → ℕ → Event → State → State → Option (List ℕ) → Option (List ℕ) → Result Answered RunCause → Type 0
+abbrev pub EventTold : Plan → (echo : Bool) → ℕ
+    → Event → State → State → Option (List ℕ) → Option (List ℕ) → Result Answered RunCause → Type 0
 EventTold p echo n e s t a b (Ok count) = IsTold p echo n e s t a b count
 EventTold p echo n e s t a b (Err cause) = Untold p echo n e s t a b cause
 
 -- THE ANSWER TO A LINE n, whose words say an event or have a fault; the next event has the number k
-abbrev pub LineTold : Plan → (echo : Bool) → (n k : ℕ) → Said → State → State → Option (List ℕ) → Option (List ℕ) → Result Answered RunCause → Type 0
+abbrev pub LineTold : Plan → (echo : Bool) → (n k : ℕ)
+    → Said → State → State → Option (List ℕ) → Option (List ℕ) → Result Answered RunCause → Type 0
 LineTold p echo n k (Ok e) s t a b r = EventTold p echo k e s t a b r
 LineTold p echo n k (Err word) s t a b (Ok count) = ⊥
 LineTold p echo n k (Err word) s t a b (Err cause) = IsNoEvent n word s t a b cause
@@ -86,22 +93,26 @@ pub record ToldWhole (p : Plan) (t : Telling) (x : Moved) (summary : Summary) : 
   pub counted : summary ≡ summary_of p x.state_old events
 
 -- The text is faulty after the events before this one.
-pub record ToldToFault (p : Plan) (t : Telling) (x : Moved) (event line : ℕ) (kind : FaultKind ScriptWord) : Type 0 where
+pub record ToldToFault (p : Plan) (t : Telling)
+    (x : Moved) (event line : ℕ) (kind : FaultKind ScriptWord) : Type 0 where
   pub events : List Event
   pub place : event ≡ length events + 1
   pub text : Stands x.rest_old x.rest_new (script_of p) (faulty events line kind)
   pub ran : ToldRan p t x (faulty events line kind)
 
 -- The source failed in a line, or met the bound on calls, after the events before this one.
-pub record ToldToCut (p : Plan) (t : Telling) (x : Moved) (broken : Type 0) (event : ℕ) : Type 0 where
+pub record ToldToCut (p : Plan) (t : Telling)
+    (x : Moved) (broken : Type 0) (event : ℕ) : Type 0 where
   pub events : List Event
   pub line : ℕ
   pub place : event ≡ length events + 1
-  pub text : EndsAs x.rest_old x.rest_new (script_of p) Cut (faulty events line (Frame (of_line line_read)))
+  pub text : EndsAs x.rest_old x.rest_new (script_of p) Cut
+      (faulty events line (Frame (of_line line_read)))
   pub failed : broken
   pub ran : ToldRan p t x (faulty events line (Frame (of_line line_read)))
 
--- Memory ran out in this event: the lines of those before it were written, and nothing of it was done or written.
+-- Memory ran out in this event: the lines of those before it were written, and nothing of it was
+-- done or written.
 pub record ToldOutOfMemory (p : Plan) (t : Telling) (x : Moved) (event : ℕ) : Type 0 where
   pub events : List Event
   pub hand : Event
@@ -112,24 +123,30 @@ pub record ToldOutOfMemory (p : Plan) (t : Telling) (x : Moved) (event : ℕ) : 
   pub asks : takes_memory hand ≡ true
   pub unrefused : refusal p x.state_new hand ≡ None
 
--- A write failed in the lines of this event, which was done: those of the events before it were written, and of its own a front and not all.
+-- A write failed in the lines of this event, which was done: those of the events before it were
+-- written, and of its own a front and not all.
 pub record StoppedInEvent (p : Plan) (t : Telling) (x : Moved) (event : ℕ) : Type 0 where
   pub events : List Event
   pub hand : Event
   pub place : event ≡ length events + 1
   pub text : Begins p x (events ++ hand ∷ [])
-  pub lines : StopsInLines p t.echo event (next p x.state_old events hand) x.state_new (append_known x.taken_old (told_events p t.echo x.state_old events)) x.taken_new
+  pub lines : StopsInLines p t.echo event (next p x.state_old events hand) x.state_new
+      (append_known x.taken_old (told_events p t.echo x.state_old events)) x.taken_new
 
--- A write failed after the lines of all events: these were written, and of the last line and the summary a front and not all.
+-- A write failed after the lines of all events: these were written, and of the last line and the
+-- summary a front and not all.
 pub record StoppedAtEnd (p : Plan) (t : Telling) (x : Moved) (event : ℕ) : Type 0 where
   pub events : List Event
   pub place : event ≡ length events + 1
   pub text : IsWhole p x events
-  pub front : StopsIn (append_known x.taken_old (told_events p t.echo x.state_old events)) x.taken_new (told_last p t x.state_old events None)
+  pub front : StopsIn (append_known x.taken_old (told_events p t.echo x.state_old events))
+      x.taken_new (told_last p t x.state_old events None)
   pub network : x.state_new ≡ settled p x.state_old events
 
--- Without memory for the reader of lines the first event and the first line are told, and nothing was touched.
-abbrev pub FaultyTold : Plan → Telling → Moved → Type 0 → Bool → ℕ → ℕ → FaultKind ScriptWord → Type 0
+-- Without memory for the reader of lines the first event and the first line are told, and nothing
+-- was touched.
+abbrev pub FaultyTold : Plan → Telling → Moved
+    → Type 0 → Bool → ℕ → ℕ → FaultKind ScriptWord → Type 0
 FaultyTold p t x untouched true event line kind = (event ≡ 1) × (line ≡ 1) × untouched
 FaultyTold p t x untouched false event line kind = ToldToFault p t x event line kind
 
@@ -139,13 +156,20 @@ pub record HadNoTable (t : Telling) (untouched : Type 0) (event : ℕ) : Type 0 
   pub place : event ≡ 1
   pub none : untouched
 
-abbrev pub StoppedTelling : Plan → Telling → Moved → (broken untouched : Type 0) → ℕ → RunCause → Type 0
+abbrev pub StoppedTelling : Plan → Telling → Moved
+    → (broken untouched : Type 0) → ℕ → RunCause → Type 0
 StoppedTelling p t x broken untouched event Read = ToldToCut p t x broken event
-StoppedTelling p t x broken untouched event Write = StoppedInEvent p t x event ⊎ StoppedAtEnd p t x event
-StoppedTelling p t x broken untouched event (OfScript f) = FaultyTold p t x untouched (is_reader_room f.kind) event f.line f.kind
-StoppedTelling p t x broken untouched event NoMemory = ToldOutOfMemory p t x event ⊎ HadNoTable t untouched event
+StoppedTelling p t x broken untouched event Write = StoppedInEvent p t x event
+    ⊎ StoppedAtEnd p t x event
+StoppedTelling p t x broken untouched event (OfScript f) =
+    FaultyTold p t x untouched (is_reader_room f.kind) event f.line f.kind
+StoppedTelling p t x broken untouched event NoMemory = ToldOutOfMemory p t x event
+    ⊎ HadNoTable t untouched event
 
--- WHAT A RUN THAT TELLS MORE ANSWERS. Broken says that the source failed or met the bound on calls, untouched that nothing was read, written or done.
-abbrev pub TellingAnswers : Plan → Telling → Moved → (broken untouched : Type 0) → Result Summary RunFault → Type 0
+-- WHAT A RUN THAT TELLS MORE ANSWERS. Broken says that the source failed or met the bound on calls,
+-- untouched that nothing was read, written or done.
+abbrev pub TellingAnswers : Plan → Telling → Moved
+    → (broken untouched : Type 0) → Result Summary RunFault → Type 0
 TellingAnswers p t x broken untouched (Ok summary) = ToldWhole p t x summary
-TellingAnswers p t x broken untouched (Err f) = StoppedTelling p t x broken untouched f.event f.cause
+TellingAnswers p t x broken untouched (Err f) =
+    StoppedTelling p t x broken untouched f.event f.cause

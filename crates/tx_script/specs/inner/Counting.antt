@@ -67,12 +67,14 @@ abbrev pub change_at : ℕ → (GroupUse → GroupUse) → List GroupUse → Lis
 change_at i change us = slice_set us i (change (use_at us i))
 
 abbrev pub routed : Plan → Reply → List GroupUse → List GroupUse
-routed p (Seized x) us = change_at x.group (λ u. counted (count_of p x.group) (marked x.number true u)) us
+routed p (Seized x) us = change_at x.group
+    (λ u. counted (count_of p x.group) (marked x.number true u)) us
 routed p other us = us
 
 abbrev pub followed : Plan → Event → Reply → List GroupUse → List GroupUse
 followed p (Route n) r us = routed p r us
-followed p (Released x) r us = if is_refused r then us else change_at x.group (marked x.number false) us
+followed p (Released x) r us = if is_refused r
+    then us else change_at x.group (marked x.number false) us
 followed p (Fail g) r us = if is_refused r then us else change_at g cleared us
 followed p other r us = us
 
