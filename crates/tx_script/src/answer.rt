@@ -16,8 +16,8 @@ use crate::run_cause::RunCause;
 use crate::script_word::ScriptWord;
 use crate::teller::Teller;
 use std::alloc::Allocator;
-use tx_plan::Plan;
 use tx_machine::{Event, Network, Reply};
+use tx_plan::Plan;
 use tx_text::{FaultAt, FaultKind, Sink, WriteFault};
 use tx_tickets::{write_reply, write_ticket};
 

@@ -8,8 +8,8 @@ use crate::answer::is_refused;
 use crate::group_use::GroupUse;
 use std::alloc::Allocator;
 use std::marker::Model;
-use tx_plan::{Circuit, GroupId, Plan};
 use tx_machine::{Cause, Event, Reply, Service};
+use tx_plan::{Circuit, GroupId, Plan};
 use tx_text::NoMemory;
 
 /// How many calls ended by each cause, and how the circuits of each group were used.
@@ -108,9 +108,11 @@ impl<A: Allocator> Counts<A> {
     }
 
     fn seize<B: Allocator>(&mut self, plan: &Plan<B>, circuit: &Circuit)
-        ensures { self.new ≡ record self.old { groups = change_at circuit.now.group
-            (λ u. counted (count_of plan.now circuit.now.group) (marked circuit.now.number true u))
-            self.old.groups } }
+        ensures { self.new ≡ record self.old {
+          groups = change_at circuit.now.group
+              (λ u. counted (count_of plan.now circuit.now.group) (marked circuit.now.number true u))
+              self.old.groups;
+        } }
     {
         let place = circuit.group.index();
         if place < self.groups.len() {
@@ -120,8 +122,10 @@ impl<A: Allocator> Counts<A> {
     }
 
     fn release(&mut self, circuit: &Circuit)
-        ensures { self.new ≡ record self.old { groups = change_at circuit.now.group
-            (marked circuit.now.number false) self.old.groups } }
+        ensures { self.new ≡ record self.old {
+          groups = change_at circuit.now.group
+              (marked circuit.now.number false) self.old.groups;
+        } }
     {
         let place = circuit.group.index();
         if place < self.groups.len() {

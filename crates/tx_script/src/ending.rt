@@ -15,8 +15,8 @@ use crate::summary_text::write_summary;
 use crate::tally::Tally;
 use itoa::Buffer;
 use std::alloc::Allocator;
-use tx_plan::Plan;
 use tx_machine::Network;
+use tx_plan::Plan;
 use tx_text::{Sink, WriteFault, write_text};
 
 /// Writes the line END EVENTS and, where it is asked for, the summary. Returns what was counted.
@@ -29,8 +29,12 @@ pub(crate) fn finish<A: Allocator, B: Allocator, N: Network, W: Sink>(
 ) -> Result<Summary, RunFault>
     requires { tally.now.answered < 2 ^ 63 }
     ensures summary { IfOk result
-        (λ s. s ≡ record { events = (N.state net.now).events; refused = tally.now.refused;
-        tickets = tally.now.tickets; open_calls = length (N.state net.now).calls }) }
+        (λ s. s ≡ record {
+          events = (N.state net.now).events;
+          refused = tally.now.refused;
+          tickets = tally.now.tickets;
+          open_calls = length (N.state net.now).calls;
+        }) }
     ensures ok { OnOk result (W.taken sink.new
         ≡ append_known (W.taken sink.old) (last_lines plan.now counts.now (N.state net.now))) }
     ensures fault { IfErr result

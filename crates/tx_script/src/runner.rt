@@ -21,8 +21,8 @@ use crate::teller::Teller;
 use crate::telling::Telling;
 use crate::verb::Verb;
 use std::alloc::Allocator;
-use tx_plan::Plan;
 use tx_machine::Network;
+use tx_plan::Plan;
 use tx_text::{
     FaultAt, FaultKind, FrameFault, FrameReader, FrameStep, FrameStop, LineFault, Sink, Source,
 };
@@ -47,9 +47,14 @@ pub fn run<A: Allocator, B: Allocator, N: Network, R: Source, W: Sink>(
     requires plan { N.plan net.old ≡ plan.now }
     requires fresh { IsFresh (N.state net.old) }
     ensures plan { N.plan net.new ≡ plan.now }
-    ensures answers { RunAnswers plan.now (record
-        { rest_old = R.rest source.old; rest_new = R.rest source.new; taken_old = W.taken sink.old;
-        taken_new = W.taken sink.new; state_old = N.state net.old; state_new = N.state net.new })
+    ensures answers { RunAnswers plan.now (record {
+      rest_old = R.rest source.old;
+      rest_new = R.rest source.new;
+      taken_old = W.taken sink.old;
+      taken_new = W.taken sink.new;
+      state_old = N.state net.old;
+      state_new = N.state net.new;
+    })
         (Broken R.called (R.failed source.new) source_calls source.old source.new)
         ((source.new ≡ source.old) × (sink.new ≡ sink.old) × (net.new ≡ net.old)) result }
     ensures mark { W.failed sink.new ≡ mark_after (W.failed sink.old) result }
@@ -78,9 +83,14 @@ pub fn run_telling<A: Allocator + Copy, B: Allocator, N: Network, R: Source, W: 
     requires fresh { IsFresh (N.state net.old) }
     requires released { NoneReleasing (N.state net.old) }
     ensures plan { N.plan net.new ≡ plan.now }
-    ensures answers { TellingAnswers plan.now telling (record
-        { rest_old = R.rest source.old; rest_new = R.rest source.new; taken_old = W.taken sink.old;
-        taken_new = W.taken sink.new; state_old = N.state net.old; state_new = N.state net.new })
+    ensures answers { TellingAnswers plan.now telling (record {
+      rest_old = R.rest source.old;
+      rest_new = R.rest source.new;
+      taken_old = W.taken sink.old;
+      taken_new = W.taken sink.new;
+      state_old = N.state net.old;
+      state_new = N.state net.new;
+    })
         (Broken R.called (R.failed source.new) source_calls source.old source.new)
         ((source.new ≡ source.old) × (sink.new ≡ sink.old) × (net.new ≡ net.old)) result }
     ensures mark { W.failed sink.new ≡ mark_after (W.failed sink.old) result }
@@ -112,9 +122,14 @@ fn run_script<A: Allocator, B: Allocator, N: Network, R: Source, W: Sink>(
     requires fresh { IsFresh (N.state net.old) }
     requires counts { AreNew plan.now (N.state net.old) teller.old.counts }
     ensures plan { N.plan net.new ≡ plan.now }
-    ensures answers { TellingAnswers plan.now (asked_of teller.old.echo teller.old.counts) (record
-        { rest_old = R.rest source.old; rest_new = R.rest source.new; taken_old = W.taken sink.old;
-        taken_new = W.taken sink.new; state_old = N.state net.old; state_new = N.state net.new })
+    ensures answers { TellingAnswers plan.now (asked_of teller.old.echo teller.old.counts) (record {
+      rest_old = R.rest source.old;
+      rest_new = R.rest source.new;
+      taken_old = W.taken sink.old;
+      taken_new = W.taken sink.new;
+      state_old = N.state net.old;
+      state_new = N.state net.new;
+    })
         (Broken R.called (R.failed source.new) source_calls source.old source.new)
         ((source.new ≡ source.old) × (sink.new ≡ sink.old) × (net.new ≡ net.old)) result }
     ensures mark { W.failed sink.new ≡ mark_after (W.failed sink.old) result }
@@ -151,9 +166,14 @@ fn run_lines<A: Allocator, B: Allocator, N: Network, R: Source, W: Sink>(
     requires fresh { IsFresh (N.state net.old) }
     requires counts { AreNew plan.now (N.state net.old) teller.old.counts }
     ensures plan { N.plan net.new ≡ plan.now }
-    ensures answers { TellingAnswers plan.now (asked_of teller.old.echo teller.old.counts) (record
-        { rest_old = R.rest source.old; rest_new = R.rest source.new; taken_old = W.taken sink.old;
-        taken_new = W.taken sink.new; state_old = N.state net.old; state_new = N.state net.new })
+    ensures answers { TellingAnswers plan.now (asked_of teller.old.echo teller.old.counts) (record {
+      rest_old = R.rest source.old;
+      rest_new = R.rest source.new;
+      taken_old = W.taken sink.old;
+      taken_new = W.taken sink.new;
+      state_old = N.state net.old;
+      state_new = N.state net.new;
+    })
         (Broken R.called (R.failed source.new) source_calls source.old source.new)
         ((source.new ≡ source.old) × (sink.new ≡ sink.old) × (net.new ≡ net.old)) result }
     ensures mark { W.failed sink.new ≡ mark_after (W.failed sink.old) result }

@@ -9,8 +9,8 @@ ghost use Rattle.tx_script.specs.inner.Counting.{count_for, counts_text, use_at}
 use crate::counts::Counts;
 use itoa::Buffer;
 use std::alloc::Allocator;
-use tx_plan::{GroupId, Plan};
 use tx_machine::{Cause, Service};
+use tx_plan::{GroupId, Plan};
 use tx_text::{Sink, WriteFault, write_text};
 use tx_tickets::cause_word;
 

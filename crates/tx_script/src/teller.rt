@@ -5,8 +5,8 @@ ghost use Rattle.tx_script.specs.inner.Counting.{count_for, counts_for, one_coun
 use crate::counts::Counts;
 use crate::telling::Telling;
 use std::alloc::Allocator;
-use tx_plan::Plan;
 use tx_machine::{Cause, Event, Reply};
+use tx_plan::Plan;
 use tx_text::NoMemory;
 
 /// Whether the line of each event is told, and what is counted for the summary, where that is asked
