@@ -7,8 +7,8 @@ use Rattle.std.proofs.lemmas.Option.{slice_get_read}
 use Rattle.std.specs.Option.{option_map, IfSome}
 use Rattle.tx_entries.specs.declared.range.LineRange.{LineRange}
 use Rattle.tx_plan.specs.Plan.{Plan}
-use Rattle.tx_state.specs.declared.event.Event.{Event}
-use Rattle.tx_state.proofs.Lists.{at_place}
+use Rattle.tx_machine.specs.declared.event.Event.{Event}
+use Rattle.tx_machine.proofs.Lists.{at_place}
 use Rattle.tx_plan.specs.Routes.{route_list}
 use Rattle.tx_audit.specs.Counter.{first_range, first_code, low_line, first_line, is_single, turns_on_one, step_events, walk_events}
 

@@ -10,7 +10,7 @@ use Rattle.tx_text.proofs.ReadBack.{has_back, head_back, end_back}
 use Rattle.tx_text.proofs.WrittenWords.{line_of_short, fixed_word}
 use Rattle.tx_plan.specs.Plan.{Plan}
 use Rattle.tx_plan.specs.Rules.{IsPlan}
-use Rattle.tx_state.specs.declared.event.Event.{Event}
+use Rattle.tx_machine.specs.declared.event.Event.{Event}
 use Rattle.tx_script.specs.Events.{event_words, event_text, IsWritable, IsEvent}
 use Rattle.tx_script.specs.Script.{whole, after_events, line_said, script_said, script_of}
 use Rattle.tx_script.proofs.EventLines.{words_back}

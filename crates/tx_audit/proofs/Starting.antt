@@ -20,8 +20,8 @@ use Rattle.tx_entries.specs.declared.range.LineRange.{LineRange}
 use Rattle.tx_plan.proofs.Among.{among_places, among_filter, filter_among}
 use Rattle.tx_plan.proofs.ByPlace.{entry_at}
 use Rattle.tx_plan.specs.Among.{Among}
-use Rattle.tx_state.proofs.Lists.{any_mem, mem_any, find_mem, places_differ}
-use Rattle.tx_state.proofs.Steps.{all_mem, enumerated}
+use Rattle.tx_machine.proofs.Lists.{any_mem, mem_any, find_mem, places_differ}
+use Rattle.tx_machine.proofs.Steps.{all_mem, enumerated}
 use Rattle.tx_audit.specs.Counter.{first_range, calls_from, first_code, low_line, first_line}
 use Rattle.tx_audit.proofs.Choices.{find_some}
 

@@ -7,7 +7,7 @@ use Rattle.tx_script.specs.declared.summary.Summary.{Summary}
 use Rattle.tx_script.specs.declared.run_fault.RunFault.{RunFault}
 use Rattle.tx_script.specs.declared.run_cause.RunCause.{RunCause}
 use Rattle.tx_script.specs.declared.run_cause.RunCause.TheVariants.{Read, Write, Script as OfScript, NoMemory}
-use Rattle.tx_state.specs.State.{State, opening}
+use Rattle.tx_machine.specs.State.{State, opening}
 use Rattle.tx_script.specs.Answers.{Moved, FaultyBy, Stopped, RunAnswers, is_reader_room}
 use Rattle.tx_audit.specs.CheckedRuns.{Bytes, RanFromOpening, Simulated}
 

@@ -12,14 +12,14 @@ use Rattle.tx_plan.specs.Among.{Among}
 use Rattle.tx_plan.proofs.Among.{among_cases}
 use Rattle.tx_rank.specs.Walks.{AllDiffer, Goes, net_of, before_end, end_of}
 use Rattle.tx_rank.proofs.Ways.{once_first}
-use Rattle.tx_state.specs.declared.event.Event.TheVariants.{Route, Confirm, Block, Unblock}
-use Rattle.tx_state.specs.declared.hop.Hop.{Hop}
-use Rattle.tx_state.specs.declared.phase.Phase.TheVariants.{Standing, Calling}
-use Rattle.tx_state.specs.declared.reply.Reply.TheVariants.{Seized, At}
-use Rattle.tx_state.specs.Refusals.{is_group}
-use Rattle.tx_state.proofs.Uses.{two_ends}
-use Rattle.tx_state.proofs.Playing.{Groups, AllUp, Plays, plays_none, plays_first, plays_one, plays_then, shut, opened, shut_out, shut_among, all_up_again}
-use Rattle.tx_state.proofs.OneCall.{alone, on_way, IsPlaced, routed_there, placed_next, route_step, confirm_step, blocks, unblocks}
+use Rattle.tx_machine.specs.declared.event.Event.TheVariants.{Route, Confirm, Block, Unblock}
+use Rattle.tx_machine.specs.declared.hop.Hop.{Hop}
+use Rattle.tx_machine.specs.declared.phase.Phase.TheVariants.{Standing, Calling}
+use Rattle.tx_machine.specs.declared.reply.Reply.TheVariants.{Seized, At}
+use Rattle.tx_machine.specs.Refusals.{is_group}
+use Rattle.tx_machine.proofs.Uses.{two_ends}
+use Rattle.tx_machine.proofs.Playing.{Groups, AllUp, Plays, plays_none, plays_first, plays_one, plays_then, shut, opened, shut_out, shut_among, all_up_again}
+use Rattle.tx_machine.proofs.OneCall.{alone, on_way, IsPlaced, routed_there, placed_next, route_step, confirm_step, blocks, unblocks}
 use Rattle.tx_audit.specs.Counter.{listed_before, step_events, walk_events, is_single, turns_on_one}
 use Rattle.tx_audit.proofs.Choices.{IsLoose, count_some, loose_new, loose_other, choose}
 use Rattle.tx_audit.proofs.Listed.{listed_once, listed_known, listed_may, both_ways_from, known_from, not_before, before_once, before_all}

@@ -16,10 +16,10 @@ use Rattle.tx_plan.specs.Among.{Among}
 use Rattle.tx_rank.specs.declared.finding.Finding.{Finding}
 use Rattle.tx_rank.specs.declared.finding.Finding.TheVariants.{Ambiguous, Loop, Short, Long}
 use Rattle.tx_rank.specs.Walks.{Walk, end_of}
-use Rattle.tx_state.specs.declared.event.Event.{Event}
-use Rattle.tx_state.specs.declared.event.Event.TheVariants.{Route, Confirm, Block, Unblock}
-use Rattle.tx_state.specs.Refusals.{is_group}
-use Rattle.tx_state.proofs.Lists.{find_mem, at_place}
+use Rattle.tx_machine.specs.declared.event.Event.{Event}
+use Rattle.tx_machine.specs.declared.event.Event.TheVariants.{Route, Confirm, Block, Unblock}
+use Rattle.tx_machine.specs.Refusals.{is_group}
+use Rattle.tx_machine.proofs.Lists.{find_mem, at_place}
 use Rattle.tx_script.specs.Events.{IsWritable}
 use Rattle.tx_audit.specs.Counter.{first_range, first_code, calls_from, low_line, first_line, listed_before, step_events, walk_events, shut_events, walked_by, walked, turns_on_one, counter_of}
 use Rattle.tx_audit.proofs.Listed.{listed_known, before_all}

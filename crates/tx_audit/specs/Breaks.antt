@@ -2,17 +2,17 @@
 use Rattle.std.specs.Prelude.{◌≡◌, ℕ, ◌<◌, ◌==◌, List, length}
 use Rattle.tx_plan.specs.Plan.{Plan}
 use Rattle.tx_plan.specs.Among.{Among}
-use Rattle.tx_state.specs.declared.event.Event.{Event}
-use Rattle.tx_state.specs.declared.reply.Reply.TheVariants.{Answered}
-use Rattle.tx_state.specs.declared.service.Service.TheVariants.{Nc}
-use Rattle.tx_state.specs.Call.{Call}
-use Rattle.tx_state.specs.State.{State, opening}
-use Rattle.tx_state.specs.Members.{NoneTwice}
-use Rattle.tx_state.specs.Runs.{Moment, run, state_after}
-use Rattle.tx_state.specs.Passed.{passed, transits}
-use Rattle.tx_state.specs.Excused.{IsExcused}
-use Rattle.tx_state.specs.Sound.{IsSound}
-use Rattle.tx_state.specs.Unrefused.{NoneRefused}
+use Rattle.tx_machine.specs.declared.event.Event.{Event}
+use Rattle.tx_machine.specs.declared.reply.Reply.TheVariants.{Answered}
+use Rattle.tx_machine.specs.declared.service.Service.TheVariants.{Nc}
+use Rattle.tx_machine.specs.Call.{Call}
+use Rattle.tx_machine.specs.State.{State, opening}
+use Rattle.tx_machine.specs.Members.{NoneTwice}
+use Rattle.tx_machine.specs.Runs.{Moment, run, state_after}
+use Rattle.tx_machine.specs.Passed.{passed, transits}
+use Rattle.tx_machine.specs.Excused.{IsExcused}
+use Rattle.tx_machine.specs.Sound.{IsSound}
+use Rattle.tx_machine.specs.Unrefused.{NoneRefused}
 use Rattle.tx_rank.specs.declared.finding.Finding.{Finding}
 use Rattle.tx_rank.specs.declared.finding.Finding.TheVariants.{Ambiguous, Loop, Short, Long}
 

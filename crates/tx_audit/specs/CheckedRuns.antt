@@ -2,8 +2,8 @@
 use Rattle.std.specs.Prelude.{◌≡◌, ◌⊎◌, ℕ, Bool, List, Option, Result, Ok, Err}
 use Rattle.tx_plan.specs.Plan.{Plan}
 use Rattle.tx_cert.specs.Certificate.{Certificate}
-use Rattle.tx_state.specs.State.{State, opening}
-use Rattle.tx_state.specs.Sound.{IsSound, HasFewRoutes}
+use Rattle.tx_machine.specs.State.{State, opening}
+use Rattle.tx_machine.specs.Sound.{IsSound, HasFewRoutes}
 use Rattle.tx_check.specs.declared.verdict.Verdict.TheVariants.{Yes, No}
 use Rattle.tx_check.specs.Checks.{check_faults, ranks_for, verdict_of}
 use Rattle.tx_script.specs.declared.summary.Summary.{Summary}

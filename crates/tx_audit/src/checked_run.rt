@@ -1,7 +1,7 @@
 // Runs of scripts over plans that the checker has passed.
 ghost use Rattle.std.specs.Prelude.{◌≡◌, ◌≤◌};
 ghost use Rattle.tx_text.specs.Calls.{Broken, CallsAtMost, source_calls};
-ghost use Rattle.tx_state.specs.Sound.{IsSound, HasFewRoutes};
+ghost use Rattle.tx_machine.specs.Sound.{IsSound, HasFewRoutes};
 ghost use Rattle.tx_check.specs.declared.verdict.Verdict.TheVariants.{Yes};
 ghost use Rattle.tx_check.specs.Checks.{check_faults, ranks_for, verdict_of};
 ghost use Rattle.tx_audit.specs.CheckedRuns.{CheckedAnswers, mark_after};

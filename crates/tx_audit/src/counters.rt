@@ -2,7 +2,7 @@
 ghost use Rattle.std.specs.Prelude.{◌≡◌, ◌<◌, ◌++◌, ℕ, List, length, is_some, IfOk};
 ghost use Rattle.std.specs.List.{AllByRecursion};
 ghost use Rattle.std.specs.Option.{option_map, IfSome};
-ghost use Rattle.tx_state.specs.declared.event.Event.{Event};
+ghost use Rattle.tx_machine.specs.declared.event.Event.{Event};
 ghost use Rattle.tx_script.specs.Events.{IsWritable};
 ghost use Rattle.tx_rank.specs.Findings.{IsTrueOf};
 ghost use Rattle.tx_rank.specs.Walks.{end_of};
@@ -15,7 +15,7 @@ use crate::turns::turns_on_one;
 use std::alloc::Allocator;
 use tx_plan::{CodeId, ExchangeId, Plan};
 use tx_rank::{Finding, Walk};
-use tx_state::Event;
+use tx_machine::Event;
 use tx_text::{Figures, NoMemory};
 
 /// The exchange where a walk ends.

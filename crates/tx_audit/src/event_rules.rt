@@ -2,7 +2,7 @@
 ghost use Rattle.std.specs.List.{AllByRecursion};
 ghost use Rattle.tx_script.specs.Events.{IsEvent};
 
-use tx_state::Event;
+use tx_machine::Event;
 
 /// What the type of an event keeps.
 fn event_rules(event: &Event)

@@ -11,7 +11,7 @@ use crate::counters::counter;
 use std::alloc::Allocator;
 use tx_plan::Plan;
 use tx_rank::Finding;
-use tx_state::Event;
+use tx_machine::Event;
 use tx_text::NoMemory;
 
 /// The events that show the first of some true findings that has any, if one has. `Err` is want of memory.

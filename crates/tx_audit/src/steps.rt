@@ -1,11 +1,11 @@
 // The events of the steps of a walk.
 ghost use Rattle.std.specs.Prelude.{◌≡◌, ◌++◌, map, IfOk};
-ghost use Rattle.tx_state.specs.declared.event.Event.TheVariants.{Block, Unblock};
+ghost use Rattle.tx_machine.specs.declared.event.Event.TheVariants.{Block, Unblock};
 ghost use Rattle.tx_audit.specs.Counter.{listed_before, step_events, walk_events, shut_events};
 
 use std::alloc::Allocator;
 use tx_plan::{CodeId, ExchangeId, GroupId, Plan};
-use tx_state::Event;
+use tx_machine::Event;
 use tx_text::NoMemory;
 
 /// The groups that a list has before one of them.

@@ -4,9 +4,9 @@ use Rattle.std.specs.Option.{option_map}
 use Rattle.slab.specs.Slab.{Slab, slab_len}
 use Rattle.indexmap.specs.IndexMap as index
 use Rattle.indexmap.specs.IndexMap.{IndexMap}
-use Rattle.tx_state.specs.Call.{Call}
-use Rattle.tx_state.specs.Seen.{call_seen}
-use Rattle.tx_state.specs.declared.open_call.OpenCall.{OpenCall}
+use Rattle.tx_machine.specs.Call.{Call}
+use Rattle.tx_machine.specs.Seen.{call_seen}
+use Rattle.tx_machine.specs.declared.open_call.OpenCall.{OpenCall}
 
 -- an open call, and the room for more hops of it
 pub record Kept : Type 0 where

@@ -1,21 +1,21 @@
 // The open calls, under keys and by number.
 ghost use Rattle.std.specs.Prelude.{◌≡◌, ◌<◌, ◌≤◌, ◌↔◌, ◌+◌, ◌++◌, ◌∷◌, [], ℕ, not, filter, length, IsTrue, IsOk, OnOk, IfSome, IfNone, Some, None, is_some, true, vec_len, vec_capacity};
-ghost use Rattle.tx_state.specs.Call.{Call, call_of, is_numbered};
+ghost use Rattle.tx_machine.specs.Call.{Call, call_of, is_numbered};
 ghost use Rattle.tx_plan.specs.Among.{Among};
-ghost use Rattle.tx_state.specs.Routing.{in_phase, set_call};
-ghost use Rattle.tx_state.specs.Confirming.{carried_on, thrown_back};
+ghost use Rattle.tx_machine.specs.Routing.{in_phase, set_call};
+ghost use Rattle.tx_machine.specs.Confirming.{carried_on, thrown_back};
 ghost use Rattle.slab.specs.Slab.{get, HasRoomFor, Updates};
-ghost use Rattle.tx_state.specs.declared.phase.Phase.TheVariants.{Standing};
-ghost use Rattle.tx_state.specs.declared.open_call.OpenCall.{OpenCall};
+ghost use Rattle.tx_machine.specs.declared.phase.Phase.TheVariants.{Standing};
+ghost use Rattle.tx_machine.specs.declared.open_call.OpenCall.{OpenCall};
 ghost use Rattle.tx_calls.specs.Calls.{Kept, HasRoom, kept_at, Changes, calls_in, kept_of};
-ghost use Rattle.tx_state.specs.Seen.{call_seen};
+ghost use Rattle.tx_machine.specs.Seen.{call_seen};
 
 use indexmap::IndexMap;
 use slab::Slab;
 use std::alloc::{Allocator, Global};
 use std::marker::Model;
 use tx_entries::ByWord;
-use tx_state::{Hop, OpenCall, Phase};
+use tx_machine::{Hop, OpenCall, Phase};
 use tx_text::NoMemory;
 
 /// The open calls. Each has a key from its opening to its end, and is found by its number.

@@ -14,7 +14,7 @@ use Rattle.tx_plan.proofs.Filtered.{any_out}
 use Rattle.tx_plan.proofs.ListFound.{list_found}
 use Rattle.tx_rank.proofs.Ways.{all_among}
 use Rattle.tx_rank.proofs.Looks.{among_at}
-use Rattle.tx_state.proofs.Lists.{at_place}
+use Rattle.tx_machine.proofs.Lists.{at_place}
 use Rattle.tx_change.specs.inner.Kept.{keeps, kept_alone, has_route_as, has_bar_as}
 
 module _ {A : Type 0} (s : A → Bool) where

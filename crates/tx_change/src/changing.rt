@@ -8,7 +8,7 @@ ghost use Rattle.tx_rank.specs.Grades.{CanBeCertified};
 ghost use Rattle.tx_rank.specs.Rankings.{IsFound, OnFound, OnFails};
 ghost use Rattle.tx_rank.specs.Judged.{AreOrigins};
 ghost use Rattle.tx_plan.specs.Mixtures.{SameNetwork, EachMixture, AreCommon};
-ghost use Rattle.tx_state.specs.ChangingRuns.{IsSoundChange};
+ghost use Rattle.tx_machine.specs.ChangingRuns.{IsSoundChange};
 ghost use Rattle.tx_change.specs.ChangeNets.{IsTrueOfChange};
 ghost use Rattle.tx_change.specs.ChangeFindings.{AreChangeFindings, AreChangeHeights};
 ghost use Rattle.tx_change.specs.Shown.{IsShown};

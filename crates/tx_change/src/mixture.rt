@@ -11,7 +11,7 @@ use std::alloc::{Allocator, Global};
 use tx_audit::counter;
 use tx_plan::Plan;
 use tx_rank::Finding;
-use tx_state::Event;
+use tx_machine::Event;
 use tx_text::NoMemory;
 
 /// A mixture, and the events that show what is wrong with it, if there are some.

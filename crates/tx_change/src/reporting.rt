@@ -17,7 +17,7 @@ use tx_cert::Cert;
 use tx_check::{Verdict, check};
 use tx_plan::Plan;
 use tx_rank::{Finding, Ranking};
-use tx_state::{common_ranks_certify, live_change_is_sound};
+use tx_machine::{common_ranks_certify, live_change_is_sound};
 use tx_text::{Sink, WriteFault};
 
 /// Writes the report on a change of a plan into another one of the same network, list by list, for

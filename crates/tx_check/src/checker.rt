@@ -1,7 +1,7 @@
 // The checker.
 ghost use Rattle.std.specs.Prelude.{◌≡◌, ◌≤◌};
 ghost use Rattle.tx_plan.specs.Certified.{IsCertified};
-ghost use Rattle.tx_state.specs.Sound.{IsSound, HasFewRoutes};
+ghost use Rattle.tx_machine.specs.Sound.{IsSound, HasFewRoutes};
 ghost use Rattle.tx_check.specs.Checks.{ranks_for, check_faults, foremost, verdict_of};
 
 use crate::ambiguity::ambiguous;

@@ -15,20 +15,20 @@ use Rattle.tx_plan.specs.Circuits.{is_circuit, other_end}
 use Rattle.tx_plan.specs.Among.{Among}
 use Rattle.tx_entries.specs.declared.circuit.Circuit.{Circuit}
 use Rattle.tx_entries.specs.declared.line.Line.{Line}
-use Rattle.tx_state.specs.declared.hop.Hop.{Hop}
-use Rattle.tx_state.specs.declared.phase.Phase.{Phase}
-use Rattle.tx_state.specs.declared.phase.Phase.TheVariants.{Standing, Calling, Connected}
-use Rattle.tx_state.specs.Call.{Call, place_of}
-use Rattle.tx_state.specs.InUse.{carries, seizes, seizes_from, is_calling_on, is_free_at}
-use Rattle.tx_state.specs.Lines.{takes_part, is_connected_to}
-use Rattle.tx_state.specs.Routing.{set_call, in_phase}
-use Rattle.tx_state.specs.Confirming.{far_of, carried_on, rival}
-use Rattle.tx_state.specs.Step.{keyed_call}
-use Rattle.tx_state.specs.Safe.{IsKeyedLine}
-use Rattle.tx_state.specs.Invariant.{Inv}
-use Rattle.tx_state.proofs.Lists.{any_none, mem_any, find_none}
-use Rattle.tx_state.proofs.Uses.{is_free, two_ends}
-use Rattle.tx_state.proofs.Changes.{key_keeps, connect_keeps, seize_keeps, carry_keeps}
+use Rattle.tx_machine.specs.declared.hop.Hop.{Hop}
+use Rattle.tx_machine.specs.declared.phase.Phase.{Phase}
+use Rattle.tx_machine.specs.declared.phase.Phase.TheVariants.{Standing, Calling, Connected}
+use Rattle.tx_machine.specs.Call.{Call, place_of}
+use Rattle.tx_machine.specs.InUse.{carries, seizes, seizes_from, is_calling_on, is_free_at}
+use Rattle.tx_machine.specs.Lines.{takes_part, is_connected_to}
+use Rattle.tx_machine.specs.Routing.{set_call, in_phase}
+use Rattle.tx_machine.specs.Confirming.{far_of, carried_on, rival}
+use Rattle.tx_machine.specs.Step.{keyed_call}
+use Rattle.tx_machine.specs.Safe.{IsKeyedLine}
+use Rattle.tx_machine.specs.Invariant.{Inv}
+use Rattle.tx_machine.proofs.Lists.{any_none, mem_any, find_none}
+use Rattle.tx_machine.proofs.Uses.{is_free, two_ends}
+use Rattle.tx_machine.proofs.Changes.{key_keeps, connect_keeps, seize_keeps, carry_keeps}
 use Rattle.tx_lines.specs.Book.{Book}
 use Rattle.tx_circuits.specs.Table.{Table, Seat, IsSeizedBy, with_held, is_free_at as is_free_in}
 use Rattle.tx_circuits.proofs.Seats.{seats_total, exact_seats, seat_tie}

@@ -14,11 +14,11 @@ use Rattle.tx_plan.specs.Among.{Among}
 use Rattle.tx_entries.specs.declared.circuit.Circuit.{Circuit}
 use Rattle.tx_entries.proofs.Lists.{at_least}
 use Rattle.tx_plan.proofs.Among.{among_left, among_right, filter_among}
-use Rattle.tx_state.specs.Call.{Call, place_of, is_numbered, call_of}
-use Rattle.tx_state.specs.InUse.{circuits_used, carries, seizes, seizes_from, uses_group}
-use Rattle.tx_state.specs.Invariant.{IsRising, Inv}
-use Rattle.tx_state.proofs.Lists.{any_none, mem_any, find_mem, find_none}
-use Rattle.tx_state.proofs.Uses.{calling_on, an_end}
+use Rattle.tx_machine.specs.Call.{Call, place_of, is_numbered, call_of}
+use Rattle.tx_machine.specs.InUse.{circuits_used, carries, seizes, seizes_from, uses_group}
+use Rattle.tx_machine.specs.Invariant.{IsRising, Inv}
+use Rattle.tx_machine.proofs.Lists.{any_none, mem_any, find_mem, find_none}
+use Rattle.tx_machine.proofs.Uses.{calling_on, an_end}
 use Rattle.tx_circuits.specs.Table.{Table}
 use Rattle.tx_endings.specs.inner.InTurn.{uses}
 use Rattle.tx_endings.specs.inner.Users.{AreNumbersOf, uses_up_to}

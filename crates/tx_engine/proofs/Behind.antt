@@ -4,7 +4,7 @@ use Rattle.std.specs.Prelude.{unwrap_or}
 use Rattle.std.proofs.lemmas.List.{drop_at, length-append}
 use Rattle.tx_plan.specs.Plan.{Plan, figures_of}
 use Rattle.tx_plan.specs.Codes.{after, code_of}
-use Rattle.tx_state.proofs.Steps.{code_begins, prefix-is}
+use Rattle.tx_machine.proofs.Steps.{code_begins, prefix-is}
 
 module _ (p : Plan) (keyed : List ℕ) (i : ℕ) (is : Some i ≡ code_of p keyed) where
   abbrev front : List ℕ

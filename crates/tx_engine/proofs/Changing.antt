@@ -10,15 +10,15 @@ use Rattle.tx_plan.specs.Circuits.{is_circuit}
 use Rattle.tx_plan.specs.Among.{Among}
 use Rattle.tx_entries.specs.declared.circuit.Circuit.{Circuit}
 use Rattle.tx_entries.specs.declared.line.Line.{Line}
-use Rattle.tx_state.specs.declared.hop.Hop.{Hop}
-use Rattle.tx_state.specs.declared.phase.Phase.TheVariants.{Standing, Calling}
-use Rattle.tx_state.specs.Call.{Call, place_of}
-use Rattle.tx_state.specs.InUse.{circuits_carried}
-use Rattle.tx_state.specs.Routing.{set_call}
-use Rattle.tx_state.specs.Step.{keyed_call}
-use Rattle.tx_state.specs.Invariant.{Inv}
-use Rattle.tx_state.proofs.Invariant.{inv_opening}
-use Rattle.tx_state.proofs.Changes.{not_standing}
+use Rattle.tx_machine.specs.declared.hop.Hop.{Hop}
+use Rattle.tx_machine.specs.declared.phase.Phase.TheVariants.{Standing, Calling}
+use Rattle.tx_machine.specs.Call.{Call, place_of}
+use Rattle.tx_machine.specs.InUse.{circuits_carried}
+use Rattle.tx_machine.specs.Routing.{set_call}
+use Rattle.tx_machine.specs.Step.{keyed_call}
+use Rattle.tx_machine.specs.Invariant.{Inv}
+use Rattle.tx_machine.proofs.Invariant.{inv_opening}
+use Rattle.tx_machine.proofs.Changes.{not_standing}
 use Rattle.tx_lines.specs.Book.{Book, is_line_of}
 use Rattle.tx_circuits.specs.Table.{Table, all_free, seat_cmp}
 use Rattle.tx_calls.specs.Calls.{Kept, Calls, kept_at, Changes, calls_in, sorted_calls}

@@ -12,15 +12,15 @@ use Rattle.tx_plan.specs.Circuits.{other_end}
 use Rattle.tx_plan.specs.Among.{Among}
 use Rattle.tx_entries.specs.declared.circuit.Circuit.{Circuit}
 use Rattle.tx_plan.proofs.Among.{among_cases}
-use Rattle.tx_state.specs.declared.hop.Hop.{Hop}
-use Rattle.tx_state.specs.declared.phase.Phase.TheVariants.{Calling}
-use Rattle.tx_state.specs.declared.event.Event.TheVariants.{Confirm}
-use Rattle.tx_state.specs.declared.reply.Reply.TheVariants.{At}
-use Rattle.tx_state.specs.Call.{Call, place_of}
-use Rattle.tx_state.specs.InUse.{circuits_carried}
-use Rattle.tx_state.specs.Confirming.{far_of, carried_on, rival, confirmed, confirmed_by}
-use Rattle.tx_state.specs.Routing.{set_call}
-use Rattle.tx_state.specs.Step.{accepted, counted, with_call}
+use Rattle.tx_machine.specs.declared.hop.Hop.{Hop}
+use Rattle.tx_machine.specs.declared.phase.Phase.TheVariants.{Calling}
+use Rattle.tx_machine.specs.declared.event.Event.TheVariants.{Confirm}
+use Rattle.tx_machine.specs.declared.reply.Reply.TheVariants.{At}
+use Rattle.tx_machine.specs.Call.{Call, place_of}
+use Rattle.tx_machine.specs.InUse.{circuits_carried}
+use Rattle.tx_machine.specs.Confirming.{far_of, carried_on, rival, confirmed, confirmed_by}
+use Rattle.tx_machine.specs.Routing.{set_call}
+use Rattle.tx_machine.specs.Step.{accepted, counted, with_call}
 use Rattle.tx_circuits.specs.Table.{Table, IsSeizedBy, with_held}
 use Rattle.tx_calls.specs.Calls.{Kept, Calls, kept_at, Changes, calls_in}
 use Rattle.tx_calls.specs.inner.Keys.{HasKeys, keys_at, keys_of, pick}

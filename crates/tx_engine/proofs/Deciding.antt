@@ -8,16 +8,16 @@ use Rattle.tx_plan.specs.Lines.{is_line_at}
 use Rattle.tx_plan.specs.Routes.{route_list, is_barred}
 use Rattle.tx_entries.specs.declared.circuit.Circuit.{Circuit}
 use Rattle.tx_entries.specs.declared.line.Line.{Line}
-use Rattle.tx_state.specs.declared.service.Service.TheVariants.{Np, Na}
-use Rattle.tx_state.specs.declared.event.Event.TheVariants.{Route}
-use Rattle.tx_state.specs.Call.{Call, place_of, is_first, call_of}
-use Rattle.tx_state.specs.State.{State}
-use Rattle.tx_state.specs.Ended.{Ended}
-use Rattle.tx_state.specs.InUse.{first_in, first_free, is_free_at, is_down, choice}
-use Rattle.tx_state.specs.Lines.{line_answer, is_engaged}
-use Rattle.tx_state.specs.Routing.{at_line, at_trunk, line_of, routed, routed_for}
-use Rattle.tx_state.specs.Ending.{answered}
-use Rattle.tx_state.specs.Step.{with_call, accepted}
+use Rattle.tx_machine.specs.declared.service.Service.TheVariants.{Np, Na}
+use Rattle.tx_machine.specs.declared.event.Event.TheVariants.{Route}
+use Rattle.tx_machine.specs.Call.{Call, place_of, is_first, call_of}
+use Rattle.tx_machine.specs.State.{State}
+use Rattle.tx_machine.specs.Ended.{Ended}
+use Rattle.tx_machine.specs.InUse.{first_in, first_free, is_free_at, is_down, choice}
+use Rattle.tx_machine.specs.Lines.{line_answer, is_engaged}
+use Rattle.tx_machine.specs.Routing.{at_line, at_trunk, line_of, routed, routed_for}
+use Rattle.tx_machine.specs.Ending.{answered}
+use Rattle.tx_machine.specs.Step.{with_call, accepted}
 use Rattle.tx_lines.specs.Book.{Book, is_line_of}
 use Rattle.tx_circuits.specs.Table.{Table, is_free_at as table_frees, first_free as table_first}
 use Rattle.tx_circuits.proofs.Unnamed.{circuits_at-same}

@@ -3,10 +3,10 @@ use Rattle.std.proofs.Common.{◌≡◌, ℕ, suc, ◌+◌, ◌<◌, Bool, true,
 use Rattle.std.specs.Prelude.{filter}
 use Rattle.tx_plan.specs.Plan.{Plan}
 use Rattle.tx_plan.specs.Among.{Among}
-use Rattle.tx_state.specs.declared.cause.Cause.{Cause}
-use Rattle.tx_state.specs.Call.{Call, is_numbered}
-use Rattle.tx_state.specs.Ended.{Ended}
-use Rattle.tx_state.specs.Ending.{end_call, ticket_of}
+use Rattle.tx_machine.specs.declared.cause.Cause.{Cause}
+use Rattle.tx_machine.specs.Call.{Call, is_numbered}
+use Rattle.tx_machine.specs.Ended.{Ended}
+use Rattle.tx_machine.specs.Ending.{end_call, ticket_of}
 use Rattle.tx_lines.specs.Book.{Book, is_line_of}
 use Rattle.tx_circuits.specs.Table.{Table}
 use Rattle.tx_calls.specs.Calls.{Kept, Calls, kept_at, Changes, calls_in}

@@ -6,11 +6,11 @@ use Rattle.tx_plan.specs.Plan.{Plan, home_of}
 use Rattle.tx_plan.specs.Codes.{code_of}
 use Rattle.tx_plan.specs.Routes.{route_list, is_barred}
 use Rattle.tx_entries.specs.declared.line.Line.{Line}
-use Rattle.tx_state.specs.declared.hop.Hop.{Hop}
-use Rattle.tx_state.specs.declared.service.Service.TheVariants.{Np, Na}
-use Rattle.tx_state.specs.Call.{Call, place_of, is_first}
-use Rattle.tx_state.specs.InUse.{first_in}
-use Rattle.tx_state.specs.Routing.{line_of}
+use Rattle.tx_machine.specs.declared.hop.Hop.{Hop}
+use Rattle.tx_machine.specs.declared.service.Service.TheVariants.{Np, Na}
+use Rattle.tx_machine.specs.Call.{Call, place_of, is_first}
+use Rattle.tx_machine.specs.InUse.{first_in}
+use Rattle.tx_machine.specs.Routing.{line_of}
 use Rattle.tx_lines.specs.Book.{Book, is_line_of}
 use Rattle.tx_circuits.specs.Table.{Table, first_free}
 use Rattle.tx_engine.specs.inner.Decided.{by_line, by_trunk, decided, decided_for}

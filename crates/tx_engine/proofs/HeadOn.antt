@@ -5,12 +5,12 @@ use Rattle.std.specs.FinSet as set
 use Rattle.tx_plan.specs.Plan.{Plan}
 use Rattle.tx_plan.specs.Among.{Among}
 use Rattle.tx_entries.specs.declared.circuit.Circuit.{Circuit}
-use Rattle.tx_state.specs.declared.cause.Cause.{Cause}
-use Rattle.tx_state.specs.declared.phase.Phase.TheVariants.{Calling}
-use Rattle.tx_state.specs.Call.{Call, place_of}
-use Rattle.tx_state.specs.State.{State}
-use Rattle.tx_state.specs.Confirming.{far_of, thrown_back, collide}
-use Rattle.tx_state.specs.Routing.{set_call}
+use Rattle.tx_machine.specs.declared.cause.Cause.{Cause}
+use Rattle.tx_machine.specs.declared.phase.Phase.TheVariants.{Calling}
+use Rattle.tx_machine.specs.Call.{Call, place_of}
+use Rattle.tx_machine.specs.State.{State}
+use Rattle.tx_machine.specs.Confirming.{far_of, thrown_back, collide}
+use Rattle.tx_machine.specs.Routing.{set_call}
 use Rattle.tx_circuits.specs.Table.{Table}
 use Rattle.tx_calls.specs.Calls.{Kept, Calls, kept_at, Changes, calls_in}
 use Rattle.tx_calls.specs.inner.Keys.{keys_of, pick}

@@ -9,10 +9,10 @@ use Rattle.tx_plan.specs.Plan.{Plan, Group}
 use Rattle.tx_plan.specs.Circuits.{is_circuit, other_end, ends_of, far_end}
 use Rattle.tx_plan.specs.Among.{Among}
 use Rattle.tx_entries.specs.declared.circuit.Circuit.{Circuit}
-use Rattle.tx_state.specs.declared.phase.Phase.TheVariants.{Calling}
-use Rattle.tx_state.specs.Call.{place_of}
-use Rattle.tx_state.specs.InUse.{circuits_carried}
-use Rattle.tx_state.proofs.Uses.{an_end}
+use Rattle.tx_machine.specs.declared.phase.Phase.TheVariants.{Calling}
+use Rattle.tx_machine.specs.Call.{place_of}
+use Rattle.tx_machine.specs.InUse.{circuits_carried}
+use Rattle.tx_machine.proofs.Uses.{an_end}
 use Rattle.tx_calls.specs.Calls.{Kept, Calls, kept_at, Changes}
 use Rattle.tx_calls.specs.inner.Keys.{HasKeys, keys_at, keys_of, pick, with_key, no_keys}
 use Rattle.tx_calls.specs.declared.end_keys.EndKeys.{EndKeys}

@@ -7,12 +7,12 @@ use Rattle.std.specs.List.Sorted.{IsSorted, IsNonDecreasingBy, IsPermutation}
 use Rattle.std.proofs.lemmas.List.Sorted.{IsNonDecreasingBy-from_sort, Contains-permutation, IsPermutation-sym}
 use Rattle.tx_plan.specs.Plan.{Plan}
 use Rattle.tx_plan.specs.Among.{Among}
-use Rattle.tx_state.specs.declared.cause.Cause.TheVariants.{Lost as ByLoss}
-use Rattle.tx_state.specs.Call.{Call, call_of, is_numbered}
-use Rattle.tx_state.specs.State.{State}
-use Rattle.tx_state.specs.InUse.{uses_group}
-use Rattle.tx_state.specs.Ending.{end_call}
-use Rattle.tx_state.proofs.Lists.{find_mem}
+use Rattle.tx_machine.specs.declared.cause.Cause.TheVariants.{Lost as ByLoss}
+use Rattle.tx_machine.specs.Call.{Call, call_of, is_numbered}
+use Rattle.tx_machine.specs.State.{State}
+use Rattle.tx_machine.specs.InUse.{uses_group}
+use Rattle.tx_machine.specs.Ending.{end_call}
+use Rattle.tx_machine.proofs.Lists.{find_mem}
 use Rattle.tx_endings.specs.inner.InTurn.{IsLosing}
 use Rattle.tx_endings.proofs.Losing.{losing_goes_on}
 use Rattle.tx_endings.proofs.Users.{AreLeft, first_user, left_after, left_without}

@@ -2,8 +2,8 @@
 use Rattle.std.proofs.Common.{◌≡◌, ℕ, List, []}
 use Rattle.std.specs.FinSet as set
 use Rattle.tx_plan.specs.Plan.{Plan}
-use Rattle.tx_state.specs.Ended.{Ended}
-use Rattle.tx_state.specs.State.{opening}
+use Rattle.tx_machine.specs.Ended.{Ended}
+use Rattle.tx_machine.specs.State.{opening}
 use Rattle.tx_lines.specs.Book.{Book}
 use Rattle.tx_circuits.specs.Table.{Table, all_free}
 use Rattle.tx_calls.specs.Calls.{Calls, calls_in, sorted_calls}

@@ -7,14 +7,14 @@ use Rattle.tx_plan.specs.Declaring.{first_true}
 use Rattle.tx_plan.specs.Plan.{Plan}
 use Rattle.tx_plan.specs.Lines.{is_line}
 use Rattle.tx_entries.specs.declared.line.Line.{Line}
-use Rattle.tx_state.specs.Lines.{is_engaged}
-use Rattle.tx_state.specs.Call.{Call, call_of, is_connected}
-use Rattle.tx_state.specs.declared.party.Party.{Party}
-use Rattle.tx_state.specs.declared.party.Party.TheVariants.{Caller, Called}
-use Rattle.tx_state.specs.declared.event.Event.TheVariants.{Key, Clear}
-use Rattle.tx_state.specs.declared.refusal.Refusal.TheVariants.{UnknownCall, NotConnected, UnknownLine, LineEngaged, LineOutOfOrder, Exhausted}
-use Rattle.tx_state.specs.State.{State}
-use Rattle.tx_state.specs.Refusals.{refusal, is_other}
+use Rattle.tx_machine.specs.Lines.{is_engaged}
+use Rattle.tx_machine.specs.Call.{Call, call_of, is_connected}
+use Rattle.tx_machine.specs.declared.party.Party.{Party}
+use Rattle.tx_machine.specs.declared.party.Party.TheVariants.{Caller, Called}
+use Rattle.tx_machine.specs.declared.event.Event.TheVariants.{Key, Clear}
+use Rattle.tx_machine.specs.declared.refusal.Refusal.TheVariants.{UnknownCall, NotConnected, UnknownLine, LineEngaged, LineOutOfOrder, Exhausted}
+use Rattle.tx_machine.specs.State.{State}
+use Rattle.tx_machine.specs.Refusals.{refusal, is_other}
 
 unspent : (limit n : ℕ) → n < limit → nat_le limit n ≡ false
 unspent limit n h = grind (arith, nat_tests)

@@ -14,15 +14,15 @@ use Rattle.tx_plan.specs.Circuits.{is_circuit}
 use Rattle.tx_plan.specs.Among.{Among}
 use Rattle.tx_entries.specs.declared.circuit.Circuit.{Circuit}
 use Rattle.tx_entries.specs.declared.line.Line.{Line}
-use Rattle.tx_state.specs.declared.phase.Phase.TheVariants.{Calling, Connected}
-use Rattle.tx_state.specs.declared.service.Service.TheVariants.{Na}
-use Rattle.tx_state.specs.Call.{Call, place_of, is_first}
-use Rattle.tx_state.specs.InUse.{circuits_carried, first_in}
-use Rattle.tx_state.specs.Routing.{set_call, in_phase, line_of}
-use Rattle.tx_state.specs.Safe.{IsKeyedLine}
-use Rattle.tx_state.proofs.Lists.{find_mem}
-use Rattle.tx_state.proofs.Steps.{listed_leads, listed_may, prefix-is, code_begins}
-use Rattle.tx_state.proofs.Uses.{first_in-is, chosen, IsChosen}
+use Rattle.tx_machine.specs.declared.phase.Phase.TheVariants.{Calling, Connected}
+use Rattle.tx_machine.specs.declared.service.Service.TheVariants.{Na}
+use Rattle.tx_machine.specs.Call.{Call, place_of, is_first}
+use Rattle.tx_machine.specs.InUse.{circuits_carried, first_in}
+use Rattle.tx_machine.specs.Routing.{set_call, in_phase, line_of}
+use Rattle.tx_machine.specs.Safe.{IsKeyedLine}
+use Rattle.tx_machine.proofs.Lists.{find_mem}
+use Rattle.tx_machine.proofs.Steps.{listed_leads, listed_may, prefix-is, code_begins}
+use Rattle.tx_machine.proofs.Uses.{first_in-is, chosen, IsChosen}
 use Rattle.tx_lines.specs.Book.{Book, is_line_of}
 use Rattle.tx_circuits.specs.Table.{Table, plan_of, is_down, is_free_at as table_frees, first_free as table_first}
 use Rattle.tx_circuits.proofs.Unnamed.{is_circuit-same, may_seize-same}

@@ -2,10 +2,10 @@
 use Rattle.std.proofs.Common.{◌≡◌, ◌<◌, List, [], ◌∷◌, ◌++◌, length, drop, Some, None, refl, sym, ap, ◌∙◌, append_assoc, append-nil, arith}
 use Rattle.std.specs.Prelude.{slice_get}
 use Rattle.tx_plan.specs.Plan.{Plan}
-use Rattle.tx_state.specs.Ended.{Ended}
-use Rattle.tx_state.specs.State.{Net, State, ticket_taken}
-use Rattle.tx_state.specs.Drained.{drained}
-use Rattle.tx_state.proofs.Lists.{first_of, none_in}
+use Rattle.tx_machine.specs.Ended.{Ended}
+use Rattle.tx_machine.specs.State.{Net, State, ticket_taken}
+use Rattle.tx_machine.specs.Drained.{drained}
+use Rattle.tx_machine.proofs.Lists.{first_of, none_in}
 
 -- these tickets were taken out of the first network, and the second is left
 pub record IsTaken (n m : Net) (taken : List Ended) : Type 0 where

@@ -1,18 +1,18 @@
 // Confirming a circuit.
 ghost use Rattle.std.specs.Prelude.{◌≡◌, ◌<◌, ◌-◌, ◌^◌, false};
 ghost use Rattle.std.specs.FinSet as set;
-ghost use Rattle.tx_state.specs.declared.event.Event.TheVariants.{Confirm};
-ghost use Rattle.tx_state.specs.declared.phase.Phase.TheVariants.{Calling};
-ghost use Rattle.tx_state.specs.declared.reply.Reply.TheVariants.{At};
-ghost use Rattle.tx_state.specs.Confirming.{far_of};
-ghost use Rattle.tx_state.specs.Step.{step, accepted, counted};
+ghost use Rattle.tx_machine.specs.declared.event.Event.TheVariants.{Confirm};
+ghost use Rattle.tx_machine.specs.declared.phase.Phase.TheVariants.{Calling};
+ghost use Rattle.tx_machine.specs.declared.reply.Reply.TheVariants.{At};
+ghost use Rattle.tx_machine.specs.Confirming.{far_of};
+ghost use Rattle.tx_machine.specs.Step.{step, accepted, counted};
 ghost use Rattle.tx_calls.specs.Calls.{Kept};
 ghost use Rattle.tx_engine.specs.inner.Sound.{IsSound, IsUnder, state_of};
 
 use crate::parts::Parts;
 use std::alloc::Allocator;
 use tx_plan::{Circuit, ExchangeId};
-use tx_state::{Hop, Reply, far_of};
+use tx_machine::{Hop, Reply, far_of};
 
 impl<'p, A: Allocator + Copy> Parts<'p, A> {
     /// A call is confirmed.

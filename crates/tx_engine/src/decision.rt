@@ -3,8 +3,8 @@ ghost use Rattle.std.specs.Prelude.{◌≡◌, map, unwrap_or, Some, []};
 ghost use Rattle.tx_plan.specs.Codes.{after, code_of};
 ghost use Rattle.tx_plan.specs.Plan.{figures_of};
 ghost use Rattle.tx_plan.specs.Routes.{route_list};
-ghost use Rattle.tx_state.specs.InUse.{first_in};
-ghost use Rattle.tx_state.specs.Seen.{call_seen};
+ghost use Rattle.tx_machine.specs.InUse.{first_in};
+ghost use Rattle.tx_machine.specs.Seen.{call_seen};
 ghost use Rattle.tx_circuits.specs.Table.{first_free, unnamed};
 ghost use Rattle.tx_engine.specs.inner.Decided.{decided};
 
@@ -12,7 +12,7 @@ use std::alloc::Allocator;
 use tx_circuits::CircuitTable;
 use tx_lines::LineBook;
 use tx_plan::{Circuit, CodeId, ExchangeId, Line, Plan};
-use tx_state::{OpenCall, Service, place_of};
+use tx_machine::{OpenCall, Service, place_of};
 use tx_trie::CodeTrie;
 
 /// What becomes of a call that is routed.

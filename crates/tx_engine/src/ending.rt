@@ -1,10 +1,10 @@
 // Calls that end.
 ghost use Rattle.std.specs.Prelude.{◌≡◌, ◌≢◌, ℕ, ◌<◌, ◌-◌, ◌^◌, is_some, Some, true};
-ghost use Rattle.tx_state.specs.declared.event.Event.TheVariants.{Clear};
-ghost use Rattle.tx_state.specs.Ending.{end_call, ticket_of};
-ghost use Rattle.tx_state.specs.Step.{step};
+ghost use Rattle.tx_machine.specs.declared.event.Event.TheVariants.{Clear};
+ghost use Rattle.tx_machine.specs.Ending.{end_call, ticket_of};
+ghost use Rattle.tx_machine.specs.Step.{step};
 ghost use Rattle.tx_calls.specs.Calls.{Kept, kept_at};
-ghost use Rattle.tx_state.specs.Seen.{call_seen};
+ghost use Rattle.tx_machine.specs.Seen.{call_seen};
 ghost use Rattle.tx_endings.specs.inner.GivenBack.{released_all, given_back, thrown_off, freed, CanReleaseAll, CanGiveBack, CanThrowOff};
 ghost use Rattle.tx_engine.specs.inner.Sound.{IsSound, state_of};
 
@@ -13,7 +13,7 @@ use std::alloc::Allocator;
 use tx_circuits::CircuitTable;
 use tx_lines::LineBook;
 use tx_plan::{Circuit, Plan};
-use tx_state::{Cause, Hop, OpenCall, Party, Path, Phase, Reply, Ticket, far_of, place_of};
+use tx_machine::{Cause, Hop, OpenCall, Party, Path, Phase, Reply, Ticket, far_of, place_of};
 
 impl<'p, A: Allocator + Copy> Parts<'p, A> {
     /// A call is cleared.

@@ -1,9 +1,9 @@
 // The indexed network.
 ghost use Rattle.std.specs.Prelude.{◌≡◌, IfOk, OnErr, None, true};
-ghost use Rattle.tx_state.specs.Step.{step, takes_memory};
-ghost use Rattle.tx_state.specs.State.{opening};
-ghost use Rattle.tx_state.specs.Refusals.{refusal};
-ghost use Rattle.tx_state.specs.declared.event.Event.TheVariants.{Key};
+ghost use Rattle.tx_machine.specs.Step.{step, takes_memory};
+ghost use Rattle.tx_machine.specs.State.{opening};
+ghost use Rattle.tx_machine.specs.Refusals.{refusal};
+ghost use Rattle.tx_machine.specs.declared.event.Event.TheVariants.{Key};
 ghost use Rattle.tx_engine.specs.inner.Marked.{is_other};
 
 use crate::parts::Parts;
@@ -11,7 +11,7 @@ use crate::tickets::take_oldest;
 use std::alloc::{Allocator, Global};
 use std::marker::Model;
 use tx_plan::{Line, Plan};
-use tx_state::{Event, Network, Reply, Ticket, refusal_of};
+use tx_machine::{Event, Network, Reply, Ticket, refusal_of};
 use tx_text::{Figures, NoMemory};
 
 /// The indexed network. It finds lines and circuits by index, and a call by its number, at worst by a binary search. So the work of an event hardly grows
@@ -22,7 +22,7 @@ pub struct Engine<'p, A: Allocator = Global> {
 }
 
 impl<'p, A: Allocator> Model for Engine<'p, A> {
-    ghost use Rattle.tx_state.specs.State.{Net};
+    ghost use Rattle.tx_machine.specs.State.{Net};
 
     ghost Value = { Net };
 

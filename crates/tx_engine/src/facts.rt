@@ -2,7 +2,7 @@
 use crate::engine::Engine;
 use std::alloc::Allocator;
 use tx_plan::{Circuit, GroupId, Line};
-use tx_state::{Facts, Phase};
+use tx_machine::{Facts, Phase};
 
 impl<'p, A: Allocator + Copy> Facts for Engine<'p, A> {
     ghost plan = { λ n. n.plan };

@@ -1,15 +1,15 @@
 // The call that an event speaks of, or why the event is refused.
 ghost use Rattle.std.specs.Prelude.{◌≡◌, ◌<◌, ◌-◌, ◌^◌, nat_le, IfOk, IfErr, OnOk, Some, None};
-ghost use Rattle.tx_state.specs.declared.event.Event.TheVariants.{Route, Confirm, Clear};
-ghost use Rattle.tx_state.specs.declared.phase.Phase.TheVariants.{Standing, Calling};
-ghost use Rattle.tx_state.specs.Refusals.{refusal};
+ghost use Rattle.tx_machine.specs.declared.event.Event.TheVariants.{Route, Confirm, Clear};
+ghost use Rattle.tx_machine.specs.declared.phase.Phase.TheVariants.{Standing, Calling};
+ghost use Rattle.tx_machine.specs.Refusals.{refusal};
 ghost use Rattle.tx_calls.specs.Calls.{Kept};
 ghost use Rattle.tx_engine.specs.inner.Sound.{IsSound, state_of, IsUnder};
 
 use crate::parts::Parts;
 use std::alloc::Allocator;
 use tx_plan::Circuit;
-use tx_state::{Party, Phase, Refusal};
+use tx_machine::{Party, Phase, Refusal};
 
 impl<'p, A: Allocator + Copy> Parts<'p, A> {
     /// The key of the call that is routed.

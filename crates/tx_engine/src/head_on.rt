@@ -1,12 +1,12 @@
 // Two calls that meet on a circuit.
 ghost use Rattle.std.specs.Prelude.{◌≡◌, ◌≢◌, ℕ, ◌<◌, ◌-◌, ◌^◌, Some, true};
 ghost use Rattle.std.specs.FinSet as set;
-ghost use Rattle.tx_state.specs.declared.cause.Cause.TheVariants.{Service as ByService};
-ghost use Rattle.tx_state.specs.declared.event.Event.TheVariants.{Confirm};
-ghost use Rattle.tx_state.specs.declared.phase.Phase.TheVariants.{Calling};
-ghost use Rattle.tx_state.specs.declared.service.Service.TheVariants.{Nc};
-ghost use Rattle.tx_state.specs.Confirming.{far_of, rival, collide};
-ghost use Rattle.tx_state.specs.Step.{accepted, counted};
+ghost use Rattle.tx_machine.specs.declared.cause.Cause.TheVariants.{Service as ByService};
+ghost use Rattle.tx_machine.specs.declared.event.Event.TheVariants.{Confirm};
+ghost use Rattle.tx_machine.specs.declared.phase.Phase.TheVariants.{Calling};
+ghost use Rattle.tx_machine.specs.declared.service.Service.TheVariants.{Nc};
+ghost use Rattle.tx_machine.specs.Confirming.{far_of, rival, collide};
+ghost use Rattle.tx_machine.specs.Step.{accepted, counted};
 ghost use Rattle.tx_calls.specs.Calls.{Kept, kept_at};
 ghost use Rattle.tx_endings.specs.inner.InTurn.{ended_if, pair_ended};
 ghost use Rattle.tx_engine.specs.inner.Meeting.{AreMeeting, AreThrown, IsMet};
@@ -16,7 +16,7 @@ use crate::ending::throw_off;
 use crate::parts::Parts;
 use std::alloc::Allocator;
 use tx_plan::{Circuit, ExchangeId};
-use tx_state::{Cause, Reply, Service};
+use tx_machine::{Cause, Reply, Service};
 
 /// One of two calls that meet, with whether it had collided before at the exchange where it stands.
 #[derive(Clone, Copy)]

@@ -1,16 +1,16 @@
 // A line that calls.
 ghost use Rattle.std.specs.Prelude.{◌≡◌, ◌<◌, ◌-◌, ◌^◌, ◌↔◌, IsTrue, IfOk, IsOk, OnOk, OnErr, None};
 ghost use Rattle.tx_calls.specs.Calls.{HasRoom};
-ghost use Rattle.tx_state.specs.Step.{step};
-ghost use Rattle.tx_state.specs.Refusals.{refusal};
-ghost use Rattle.tx_state.specs.declared.event.Event.TheVariants.{Key};
+ghost use Rattle.tx_machine.specs.Step.{step};
+ghost use Rattle.tx_machine.specs.Refusals.{refusal};
+ghost use Rattle.tx_machine.specs.declared.event.Event.TheVariants.{Key};
 ghost use Rattle.tx_engine.specs.inner.Sound.{IsSound, IsReady, HasTicketRoom, state_of};
 
 use crate::parts::Parts;
 use crate::tickets::{has_ticket_room, reserve_tickets};
 use std::alloc::Allocator;
 use tx_plan::Line;
-use tx_state::{OpenCall, Phase, Refusal, Reply};
+use tx_machine::{OpenCall, Phase, Refusal, Reply};
 use tx_text::{Figures, NoMemory};
 
 impl<'p, A: Allocator + Copy> Parts<'p, A> {

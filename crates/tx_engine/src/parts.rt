@@ -1,6 +1,6 @@
 // The parts of the engine.
 ghost use Rattle.std.specs.Prelude.{◌≡◌, IfOk};
-ghost use Rattle.tx_state.specs.State.{opening};
+ghost use Rattle.tx_machine.specs.State.{opening};
 ghost use Rattle.tx_engine.specs.inner.Sound.{IsSound, state_of};
 
 use std::alloc::Allocator;
@@ -9,7 +9,7 @@ use tx_calls::{CircuitKeys, OpenCalls};
 use tx_circuits::CircuitTable;
 use tx_lines::LineBook;
 use tx_plan::Plan;
-use tx_state::Ticket;
+use tx_machine::Ticket;
 use tx_text::NoMemory;
 use tx_trie::CodeTrie;
 

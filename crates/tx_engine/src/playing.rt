@@ -1,13 +1,13 @@
 // Lists of events, played on the engine.
 ghost use Rattle.std.specs.Prelude.{◌≡◌, ◌++◌, IfOk, OnOk, []};
-ghost use Rattle.tx_state.specs.Drained.{drained};
-ghost use Rattle.tx_state.specs.Runs.{replies as replies_to, state_after};
-ghost use Rattle.tx_state.specs.State.{opening};
+ghost use Rattle.tx_machine.specs.Drained.{drained};
+ghost use Rattle.tx_machine.specs.Runs.{replies as replies_to, state_after};
+ghost use Rattle.tx_machine.specs.State.{opening};
 
 use crate::engine::Engine;
 use std::alloc::{Allocator, Global};
 use tx_plan::Plan;
-use tx_state::{Event, Network, Reply, Ticket, drive};
+use tx_machine::{Event, Network, Reply, Ticket, drive};
 use tx_text::NoMemory;
 
 /// What a list of events came to.

@@ -1,10 +1,10 @@
 // Routing a call.
 ghost use Rattle.std.specs.Prelude.{◌≡◌, ◌<◌, ◌-◌, ◌^◌, IfOk, OnOk, OnErr, Some, None, is_some, true};
-ghost use Rattle.tx_state.specs.declared.event.Event.TheVariants.{Route};
-ghost use Rattle.tx_state.specs.declared.reply.Reply.TheVariants.{Seized};
-ghost use Rattle.tx_state.specs.Refusals.{refusal};
-ghost use Rattle.tx_state.specs.Step.{step, counted};
-ghost use Rattle.tx_state.specs.Ending.{answered};
+ghost use Rattle.tx_machine.specs.declared.event.Event.TheVariants.{Route};
+ghost use Rattle.tx_machine.specs.declared.reply.Reply.TheVariants.{Seized};
+ghost use Rattle.tx_machine.specs.Refusals.{refusal};
+ghost use Rattle.tx_machine.specs.Step.{step, counted};
+ghost use Rattle.tx_machine.specs.Ending.{answered};
 ghost use Rattle.tx_calls.specs.Calls.{Kept, kept_at};
 ghost use Rattle.tx_engine.specs.declared.decision.Decision.TheVariants.{Reach, Seize};
 ghost use Rattle.tx_engine.specs.inner.Decided.{decided, carry_out, service_of, IsDecided};
@@ -15,7 +15,7 @@ use crate::parts::Parts;
 use std::alloc::Allocator;
 use tx_lines::Status;
 use tx_plan::{Circuit, ExchangeId, Line};
-use tx_state::{Cause, Phase, Reply, Service};
+use tx_machine::{Cause, Phase, Reply, Service};
 use tx_text::NoMemory;
 
 impl<'p, A: Allocator + Copy> Parts<'p, A> {

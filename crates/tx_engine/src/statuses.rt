@@ -1,9 +1,9 @@
 // Events that change a mark of one line, circuit or group.
 ghost use Rattle.std.specs.Prelude.{◌≡◌, ◌<◌, ◌≤◌, true, false, IfOk, IsOk, OnOk, OnErr, None};
-ghost use Rattle.tx_state.specs.Step.{step, takes_memory};
-ghost use Rattle.tx_state.specs.Refusals.{refusal};
+ghost use Rattle.tx_machine.specs.Step.{step, takes_memory};
+ghost use Rattle.tx_machine.specs.Refusals.{refusal};
 ghost use Rattle.tx_lines.specs.Book.{has_status, place_taken};
-ghost use Rattle.tx_state.specs.declared.event.Event.TheVariants.{Released};
+ghost use Rattle.tx_machine.specs.declared.event.Event.TheVariants.{Released};
 ghost use Rattle.tx_engine.specs.inner.Marked.{is_mark, marked_book, marked_table, CanMark};
 
 use crate::engine::Engine;
@@ -11,7 +11,7 @@ use std::alloc::Allocator;
 use tx_circuits::CircuitTable;
 use tx_lines::LineBook;
 use tx_plan::{Circuit, Line};
-use tx_state::{Event, Facts, Refusal, Reply};
+use tx_machine::{Event, Facts, Refusal, Reply};
 use tx_text::NoMemory;
 
 impl<'p, A: Allocator + Copy> Engine<'p, A> {

@@ -4,7 +4,7 @@ ghost use Rattle.std.specs.VecDeque.{deque_len, deque_capacity};
 
 use std::alloc::Allocator;
 use std::collections::VecDeque;
-use tx_state::Ticket;
+use tx_machine::Ticket;
 use tx_text::NoMemory;
 
 /// Whether there is room for the tickets of so many open calls and of one more.

@@ -11,9 +11,9 @@ use Rattle.tx_plantext.specs.declared.fault.PlanWord.TheVariants as plan_word
 use Rattle.tx_lint.specs.declared.warning.Warning.TheVariants as warning
 use Rattle.tx_cert.specs.declared.fault.CertWord.TheVariants as cert
 use Rattle.tx_script.specs.declared.script_word.ScriptWord.TheVariants as script
-use Rattle.tx_state.specs.declared.refusal.Refusal.TheVariants as refusal
-use Rattle.tx_state.specs.declared.service.Service.TheVariants as service
-use Rattle.tx_state.specs.declared.cause.Cause.TheVariants as cause
+use Rattle.tx_machine.specs.declared.refusal.Refusal.TheVariants as refusal
+use Rattle.tx_machine.specs.declared.service.Service.TheVariants as service
+use Rattle.tx_machine.specs.declared.cause.Cause.TheVariants as cause
 use Rattle.tx_check.specs.declared.fault.CheckFault.TheVariants as fault
 use Rattle.tx_rank.specs.declared.finding.Finding.TheVariants as finding
 use Rattle.tx_mend_report.specs.MendText.{pair_line, unserved_line}

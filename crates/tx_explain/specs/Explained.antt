@@ -13,8 +13,8 @@ use Rattle.tx_cert.specs.declared.fault.CertWord.{CertWord}
 use Rattle.tx_cert.specs.CertFaults.{fault_row as cert_row}
 use Rattle.tx_script.specs.declared.script_word.ScriptWord.{ScriptWord}
 use Rattle.tx_script.specs.ScriptFaults.{fault_row as script_row}
-use Rattle.tx_state.specs.declared.refusal.Refusal.{Refusal}
-use Rattle.tx_state.specs.declared.cause.Cause.{Cause}
+use Rattle.tx_machine.specs.declared.refusal.Refusal.{Refusal}
+use Rattle.tx_machine.specs.declared.cause.Cause.{Cause}
 use Rattle.tx_tickets.specs.Texts.{refusal_text, cause_text}
 use Rattle.tx_check.specs.declared.fault.CheckFault.{CheckFault}
 use Rattle.tx_check.specs.Verdicts.{fault_words}

@@ -5,7 +5,7 @@ use Rattle.tx_text.specs.declared.sink.WriteFault.{WriteFault}
 use Rattle.tx_text.specs.Ends.{StopsIn}
 use Rattle.tx_plan.specs.Plan.{Plan}
 use Rattle.tx_cert.specs.Certificate.{Certificate}
-use Rattle.tx_state.specs.State.{opening}
+use Rattle.tx_machine.specs.State.{opening}
 use Rattle.tx_check.specs.declared.verdict.Verdict.TheVariants.{No}
 use Rattle.tx_check.specs.Verdicts.{verdict_written}
 use Rattle.tx_script.specs.Answers.{RanWhole}

@@ -1,7 +1,7 @@
 -- What shows the verdict on a change, and what is answered where it is to be kept.
 use Rattle.std.specs.Prelude.{◌≡◌, ℕ, Bool, true, false, List, Option, None, Some, Result, Ok, Err}
 use Rattle.tx_plan.specs.Plan.{Plan}
-use Rattle.tx_state.specs.declared.event.Event.{Event}
+use Rattle.tx_machine.specs.declared.event.Event.{Event}
 use Rattle.tx_rank.specs.declared.finding.Finding.{Finding}
 use Rattle.tx_change.specs.MixtureShown.{first_walked, ShowsFirstWalk}
 use Rattle.tx_jobs.specs.declared.change.Changed.{Changed}

@@ -4,7 +4,7 @@ use Rattle.std.specs.Io.KnownBytes.{append_known}
 use Rattle.tx_text.specs.Ends.{StopsIn}
 use Rattle.tx_text.specs.declared.frame.FaultAt.{FaultAt}
 use Rattle.tx_plan.specs.Plan.{Plan}
-use Rattle.tx_state.specs.Sound.{IsSound}
+use Rattle.tx_machine.specs.Sound.{IsSound}
 use Rattle.tx_cert.specs.declared.fault.CertWord.{CertWord}
 use Rattle.tx_cert.specs.Certificate.{Certificate, IsCertificateOf}
 use Rattle.tx_cert.specs.CertText.{SaysCert, ReadsCert}

@@ -4,7 +4,7 @@ use Rattle.std.specs.Io.KnownBytes.{append_known}
 use Rattle.std.specs.List.{AllByRecursion}
 use Rattle.tx_text.specs.Ends.{StopsIn}
 use Rattle.tx_plan.specs.Plan.{Plan}
-use Rattle.tx_state.specs.Sound.{IsSound}
+use Rattle.tx_machine.specs.Sound.{IsSound}
 use Rattle.tx_rank.specs.declared.finding.Finding.{Finding}
 use Rattle.tx_rank.specs.declared.plan_grade.Grade.{Grade}
 use Rattle.tx_rank.specs.declared.bounds.Bounds.{Bounds}

@@ -1,7 +1,7 @@
 -- What a run answers where more is told: each event before its reply, or that one was refused.
 use Rattle.std.specs.Prelude.{◌≡◌, ◌⊎◌, ℕ, Bool, not, ◌&&◌, ◌==◌, cond, Result}
 use Rattle.tx_plan.specs.Plan.{Plan}
-use Rattle.tx_state.specs.State.{State, opening}
+use Rattle.tx_machine.specs.State.{State, opening}
 use Rattle.tx_script.specs.declared.summary.Summary.{Summary}
 use Rattle.tx_script.specs.declared.run_fault.RunFault.{RunFault}
 use Rattle.tx_script.specs.TellingAnswers.{TellingAnswers}

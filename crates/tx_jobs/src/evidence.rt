@@ -4,7 +4,7 @@ ghost use Rattle.tx_jobs.specs.Writables.{AreWritable, AreWritable-prop};
 use std::alloc::{Allocator, Global};
 use tx_cert::Cert;
 use tx_plan::Plan;
-use tx_state::Event;
+use tx_machine::Event;
 
 /// A plan, and events that can be written as a script for it. `evidence_job` says that they show what is wrong with the plan.
 #[derive(Drop)]

@@ -5,7 +5,7 @@ ghost use Rattle.tx_plan.specs.Rules.{IsPlan};
 ghost use Rattle.tx_plan.specs.Routes.{is_origin_for};
 ghost use Rattle.tx_plan.specs.Certified.{Ranks, IsCertified};
 ghost use Rattle.tx_rank.specs.Walks.{Net, Goes, end_of, IsShort};
-ghost use Rattle.tx_state.specs.Runs.{InEveryState, OfEveryEvent};
+ghost use Rattle.tx_machine.specs.Runs.{InEveryState, OfEveryEvent};
 ghost use Rattle.tx_risk.specs.Risks.{Risk, without, net_without, IsDeadEnd, IsCut, IsUncut, LeavesSome, IsServed};
 ghost use Rattle.tx_risk.specs.Served.{ThroughIf, StartsUncut, OutsideFree, IsClear, AllFailed, NoneOnFailed, KeyedSinceAreClear, KeyedSinceGetThrough};
 

@@ -3,16 +3,16 @@ use Rattle.std.specs.Prelude.{◌≡◌, ℕ, ◌<◌, length, true, false, List
 use Rattle.tx_plan.specs.Plan.{Plan}
 use Rattle.tx_plan.specs.Codes.{code_of}
 use Rattle.tx_entries.specs.declared.circuit.Circuit.{Circuit}
-use Rattle.tx_state.specs.declared.event.Event.{Event}
-use Rattle.tx_state.specs.declared.event.Event.TheVariants.{Route}
-use Rattle.tx_state.specs.declared.reply.Reply.TheVariants.{Answered}
-use Rattle.tx_state.specs.declared.service.Service.TheVariants.{Nc}
-use Rattle.tx_state.specs.Call.{Call, start_of}
-use Rattle.tx_state.specs.State.{State, opening}
-use Rattle.tx_state.specs.InUse.{carries, is_free_at, is_down}
-use Rattle.tx_state.specs.Runs.{state_after}
-use Rattle.tx_state.specs.Unrefused.{NoneRefused}
-use Rattle.tx_state.specs.Step.{step}
+use Rattle.tx_machine.specs.declared.event.Event.{Event}
+use Rattle.tx_machine.specs.declared.event.Event.TheVariants.{Route}
+use Rattle.tx_machine.specs.declared.reply.Reply.TheVariants.{Answered}
+use Rattle.tx_machine.specs.declared.service.Service.TheVariants.{Nc}
+use Rattle.tx_machine.specs.Call.{Call, start_of}
+use Rattle.tx_machine.specs.State.{State, opening}
+use Rattle.tx_machine.specs.InUse.{carries, is_free_at, is_down}
+use Rattle.tx_machine.specs.Runs.{state_after}
+use Rattle.tx_machine.specs.Unrefused.{NoneRefused}
+use Rattle.tx_machine.specs.Step.{step}
 use Rattle.tx_risk.specs.Risks.{Risk}
 
 -- All groups of the risk are down, and no others.

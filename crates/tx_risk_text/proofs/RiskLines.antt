@@ -15,7 +15,7 @@ use Rattle.tx_plan.specs.Declaring.{first_true, has_group, group_at, none_twice}
 use Rattle.tx_plan.proofs.Among.{among_cases, map_among}
 use Rattle.tx_plan.proofs.ByPlace.{pairs_put}
 use Rattle.tx_plan.proofs.SeenWords.{differ_as_words}
-use Rattle.tx_state.proofs.Lists.{none_any}
+use Rattle.tx_machine.proofs.Lists.{none_any}
 use Rattle.tx_rank.proofs.Ways.{all_among, among_all}
 use Rattle.tx_risk.specs.NamedRisks.{NamedRisk, IsNamedRisk, AreRisksFor}
 use Rattle.tx_risk_text.specs.declared.fault.RiskWord.TheVariants.{UnknownWord, WrongCount, BadName, Duplicate, UnknownName, RepeatedGroup}

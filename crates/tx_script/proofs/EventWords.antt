@@ -12,9 +12,9 @@ use Rattle.tx_text.specs.Words.{words_of, is_word_byte, is_figure, is_numeral, a
 use Rattle.tx_text.proofs.WordLists.{blank_behind, blank_before, word_alone}
 use Rattle.tx_text.proofs.WrittenWords.{all_stronger}
 use Rattle.tx_plan.specs.Plan.{Plan}
-use Rattle.tx_state.specs.declared.event.Event.TheVariants.{Clear}
-use Rattle.tx_state.specs.declared.party.Party.{Party}
-use Rattle.tx_state.specs.declared.party.Party.TheVariants.{Caller, Called}
+use Rattle.tx_machine.specs.declared.event.Event.TheVariants.{Clear}
+use Rattle.tx_machine.specs.declared.party.Party.{Party}
+use Rattle.tx_machine.specs.declared.party.Party.TheVariants.{Caller, Called}
 use Rattle.tx_script.specs.declared.verb.Verb.{Verb}
 use Rattle.tx_script.specs.Events.{Said, verb_of, event_by, event_of, event_for, BeginsWith, call_number, call_in, clear_event, spelt, party_word}
 

@@ -7,14 +7,14 @@ use Rattle.std.proofs.Math.Seq.{drop-append_seam}
 use Rattle.std.specs.Io.KnownBytes.{append_known}
 use Rattle.tx_text.proofs.Writing.{append_known-nil, append_known_twice}
 use Rattle.tx_plan.specs.Plan.{Plan}
-use Rattle.tx_state.specs.declared.event.Event.{Event}
-use Rattle.tx_state.specs.Ended.{Ended}
-use Rattle.tx_state.specs.State.{State}
-use Rattle.tx_state.specs.Step.{step}
-use Rattle.tx_state.specs.Runs.{Moment, moment, run, state_after}
-use Rattle.tx_state.specs.Sound.{is_refused}
-use Rattle.tx_state.specs.Drained.{drained, IsAppending}
-use Rattle.tx_state.proofs.Appending.{appends}
+use Rattle.tx_machine.specs.declared.event.Event.{Event}
+use Rattle.tx_machine.specs.Ended.{Ended}
+use Rattle.tx_machine.specs.State.{State}
+use Rattle.tx_machine.specs.Step.{step}
+use Rattle.tx_machine.specs.Runs.{Moment, moment, run, state_after}
+use Rattle.tx_machine.specs.Sound.{is_refused}
+use Rattle.tx_machine.specs.Drained.{drained, IsAppending}
+use Rattle.tx_machine.proofs.Appending.{appends}
 use Rattle.tx_script.specs.Output.{tickets_made, moment_text, events_text}
 use Rattle.tx_script.specs.declared.tally.Tally.{Tally}
 use Rattle.tx_script.specs.declared.answer.Answered.{Answered}

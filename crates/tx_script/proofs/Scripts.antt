@@ -11,7 +11,7 @@ use Rattle.tx_text.specs.Framing.{to_come}
 use Rattle.tx_text.proofs.ReadingOn.{moves-nil}
 use Rattle.tx_text.proofs.Framing.{on_then, end_then, map_on, map_end, stopped_map}
 use Rattle.tx_plan.specs.Plan.{Plan}
-use Rattle.tx_state.specs.declared.event.Event.{Event}
+use Rattle.tx_machine.specs.declared.event.Event.{Event}
 use Rattle.tx_script.specs.declared.script_word.ScriptWord.{ScriptWord}
 use Rattle.tx_script.specs.Events.{event_of}
 use Rattle.tx_script.specs.Script.{Script, whole, faulty, after_events, line_said, script_said, script_of}

@@ -6,12 +6,12 @@ use Rattle.std.proofs.lemmas.List.Concat.{flat_map-append}
 use Rattle.tx_text.specs.Ends.{StopsIn}
 use Rattle.tx_text.proofs.Writing.{stops_first, stops_later}
 use Rattle.tx_plan.specs.Plan.{Plan}
-use Rattle.tx_state.specs.declared.event.Event.{Event}
-use Rattle.tx_state.specs.declared.reply.Reply.{Reply}
-use Rattle.tx_state.specs.Ended.{Ended}
-use Rattle.tx_state.specs.State.{State}
-use Rattle.tx_state.specs.Runs.{Moment, moment, run}
-use Rattle.tx_state.specs.Drained.{drained}
+use Rattle.tx_machine.specs.declared.event.Event.{Event}
+use Rattle.tx_machine.specs.declared.reply.Reply.{Reply}
+use Rattle.tx_machine.specs.Ended.{Ended}
+use Rattle.tx_machine.specs.State.{State}
+use Rattle.tx_machine.specs.Runs.{Moment, moment, run}
+use Rattle.tx_machine.specs.Drained.{drained}
 use Rattle.tx_tickets.specs.Texts.{reply_text, ticket_text}
 use Rattle.tx_script.specs.Output.{tickets_made, moment_text}
 use Rattle.tx_script.specs.Untold.{IsUntold}

@@ -23,12 +23,12 @@ use Rattle.tx_text.specs.Said.{is_no_room}
 use Rattle.tx_text.proofs.NoRoom.{IsSaid, none_stops}
 use Rattle.tx_text.proofs.Writing.{append_known-nil, append_known_twice}
 use Rattle.tx_plan.specs.Plan.{Plan}
-use Rattle.tx_state.specs.declared.event.Event.{Event}
-use Rattle.tx_state.specs.State.{State}
-use Rattle.tx_state.specs.Refusals.{refusal}
-use Rattle.tx_state.specs.Runs.{moment, run, state_after}
-use Rattle.tx_state.specs.Sound.{is_refused}
-use Rattle.tx_state.specs.Drained.{drained}
+use Rattle.tx_machine.specs.declared.event.Event.{Event}
+use Rattle.tx_machine.specs.State.{State}
+use Rattle.tx_machine.specs.Refusals.{refusal}
+use Rattle.tx_machine.specs.Runs.{moment, run, state_after}
+use Rattle.tx_machine.specs.Sound.{is_refused}
+use Rattle.tx_machine.specs.Drained.{drained}
 use Rattle.tx_script.specs.declared.answer.Answered.{Answered}
 use Rattle.tx_script.specs.declared.run_fault.RunFault.{RunFault}
 use Rattle.tx_script.specs.declared.run_cause.RunCause.{RunCause}

@@ -3,16 +3,16 @@ use Rattle.std.specs.Prelude.{◌≡◌, ℕ, Bool, true, List, [], length, Opti
 use Rattle.std.specs.Io.KnownBytes.{append_known}
 use Rattle.tx_text.specs.declared.frame.FaultKind.TheVariants.{Word}
 use Rattle.tx_plan.specs.Plan.{Plan}
-use Rattle.tx_state.specs.declared.event.Event.{Event}
-use Rattle.tx_state.specs.State.{State}
-use Rattle.tx_state.specs.Refusals.{refusal}
-use Rattle.tx_state.specs.Step.{takes_memory}
-use Rattle.tx_state.specs.Runs.{Moment, moment}
-use Rattle.tx_state.specs.Sound.{is_refused}
+use Rattle.tx_machine.specs.declared.event.Event.{Event}
+use Rattle.tx_machine.specs.State.{State}
+use Rattle.tx_machine.specs.Refusals.{refusal}
+use Rattle.tx_machine.specs.Step.{takes_memory}
+use Rattle.tx_machine.specs.Runs.{Moment, moment}
+use Rattle.tx_machine.specs.Sound.{is_refused}
 use Rattle.tx_script.specs.declared.answer.Answered.{Answered}
 use Rattle.tx_script.specs.declared.run_cause.RunCause.{RunCause}
 use Rattle.tx_script.specs.declared.run_cause.RunCause.TheVariants.{Read, Write, Script as OfScript, NoMemory}
-use Rattle.tx_state.specs.Drained.{drained}
+use Rattle.tx_machine.specs.Drained.{drained}
 use Rattle.tx_script.specs.declared.script_word.ScriptWord.{ScriptWord}
 use Rattle.tx_script.specs.Events.{Said}
 use Rattle.tx_script.specs.Output.{tickets_made, moment_text}

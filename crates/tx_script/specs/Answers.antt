@@ -10,12 +10,12 @@ use Rattle.tx_text.specs.Told.{Ending, AtEnd, Cut}
 use Rattle.tx_text.specs.Frame.{ReadsOn, EndsAs, Stands}
 use Rattle.tx_text.specs.Said.{is_no_room}
 use Rattle.tx_plan.specs.Plan.{Plan}
-use Rattle.tx_state.specs.declared.event.Event.{Event}
-use Rattle.tx_state.specs.State.{State}
-use Rattle.tx_state.specs.Refusals.{refusal}
-use Rattle.tx_state.specs.Step.{takes_memory}
-use Rattle.tx_state.specs.Runs.{Moment, moment, state_after}
-use Rattle.tx_state.specs.Drained.{drained}
+use Rattle.tx_machine.specs.declared.event.Event.{Event}
+use Rattle.tx_machine.specs.State.{State}
+use Rattle.tx_machine.specs.Refusals.{refusal}
+use Rattle.tx_machine.specs.Step.{takes_memory}
+use Rattle.tx_machine.specs.Runs.{Moment, moment, state_after}
+use Rattle.tx_machine.specs.Drained.{drained}
 use Rattle.tx_script.specs.declared.script_word.ScriptWord.{ScriptWord}
 use Rattle.tx_script.specs.declared.run_fault.RunFault.{RunFault}
 use Rattle.tx_script.specs.declared.run_cause.RunCause.{RunCause}

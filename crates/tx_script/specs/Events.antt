@@ -8,10 +8,10 @@ use Rattle.tx_plan.specs.Plan.{Plan, code_named, group_named, group_name, figure
 use Rattle.tx_plan.specs.Rules.{IsPlan, is_national}
 use Rattle.tx_entries.specs.declared.circuit.Circuit.{Circuit}
 use Rattle.tx_entries.specs.declared.line.Line.{Line}
-use Rattle.tx_state.specs.declared.event.Event.{Event}
-use Rattle.tx_state.specs.declared.event.Event.TheVariants.{Key, Route, Confirm, Clear, Released, Fail, Restore, Block, Unblock, CircuitOut, CircuitIn, LineFault, LineMend, LineAway, LineBack}
-use Rattle.tx_state.specs.declared.party.Party.{Party}
-use Rattle.tx_state.specs.declared.party.Party.TheVariants.{Caller, Called}
+use Rattle.tx_machine.specs.declared.event.Event.{Event}
+use Rattle.tx_machine.specs.declared.event.Event.TheVariants.{Key, Route, Confirm, Clear, Released, Fail, Restore, Block, Unblock, CircuitOut, CircuitIn, LineFault, LineMend, LineAway, LineBack}
+use Rattle.tx_machine.specs.declared.party.Party.{Party}
+use Rattle.tx_machine.specs.declared.party.Party.TheVariants.{Caller, Called}
 use Rattle.tx_tickets.specs.Texts.{circuit_text}
 use Rattle.tx_text.specs.declared.text_fault.TextFault.{TextFault}
 use Rattle.tx_text.specs.declared.line_fault.LineFault.TheVariants.{Text as of_text}

@@ -3,11 +3,11 @@ use Rattle.std.specs.Prelude.{ℕ, List, [], ◌++◌, Option, None, Some, codes
 use Rattle.std.specs.List.{flat_map, count_by, sum_by}
 use Rattle.tx_text.specs.declared.frame.FaultKind.{FaultKind}
 use Rattle.tx_plan.specs.Plan.{Plan}
-use Rattle.tx_state.specs.declared.event.Event.{Event}
-use Rattle.tx_state.specs.Ended.{Ended}
-use Rattle.tx_state.specs.State.{State}
-use Rattle.tx_state.specs.Runs.{Moment, run, state_after}
-use Rattle.tx_state.specs.Sound.{is_refused}
+use Rattle.tx_machine.specs.declared.event.Event.{Event}
+use Rattle.tx_machine.specs.Ended.{Ended}
+use Rattle.tx_machine.specs.State.{State}
+use Rattle.tx_machine.specs.Runs.{Moment, run, state_after}
+use Rattle.tx_machine.specs.Sound.{is_refused}
 use Rattle.tx_tickets.specs.Texts.{reply_text, ticket_text}
 use Rattle.tx_script.specs.declared.script_word.ScriptWord.{ScriptWord}
 use Rattle.tx_script.specs.declared.summary.Summary.{Summary}

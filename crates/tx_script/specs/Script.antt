@@ -7,7 +7,7 @@ use Rattle.tx_text.specs.Text.{lines_of}
 use Rattle.tx_text.specs.Told.{Ending, told}
 use Rattle.tx_text.specs.Frame.{Framed, Done, Stop, Headed, Has, header_of, framed}
 use Rattle.tx_plan.specs.Plan.{Plan}
-use Rattle.tx_state.specs.declared.event.Event.{Event}
+use Rattle.tx_machine.specs.declared.event.Event.{Event}
 use Rattle.tx_script.specs.declared.script_word.ScriptWord.{ScriptWord}
 use Rattle.tx_script.specs.Events.{event_of}
 

@@ -1,9 +1,9 @@
 -- What a run tells where the line of each event is asked for too.
 use Rattle.std.specs.Prelude.{ℕ, ◌+◌, Bool, if◌then◌else◌, List, [], ◌∷◌, ◌++◌, codes, decimal}
 use Rattle.tx_plan.specs.Plan.{Plan}
-use Rattle.tx_state.specs.declared.event.Event.{Event}
-use Rattle.tx_state.specs.State.{State}
-use Rattle.tx_state.specs.Runs.{Moment, run, state_after}
+use Rattle.tx_machine.specs.declared.event.Event.{Event}
+use Rattle.tx_machine.specs.State.{State}
+use Rattle.tx_machine.specs.Runs.{Moment, run, state_after}
 use Rattle.tx_script.specs.Events.{event_text}
 use Rattle.tx_script.specs.Script.{Script}
 use Rattle.tx_script.specs.Output.{moment_text, last_text}

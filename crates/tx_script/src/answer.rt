@@ -2,8 +2,8 @@
 ghost use Rattle.std.specs.Prelude.{◌≡◌, ◌+◌, ◌<◌, ◌^◌, [], true, OnOk, OnErr, IfOk, length};
 ghost use Rattle.std.specs.List.{flat_map};
 ghost use Rattle.std.specs.Io.KnownBytes.{append_known};
-ghost use Rattle.tx_state.specs.Drained.{drained};
-ghost use Rattle.tx_state.specs.Sound.{is_refused};
+ghost use Rattle.tx_machine.specs.Drained.{drained};
+ghost use Rattle.tx_machine.specs.Sound.{is_refused};
 ghost use Rattle.tx_tickets.specs.Texts.{ticket_text};
 ghost use Rattle.tx_script.specs.Untold.{StopsAtTicket};
 ghost use Rattle.tx_script.specs.Answered.{EventAnswers, mark_with};
@@ -11,7 +11,7 @@ ghost use Rattle.tx_script.specs.Answered.{EventAnswers, mark_with};
 use crate::run_cause::RunCause;
 use std::alloc::Allocator;
 use tx_plan::Plan;
-use tx_state::{Event, Network, Reply};
+use tx_machine::{Event, Network, Reply};
 use tx_text::{Sink, WriteFault};
 use tx_tickets::{write_reply, write_ticket};
 

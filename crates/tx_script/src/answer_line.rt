@@ -7,7 +7,7 @@ use crate::run_cause::RunCause;
 use crate::script_word::ScriptWord;
 use std::alloc::Allocator;
 use tx_plan::Plan;
-use tx_state::{Event, Network};
+use tx_machine::{Event, Network};
 use tx_text::{FaultAt, FaultKind, Sink};
 
 /// Answers a line of this number, whose words say an event or have a fault, over a network whose tickets were taken.

@@ -6,7 +6,7 @@ use crate::event_words::event_of;
 use crate::script_word::ScriptKind;
 use std::alloc::Allocator;
 use tx_plan::Plan;
-use tx_state::Event;
+use tx_machine::Event;
 use tx_text::{FaultKind, FrameFault, LineFault, bytes_fault, words};
 
 /// The event that one line of a script says, given without its LF and the CR before it. `Err` is the first fault: one of its bytes comes before those of its

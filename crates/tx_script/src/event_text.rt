@@ -12,7 +12,7 @@ ghost use Rattle.tx_script.specs.Events.{IsWritable, IsEvent, event_in, event_li
 use itoa::Buffer;
 use std::alloc::Allocator;
 use tx_plan::{GroupId, Line, Plan};
-use tx_state::{Event, Party};
+use tx_machine::{Event, Party};
 use tx_text::{Figures, Sink, WriteFault, write_text};
 use tx_tickets::write_circuit;
 

@@ -2,14 +2,14 @@
 ghost use Rattle.std.specs.Prelude.{◌≡◌, ◌<◌, ◌++◌, None, Some, Ok, MatchOption, IfSome, length};
 ghost use Rattle.std.specs.List.{position};
 ghost use Rattle.tx_text.specs.Words.{words_of};
-ghost use Rattle.tx_state.specs.declared.event.Event.TheVariants.{Route, Confirm, Released};
+ghost use Rattle.tx_machine.specs.declared.event.Event.TheVariants.{Route, Confirm, Released};
 ghost use Rattle.tx_script.specs.Events.{event_of, event_by, BeginsWith, said_of, key_event, call_in, clear_event, circuit_in, circuit_of, circuit_number, is_dot, cut_at_dot, group_in, line_in, line_of, party_of, end_event, one_word, two_words, three_words};
 
 use crate::script_word::ScriptWord;
 use crate::verb::Verb;
 use std::alloc::Allocator;
 use tx_plan::{Circuit, GroupId, Line, National, Plan};
-use tx_state::{Event, Party};
+use tx_machine::{Event, Party};
 use tx_text::{Figures, Words, number};
 
 /// The event of a line's words.

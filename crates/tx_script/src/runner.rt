@@ -22,7 +22,7 @@ use crate::verb::Verb;
 use itoa::Buffer;
 use std::alloc::Allocator;
 use tx_plan::Plan;
-use tx_state::Network;
+use tx_machine::Network;
 use tx_text::{
     FaultAt, FaultKind, FrameFault, FrameReader, FrameStep, FrameStop, LineFault, Sink, Source,
     WriteFault, write_parts,

@@ -14,7 +14,7 @@ use crate::tally::Tally;
 use crate::told::tell_line;
 use std::alloc::Allocator;
 use tx_plan::Plan;
-use tx_state::Network;
+use tx_machine::Network;
 use tx_text::{FaultKind, FrameFault, FrameReader, FrameStep, LineFault, Sink, Source};
 
 /// Runs a script as `run` does. Where the lines of events are asked for, the line of each stands before its reply, with its number, as `EVENT 2 ROUTE 1`.

@@ -3,7 +3,7 @@ ghost use Rattle.std.specs.Prelude.{◌≡◌, ◌+◌, ◌≤◌, ◌++◌, Boo
 ghost use Rattle.std.specs.Io.KnownBytes.{append_known};
 ghost use Rattle.tx_text.specs.Ends.{StopsIn};
 ghost use Rattle.tx_plan.specs.Plan.{exchange_name};
-ghost use Rattle.tx_state.specs.declared.reply.Reply.TheVariants.{Lost};
+ghost use Rattle.tx_machine.specs.declared.reply.Reply.TheVariants.{Lost};
 ghost use Rattle.tx_tickets.specs.Texts.{circuit_text, line_text, stands_text, reply_text};
 
 use crate::line_room::LineRoom;
@@ -11,7 +11,7 @@ use crate::words::{refusal_word, service_word, stands_word};
 use itoa::Buffer;
 use std::alloc::Allocator;
 use tx_plan::{Circuit, ExchangeId, Line, Plan};
-use tx_state::Reply;
+use tx_machine::Reply;
 use tx_text::{Sink, WriteFault, write_bytes, write_parts};
 
 /// How many bytes the line of a reply may have at most.

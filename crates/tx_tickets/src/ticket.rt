@@ -9,7 +9,7 @@ use crate::line_room::LineRoom;
 use crate::words::cause_word;
 use std::alloc::Allocator;
 use tx_plan::Plan;
-use tx_state::{Hop, Ticket};
+use tx_machine::{Hop, Ticket};
 use tx_text::{Sink, WriteFault, write_bytes};
 
 /// How many bytes of a ticket's line may stand in its room.

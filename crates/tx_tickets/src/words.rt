@@ -2,7 +2,7 @@
 ghost use Rattle.std.specs.Prelude.{◌≡◌, ◌≤◌, length};
 ghost use Rattle.tx_tickets.specs.Texts.{service_text, cause_text, refusal_text, stands_text};
 
-use tx_state::{Cause, Refusal, Service};
+use tx_machine::{Cause, Refusal, Service};
 
 /// A service code, as it is printed.
 #[inline(always)]

@@ -1,10 +1,10 @@
 -- The state of a network that keeps its open calls, a table of circuits and a book of lines.
 use Rattle.std.specs.Prelude.{ℕ, List}
 use Rattle.tx_plan.specs.Plan.{Plan}
-use Rattle.tx_state.specs.Call.{Call}
-use Rattle.tx_state.specs.Ended.{Ended}
-use Rattle.tx_state.specs.State.{State}
-use Rattle.tx_state.specs.Invariant.{Inv}
+use Rattle.tx_machine.specs.Call.{Call}
+use Rattle.tx_machine.specs.Ended.{Ended}
+use Rattle.tx_machine.specs.State.{State}
+use Rattle.tx_machine.specs.Invariant.{Inv}
 use Rattle.tx_lines.specs.Book.{Book}
 use Rattle.tx_circuits.specs.Table.{Table}
 use Rattle.tx_endings.specs.inner.GivenBack.{AreUsed, AreEngaged}

@@ -1,8 +1,8 @@
 -- The numbers of the calls that use a group.
 use Rattle.std.specs.Prelude.{◌≡◌, ℕ, Bool, true, ◌&&◌, ◌==◌, nat_le, List}
 use Rattle.std.specs.List.{list_any}
-use Rattle.tx_state.specs.Call.{Call}
-use Rattle.tx_state.specs.InUse.{circuits_used}
+use Rattle.tx_machine.specs.Call.{Call}
+use Rattle.tx_machine.specs.InUse.{circuits_used}
 use Rattle.tx_plan.specs.Among.{Among}
 
 -- these are the numbers of the calls that pass the test, and of no others

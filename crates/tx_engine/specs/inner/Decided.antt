@@ -5,17 +5,17 @@ use Rattle.tx_plan.specs.Codes.{code_of}
 use Rattle.tx_plan.specs.Routes.{route_list, is_barred}
 use Rattle.tx_entries.specs.declared.circuit.Circuit.{Circuit}
 use Rattle.tx_entries.specs.declared.line.Line.{Line}
-use Rattle.tx_state.specs.declared.service.Service.{Service}
-use Rattle.tx_state.specs.declared.service.Service.TheVariants.{Occ, Nc, Np, Der, Abs, Na}
-use Rattle.tx_state.specs.declared.reply.Reply.{Reply}
-use Rattle.tx_state.specs.declared.reply.Reply.TheVariants.{Seized}
-use Rattle.tx_state.specs.declared.phase.Phase.TheVariants.{Standing, Calling}
-use Rattle.tx_state.specs.Call.{Call, place_of, is_first}
-use Rattle.tx_state.specs.State.{State}
-use Rattle.tx_state.specs.InUse.{first_in}
-use Rattle.tx_state.specs.Lines.{line_answer}
-use Rattle.tx_state.specs.Routing.{set_call, in_phase, line_of, at_line}
-use Rattle.tx_state.specs.Ending.{answered}
+use Rattle.tx_machine.specs.declared.service.Service.{Service}
+use Rattle.tx_machine.specs.declared.service.Service.TheVariants.{Occ, Nc, Np, Der, Abs, Na}
+use Rattle.tx_machine.specs.declared.reply.Reply.{Reply}
+use Rattle.tx_machine.specs.declared.reply.Reply.TheVariants.{Seized}
+use Rattle.tx_machine.specs.declared.phase.Phase.TheVariants.{Standing, Calling}
+use Rattle.tx_machine.specs.Call.{Call, place_of, is_first}
+use Rattle.tx_machine.specs.State.{State}
+use Rattle.tx_machine.specs.InUse.{first_in}
+use Rattle.tx_machine.specs.Lines.{line_answer}
+use Rattle.tx_machine.specs.Routing.{set_call, in_phase, line_of, at_line}
+use Rattle.tx_machine.specs.Ending.{answered}
 use Rattle.tx_lines.specs.Book.{Book, is_line_of}
 use Rattle.tx_circuits.specs.Table.{Table, first_free}
 use Rattle.tx_calls.specs.Calls.{Kept, kept_at}

@@ -1,8 +1,8 @@
 -- Two calls that meet on a circuit.
 use Rattle.std.specs.Prelude.{◌≡◌, ℕ, Some}
 use Rattle.tx_entries.specs.declared.circuit.Circuit.{Circuit}
-use Rattle.tx_state.specs.declared.phase.Phase.TheVariants.{Calling}
-use Rattle.tx_state.specs.Confirming.{rival, thrown_back}
+use Rattle.tx_machine.specs.declared.phase.Phase.TheVariants.{Calling}
+use Rattle.tx_machine.specs.Confirming.{rival, thrown_back}
 use Rattle.tx_calls.specs.Calls.{Kept, Calls, kept_at}
 use Rattle.tx_engine.specs.declared.head_on.Met.{Met}
 use Rattle.tx_engine.specs.declared.parts.Parts.{Parts}

@@ -7,10 +7,10 @@ use Rattle.tx_plan.specs.Lines.{is_line_at}
 use Rattle.tx_plan.specs.Circuits.{is_circuit, ends_of}
 use Rattle.tx_plan.specs.Among.{Among}
 use Rattle.tx_entries.specs.declared.circuit.Circuit.{Circuit}
-use Rattle.tx_state.specs.declared.phase.Phase.TheVariants.{Calling}
-use Rattle.tx_state.specs.Call.{place_of, call_of}
-use Rattle.tx_state.specs.State.{State}
-use Rattle.tx_state.specs.InUse.{circuits_carried}
+use Rattle.tx_machine.specs.declared.phase.Phase.TheVariants.{Calling}
+use Rattle.tx_machine.specs.Call.{place_of, call_of}
+use Rattle.tx_machine.specs.State.{State}
+use Rattle.tx_machine.specs.InUse.{circuits_carried}
 use Rattle.tx_lines.specs.Book.{Book, is_line_of}
 use Rattle.tx_circuits.specs.Table.{Table}
 use Rattle.tx_calls.specs.Calls.{Kept, Calls, HasRoom, kept_at, calls_in}

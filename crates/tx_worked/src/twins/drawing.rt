@@ -5,7 +5,7 @@ use crate::twins::picture::{KnownCall, Picture};
 use crate::twins::stray::stray;
 use arrayvec::ArrayVec;
 use tx_plan::{Circuit, GroupId, Line, National, Plan};
-use tx_state::{Event, Party};
+use tx_machine::{Event, Party};
 use tx_text::Figures;
 
 /// A figure.

@@ -2,7 +2,7 @@
 use crate::twins::chance::Chance;
 use crate::twins::picture::Picture;
 use tx_plan::{Circuit, CodeId, GroupId, Line, National, Plan};
-use tx_state::{Event, Party};
+use tx_machine::{Event, Party};
 use tx_text::Figures;
 
 /// A place below a count, or one of the two behind it.

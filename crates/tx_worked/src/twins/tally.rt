@@ -1,7 +1,7 @@
 // Counts of events, by their replies, and of tickets, by their causes.
 use crate::cases::{Told, tell, tell_count, tell_parts};
 use crate::twins::stop::Differs;
-use tx_state::{Cause, Event, Refusal, Reply, Service};
+use tx_machine::{Cause, Event, Refusal, Reply, Service};
 
 /// The names of what is counted, in the order in which the counts are told.
 static REPLIES: [&str; 12] = [

@@ -1,7 +1,7 @@
 // Two networks, and one event after another.
 use crate::cases::Refusing;
 use std::alloc::{Allocator, Global};
-use tx_state::{Event, Network, Reply, Ticket};
+use tx_machine::{Event, Network, Reply, Ticket};
 
 /// In what two networks differ after an event.
 #[derive(Clone, Copy)]

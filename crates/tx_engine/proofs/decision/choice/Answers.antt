@@ -3,8 +3,8 @@ use Rattle.tx_plan.proofs.Among.{among_at}
 use Rattle.tx_plan.specs.Among.{Among}
 use Rattle.tx_circuits.specs.Table.{first_free}
 use Rattle.tx_circuits.proofs.Unnamed.{may_seize-same}
-use Rattle.tx_state.specs.InUse.{first_in}
-use Rattle.tx_state.proofs.Steps.{listed_may}
+use Rattle.tx_machine.specs.InUse.{first_in}
+use Rattle.tx_machine.proofs.Steps.{listed_may}
 use Rattle.tx_engine.proofs.Choosing.{first_here, first_past, first_none}
 use Rattle.tx_engine.proofs.decision.choice.Goals as goal
 

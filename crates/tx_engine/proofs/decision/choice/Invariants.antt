@@ -1,5 +1,5 @@
 use Rattle.std.proofs.Common.{◌≡◌, drop}
-use Rattle.tx_state.specs.InUse.{first_in}
+use Rattle.tx_machine.specs.InUse.{first_in}
 use Rattle.tx_circuits.specs.Table.{first_free}
 use Rattle.tx_engine.proofs.decision.choice.Given as goal
 

@@ -4,9 +4,9 @@ use Rattle.tx_plan.specs.Codes.{after, code_of}
 use Rattle.tx_plan.specs.Plan.{figures_of, home_of}
 use Rattle.tx_plan.specs.Routes.{route_list, is_barred}
 use Rattle.tx_trie.specs.Trie.{plan_of}
-use Rattle.tx_state.specs.Call.{is_first, place_of}
-use Rattle.tx_state.specs.InUse.{first_in}
-use Rattle.tx_state.specs.Seen.{call_seen}
+use Rattle.tx_machine.specs.Call.{is_first, place_of}
+use Rattle.tx_machine.specs.InUse.{first_in}
+use Rattle.tx_machine.specs.Seen.{call_seen}
 use Rattle.tx_lines.specs.Book.{is_line_of}
 use Rattle.tx_circuits.specs.Table.{first_free}
 use Rattle.tx_engine.specs.inner.Decided.{by_line, by_trunk, decided_for}

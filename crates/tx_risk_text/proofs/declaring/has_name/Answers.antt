@@ -2,7 +2,7 @@ use Rattle.std.proofs.Common.{sym, ap, ◌∙◌, inl, inr, refl, arith, length}
 use Rattle.std.proofs.lemmas.Bool.{cases_eq}
 use Rattle.std.proofs.lemmas.Option.{slice_get_read, slice_get_within}
 use Rattle.std.specs.Str.{bytes_eq}
-use Rattle.tx_state.proofs.Lists.{mem_any, any_none}
+use Rattle.tx_machine.proofs.Lists.{mem_any, any_none}
 use Rattle.tx_rank.proofs.Looks.{among_at}
 use Rattle.tx_risk.specs.NamedRisks.{NamedRisk}
 use Rattle.tx_risk.proofs.LeftLists.{place_among, one_there}

@@ -1,5 +1,5 @@
 use Rattle.std.proofs.Common.{arith, refl, rules, sym, ◌∙◌}
-use Rattle.tx_state.specs.declared.party.Party.TheVariants.{Caller, Called}
+use Rattle.tx_machine.specs.declared.party.Party.TheVariants.{Caller, Called}
 use Rattle.tx_script.proofs.EventWords.{party_last}
 use Rattle.tx_script.proofs.event_words.clear_left.Goals as goal
 

@@ -1,9 +1,9 @@
 use Rattle.std.proofs.Common.{[], sym, ap, ◌∙◌, arith}
 use Rattle.std.specs.Io.KnownBytes.{append_known}
 use Rattle.std.proofs.lemmas.Result.{err_from_is_err_and}
-use Rattle.tx_state.specs.Drained.{drained}
-use Rattle.tx_state.specs.State.{State}
-use Rattle.tx_state.specs.Runs.{moment}
+use Rattle.tx_machine.specs.Drained.{drained}
+use Rattle.tx_machine.specs.State.{State}
+use Rattle.tx_machine.specs.Runs.{moment}
 use Rattle.tx_tickets.specs.Texts.{reply_text}
 use Rattle.tx_tickets.proofs.Taking.{then_took}
 use Rattle.tx_script.specs.Output.{moment_text}

@@ -1,8 +1,8 @@
 use Rattle.std.proofs.Common.{◌≡◌, None, IfOk, OnErr, subst}
-use Rattle.tx_state.specs.Refusals.{refusal}
-use Rattle.tx_state.specs.State.{Net}
-use Rattle.tx_state.specs.Step.{step}
-use Rattle.tx_state.specs.declared.event.Event.TheVariants.{Key}
+use Rattle.tx_machine.specs.Refusals.{refusal}
+use Rattle.tx_machine.specs.State.{Net}
+use Rattle.tx_machine.specs.Step.{step}
+use Rattle.tx_machine.specs.declared.event.Event.TheVariants.{Key}
 use Rattle.tx_engine.specs.inner.Sound.{state_of}
 use Rattle.tx_engine.proofs.engine.Engine.key.Goals as goal
 

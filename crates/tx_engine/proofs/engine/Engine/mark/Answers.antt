@@ -1,5 +1,5 @@
 use Rattle.std.proofs.Common.{ap, ◌∙◌}
-use Rattle.tx_state.specs.State.{Net}
+use Rattle.tx_machine.specs.State.{Net}
 use Rattle.tx_lines.specs.Book.{Book}
 use Rattle.tx_text.proofs.Writing.{on_err}
 use Rattle.tx_calls.specs.Calls.{calls_in}

@@ -1,7 +1,7 @@
 use Rattle.std.proofs.Common.{◌≡◌, IfOk, sym, subst}
-use Rattle.tx_state.specs.State.{Net}
-use Rattle.tx_state.specs.Step.{step}
-use Rattle.tx_state.specs.declared.event.Event.TheVariants.{Route, Confirm, Clear}
+use Rattle.tx_machine.specs.State.{Net}
+use Rattle.tx_machine.specs.Step.{step}
+use Rattle.tx_machine.specs.declared.event.Event.TheVariants.{Route, Confirm, Clear}
 use Rattle.tx_engine.specs.inner.Sound.{state_of}
 use Rattle.tx_engine.proofs.engine.EngineNetwork.apply.Goals as goal
 

@@ -1,7 +1,7 @@
 use Rattle.std.proofs.Common.{sym, ap, arith}
-use Rattle.tx_state.specs.declared.reply.Reply.TheVariants.{Answered}
-use Rattle.tx_state.specs.State.{State}
-use Rattle.tx_state.specs.Step.{counted}
+use Rattle.tx_machine.specs.declared.reply.Reply.TheVariants.{Answered}
+use Rattle.tx_machine.specs.State.{State}
+use Rattle.tx_machine.specs.Step.{counted}
 use Rattle.tx_engine.proofs.parts.Parts.answer.Goals as goal
 
 pub overflow_add-self : goal.overflow_add-self

@@ -1,8 +1,8 @@
 use Rattle.std.proofs.Common.{◌≡◌, ◌⊎◌, inl, inr, false, true, Some, [], ◌∷◌, sym, ap, ◌∙◌}
 use Rattle.tx_plan.specs.Declaring.{first_true}
-use Rattle.tx_state.specs.Call.{is_connected}
-use Rattle.tx_state.specs.declared.party.Party.TheVariants.{Caller, Called}
-use Rattle.tx_state.specs.declared.refusal.Refusal.TheVariants.{Exhausted}
+use Rattle.tx_machine.specs.Call.{is_connected}
+use Rattle.tx_machine.specs.declared.party.Party.TheVariants.{Caller, Called}
+use Rattle.tx_machine.specs.declared.refusal.Refusal.TheVariants.{Exhausted}
 use Rattle.tx_calls.specs.Calls.{Kept, kept_of}
 use Rattle.tx_engine.specs.inner.Sound.{state_of}
 use Rattle.tx_engine.proofs.Refused.{clear_unknown, clear_early, clear_spent}

@@ -1,7 +1,7 @@
 use Rattle.std.proofs.Common.{◌≡◌, Some, is_some, refl, sym, ap, ◌∙◌}
-use Rattle.tx_state.specs.declared.event.Event.TheVariants.{Confirm}
-use Rattle.tx_state.specs.Confirming.{far_of}
-use Rattle.tx_state.specs.Step.{accepted, counted, unless_refused}
+use Rattle.tx_machine.specs.declared.event.Event.TheVariants.{Confirm}
+use Rattle.tx_machine.specs.Confirming.{far_of}
+use Rattle.tx_machine.specs.Step.{accepted, counted, unless_refused}
 use Rattle.tx_calls.specs.Calls.{Kept, kept_of}
 use Rattle.tx_engine.specs.inner.Sound.{state_of}
 use Rattle.tx_engine.proofs.parts.Parts.confirm.Goals as goal

@@ -1,7 +1,7 @@
 use Rattle.std.proofs.Common.{◌+◌, sym, ap, ◌∙◌, subst, deque_len, deque_capacity}
-use Rattle.tx_state.specs.declared.reply.Reply.TheVariants.{Lost}
-use Rattle.tx_state.specs.declared.event.Event.TheVariants.{Fail}
-use Rattle.tx_state.specs.Step.{counted, accepted, unless_refused}
+use Rattle.tx_machine.specs.declared.reply.Reply.TheVariants.{Lost}
+use Rattle.tx_machine.specs.declared.event.Event.TheVariants.{Fail}
+use Rattle.tx_machine.specs.Step.{counted, accepted, unless_refused}
 use Rattle.tx_calls.specs.Calls.{calls_in}
 use Rattle.tx_endings.specs.inner.Seen.{AreTogether, state_seen}
 use Rattle.tx_endings.proofs.Accepted.{fail_done}

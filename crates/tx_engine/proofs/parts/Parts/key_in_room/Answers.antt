@@ -1,10 +1,10 @@
 use Rattle.std.proofs.Common.{◌+◌, ◌++◌, ◌∷◌, [], sym, ap, ◌∙◌, List, deque_len, deque_capacity, arith}
 use Rattle.std.specs.FinSet as set
-use Rattle.tx_state.specs.declared.event.Event.TheVariants.{Key}
-use Rattle.tx_state.specs.declared.hop.Hop.{Hop}
-use Rattle.tx_state.specs.declared.reply.Reply.TheVariants.{Keyed}
-use Rattle.tx_state.specs.Call.{Call}
-use Rattle.tx_state.specs.Step.{accepted, counted, unless_refused}
+use Rattle.tx_machine.specs.declared.event.Event.TheVariants.{Key}
+use Rattle.tx_machine.specs.declared.hop.Hop.{Hop}
+use Rattle.tx_machine.specs.declared.reply.Reply.TheVariants.{Keyed}
+use Rattle.tx_machine.specs.Call.{Call}
+use Rattle.tx_machine.specs.Step.{accepted, counted, unless_refused}
 use Rattle.tx_text.proofs.Writing.{on_err}
 use Rattle.tx_lines.specs.Book.{Book}
 use Rattle.tx_calls.specs.Calls.{calls_in}

@@ -1,8 +1,8 @@
 use Rattle.std.proofs.Common.{ℕ, ◌+◌, ◌<◌, ◌-◌, ◌^◌, ◌∙◌, sym, ap, subst, drop, refl, arith, get_or}
 use Rattle.std.proofs.lemmas.List.{drop_all}
 use Rattle.tx_plan.specs.Plan.{Plan}
-use Rattle.tx_state.specs.declared.cause.Cause.TheVariants.{Lost as ByLoss}
-use Rattle.tx_state.specs.Ending.{end_call}
+use Rattle.tx_machine.specs.declared.cause.Cause.TheVariants.{Lost as ByLoss}
+use Rattle.tx_machine.specs.Ending.{end_call}
 use Rattle.tx_calls.specs.Calls.{calls_in}
 use Rattle.tx_endings.proofs.Losing.{losing_begins}
 use Rattle.tx_endings.proofs.Users.{AreLeft, none_left}

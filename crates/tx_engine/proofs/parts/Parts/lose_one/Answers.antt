@@ -1,7 +1,7 @@
 use Rattle.std.proofs.Common.{◌≡◌, ℕ, Some, None, refl, sym, ap, ◌∙◌}
-use Rattle.tx_state.specs.declared.cause.Cause.TheVariants.{Lost as ByLoss}
-use Rattle.tx_state.specs.State.{State}
-use Rattle.tx_state.specs.Ending.{end_call}
+use Rattle.tx_machine.specs.declared.cause.Cause.TheVariants.{Lost as ByLoss}
+use Rattle.tx_machine.specs.State.{State}
+use Rattle.tx_machine.specs.Ending.{end_call}
 use Rattle.tx_engine.specs.inner.Sound.{state_of}
 use Rattle.tx_engine.proofs.parts.Parts.lose_one.Goals as goal
 

@@ -1,5 +1,5 @@
 use Rattle.std.proofs.Common.{sym, subst}
-use Rattle.tx_state.specs.InUse.{uses_group}
+use Rattle.tx_machine.specs.InUse.{uses_group}
 use Rattle.tx_calls.specs.Calls.{calls_in}
 use Rattle.tx_endings.specs.inner.Users.{AreNumbersOf}
 use Rattle.tx_endings.proofs.Users.{numbers_along}

@@ -1,9 +1,9 @@
 use Rattle.std.proofs.Common.{◌≡◌, ℕ, ◌==◌, ◌<◌, ◌-◌, ◌^◌, not, sym, ap, ◌∙◌, subst, arith}
-use Rattle.tx_state.specs.declared.cause.Cause.TheVariants.{Service as ByService}
-use Rattle.tx_state.specs.declared.service.Service.TheVariants.{Nc}
-use Rattle.tx_state.specs.declared.reply.Reply.TheVariants.{HeadOn}
-use Rattle.tx_state.specs.State.{State}
-use Rattle.tx_state.specs.Step.{counted}
+use Rattle.tx_machine.specs.declared.cause.Cause.TheVariants.{Service as ByService}
+use Rattle.tx_machine.specs.declared.service.Service.TheVariants.{Nc}
+use Rattle.tx_machine.specs.declared.reply.Reply.TheVariants.{HeadOn}
+use Rattle.tx_machine.specs.State.{State}
+use Rattle.tx_machine.specs.Step.{counted}
 use Rattle.tx_calls.specs.Calls.{kept_at}
 use Rattle.tx_calls.specs.inner.Keys.{keys_of, pick}
 use Rattle.tx_endings.specs.inner.InTurn.{pair_ended}

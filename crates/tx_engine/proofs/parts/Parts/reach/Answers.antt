@@ -1,10 +1,10 @@
 use Rattle.std.proofs.Common.{◌+◌, List, Option, sym, ap, ◌∙◌}
 use Rattle.std.specs.FinSet as set
-use Rattle.tx_state.specs.declared.service.Service.{Service}
-use Rattle.tx_state.specs.declared.reply.Reply.TheVariants.{Connected}
-use Rattle.tx_state.specs.Call.{Call}
-use Rattle.tx_state.specs.Routing.{at_line}
-use Rattle.tx_state.specs.Step.{counted}
+use Rattle.tx_machine.specs.declared.service.Service.{Service}
+use Rattle.tx_machine.specs.declared.reply.Reply.TheVariants.{Connected}
+use Rattle.tx_machine.specs.Call.{Call}
+use Rattle.tx_machine.specs.Routing.{at_line}
+use Rattle.tx_machine.specs.Step.{counted}
 use Rattle.tx_lines.specs.Book.{Book}
 use Rattle.tx_calls.specs.Calls.{calls_in}
 use Rattle.tx_endings.specs.inner.Seen.{state_seen}

@@ -1,7 +1,7 @@
 use Rattle.std.proofs.Common.{◌≡◌, ℕ, ◌+◌, ◌<◌, ◌==◌, Some, refl, sym, ap, ◌∙◌, subst, OnOk, deque_len, deque_capacity}
-use Rattle.tx_state.specs.declared.phase.Phase.TheVariants.{Calling}
-use Rattle.tx_state.specs.declared.reply.Reply.TheVariants.{Seized}
-use Rattle.tx_state.specs.Routing.{set_call, in_phase}
+use Rattle.tx_machine.specs.declared.phase.Phase.TheVariants.{Calling}
+use Rattle.tx_machine.specs.declared.reply.Reply.TheVariants.{Seized}
+use Rattle.tx_machine.specs.Routing.{set_call, in_phase}
 use Rattle.tx_calls.specs.Calls.{calls_in}
 use Rattle.tx_calls.proofs.Sorted.{twice}
 use Rattle.tx_endings.specs.inner.Seen.{state_seen}

@@ -1,5 +1,5 @@
 use Rattle.std.proofs.Common.{◌≡◌, ℕ, ◌==◌, ◌∷◌, [], Some, is_some, sym, ap, ◌∙◌, subst}
-use Rattle.tx_state.specs.InUse.{seizes_from}
+use Rattle.tx_machine.specs.InUse.{seizes_from}
 use Rattle.tx_endings.specs.inner.Users.{AreNumbersOf}
 use Rattle.tx_endings.proofs.Users.{seizer_alone}
 use Rattle.tx_calls.specs.Calls.{Kept, kept_at, kept_of, calls_in}
