@@ -25,8 +25,8 @@ use Rattle.tx_calls.specs.Calls.{Kept, Calls, kept_at, Changes, calls_in, sorted
 use Rattle.tx_calls.specs.inner.Keys.{HasKeys, keys_of, pick}
 use Rattle.tx_calls.specs.declared.end_keys.EndKeys.{EndKeys}
 use Rattle.tx_calls.proofs.Sorted.{sorted_mem}
-use Rattle.tx_endings.specs.inner.Seen.{AreTogether}
-use Rattle.tx_endings.proofs.Going.{keyed_together}
+use Rattle.tx_engine.specs.inner.Seen.{AreTogether}
+use Rattle.tx_engine.proofs.Going.{keyed_together}
 use Rattle.tx_engine.specs.inner.Sound.{AreSound, is_first_end}
 use Rattle.tx_engine.proofs.Keyed.{keyed_updated, hop_room_updated}
 

@@ -26,9 +26,9 @@ use Rattle.tx_calls.specs.Calls.{Kept, Calls, kept_at, Changes, calls_in}
 use Rattle.tx_calls.specs.inner.Keys.{HasKeys, keys_at, keys_of, pick}
 use Rattle.tx_calls.specs.declared.end_keys.EndKeys.{EndKeys}
 use Rattle.tx_calls.proofs.Sorted.{sorted_mem, distinct_rising}
-use Rattle.tx_endings.specs.inner.Seen.{AreTogether, state_seen}
-use Rattle.tx_endings.proofs.HeadOn.{told_alone}
-use Rattle.tx_endings.proofs.Going.{may_hold, carried_together, nobody_else}
+use Rattle.tx_engine.specs.inner.Seen.{AreTogether, state_seen}
+use Rattle.tx_engine.proofs.Thrown.{told_alone}
+use Rattle.tx_engine.proofs.Going.{may_hold, carried_together, nobody_else}
 use Rattle.tx_engine.specs.declared.parts.Parts.{Parts}
 use Rattle.tx_engine.specs.inner.Sound.{AreSound, IsSound, IsUnder, is_first_end, state_of}
 use Rattle.tx_engine.proofs.Keyed.{keys_stay, keys_here, keys_else}

@@ -11,10 +11,10 @@ use Rattle.tx_lines.specs.Book.{Book, is_line_of}
 use Rattle.tx_circuits.specs.Table.{Table}
 use Rattle.tx_calls.specs.Calls.{Kept, Calls, kept_at, Changes, calls_in}
 use Rattle.tx_calls.proofs.Sorted.{sorted_mem}
-use Rattle.tx_endings.specs.inner.GivenBack.{CanGiveBack, given_back, freed}
-use Rattle.tx_endings.specs.inner.Seen.{state_seen}
-use Rattle.tx_endings.proofs.Parts.{may_end, together_after, state_after}
-use Rattle.tx_endings.proofs.Filters.{alone}
+use Rattle.tx_engine.specs.inner.GivenBack.{CanGiveBack, given_back, freed}
+use Rattle.tx_engine.specs.inner.Seen.{state_seen}
+use Rattle.tx_engine.proofs.Together.{may_end, together_after, state_after}
+use Rattle.tx_engine.proofs.Filters.{alone}
 use Rattle.tx_engine.specs.declared.parts.Parts.{Parts}
 use Rattle.tx_engine.specs.inner.Sound.{AreSound, IsSound, state_of}
 use Rattle.tx_engine.proofs.Keyed.{keyed_removed, hop_room_removed}

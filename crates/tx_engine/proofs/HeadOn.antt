@@ -15,11 +15,11 @@ use Rattle.tx_circuits.specs.Table.{Table}
 use Rattle.tx_calls.specs.Calls.{Kept, Calls, kept_at, Changes, calls_in}
 use Rattle.tx_calls.specs.inner.Keys.{keys_of, pick}
 use Rattle.tx_calls.proofs.Sorted.{sorted_mem}
-use Rattle.tx_endings.specs.inner.InTurn.{ended_if, pair_ended}
-use Rattle.tx_endings.specs.inner.Seen.{state_seen, AreTogether}
-use Rattle.tx_endings.specs.inner.GivenBack.{CanThrowOff, thrown_off}
-use Rattle.tx_endings.proofs.HeadOn.{IsRival, told_one, only_rival, rival_is, thrown_in_turn}
-use Rattle.tx_endings.proofs.Parts.{may_throw, thrown_together}
+use Rattle.tx_engine.specs.inner.InTurn.{ended_if, pair_ended}
+use Rattle.tx_engine.specs.inner.Seen.{state_seen, AreTogether}
+use Rattle.tx_engine.specs.inner.GivenBack.{CanThrowOff, thrown_off}
+use Rattle.tx_engine.proofs.Thrown.{IsRival, told_one, only_rival, rival_is, thrown_in_turn}
+use Rattle.tx_engine.proofs.Together.{may_throw, thrown_together}
 use Rattle.tx_engine.specs.declared.parts.Parts.{Parts}
 use Rattle.tx_engine.specs.inner.Sound.{AreSound, IsSound, IsUnder, is_first_end, state_of}
 use Rattle.tx_engine.specs.inner.Meeting.{AreMeeting, AreThrown}

@@ -12,7 +12,7 @@ use Rattle.tx_calls.specs.Calls.{Kept, Calls, kept_at, calls_in}
 use Rattle.tx_calls.specs.inner.Keys.{keys_of, pick}
 use Rattle.tx_calls.specs.declared.end_keys.EndKeys.{EndKeys}
 use Rattle.tx_calls.proofs.Sorted.{mem_sorted}
-use Rattle.tx_endings.proofs.After.{carried_mem, seizing_from}
+use Rattle.tx_engine.proofs.After.{carried_mem, seizing_from}
 use Rattle.tx_engine.specs.inner.Sound.{AreKeyed, is_first_end}
 
 module _ (p : Plan) (c : Calls) (ks : List (List EndKeys)) (keyed : AreKeyed p c ks) (x : Circuit) where

@@ -13,3 +13,15 @@ pub mod Taken
 pub mod Behind
 pub mod Found
 pub mod Choosing
+pub mod Filters
+pub mod Given
+pub mod InTurn
+pub mod After
+pub mod Back
+pub mod Thrown
+pub mod Losing
+pub mod Users
+pub mod Accepted
+pub mod Open
+pub mod Together
+pub mod Going

@@ -13,9 +13,9 @@ use Rattle.tx_machine.specs.State.{State}
 use Rattle.tx_machine.specs.InUse.{uses_group}
 use Rattle.tx_machine.specs.Ending.{end_call}
 use Rattle.tx_machine.proofs.Lists.{find_mem}
-use Rattle.tx_endings.specs.inner.InTurn.{IsLosing}
-use Rattle.tx_endings.proofs.Losing.{losing_goes_on}
-use Rattle.tx_endings.proofs.Users.{AreLeft, first_user, left_after, left_without}
+use Rattle.tx_engine.specs.inner.InTurn.{IsLosing}
+use Rattle.tx_engine.proofs.Losing.{losing_goes_on}
+use Rattle.tx_engine.proofs.Users.{AreLeft, first_user, left_after, left_without}
 
 -- the numbers from a place on: the one there, and those behind it
 pub drop_first : (xs : List ℕ) (i : ℕ) → i < length xs → drop i xs ≡ get_or xs i 0 ∷ drop (i + 1) xs

@@ -9,8 +9,7 @@ use Rattle.tx_plan.specs.Plan.{Plan, home_of, figures_of}
 use Rattle.tx_plan.specs.Codes.{code_of}
 use Rattle.tx_plan.specs.Lines.{is_line_at}
 use Rattle.tx_plan.specs.Routes.{route_list, is_barred}
-use Rattle.tx_plan.specs.Circuits.{may_seize, other_end, circuits_at}
-use Rattle.tx_plan.specs.Circuits.{is_circuit}
+use Rattle.tx_plan.specs.Circuits.{may_seize, other_end, circuits_at, is_circuit}
 use Rattle.tx_plan.specs.Among.{Among}
 use Rattle.tx_entries.specs.declared.circuit.Circuit.{Circuit}
 use Rattle.tx_entries.specs.declared.line.Line.{Line}
@@ -30,8 +29,8 @@ use Rattle.tx_calls.specs.Calls.{Kept, Calls, Changes, calls_in}
 use Rattle.tx_calls.specs.inner.Keys.{HasKeys, keys_at, keys_of, pick, with_key}
 use Rattle.tx_calls.specs.declared.end_keys.EndKeys.{EndKeys}
 use Rattle.tx_calls.proofs.Sorted.{sorted_mem}
-use Rattle.tx_endings.specs.inner.Seen.{AreTogether}
-use Rattle.tx_endings.proofs.Going.{connected_together, seized_together}
+use Rattle.tx_engine.specs.inner.Seen.{AreTogether}
+use Rattle.tx_engine.proofs.Going.{connected_together, seized_together}
 use Rattle.tx_engine.specs.declared.decision.Decision.TheVariants.{Reach, Seize, Answer}
 use Rattle.tx_engine.specs.declared.parts.Parts.{Parts}
 use Rattle.tx_engine.specs.inner.Decided.{decided_for, by_line, by_trunk, service_of, IsDecided}

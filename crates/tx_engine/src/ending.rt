@@ -5,7 +5,7 @@ ghost use Rattle.tx_machine.specs.Ending.{end_call, ticket_of};
 ghost use Rattle.tx_machine.specs.Step.{step};
 ghost use Rattle.tx_calls.specs.Calls.{Kept, kept_at};
 ghost use Rattle.tx_machine.specs.Seen.{call_seen};
-ghost use Rattle.tx_endings.specs.inner.GivenBack.{released_all, given_back, thrown_off, freed, CanReleaseAll, CanGiveBack, CanThrowOff};
+ghost use Rattle.tx_engine.specs.inner.GivenBack.{released_all, given_back, thrown_off, freed, CanReleaseAll, CanGiveBack, CanThrowOff};
 ghost use Rattle.tx_engine.specs.inner.Sound.{IsSound, state_of};
 
 use crate::parts::Parts;

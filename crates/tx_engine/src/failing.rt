@@ -12,8 +12,8 @@ ghost use Rattle.tx_machine.specs.InUse.{uses_group, seizes_from};
 ghost use Rattle.tx_machine.specs.Refusals.{refusal};
 ghost use Rattle.tx_machine.specs.Step.{step};
 ghost use Rattle.tx_calls.specs.Calls.{calls_in};
-ghost use Rattle.tx_endings.specs.inner.InTurn.{uses, IsLosing};
-ghost use Rattle.tx_endings.specs.inner.Users.{AreNumbersOf};
+ghost use Rattle.tx_engine.specs.inner.InTurn.{uses, IsLosing};
+ghost use Rattle.tx_engine.specs.inner.Users.{AreNumbersOf};
 ghost use Rattle.tx_engine.specs.inner.Sound.{IsSound, state_of};
 
 use crate::parts::Parts;

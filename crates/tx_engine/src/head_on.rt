@@ -8,7 +8,7 @@ ghost use Rattle.tx_machine.specs.declared.service.Service.TheVariants.{Nc};
 ghost use Rattle.tx_machine.specs.Confirming.{far_of, rival, collide};
 ghost use Rattle.tx_machine.specs.Step.{accepted, counted};
 ghost use Rattle.tx_calls.specs.Calls.{Kept, kept_at};
-ghost use Rattle.tx_endings.specs.inner.InTurn.{ended_if, pair_ended};
+ghost use Rattle.tx_engine.specs.inner.InTurn.{ended_if, pair_ended};
 ghost use Rattle.tx_engine.specs.inner.Meeting.{AreMeeting, AreThrown, IsMet};
 ghost use Rattle.tx_engine.specs.inner.Sound.{IsSound, IsUnder, state_of};
 

@@ -16,7 +16,7 @@ use Rattle.tx_circuits.specs.Table.{Table}
 use Rattle.tx_calls.specs.Calls.{Kept, Calls, HasRoom, kept_at, calls_in}
 use Rattle.tx_calls.specs.inner.Keys.{HasKeys, keys_of, pick}
 use Rattle.tx_calls.specs.declared.end_keys.EndKeys.{EndKeys}
-use Rattle.tx_endings.specs.inner.Seen.{state_seen, AreTogether}
+use Rattle.tx_engine.specs.inner.Seen.{state_seen, AreTogether}
 use Rattle.tx_engine.specs.declared.parts.Parts.{Parts}
 
 -- the exchange is the first end of the circuit's group

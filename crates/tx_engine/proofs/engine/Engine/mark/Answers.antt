@@ -3,7 +3,7 @@ use Rattle.tx_machine.specs.State.{Net}
 use Rattle.tx_lines.specs.Book.{Book}
 use Rattle.tx_text.proofs.Writing.{on_err}
 use Rattle.tx_calls.specs.Calls.{calls_in}
-use Rattle.tx_endings.specs.inner.Seen.{state_seen}
+use Rattle.tx_engine.specs.inner.Seen.{state_seen}
 use Rattle.tx_engine.proofs.engine.Engine.mark.Goals as goal
 
 pub returns-in_err-mark_line-clause-err : goal.returns-in_err-mark_line-clause-err

@@ -1,7 +1,7 @@
 use Rattle.std.proofs.Common.{sym, subst, deque_len, deque_capacity}
 use Rattle.tx_calls.specs.Calls.{calls_in}
-use Rattle.tx_endings.specs.inner.Seen.{AreTogether}
-use Rattle.tx_endings.proofs.Parts.{released_together}
+use Rattle.tx_engine.specs.inner.Seen.{AreTogether}
+use Rattle.tx_engine.proofs.Together.{released_together}
 use Rattle.tx_engine.proofs.Changing.{sound_table}
 use Rattle.tx_engine.proofs.engine.Engine.released.Goals as goal
 

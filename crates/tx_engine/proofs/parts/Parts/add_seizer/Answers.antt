@@ -1,7 +1,7 @@
 use Rattle.std.proofs.Common.{[], ◌∷◌, sym, ◌∙◌}
 use Rattle.std.proofs.lemmas.List.{append-nil}
 use Rattle.tx_calls.specs.Calls.{calls_in}
-use Rattle.tx_endings.proofs.Users.{no_seizer}
+use Rattle.tx_engine.proofs.Users.{no_seizer}
 use Rattle.tx_engine.proofs.parts.Parts.add_seizer.Goals as goal
 
 pub returns-then-is_seized-clause-added : goal.returns-then-is_seized-clause-added

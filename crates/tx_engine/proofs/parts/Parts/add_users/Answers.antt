@@ -1,8 +1,8 @@
 use Rattle.std.proofs.Common.{ℕ, [], ◌∷◌, ◌++◌, sym, ap, subst, ◌∙◌}
 use Rattle.std.proofs.lemmas.List.{append_assoc}
 use Rattle.tx_machine.specs.InUse.{seizes_from}
-use Rattle.tx_endings.specs.inner.Users.{AreNumbersOf}
-use Rattle.tx_endings.proofs.Users.{by_seizures}
+use Rattle.tx_engine.specs.inner.Users.{AreNumbersOf}
+use Rattle.tx_engine.proofs.Users.{by_seizures}
 use Rattle.tx_calls.specs.Calls.{calls_in}
 use Rattle.tx_engine.proofs.parts.Parts.add_users.Goals as goal
 

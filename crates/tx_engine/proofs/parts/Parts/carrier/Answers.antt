@@ -1,7 +1,7 @@
 use Rattle.std.proofs.Common.{◌≡◌, ◌∷◌, [], true, Some, is_some, sym, ap, ◌∙◌, subst}
-use Rattle.tx_endings.specs.inner.InTurn.{uses}
-use Rattle.tx_endings.specs.inner.Users.{AreNumbersOf}
-use Rattle.tx_endings.proofs.Users.{carrier_alone}
+use Rattle.tx_engine.specs.inner.InTurn.{uses}
+use Rattle.tx_engine.specs.inner.Users.{AreNumbersOf}
+use Rattle.tx_engine.proofs.Users.{carrier_alone}
 use Rattle.tx_calls.specs.Calls.{Kept, kept_at, kept_of, calls_in}
 use Rattle.tx_engine.proofs.Leading.{carrier_found}
 use Rattle.tx_engine.proofs.parts.Parts.carrier.Goals as goal

@@ -3,7 +3,7 @@ use Rattle.std.specs.Prelude.{if◌then◌else◌}
 use Rattle.std.proofs.lemmas.Bool.{lt-ltb, le-ltb}
 use Rattle.tx_machine.specs.declared.cause.Cause.TheVariants.{Service as ByService}
 use Rattle.tx_machine.specs.declared.service.Service.TheVariants.{Nc}
-use Rattle.tx_endings.specs.inner.InTurn.{ended_if}
+use Rattle.tx_engine.specs.inner.InTurn.{ended_if}
 use Rattle.tx_engine.specs.inner.Sound.{state_of}
 use Rattle.tx_engine.proofs.parts.Parts.end_collided.Goals as goal
 

@@ -3,9 +3,9 @@ use Rattle.tx_machine.specs.declared.reply.Reply.TheVariants.{Lost}
 use Rattle.tx_machine.specs.declared.event.Event.TheVariants.{Fail}
 use Rattle.tx_machine.specs.Step.{counted, accepted, unless_refused}
 use Rattle.tx_calls.specs.Calls.{calls_in}
-use Rattle.tx_endings.specs.inner.Seen.{AreTogether, state_seen}
-use Rattle.tx_endings.proofs.Accepted.{fail_done}
-use Rattle.tx_endings.proofs.Parts.{failed_together}
+use Rattle.tx_engine.specs.inner.Seen.{AreTogether, state_seen}
+use Rattle.tx_engine.proofs.Accepted.{fail_done}
+use Rattle.tx_engine.proofs.Together.{failed_together}
 use Rattle.tx_engine.specs.inner.Sound.{state_of}
 use Rattle.tx_engine.proofs.Changing.{sound_table}
 use Rattle.tx_engine.proofs.parts.Parts.fail.Goals as goal

@@ -8,7 +8,7 @@ use Rattle.tx_machine.specs.Step.{accepted, counted, unless_refused}
 use Rattle.tx_text.proofs.Writing.{on_err}
 use Rattle.tx_lines.specs.Book.{Book}
 use Rattle.tx_calls.specs.Calls.{calls_in}
-use Rattle.tx_endings.specs.inner.Seen.{state_seen}
+use Rattle.tx_engine.specs.inner.Seen.{state_seen}
 use Rattle.tx_engine.specs.inner.Sound.{state_of}
 use Rattle.tx_engine.proofs.Changing.{sound_key, keyed_with}
 use Rattle.tx_engine.proofs.Refused.{key_open, key_unknown, key_engaged, key_faulty}

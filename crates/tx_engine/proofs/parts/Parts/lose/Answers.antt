@@ -4,8 +4,8 @@ use Rattle.tx_plan.specs.Plan.{Plan}
 use Rattle.tx_machine.specs.declared.cause.Cause.TheVariants.{Lost as ByLoss}
 use Rattle.tx_machine.specs.Ending.{end_call}
 use Rattle.tx_calls.specs.Calls.{calls_in}
-use Rattle.tx_endings.proofs.Losing.{losing_begins}
-use Rattle.tx_endings.proofs.Users.{AreLeft, none_left}
+use Rattle.tx_engine.proofs.Losing.{losing_begins}
+use Rattle.tx_engine.proofs.Users.{AreLeft, none_left}
 use Rattle.tx_engine.specs.inner.Sound.{state_of}
 use Rattle.tx_engine.proofs.Lost.{drop_first, mem_there, least_there, goes_on}
 use Rattle.tx_engine.proofs.parts.Parts.lose.Goals as goal

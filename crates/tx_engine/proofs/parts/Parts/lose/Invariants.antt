@@ -1,7 +1,7 @@
 use Rattle.std.proofs.Common.{◌≡◌, ◌≤◌, drop}
 use Rattle.tx_calls.specs.Calls.{calls_in}
-use Rattle.tx_endings.specs.inner.InTurn.{IsLosing}
-use Rattle.tx_endings.proofs.Users.{AreLeft}
+use Rattle.tx_engine.specs.inner.InTurn.{IsLosing}
+use Rattle.tx_engine.proofs.Users.{AreLeft}
 use Rattle.tx_engine.specs.inner.Sound.{IsSound, state_of}
 use Rattle.tx_engine.proofs.parts.Parts.lose.Given as goal
 

@@ -6,8 +6,8 @@ use Rattle.tx_machine.specs.State.{State}
 use Rattle.tx_machine.specs.Step.{counted}
 use Rattle.tx_calls.specs.Calls.{kept_at}
 use Rattle.tx_calls.specs.inner.Keys.{keys_of, pick}
-use Rattle.tx_endings.specs.inner.InTurn.{pair_ended}
-use Rattle.tx_endings.proofs.Accepted.{head_on_done}
+use Rattle.tx_engine.specs.inner.InTurn.{pair_ended}
+use Rattle.tx_engine.proofs.Accepted.{head_on_done}
 use Rattle.tx_engine.specs.declared.head_on.Met.{Met}
 use Rattle.tx_engine.specs.inner.Sound.{state_of}
 use Rattle.tx_engine.proofs.HeadOn.{meeting, keys_differ, pair_events}

@@ -7,7 +7,7 @@ use Rattle.tx_machine.specs.Routing.{at_line}
 use Rattle.tx_machine.specs.Step.{counted}
 use Rattle.tx_lines.specs.Book.{Book}
 use Rattle.tx_calls.specs.Calls.{calls_in}
-use Rattle.tx_endings.specs.inner.Seen.{state_seen}
+use Rattle.tx_engine.specs.inner.Seen.{state_seen}
 use Rattle.tx_engine.specs.inner.Decided.{service_of}
 use Rattle.tx_engine.specs.inner.Sound.{state_of}
 use Rattle.tx_engine.proofs.Deciding.{answer_is}

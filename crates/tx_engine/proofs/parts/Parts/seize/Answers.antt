@@ -4,7 +4,7 @@ use Rattle.tx_machine.specs.declared.reply.Reply.TheVariants.{Seized}
 use Rattle.tx_machine.specs.Routing.{set_call, in_phase}
 use Rattle.tx_calls.specs.Calls.{calls_in}
 use Rattle.tx_calls.proofs.Sorted.{twice}
-use Rattle.tx_endings.specs.inner.Seen.{state_seen}
+use Rattle.tx_engine.specs.inner.Seen.{state_seen}
 use Rattle.tx_engine.proofs.Changing.{sound_hop}
 use Rattle.tx_engine.proofs.Routing.{known, may, free, has_keys, sound_seized}
 use Rattle.tx_engine.proofs.parts.Parts.seize.Goals as goal

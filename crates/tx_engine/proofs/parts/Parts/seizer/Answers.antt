@@ -1,7 +1,7 @@
 use Rattle.std.proofs.Common.{◌≡◌, ℕ, ◌==◌, ◌∷◌, [], Some, is_some, sym, ap, ◌∙◌, subst}
 use Rattle.tx_machine.specs.InUse.{seizes_from}
-use Rattle.tx_endings.specs.inner.Users.{AreNumbersOf}
-use Rattle.tx_endings.proofs.Users.{seizer_alone}
+use Rattle.tx_engine.specs.inner.Users.{AreNumbersOf}
+use Rattle.tx_engine.proofs.Users.{seizer_alone}
 use Rattle.tx_calls.specs.Calls.{Kept, kept_at, kept_of, calls_in}
 use Rattle.tx_calls.specs.inner.Keys.{keys_of, pick}
 use Rattle.tx_engine.proofs.Leading.{seizer_found}

@@ -1,7 +1,7 @@
 use Rattle.std.proofs.Common.{◌*◌, ◌≤◌}
 use Rattle.arrayvec.specs.ArrayVec.{array_vec_len}
 use Rattle.tx_calls.specs.Calls.{calls_in}
-use Rattle.tx_endings.specs.inner.Users.{AreNumbersOf, uses_up_to}
+use Rattle.tx_engine.specs.inner.Users.{AreNumbersOf, uses_up_to}
 use Rattle.tx_engine.proofs.parts.Parts.users_of.Given as goal
 
 abbrev pub invariant-loop-number : goal.invariant-loop-number

@@ -7,7 +7,7 @@ use Rattle.tx_machine.specs.State.{State}
 use Rattle.tx_machine.specs.Invariant.{Inv}
 use Rattle.tx_lines.specs.Book.{Book}
 use Rattle.tx_circuits.specs.Table.{Table}
-use Rattle.tx_endings.specs.inner.GivenBack.{AreUsed, AreEngaged}
+use Rattle.tx_engine.specs.inner.GivenBack.{AreUsed, AreEngaged}
 
 -- the state's own sets are those of the table and of the book
 abbrev pub state_seen : List Call → Table → Book → ℕ → ℕ → List Ended → State

@@ -32,9 +32,9 @@ use Rattle.tx_machine.proofs.Changes.{key_keeps, connect_keeps, seize_keeps, car
 use Rattle.tx_lines.specs.Book.{Book}
 use Rattle.tx_circuits.specs.Table.{Table, Seat, IsSeizedBy, with_held, is_free_at as is_free_in}
 use Rattle.tx_circuits.proofs.Seats.{seats_total, exact_seats, seat_tie}
-use Rattle.tx_endings.specs.inner.Seen.{state_seen, AreTogether}
-use Rattle.tx_endings.proofs.Filters.{any_alike}
-use Rattle.tx_endings.proofs.After.{any_before, any_rest, rest, rest_mem, seizing_from, seizes_at}
+use Rattle.tx_engine.specs.inner.Seen.{state_seen, AreTogether}
+use Rattle.tx_engine.proofs.Filters.{any_alike}
+use Rattle.tx_engine.proofs.After.{any_before, any_rest, rest, rest_mem, seizing_from, seizes_at}
 
 module _ (p : Plan) (cs : List Call) (rel : set.FinSet circuit_cmp) (numbers : ℕ) (inv : Inv p cs rel numbers) (c : Call) (m : Among c cs) where
   -- a test of all calls, where one changes

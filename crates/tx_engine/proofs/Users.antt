@@ -20,13 +20,13 @@ use Rattle.tx_machine.specs.Invariant.{IsRising, Inv}
 use Rattle.tx_machine.proofs.Lists.{any_none, mem_any, find_mem, find_none}
 use Rattle.tx_machine.proofs.Uses.{calling_on, an_end}
 use Rattle.tx_circuits.specs.Table.{Table}
-use Rattle.tx_endings.specs.inner.InTurn.{uses}
-use Rattle.tx_endings.specs.inner.Users.{AreNumbersOf, uses_up_to}
-use Rattle.tx_endings.specs.inner.GivenBack.{AreUsed}
-use Rattle.tx_endings.proofs.Filters.{any_alike, least_first, find_nobody}
-use Rattle.tx_endings.proofs.Given.{uses_is}
-use Rattle.tx_endings.proofs.After.{carried_mem, seizing_from, seizes_at}
-use Rattle.tx_endings.proofs.Losing.{used_known}
+use Rattle.tx_engine.specs.inner.InTurn.{uses}
+use Rattle.tx_engine.specs.inner.Users.{AreNumbersOf, uses_up_to}
+use Rattle.tx_engine.specs.inner.GivenBack.{AreUsed}
+use Rattle.tx_engine.proofs.Filters.{any_alike, least_first, find_nobody}
+use Rattle.tx_engine.proofs.Given.{uses_is}
+use Rattle.tx_engine.proofs.After.{carried_mem, seizing_from, seizes_at}
+use Rattle.tx_engine.proofs.Losing.{used_known}
 
 -- the one call that passes is found
 pub find_one : (t : Call → Bool) (cs : List Call) (c : Call) → Among c cs → t c ≡ true → ((d : Call) → Among d cs → t d ≡ true → d ≡ c) → find t cs ≡ Some c
