@@ -10,14 +10,14 @@ use Rattle.tx_plan.specs.Plan.{Plan}
 use Rattle.tx_plan.specs.Rules.{IsPlan}
 use Rattle.tx_plantext.specs.declared.fault.PlanWord.{PlanWord}
 use Rattle.tx_plantext.specs.PlanText.{SaysPlan, ReadsPlan}
-use Rattle.tx_pipe.specs.declared.seen.Seen.TheVariants.{Blanks}
-use Rattle.tx_pipe.specs.declared.plan_part.PlanPart.{PlanPart}
-use Rattle.tx_pipe.specs.declared.script_part.ScriptPart.{ScriptPart}
-use Rattle.tx_pipe.specs.Parts.{plan_part, script_part, left_of_plan}
-use Rattle.tx_pipe.specs.inner.Seen.{is_over}
-use Rattle.tx_pipe.specs.inner.Reading.{left, as_script, plan_of, script_of, plan_rest, script_rest, PartCall, PlanCall, ScriptCall}
-use Rattle.tx_pipe.proofs.PartCalls as calls
-use Rattle.tx_pipe.proofs.PlanCalls.{Took, calls_took, prepend_none, whole_plan, whole_script, plan_left, all_script}
+use Rattle.tx_jobs.specs.declared.seen.Seen.TheVariants.{Blanks}
+use Rattle.tx_jobs.specs.declared.plan_part.PlanPart.{PlanPart}
+use Rattle.tx_jobs.specs.declared.script_part.ScriptPart.{ScriptPart}
+use Rattle.tx_jobs.specs.Parts.{plan_part, script_part, left_of_plan}
+use Rattle.tx_jobs.specs.inner.Seen.{is_over}
+use Rattle.tx_jobs.specs.inner.Reading.{left, as_script, plan_of, script_of, plan_rest, script_rest, PartCall, PlanCall, ScriptCall}
+use Rattle.tx_jobs.proofs.PartCalls as calls
+use Rattle.tx_jobs.proofs.PlanCalls.{Took, calls_took, prepend_none, whole_plan, whole_script, plan_left, all_script}
 use Rattle.tx_script.specs.declared.summary.Summary.{Summary}
 use Rattle.tx_jobs.specs.declared.job_fault.JobFault.{JobFault}
 use Rattle.tx_jobs.specs.JobFaults.{plan_fault}

@@ -19,3 +19,4 @@ pub mod Evidences
 pub mod ChangeEvidences
 pub mod CheckedJobs
 pub mod inner
+pub mod Parts

@@ -3,7 +3,7 @@ use Rattle.std.specs.Prelude.{◌≡◌, ◌⊎◌, ℕ, ◌-◌, Bool, true, Li
 use Rattle.std.specs.Io.KnownBytes.{prepend_known}
 use Rattle.tx_text.specs.declared.source.ReadFault.{ReadFault}
 use Rattle.tx_text.specs.Calls.{Gave, CallsAtMost, source_calls}
-use Rattle.tx_pipe.specs.Parts.{plan_part, script_part, left_of_plan}
+use Rattle.tx_jobs.specs.Parts.{plan_part, script_part, left_of_plan}
 use Rattle.tx_script.specs.declared.summary.Summary.{Summary}
 use Rattle.tx_jobs.specs.declared.job_fault.JobFault.{JobFault}
 use Rattle.tx_jobs.specs.JobEnds.{Input, Output, input}

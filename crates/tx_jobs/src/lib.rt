@@ -2,6 +2,7 @@
 //! none.
 #![tactic(auto)]
 
+mod ahead;
 mod audit;
 mod audit_evidence;
 mod change;
@@ -15,13 +16,17 @@ mod drawn;
 mod evidence;
 mod fault_line;
 mod grade;
+mod held;
 mod job_fault;
 mod lint;
 mod mend;
 mod mixture;
 mod pipe;
+mod plan_part;
 mod run;
 mod run_checked;
+mod script_part;
+mod seen;
 mod simulate;
 mod survive;
 mod survive_fault;
@@ -30,6 +35,7 @@ mod telling;
 mod trace;
 mod traced;
 
+pub use ahead::Ahead;
 pub use audit::audit_job;
 pub use audit_evidence::evidence_job;
 pub use change::{Changed, change_job};
@@ -48,8 +54,10 @@ pub use lint::lint_job;
 pub use mend::{mend_job, mending_status};
 pub use mixture::{ChangeEvidence, Mixture};
 pub use pipe::pipe_job;
+pub use plan_part::PlanPart;
 pub use run::run_job;
 pub use run_checked::{run_checked_job, run_checked_status};
+pub use script_part::ScriptPart;
 pub use survive::{survival_status, survive_job, survive_risks_job};
 pub use survive_fault::SurviveFault;
 pub use survive_fault_line::write_survive_fault;

@@ -3,7 +3,7 @@ use crate::cases::{Told, tell, tell_broken, tell_count, tell_parts};
 use crate::tests::flaky::Flaky;
 use std::alloc::Global;
 use std::io::ErrorKind;
-use tx_pipe::{Ahead, PlanPart, ScriptPart};
+use tx_jobs::{Ahead, PlanPart, ScriptPart};
 use tx_text::{
     FromRead, MemorySink, MemorySource, Sink, Source, ToWrite, WriteFault, write_bytes, write_parts,
 };
