@@ -41,7 +41,7 @@ pub record IsOn (p : Plan) (x : ℕ) (past : List ℕ) (hops : List Hop) (last :
   pub each : (h : Hop) → Among h hops → IsPast p x past h
   pub back : (h : Hop) → Among h hops → h.far ≡ x → last ≡ Some h.circuit
 
--- no exchange stands in both lists
+-- no exchange is in both lists
 abbrev pub Apart : List ℕ → List ℕ → Type 0
 Apart past xs = (u : ℕ) → Among u past → Among u xs → ⊥
 

@@ -42,7 +42,7 @@ pub record IsAllowed (p : Plan) (cert : Certificate) (limit spare : ℕ) : Type 
   pub sound : IsSound p limit spare
   pub few_routes : HasFewRoutes p limit
 
--- WHAT A CHECKED RUN ANSWERS. It ran only after a Yes; after a No it read and wrote nothing, and tells that No.
+-- WHAT A CHECKED RUN ANSWERS. It ran only after a Yes; after a No it read and wrote nothing, and returns that No.
 abbrev pub CheckedAnswers : Plan → Certificate → (limit spare : ℕ) → Bytes → (broken untouched : Type 0) → Result Checked RunFault → Type 0
 CheckedAnswers p cert limit spare x broken untouched (Ok (Ran summary)) = IsAllowed p cert limit spare × Simulated p x broken untouched (Ok summary)
 CheckedAnswers p cert limit spare x broken untouched (Ok (Denied f)) = (verdict_of (check_faults p (ranks_for p cert) limit spare) ≡ No f) × untouched

@@ -25,7 +25,7 @@ use tx_text::{Sink, Source, WriteFault};
 /// Reads a plan, and writes the report on it: YES where some certificate certifies it for at most `limit` transits (0 to 62) and `spare` groups to spare (0
 /// to 15), or what is wrong with it, with walks that show it.
 ///
-/// Nothing is written where the plan is refused or memory is wanting. The report says YES only where the checker says Yes to the certificate that is told.
+/// Nothing is written where the plan is refused or memory runs out. The report says YES only where the checker says Yes to the certificate that is told.
 pub fn audit<A: Allocator + Copy, R: Source, W: Sink>(
     alloc: A,
     source: &mut R,

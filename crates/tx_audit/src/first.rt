@@ -14,7 +14,7 @@ use tx_rank::Finding;
 use tx_machine::Event;
 use tx_text::NoMemory;
 
-/// The events that show the first of some true findings that has any, if one has. `Err` is want of memory.
+/// The events that show the first of some true findings that has any, if one has. `Err` means out of memory.
 pub fn first_counter<A: Allocator + Copy>(
     alloc: A,
     plan: &Plan<A>,

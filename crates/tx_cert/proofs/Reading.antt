@@ -25,7 +25,7 @@ unfolding declare
 any_version p v w t [] = refl
 any_version p v w t (x ∷ ws) = refl
 
--- a line that was refused, and not for want of memory
+-- a line that was refused, and not when memory runs out
 pub refused_by : (r : Result Certificate CertWord) (x : CertWord) → (is_memory x ≡ true → ⊥) → r ≡ Err x → DeclaredBy r (is_memory x) x
 refused_by r x none h = by (is_memory x) none
   where

@@ -49,7 +49,7 @@ declare p v t (w ∷ ws) = if bytes_eq w (codes "RANK") then rank_line p t ws el
 abbrev pub cert_of : Plan → Ending → List ℕ → Result Certificate (ℕ × FaultKind CertWord)
 cert_of p e text = said (declare p) 1 (no_ranks_for p) (framed (header_of (codes "CERT") 1) Start 1 (told e (lines_of text)))
 
--- want of memory
+-- lack of memory
 abbrev pub is_memory : CertWord → Bool
 is_memory NoMemory = true
 is_memory w = false

@@ -1,4 +1,4 @@
--- The list of findings of a change: which of several walks stands in one is open, and all else is
+-- The list of findings of a change: which of several walks is in one is open, and all else is
 -- not.
 use Rattle.std.specs.Prelude.{◌≡◌, ℕ, zero, suc, ◌<◌, List, [], ◌++◌, length}
 use Rattle.tx_plan.specs.Plan.{Plan}

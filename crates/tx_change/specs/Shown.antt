@@ -10,7 +10,7 @@ use Rattle.tx_rank.specs.declared.finding.Finding.{Finding}
 use Rattle.tx_rank.specs.declared.finding.Finding.TheVariants.{Ambiguous, Loop, Short, Long}
 use Rattle.tx_rank.specs.Findings.{IsTrueOf}
 
--- the group stands in the list of the exchange for the code
+-- the group is in the list of the exchange for the code
 abbrev pub is_listed : Plan → (c x g : ℕ) → Bool
 is_listed p c x g = list_any (λ h. h == g) (route_list p x c)
 

@@ -25,7 +25,7 @@ pub struct ShownMixture<A: Allocator = Global> {
 
 /// The mixture that the first finding with a walk shows, and the events that show this finding
 /// there: none of them is refused, and they break what a sound plan keeps. Takes the old plan
-/// apart. `None` where no finding has a walk. `Err` is want of memory.
+/// apart. `None` where no finding has a walk. `Err` means out of memory.
 pub fn first_mixture<A: Allocator + Copy>(
     alloc: A,
     old: Plan<A>,

@@ -61,7 +61,7 @@ fn mix<A: Allocator + Copy>(
 
 // ROUTES
 
-/// The old routes and the new ones that stand in the mixture.
+/// The old routes and the new ones that are in the mixture.
 fn mixed_routes<A: Allocator + Copy>(
     alloc: A,
     taking: &Taking<'_, A>,
@@ -97,7 +97,7 @@ fn add_routes<A: Allocator>(
     Ok(())
 }
 
-/// Adds the one at a place, if it stands in the mixture.
+/// Adds the one at a place, if it is in the mixture.
 fn add_route<A: Allocator>(
     from: &Plan<A>,
     taking: &Taking<'_, A>,
@@ -137,7 +137,7 @@ fn list_of(groups: &[GroupId]) -> GroupList
 
 // BARS
 
-/// The old bars and the new ones that stand in the mixture.
+/// The old bars and the new ones that are in the mixture.
 fn mixed_bars<A: Allocator + Copy>(
     alloc: A,
     taking: &Taking<'_, A>,
@@ -173,7 +173,7 @@ fn add_bars<A: Allocator>(
     Ok(())
 }
 
-/// Adds the one at a place, if it stands in the mixture.
+/// Adds the one at a place, if it is in the mixture.
 fn add_bar<A: Allocator>(
     from: &Plan<A>,
     taking: &Taking<'_, A>,

@@ -48,7 +48,7 @@ last_free : (free : ℕ → Bool) (rank : ℕ → ℕ) (high : ℕ) (q : Option 
 last_free free rank high None l = tt
 last_free free rank high (Some p) l = l.0
 
--- the neighbour behind a place is what follows the one before it
+-- the neighbour after a place is what follows the one before it
 module _ (free : ℕ → Bool) (inside : (k : ℕ) → free k ≡ true → k < 240) (i : ℕ) (i_in : i < 240) (taken : free i ≡ false) where
   after : (w : Way) (next : Option ℕ → Option ℕ) → IsLinked free (rank_of w) next → (q : Option ℕ) → IsLast free (rank_of w) (rank_of w i) q → IsFirst free (rank_of w) (rank_of w i + 1) (next q)
   after w next list q last =

@@ -20,7 +20,7 @@ pub fn set_state(slots: &mut [Slot], lists: &mut FreeLists, place: usize, to: St
     slots[place].state = to;
 }
 
-// Puts a circuit behind all others on the list of an end, if it is free there.
+// Puts a circuit after all others on the list of an end, if it is free there.
 fn append(slots: &mut [Slot], list: &mut FreeList, end: End, place: usize)
     requires short { length slots.old ≤ 240 }
     requires place { place < length slots.old }

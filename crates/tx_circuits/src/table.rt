@@ -91,7 +91,7 @@ impl<A: Allocator> CircuitTable<A> {
         self.groups.end(group, exchange).is_some()
     }
 
-    /// Whether the group has failed; a foreign one has not.
+    /// Whether the group has failed; a foreign one does not have.
     pub fn is_failed(&self, group: GroupId) -> bool
         ensures { result ≡ set.contains self.now.failed group }
     {
@@ -194,7 +194,7 @@ impl<A: Allocator> CircuitTable<A> {
         Some(a)
     }
 
-    /// Whether the exchange has seized the circuit; an exchange that may not seize it has not.
+    /// Whether the exchange has seized the circuit; an exchange that may not seize it does not have.
     pub fn is_seized(&self, circuit: &Circuit, exchange: ExchangeId) -> bool
         ensures { result ≡ set.contains self.now.seized (circuit.now, exchange) }
     {

@@ -40,7 +40,7 @@ pub record TellsNoMore (found : List Row) : Type 0 where
   pub strict : is_set found (codes "strict") ≡ false
   pub echo : is_set found (codes "echo") ≡ false
 
--- what was found behind the name of a command asks for this
+-- what was found after the name of a command asks for this
 abbrev pub Asks : List ℕ → List Row → Command → Type 0
 Asks name found Pipe = ⊥
 Asks name found (Run plan script None) =

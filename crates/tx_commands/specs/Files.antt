@@ -48,13 +48,13 @@ standard_input = codes "-"
 abbrev pub is_among : List (List ℕ) → List ℕ → Bool
 is_among files file = list_any (λ f. bytes_eq f file) files
 
--- standard input is one of these files, and one of those behind it
+-- standard input is one of these files, and one of those after it
 abbrev pub has_input_twice : List (List ℕ) → Bool
 has_input_twice [] = false
 has_input_twice (file ∷ rest) =
     (bytes_eq file standard_input && is_among rest standard_input) || has_input_twice rest
 
--- one of the files to be made is a known one, or is to be made again behind
+-- one of the files to be made is a known one, or is to be made again after
 abbrev pub has_clash : List (List ℕ) → List (List ℕ) → Bool
 has_clash known [] = false
 has_clash known (file ∷ rest) =

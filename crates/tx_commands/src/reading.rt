@@ -109,7 +109,7 @@ fn words_fault(grammar: &mut clap::Command<'_>, refusal: Refusal) -> Result<Word
     }
 }
 
-/// The command that stands in the words, which are not none, by the grammar of the program.
+/// The command that is in the words, which are not none, by the grammar of the program.
 fn command_in<'a>(
     alloc: Global,
     grammar: &mut clap::Command<'a>,
@@ -134,7 +134,7 @@ fn command_in<'a>(
     }
 }
 
-/// Reads the words after the program's name. `Err` is refused words, a request for help or for the version, or want of memory.
+/// Reads the words after the program's name. `Err` is refused words, a request for help or for the version, or lack of memory.
 pub fn read_command(alloc: Global, words: &[&str]) -> Result<Command, WordsFault>
     ensures in_range { IfOk result IsInRange }
     ensures pipe { words.now ≡ [] → result ≡ Ok Command.Pipe }

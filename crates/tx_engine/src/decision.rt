@@ -47,7 +47,7 @@ fn choice<A: Allocator>(
     None
 }
 
-/// What is keyed behind the code that it begins with.
+/// What is keyed after the code that it begins with.
 #[inline(always)]
 fn behind<'k, A: Allocator>(plan: &Plan<A>, code: CodeId, keyed: &'k [u8]) -> &'k [u8]
     requires { Some code ≡ code_of plan.now keyed.now }

@@ -41,7 +41,7 @@ impl<'p, A: Allocator> Model for Engine<'p, A> {
 }
 
 impl<'p, A: Allocator> Engine<'p, A> {
-    /// Lets the network go. A crate that drops a network itself proves once more how each of its parts is dropped.
+    /// Drops the network. A crate that drops a network itself proves once more how each of its parts is dropped.
     pub fn close(self) {
         drop(self);
     }

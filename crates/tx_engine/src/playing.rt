@@ -22,7 +22,7 @@ pub struct Played<'p, A: Allocator = Global> {
 }
 
 /// Plays events on the engine of a plan, from the opening state with so many numbers given and so many events accepted. The replies, the tickets and the
-/// state after them are those of the run, whatever the plan, the two numbers and the events are. `Err` is want of memory.
+/// state after them are those of the run, whatever the plan, the two numbers and the events are. `Err` means out of memory.
 pub fn play<'p, A: Allocator + Copy>(
     alloc: A,
     plan: &'p Plan<A>,

@@ -41,7 +41,7 @@ at_most m n h = grind (arith, nat_tests)
 less : (m n : ℕ) → nat_lt m n ≡ true → m < n
 less m n h = grind (arith, nat_tests)
 
--- sixteen groups differ where none of them is among the eight behind it in the ring
+-- sixteen groups differ where none of them is among the eight after it in the ring
 pub ring_differs : (groups ring : List ℕ) → length groups ≡ 16 → ((k : ℕ) → k < 16 → get_or ring k 0 ≡ get_or groups k 0) → ((k : ℕ) → k < 8 → get_or ring (16 + k) 0 ≡ get_or groups k 0)
     → ((s p : ℕ) → 1 ≤ s → s < 9 → p < 16 → get_or ring p 0 ≢ get_or ring (p + s) 0) → differ groups ≡ true
 ring_differs groups ring long first again apart = differ_all groups (λ i j l m. by_way i j l (omega (arith, m, long)) (nat_lt (i + 8) j) refl)
@@ -74,7 +74,7 @@ one_step ring step before here s p m l n =
 
 -- ONE MORE
 
--- one group more, which is none of those behind it
+-- one group more, which is none of those after it
 pub one_more : (xs : List ℕ) (i n : ℕ) → n ≡ i + 1 → n ≤ length xs → list_any (λ y. y == get_or xs i 0) (drop n xs) ≡ false → differ (drop n xs) ≡ true → differ (drop i xs) ≡ true
 one_more xs i n e room none once =
     let g = get_or xs i 0 in
@@ -86,7 +86,7 @@ alone [] i room h = absurd (omega arith)
 alone (x ∷ xs) zero room h = not-true (list_any (λ y. y == x) xs) (and_parts (not (list_any (λ y. y == x) xs)) (differ xs) h).0
 alone (x ∷ xs) (suc i) room h = alone xs i (omega arith) (and_parts (not (list_any (λ y. y == x) xs)) (differ xs) h).1
 
--- where a group stands among those behind it, some group stands twice
+-- where a group stands among those after it, some group stands twice
 pub twice : (xs : List ℕ) (i n : ℕ) → n ≡ i + 1 → n ≤ length xs → list_any (λ y. y == get_or xs i 0) (drop n xs) ≡ true → differ xs ≡ false
 twice xs i n e room among =
     let next : n ≡ suc i = omega (arith, e) in

@@ -88,7 +88,7 @@ placed_word word d w xs h =
     let found = position-Some (λ x. bytes_eq w (word x)) xs (unwrap_or (position (λ x. bytes_eq w (word x)) xs) 0) d (placed (λ x. bytes_eq w (word x)) xs h) in
     (bytes_eq-Decides w (word (get_or xs (unwrap_or (position (λ x. bytes_eq w (word x)) xs) 0) d))).0 found.1
 
--- two words that and_parts stand in a list at one place are one
+-- two words that and_parts are in a list at one place are one
 pub one_word : {A : Type 0} (word : A → List ℕ) (d : A) (v w : List ℕ) (xs : List A) → list_any (λ x. bytes_eq v (word x)) xs ≡ true → list_any (λ x. bytes_eq w (word x)) xs ≡ true
     → unwrap_or (position (λ x. bytes_eq v (word x)) xs) 0 ≡ unwrap_or (position (λ x. bytes_eq w (word x)) xs) 0 → v ≡ w
 one_word word d v w xs h k e = placed_word word d v xs h ∙ ap (λ i. word (get_or xs i d)) e ∙ sym (placed_word word d w xs k)

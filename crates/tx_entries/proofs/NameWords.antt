@@ -34,7 +34,7 @@ byte_of [] m k h = filled m k
 byte_of (x ∷ xs) m zero h = h 0
 byte_of (x ∷ xs) m (suc k) h = byte_of xs m k (λ i. h (suc i))
 
--- the bytes of the number are the text, and zeros behind it
+-- the bytes of the number are the text, and zeros after it
 pub bytes_of : (text : List ℕ) (n : ℕ) → length text ≤ 8 → ((i : ℕ) → get_or text i 0 < 256) → n ≡ from_le_bytes w64 (padded_to 8 text) → to_le_bytes w64 n ≡ padded_to 8 text
 bytes_of text n few small e =
     let long : length (padded_to 8 text) ≡ 8 = omega (arith, few, length-append text (replicate (8 - length text) 0), length-replicate {A = ℕ} (8 - length text) 0) in
@@ -47,7 +47,7 @@ word_of text high low few h l p q =
     let small : high * 4294967296 < 18446744073709551616 = omega (arith, h) in
     or_after_shift high 4294967296 18446744073709551616 low refl l small ∙ ap₂ (λ m n. m * 4294967296 + n) p q ∙ sym (of_halves text few)
 
--- the zeros behind it are bytes too
+-- the zeros after it are bytes too
 pub are_bytes : (text bytes : List ℕ) → ((i : ℕ) → get_or text i 0 < 256) → bytes ≡ padded_to 8 text → (i : ℕ) → get_or bytes i 0 < 256
 are_bytes text bytes small e i = subst (λ bs. get_or bs i 0 < 256) (sym e) (byte_of text (8 - length text) i small)
 

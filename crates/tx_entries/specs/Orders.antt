@@ -50,6 +50,6 @@ same_line_equiv = record {
   congr = λ l m n h. ap (λ z. same_line z n) (same_line-is l m h);
 }
 
--- the bytes of a line that are hashed: its code, and its figures with zeros behind them up to nine
+-- the bytes of a line that are hashed: its code, and its figures with zeros after them up to nine
 abbrev pub line_bytes : Line → List (List ℕ)
 line_bytes l = fed.u16 l.code ++ padded_to 9 l.national ∷ []

@@ -49,7 +49,7 @@ impl GroupList {
         true
     }
 
-    /// Whether no group stands there twice. All sixteen places are compared together, also those behind the list, which hold groups that no plan has.
+    /// Whether no group stands there twice. All sixteen places are compared together, also those after the list, which hold groups that no plan has.
     #[inline(always)]
     pub fn none_twice(&self) -> bool
         ensures { result ≡ differ self.now }
@@ -77,7 +77,7 @@ fn no_groups() -> [GroupId; 16] {
     groups
 }
 
-/// Whether two of sixteen groups are one. They stand in a ring, where each is compared with the eight behind it, so that a compiler compares many at once.
+/// Whether two of sixteen groups are one. They are in a ring, where each is compared with the eight after it, so that a compiler compares many at once.
 #[inline(always)]
 fn any_twice(groups: &[GroupId; 16]) -> bool
     ensures { result ≡ false → differ groups.now ≡ true }
@@ -99,7 +99,7 @@ fn any_twice(groups: &[GroupId; 16]) -> bool
     any
 }
 
-/// Whether no group stands there twice, where each is compared with those behind it.
+/// Whether no group stands there twice, where each is compared with those after it.
 fn none_again(groups: &[GroupId]) -> bool
     ensures { result ≡ differ groups.now }
 {

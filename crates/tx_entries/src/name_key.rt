@@ -125,7 +125,7 @@ impl NameKey {
         &self.bytes[..usize::from(self.len)]
     }
 
-    /// The text, and zeros behind it up to eight bytes.
+    /// The text, and zeros after it up to eight bytes.
     #[inline(always)]
     pub fn padded(&self) -> &[u8; 8]
         ensures { result.now ≡ padded_to 8 self.now }

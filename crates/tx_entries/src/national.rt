@@ -50,7 +50,7 @@ impl National {
         self.figures.bytes()
     }
 
-    /// Its figures, and zeros behind them up to nine bytes.
+    /// Its figures, and zeros after them up to nine bytes.
     #[inline(always)]
     pub fn padded(&self) -> &[u8; 9]
         ensures { result.now ≡ padded_to 9 self.now }

@@ -182,7 +182,7 @@ behind_by b t ih false ex true ey z ez = ap is_end_seen (comment t) ∙ sym (ap 
 behind_by b t ih false ex false ey true ez = cr b t (eqb-true b 13 ez)
 behind_by b t ih false ex false ey false ez = ap is_end_seen (other t) ∙ sym (ap (λ l. wordless (words_of l)) (stays b t ez) ∙ worded b (without_cr t) ex ey)
 
--- behind END
+-- after END
 behind : (t : List ℕ) → is_end_seen (line_seen End t) ≡ wordless (words_of (without_cr t))
 unfolding line_seen
 behind [] = sym (ap (λ l. wordless (words_of l)) cr_none ∙ ap wordless nothing)
@@ -193,7 +193,7 @@ behind_en_by b t true e =
     behind t ∙ sym (end_first (without_cr t)) ∙ sym (ap (λ c. is_end (words_of (69 ∷ 78 ∷ without_cr (c ∷ t)))) (eqb-true b 68 e) ∙ ap (λ l. is_end (words_of (69 ∷ 78 ∷ l))) (stays 68 t refl))
 behind_en_by b t false e = ap is_end_seen (other t) ∙ sym (not_end (λ l. 69 ∷ 78 ∷ l) b (ap is_end (word_on 1 69 (78 ∷ []) refl refl refl) ∙ two_letters (words_of [])) (λ u. en_other b u e (is_word_byte b) refl) t)
 
--- behind EN
+-- after EN
 behind_en : (t : List ℕ) → is_end_seen (line_seen En t) ≡ is_end (words_of (69 ∷ 78 ∷ without_cr t))
 unfolding line_seen
 behind_en [] = sym (ap (λ l. is_end (words_of (69 ∷ 78 ∷ l))) cr_none ∙ ap is_end (word_on 1 69 (78 ∷ []) refl refl refl) ∙ two_letters (words_of []))
@@ -203,7 +203,7 @@ behind_e_by : (b : ℕ) (t : List ℕ) (x : Bool) → (b == 78) ≡ x → is_end
 behind_e_by b t true e = behind_en t ∙ sym (ap (λ c. is_end (words_of (69 ∷ without_cr (c ∷ t)))) (eqb-true b 78 e) ∙ ap (λ l. is_end (words_of (69 ∷ l))) (stays 78 t refl))
 behind_e_by b t false e = ap is_end_seen (other t) ∙ sym (not_end (λ l. 69 ∷ l) b (ap is_end (word_on 0 69 [] refl refl refl) ∙ one_letter (words_of [])) (λ u. e_other b u e (is_word_byte b) refl) t)
 
--- behind E
+-- after E
 behind_e : (t : List ℕ) → is_end_seen (line_seen E t) ≡ is_end (words_of (69 ∷ without_cr t))
 unfolding line_seen
 behind_e [] = sym (ap (λ l. is_end (words_of (69 ∷ l))) cr_none ∙ ap is_end (word_on 0 69 [] refl refl refl) ∙ one_letter (words_of []))

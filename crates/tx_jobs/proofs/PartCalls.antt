@@ -95,7 +95,7 @@ module _ {R S : Type 0} (rest : R → Option (List ℕ)) (failed : R → Bool) (
       by (inl h) = ap failed h.1 ∙ gave_marked n a b g before h.0
       by (inr h) = h
 
-  -- WHAT IS HELD: nothing behind a call, unless the part is over
+  -- WHAT IS HELD: nothing after a call, unless the part is over
 
   abbrev IsEmptied : S → Type 0
   IsEmptied c = over c ≡ false → (part c).ahead.now.held ≡ []

@@ -109,7 +109,7 @@ module _ {R : Type 0} (rest : R → Option (List ℕ)) (failed : R → Bool) (ca
               };
         }
 
-    -- It was read, and then the script behind it, from b to e: b is lent what the plan left.
+    -- It was read, and then the script after it, from b to e: b is lent what the plan left.
     module _ (b e : ScriptPart R) (same : b.input.now ≡ mid) (kept : b.ahead.now ≡ c.ahead.now) (s : CallsAtMost (ScriptCall rest failed called) source_calls b e) where
       abbrev pub from : R
       from = b.input.now

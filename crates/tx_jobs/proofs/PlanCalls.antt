@@ -96,7 +96,7 @@ pub over_ended : (seen : Seen) (left : Option (List ℕ)) → is_over seen ≡ t
 over_ended seen None h = tt
 over_ended seen (Some t) h = none_of seen t h
 
--- Where nothing is left of the plan, all that is left stands behind it.
+-- Where nothing is left of the plan, all that is left stands after it.
 pub all_script : (seen : Seen) (left : Option (List ℕ)) → IsAtEnd (plan_of seen left) → left ≡ script_of seen left
 all_script seen None h = refl
 all_script seen (Some t) h = ap Some (by t (is_over seen) refl h)

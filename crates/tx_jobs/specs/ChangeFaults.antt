@@ -21,7 +21,7 @@ status_of_change (TwoNetworks d) = 2
 abbrev pub old_plan_fault : FaultAt PlanWord → ChangeFault
 old_plan_fault f = Job (plan_fault f)
 
--- A failure to read and a want of memory are told as such.
+-- A failure to read and a lack of memory are told as such.
 abbrev pub in_new_plan : JobFault → ChangeFault
 in_new_plan (Plan f) = NewPlan f
 in_new_plan other = Job other

@@ -21,7 +21,7 @@ use Rattle.tx_script.specs.ScriptFaults.{fault_row as script_row}
 use Rattle.tx_jobs.specs.declared.job_fault.JobFault.{JobFault}
 use Rattle.tx_jobs.specs.declared.job_fault.JobFault.TheVariants.{Plan, Cert, Script, Read, Write, NoMemory}
 
--- 2 for a refused text, 3 for a read or a write fault, 4 for want of memory
+-- 2 for a refused text, 3 for a read or a write fault, 4 when memory runs out
 abbrev pub status_of : JobFault → ℕ
 status_of (Plan f) = 2
 status_of (Cert f) = 2
@@ -30,7 +30,7 @@ status_of Read = 3
 status_of Write = 3
 status_of NoMemory = 4
 
--- A failure to read and a want of memory are told as such.
+-- A failure to read and a lack of memory are told as such.
 abbrev pub plan_fault_by : FaultAt PlanWord → FaultKind PlanWord → JobFault
 plan_fault_by f (Frame (Line LineRead)) = Read
 plan_fault_by f (Frame (Line (Text TextNoMemory))) = NoMemory

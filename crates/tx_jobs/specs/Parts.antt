@@ -4,7 +4,7 @@ use Rattle.tx_text.specs.Text.{Line, lines_of}
 use Rattle.tx_text.specs.Words.{words_of}
 use Rattle.tx_text.specs.Frame.{is_end}
 
--- Where the plan ends in a text of this length: behind the first line whose only word is END, which is where the next line starts; or at the end of the text.
+-- Where the plan ends in a text of this length: after the first line whose only word is END, which is where the next line starts; or at the end of the text.
 unfoldable pub plan_end : ℕ → List Line → ℕ
 plan_end size [] = size
 plan_end size (last ∷ []) = size

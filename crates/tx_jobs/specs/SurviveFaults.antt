@@ -19,7 +19,7 @@ abbrev pub status_of_survive : SurviveFault → ℕ
 status_of_survive (Job f) = status_of f
 status_of_survive (Risks f) = 2
 
--- A failure to read and a want of memory are told as such.
+-- A failure to read and a lack of memory are told as such.
 abbrev pub risks_fault_by : FaultAt RiskWord → FaultKind RiskWord → SurviveFault
 risks_fault_by f (Frame (Line LineRead)) = Job Read
 risks_fault_by f (Frame (Line (Text TextNoMemory))) = Job NoMemory

@@ -18,7 +18,7 @@ use tx_text::{NoMemory, Sink, Source, WriteFault};
 /// Reads a plan, and writes its picture; with the figures of a code that of the routes for the code, and with a limit and a spare number too that with the
 /// walk of the code's first finding.
 ///
-/// Answers whether the picture was written, or the plan has no such code. Nothing is written where it has none or is refused, or where memory is wanting.
+/// Answers whether the picture was written, or the plan has no such code. Nothing is written where it has none or is refused, or where memory runs out.
 /// Without a code the limit and the spare number change nothing.
 pub fn draw_job<A: Allocator + Copy, P: Source, W: Sink>(
     alloc: A,

@@ -16,7 +16,7 @@ use tx_text::{Sink, Source, WriteFault};
 /// Reads a plan, and writes with which limits and spare numbers it is safe, and each of its codes;
 /// and if it is safe with none, what is wrong with it whatever they are. Answers the grade.
 ///
-/// Nothing is written where the plan is refused or memory is wanting.
+/// Nothing is written where the plan is refused or memory runs out.
 pub fn grade_job<A: Allocator + Copy, P: Source, W: Sink>(
     alloc: A,
     plan: &mut P,

@@ -39,7 +39,7 @@ pub enum JobFault {
 }
 
 impl JobFault {
-    /// The exit status: 2 for a refused text, 3 for a read or a write fault, 4 for want of memory.
+    /// The exit status: 2 for a refused text, 3 for a read or a write fault, 4 when memory runs out.
     pub fn status(&self) -> u8
         ensures { result ≡ status_of self.now }
     {
@@ -50,7 +50,7 @@ impl JobFault {
         }
     }
 
-    /// A failure to read and a want of memory are told as such.
+    /// A failure to read and a lack of memory are told as such.
     pub(crate) fn of_plan(fault: PlanFault) -> JobFault
         ensures { result ≡ plan_fault fault }
     {

@@ -15,7 +15,7 @@ use tx_text::{Sink, Source, WriteFault};
 /// its plan. Each line begins with the words for the file of the text. Answers the exit status: 0
 /// without any line, 1 after warnings, 2 after faults.
 ///
-/// Nothing is written where the text cannot be read to its end, or where memory is wanting.
+/// Nothing is written where the text cannot be read to its end, or where memory runs out.
 pub fn lint_job<A: Allocator + Copy, P: Source, W: Sink>(
     alloc: A,
     plan: &mut P,

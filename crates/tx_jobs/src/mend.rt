@@ -17,7 +17,7 @@ use tx_text::{Sink, Source};
 /// `spare` groups to spare (0 to 15). Answers the mended plan with its certificate, or what no
 /// routes can serve.
 ///
-/// Nothing is written where the plan is refused or memory is wanting.
+/// Nothing is written where the plan is refused or memory runs out.
 pub fn mend_job<A: Allocator + Copy, P: Source, W: Sink>(
     alloc: A,
     plan: &mut P,

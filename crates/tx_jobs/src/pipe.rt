@@ -59,7 +59,7 @@ fn read_plan_part<A: Allocator + Copy, R: Source>(
     read_plan_from(alloc, part)
 }
 
-/// Runs the script behind the plan. The part keeps what it is lent.
+/// Runs the script after the plan. The part keeps what it is lent.
 fn run_script_part<A: Allocator + Copy, R: Source, W: Sink>(
     alloc: A,
     plan: &Plan<A>,

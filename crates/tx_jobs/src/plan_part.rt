@@ -6,7 +6,7 @@ use crate::ahead::Ahead;
 use crate::seen::Seen;
 use tx_text::{ReadFault, Source};
 
-/// The plan of an input, as a source that ends behind the first line whose one word is END.
+/// The plan of an input, as a source that ends after the first line whose one word is END.
 #[derive(Drop)]
 pub struct PlanPart<'a, R> {
     input: &'a mut R,

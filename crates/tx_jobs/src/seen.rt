@@ -8,7 +8,7 @@ ghost use Rattle.tx_jobs.specs.inner.Seen.{after, is_over, end_from};
 pub(crate) enum Seen {
     /// Blanks alone.
     Blanks,
-    /// The letter E behind them.
+    /// The letter E after them.
     E,
     /// The letters EN.
     En,
@@ -50,7 +50,7 @@ impl Seen {
         self == Seen::Over
     }
 
-    /// Takes the bytes up to the end of the plan, and tells how many those are.
+    /// Takes the bytes up to the end of the plan, and returns how many those are.
     pub(crate) fn take(&mut self, bytes: &[u8]) -> usize
         ensures within { result ≤ length bytes.now }
         ensures end { (more : List ℕ) → end_from self.old (bytes.now ++ more)

@@ -20,7 +20,7 @@ use tx_text::{Sink, Source, WriteFault};
 /// Reads a plan, and writes whom each of its groups and each of its exchanges cuts off if it fails
 /// alone; or why the plan has no grade. Answers what was found.
 ///
-/// Nothing is written where the plan is refused or memory is wanting.
+/// Nothing is written where the plan is refused or memory runs out.
 pub fn survive_job<A: Allocator + Copy, P: Source, W: Sink>(
     alloc: A,
     plan: &mut P,
@@ -44,7 +44,7 @@ pub fn survive_job<A: Allocator + Copy, P: Source, W: Sink>(
 
 /// The same with the named risks of a text, which is read after the plan.
 ///
-/// Nothing is written where one of the texts is refused or memory is wanting.
+/// Nothing is written where one of the texts is refused or memory runs out.
 pub fn survive_risks_job<A: Allocator + Copy, P: Source, R: Source, W: Sink>(
     alloc: A,
     plan: &mut P,

@@ -18,7 +18,7 @@ use tx_trace::{trace_calls, write_trace};
 /// Reads a plan, and writes how calls for the code of some figures go from the exchange of a name.
 ///
 /// Answers whether the trace was written, or the plan has no such exchange or no such code. Nothing
-/// is written where it has none or is refused, or where memory is wanting.
+/// is written where it has none or is refused, or where memory runs out.
 pub fn trace_job<A: Allocator + Copy, P: Source, W: Sink>(
     alloc: A,
     plan: &mut P,

@@ -42,7 +42,7 @@ impl<A: Allocator> Model for LineBook<A> {
 
     ghost view = { λ b. book_of b.ranges b.statuses };
 
-    // A line stands in the map exactly while it has a status.
+    // A line is in the map exactly while it has a status.
     ghost invariant = { λ b. AllMarked b.statuses };
 }
 

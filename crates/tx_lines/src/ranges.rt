@@ -61,7 +61,7 @@ impl<A: Allocator> Ranges<A> {
         reaches(range, code, number)
     }
 
-    /// From which place and up to which the ranges of the code stand; all places for a code that the plan has not.
+    /// From which place and up to which the ranges of the code stand; all places for a code that the plan does not have.
     #[inline(always)]
     fn places(&self, code: CodeId) -> (usize, usize)
         ensures order { result.0 ≤ result.1 }

@@ -15,7 +15,7 @@ use Rattle.tx_lint.specs.declared.warning.Warning.TheVariants.{NothingToJudge, N
 abbrev pub has_lines : Plan → (c : ℕ) → Bool
 has_lines p c = list_any (λ r. r.code == c) p.ranges
 
--- the group g stands in a list
+-- the group g is in a list
 abbrev pub is_listed : Plan → (g : ℕ) → Bool
 is_listed p g = list_any (λ r. list_any (λ h. h == g) r.groups) p.routes
 

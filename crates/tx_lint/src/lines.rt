@@ -49,7 +49,7 @@ impl<'t, A: Allocator + Copy> Reading<'t, A> {
 }
 
 impl<'t, A: Allocator> Reading<'t, A> {
-    /// Tells that a line is at fault, and passes over it.
+    /// Returns that a line is at fault, and passes over it.
     fn tell(&mut self, line: TextLine<'t>, kind: FaultKind<PlanWord>) -> Result<(), NoMemory>
         ensures told { OnOk result (Told self.old self.new (line_of line.entry) kind) }
         ensures same { progress_held self.new ≡ progress_held self.old }
@@ -140,7 +140,7 @@ impl<'t, A: Allocator> Reading<'t, A> {
         Ok(())
     }
 
-    /// Takes in the end of a text, behind the line before this number.
+    /// Takes in the end of a text, after the line before this number.
     fn end(&mut self, number: u64) -> Result<(), NoMemory>
         ensures faults { OnOk result (faults_held self.new
             ≡ faults_held self.old ++ option_to_list (fault_of_end number self.old.part)) }

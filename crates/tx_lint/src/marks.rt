@@ -10,7 +10,7 @@ use tx_plan::{CodeId, ExchangeId, GroupId, Plan};
 use tx_rank::{is_marked, reached};
 use tx_text::NoMemory;
 
-/// Where calls for each code come, and which groups stand in a list.
+/// Where calls for each code come, and which groups are in a list.
 #[derive(Drop)]
 pub(crate) struct Marks<A: Allocator> {
     coming: Vec<Vec<bool, A>, A>,
@@ -39,7 +39,7 @@ impl<A: Allocator> Marks<A> {
         }
     }
 
-    /// Whether the group stands in a list.
+    /// Whether the group is in a list.
     pub(crate) fn is_listed(&self, group: GroupId) -> bool
         ensures { result ≡ is_marked self.now.listed.items group }
     {

@@ -11,7 +11,7 @@ pub enum Warning {
     NothingToJudge,
     /// A2: the code has no lines.
     NoLines(CodeId),
-    /// A3: the group stands in no list.
+    /// A3: the group is in no list.
     UnusedGroup(GroupId),
     /// A4: no call for its code comes to the list.
     UnusedList,

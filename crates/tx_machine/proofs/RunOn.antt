@@ -35,7 +35,7 @@ driven_more p q s u t events at e reply old items new l h plan was here stepped 
       sym (ap (λ n. n.1) made) ∙ sym i.state ∙ ap (λ n. state_after p s (take n events)) more,
     )
 
--- memory was wanting at the next event
+-- memory ran out at the next event
 pub driven_stop : (p q : Plan) (s u t : State) (events : List Event) (at : ℕ) (e : Event) (old items : List Reply) → at < length events → e ≡ get_or events at e → q ≡ p
     → items ≡ old ++ replies p s (take at events) → u ≡ state_after p s (take at events) → t ≡ u → (takes_memory e ≡ true) × (refusal q u e ≡ None) → StopsAt p s events old t items
 driven_stop p q s u t events at e old items l h plan was here same memory = record {

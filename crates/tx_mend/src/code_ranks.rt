@@ -38,7 +38,7 @@ impl<A: Allocator> CodeRanks<A> {
     }
 }
 
-/// Those of the code at a place; none for a place that the table has not.
+/// Those of the code at a place; none for a place that the table does not have.
 pub fn least_at<A: Allocator>(table: &[CodeRanks<A>], place: usize) -> Option<&[Option<u8>]>
     ensures { option_copied result ≡ option_and_then (λ r. r) (slice_get table.now place) }
 {

@@ -14,7 +14,7 @@ use std::alloc::Allocator;
 use tx_entries::GroupList;
 use tx_plan::{CodeId, ExchangeId, GroupId, Plan};
 
-/// Whether the group stands in the list.
+/// Whether the group is in the list.
 fn stands(list: &GroupList, group: GroupId) -> bool
     ensures { result ≡ list_any (λ h. h == group) list.now }
 {

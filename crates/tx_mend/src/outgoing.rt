@@ -30,7 +30,7 @@ impl<A: Allocator> Outgoing<A> {
     }
 }
 
-/// Those of the exchange at a place; none for a place that the list has not.
+/// Those of the exchange at a place; none for a place that the list does not have.
 pub fn groups_at<A: Allocator>(seizable: &[Outgoing<A>], place: usize) -> &[GroupId]
     ensures { result.now ≡ unwrap_or (slice_get seizable.now place) [] }
 {

@@ -1,4 +1,4 @@
--- The first refusal of a list of tests, and of two lists, one behind the other.
+-- The first refusal of a list of tests, and of two lists, one after the other.
 use Rattle.std.proofs.Common.{◌≡◌, Bool, true, false, List, [], ◌∷◌, ◌++◌, Some, None, refl, ap}
 use Rattle.std.specs.Prelude.{if◌then◌else◌}
 use Rattle.tx_plan.specs.Declaring.{first_true}

@@ -21,7 +21,7 @@ first_true [] = None
 first_true (t ∷ ts) = if t.0 then Some t.1 else first_true ts
 
 -- What a call of the builder answers. Ok: nothing refuses the declaration, and it was added. Err: nothing changed, and it is the first refusal, or
--- want of memory where no refusal applies.
+-- lack of memory where no refusal applies.
 abbrev pub Declares : Option PlanRefusal → Plan → Plan → Plan → Result (Unit {0}) PlanRefusal → Type 0
 Declares refusal old next new (Ok x) = (refusal ≡ None) × (new ≡ next)
 Declares refusal old next new (Err e) = (new ≡ old) × ((refusal ≡ Some e) ⊎ ((refusal ≡ None) × (e ≡ NoMemory)))

@@ -108,15 +108,15 @@ lines_within e text = framed (header_of (codes "PLAN") 2) Start 1 (told e (lines
 abbrev pub plan_of : Ending → List ℕ → Result Plan (ℕ × FaultKind PlanWord)
 plan_of e text = said declare 1 no_plan (lines_within e text)
 
--- line n of a text declares something, and so does each line before it: where memory can be wanting
+-- line n of a text declares something, and so does each line before it: where memory can run out
 abbrev pub declares_line : ℕ → Ending → List ℕ → Bool
 declares_line n e text = declares_at declare n 1 no_plan (lines_within e text)
 
--- memory was wanting at line n, by the bytes that were read: it declares something, whatever follows
+-- memory ran out at line n, by the bytes that were read: it declares something, whatever follows
 abbrev pub WantingAt : Option (List ℕ) → Option (List ℕ) → ℕ → Type 0
 WantingAt old new n = ReadsOn old new (declares_line n) (λ _ _. true)
 
--- want of memory
+-- lack of memory
 abbrev pub is_memory : PlanWord → Bool
 is_memory (Refused NoMemory) = true
 is_memory w = false

@@ -35,7 +35,7 @@ pub fn read_plan_from<R: Source, A: Allocator + Copy>(
     }
 }
 
-/// Reads a plan text that stands in memory. `Err` is the first fault, with its line.
+/// Reads a plan text that is in memory. `Err` is the first fault, with its line.
 pub fn read_plan<A: Allocator + Copy>(alloc: A, text: &[u8]) -> Result<Plan<A>, PlanFault>
     ensures { AnswersAs is_memory (plan_of AtEnd text.now) (λ n. declares_line n AtEnd text.now ≡ true) (told_fault result) }
 {

@@ -8,7 +8,7 @@ use Rattle.tx_commands.specs.Faults.{IsRefusalOf, status_of}
 use Rattle.tx_commands.specs.declared.command.Command.{Command}
 use Rattle.tx_commands.specs.declared.fault.WordsFault.{WordsFault}
 
--- of arguments that could not be taken as words: 4 for want of memory, else 64
+-- of arguments that could not be taken as words: 4 when memory runs out, else 64
 abbrev pub status_of_arguments : ErrorKind → ℕ
 status_of_arguments OutOfMemory = 4
 status_of_arguments kind = 64

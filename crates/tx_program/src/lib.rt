@@ -1,5 +1,5 @@
 //! The program: what it does for the words of the command line over a folder of files and its
-//! standard ends. It gives the commands on.
+//! standard ends. It re-exports the commands.
 #![tactic(auto)]
 
 mod audited;

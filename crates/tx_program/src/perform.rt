@@ -110,7 +110,7 @@ fn run_files<A: Allocator + Copy, P: Read + Drop, R: Read + Drop, O: Write + Dro
     run_script(alloc, &mut plan, script, output)
 }
 
-/// Runs the script over the plan. A function of its own, since each exit lets go of what is open there.
+/// Runs the script over the plan. A function of its own, since each exit drops what is open there.
 fn run_script<A: Allocator + Copy, P: Source, R: Read + Drop, O: Write + Drop>(
     alloc: A,
     plan: &mut P,
@@ -134,7 +134,7 @@ fn run_telling_files<A: Allocator + Copy, P: Read + Drop, R: Read + Drop, O: Wri
     tell_script(alloc, &mut plan, script, strict, echo, output)
 }
 
-/// Runs the script over the plan, and tells what is asked for. A function of its own, since each exit lets go of what is open there.
+/// Runs the script over the plan, and returns what is asked for. A function of its own, since each exit drops what is open there.
 fn tell_script<A: Allocator + Copy, P: Source, R: Read + Drop, O: Write + Drop>(
     alloc: A,
     plan: &mut P,
@@ -166,7 +166,7 @@ fn run_checked_files<A: Allocator + Copy, P: Read + Drop, R: Read + Drop, O: Wri
     run_after_yes(alloc, &mut plan, cert, bounds, script, output)
 }
 
-/// Runs the script over the plan after a Yes to the certificate. A function of its own, since each exit lets go of what is open there.
+/// Runs the script over the plan after a Yes to the certificate. A function of its own, since each exit drops what is open there.
 fn run_after_yes<A: Allocator + Copy, P: Source, C: Read + Drop, R: Read + Drop, O: Write + Drop>(
     alloc: A,
     plan: &mut P,

@@ -27,8 +27,8 @@ pub struct Ends<'a, F, I: Drop, O: Drop, E: Drop> {
 /// Does what the words after the program's name ask for, and answers the exit status: 0, or 1 after
 /// a No (of `codes`: where codes are ambiguous; of `grade` and `survive`: where there is no grade
 /// too; of `lint`: after warnings), 2 for a refused text (of `lint`: after faults), 3 for a failed
-/// read or write (of help too), 4 for want of memory, 64 for refused words, and for a code to draw,
-/// or an exchange or a code to trace, that the plan has not. Without words, on a terminal, it prints
+/// read or write (of help too), 4 when memory runs out, 64 for refused words, and for a code to draw,
+/// or an exchange or a code to trace, that the plan does not have. Without words, on a terminal, it prints
 /// its help. A fault is told by one line on standard error, and refused words by what the library of
 /// command lines says. The words are read with `alloc`, and what they ask for is done with `memory`.
 pub fn run_words<
@@ -69,7 +69,7 @@ fn do_words<A: Allocator + Copy, F: Folder, I: Read + Drop, O: Write + Drop, E: 
     }
 }
 
-/// Tells why words are refused, and answers the exit status: 3 where a request for help could not be written.
+/// Returns why words are refused, and answers the exit status: 3 where a request for help could not be written.
 fn refuse_words<F: Folder, I: Read + Drop, O: Write + Drop, E: Write + Drop>(
     fault: &WordsFault,
     ends: Ends<'_, F, I, O, E>,
@@ -113,7 +113,7 @@ pub fn run_command<
     }
 }
 
-/// Tells why a command was not done by one line on standard error, and answers the exit status.
+/// Returns why a command was not done by one line on standard error, and answers the exit status.
 fn tell_fault<E: Write + Drop>(fault: &CommandFault, errors: E) -> u8
     ensures { result ≡ status_of_command fault.now }
 {

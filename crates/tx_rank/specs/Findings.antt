@@ -15,7 +15,7 @@ IsTrueOf p limit spare (Loop c w) = (c < length p.codes) × IsLoop (net_of p c) 
 IsTrueOf p limit spare (Short c w) = (c < length p.codes) × IsShort (net_of p c) spare w.start w.steps
 IsTrueOf p limit spare (Long c w) = (c < length p.codes) × IsLong (net_of p c) limit w.start w.steps
 
--- THE LIST OF FINDINGS: which of several walks stands in one is open, and all else is not.
+-- THE LIST OF FINDINGS: which of several walks is in one is open, and all else is not.
 
 -- the exchange where a walk ends
 abbrev pub end_at : Walk → ℕ

@@ -58,7 +58,7 @@ fn code_grade<A: Allocator + Copy>(
 
 /// Tells with which limits, and which spare numbers up to 15, some ranks certify the plan, and each
 /// of its codes alone; and if they certify the plan with none, what no limit and no spare number
-/// mends. `Err` is want of memory.
+/// mends. `Err` means out of memory.
 pub fn grade<A: Allocator + Copy>(alloc: A, plan: &Plan<A>) -> Result<Grade<A>, NoMemory>
     // The grade of the plan says with which limits and spare numbers some ranks certify it, and so
     // for which no finding is true.

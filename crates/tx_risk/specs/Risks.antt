@@ -34,7 +34,7 @@ abbrev pub net_without : Plan → Risk → ℕ → Net
 net_without p risk code = without risk (net_of p code)
 
 -- A DEAD END: the steps lead from x by the lists to an exchange other than the home, and nothing
--- stands in its list.
+-- is in its list.
 pub record IsDeadEnd (n : Net) (x : ℕ) (steps : List (ℕ × ℕ)) : Type 0 where
   pub goes : Goes n x steps
   pub away : end_of x steps ≢ n.home

@@ -26,8 +26,8 @@ pub enum Survival<A: Allocator = Global> {
     Ungraded(Grade<A>),
 }
 
-/// Tells what each group, each exchange and each named risk cuts off if it fails alone; or why the
-/// plan has no grade. `Err` is want of memory.
+/// Returns what each group, each exchange and each named risk cuts off if it fails alone; or why the
+/// plan has no grade. `Err` means out of memory.
 pub fn survive<A: Allocator + Copy>(
     alloc: A,
     plan: &Plan<A>,

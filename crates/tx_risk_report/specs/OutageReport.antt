@@ -53,7 +53,7 @@ module _ {A : Type 0} where
   abbrev pub cut_line : Plan → Cut A → List ℕ
   cut_line p c = cut_word c.stray ++ start_text p c.code c.walk
 
-  -- a cut, behind what fails if that is not the same as before
+  -- a cut, after what fails if that is not the same as before
   abbrev pub cut_text : Plan → List NamedRisk → (before : Option Outage) → Cut A → List ℕ
   cut_text p risks before c =
       (if is_same_as before c.outage then [] else outage_line p risks c.outage) ++ cut_line p c

@@ -129,7 +129,7 @@ fn write_cuts<A: Allocator, W: Sink>(
     Ok(())
 }
 
-/// Writes a cut, behind what fails, unless the same fails as before.
+/// Writes a cut, after what fails, unless the same fails as before.
 fn write_cut<A: Allocator, W: Sink>(
     plan: &Plan<A>,
     risks: &[NamedRisk<A>],

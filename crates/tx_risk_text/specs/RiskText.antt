@@ -65,16 +65,16 @@ lines_within e text = framed (header_of (codes "RISKS") 1) Start 1 (told e (line
 abbrev pub risks_of : Plan → Ending → List ℕ → Result (List NamedRisk) (ℕ × FaultKind RiskWord)
 risks_of p e text = said (declare p) 1 [] (lines_within e text)
 
--- line n of a text declares something, and so does each line before it: where memory can be wanting
+-- line n of a text declares something, and so does each line before it: where memory can run out
 abbrev pub declares_line : Plan → ℕ → Ending → List ℕ → Bool
 declares_line p n e text = declares_at (declare p) n 1 [] (lines_within e text)
 
--- memory was wanting at line n, by the bytes that were read: it declares something, whatever
+-- memory ran out at line n, by the bytes that were read: it declares something, whatever
 -- follows
 abbrev pub WantingAt : Plan → (old new : Option (List ℕ)) → ℕ → Type 0
 WantingAt p old new n = ReadsOn old new (declares_line p n) (λ _ _. true)
 
--- want of memory
+-- lack of memory
 abbrev pub is_memory : RiskWord → Bool
 is_memory NoMemory = true
 is_memory w = false

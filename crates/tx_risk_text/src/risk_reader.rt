@@ -37,7 +37,7 @@ pub fn read_risks_from<R: Source, A: Allocator + Copy>(
     }
 }
 
-/// Reads the named risks of a plan from a text that stands in memory. `Err` is the first fault,
+/// Reads the named risks of a plan from a text that is in memory. `Err` is the first fault,
 /// with its line.
 pub fn read_risks<A: Allocator + Copy>(
     alloc: A,

@@ -28,7 +28,7 @@ use Rattle.tx_plan.proofs.NamesBack.{code_back, figures_are_code, group_back, gr
 no_dot : (b : ℕ) → (is_letter b || is_figure b) ≡ true → not (is_dot b) ≡ true
 no_dot b h = grind (arith, nat_tests)
 
--- a dot behind a text without dots
+-- a dot after a text without dots
 dot_place : (w rest : List ℕ) → list_all (λ b. not (is_dot b)) w ≡ true → prefix_len (λ b. not (is_dot b)) (w ++ 46 ∷ rest) ≡ length w
 dot_place [] rest h = refl
 dot_place (b ∷ w) rest h =
@@ -88,7 +88,7 @@ module _ (p : Plan) (h : IsPlan p) where
     pub some : 0 < length ws
     pub no_end : is_end ws ≡ false
 
-  -- one word behind a first one of letters
+  -- one word after a first one of letters
   after_one : (e : Event) (first w : List ℕ) → event_of p (first ∷ w ∷ []) ≡ Ok e → IsShortWord first → IsShortWord w → SaysEvent e (first ∷ w ∷ [])
   after_one e first w s f g = record { says = s; written = line_of_short (first ∷ w ∷ []) (f, (g, tt)) (omega arith); some = omega arith; no_end = refl }
 

@@ -24,7 +24,7 @@ read_at s [] i h k l = absurd (omega (arith, l))
 read_at s (c ∷ p) i h zero l = ap (λ j. get_or s j 0) (omega arith) ∙ h.0
 read_at s (c ∷ p) i h (suc k) l = ap (λ j. get_or s j 0) (omega arith) ∙ read_at s p (suc i) h.1 k (omega (arith, l))
 
--- a verb at the front of a line, and a space behind it
+-- a verb at the front of a line, and a space after it
 pub verb_first : (verb : Verb) (word rest text : List ℕ) → verb_of word ≡ Some verb → list_all is_word_byte word ≡ true → 0 < length word → text ≡ word ++ 32 ∷ rest → BeginsWith (words_of text) (Some verb) (words_of rest)
 unfolding event_of
 verb_first verb word rest text is all some e p =

@@ -43,7 +43,7 @@ module _ (p : Plan) (echo : Bool) where
 -- ---- an event whose lines were not all written
 
 module _ (p : Plan) (m : Moment) (t : State) (a b : Option (List ℕ)) where
-  -- the tickets before the one that was not written, and those behind it
+  -- the tickets before the one that was not written, and those after it
   cut : (made written left : List Ended) (hand : Ended) → made ≡ written ++ hand ∷ left → flat_map (ticket_text p) made ≡ flat_map (ticket_text p) written ++ (ticket_text p hand ++ flat_map (ticket_text p) left)
   cut made written left hand e = ap (flat_map (ticket_text p)) e ∙ flat_map-append (ticket_text p) written (hand ∷ left)
 

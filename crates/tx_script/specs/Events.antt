@@ -53,7 +53,7 @@ circuit_number w = from_one (number_of 240 w)
 abbrev pub is_dot : ℕ → Bool
 is_dot b = b == 46
 
--- what stands before a place of a word, and what stands behind it
+-- what stands before a place of a word, and what stands after it
 abbrev pub cut_at : List ℕ → ℕ → List ℕ × List ℕ
 cut_at w i = (take i w, drop (i + 1) w)
 
@@ -66,7 +66,7 @@ abbrev pub spelt : {A B : Type 0} → Option A → (A → Result B ScriptWord) �
 spelt None say = Err BadNumber
 spelt (Some a) say = say a
 
--- a code or a group that the plan has not is UnknownName
+-- a code or a group that the plan does not have is UnknownName
 abbrev pub named : {B : Type 0} → Option ℕ → (ℕ → Result B ScriptWord) → Result B ScriptWord
 named None say = Err UnknownName
 named (Some i) say = say i

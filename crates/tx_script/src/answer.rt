@@ -57,7 +57,7 @@ pub(crate) fn is_refused(reply: &Reply) -> bool
     matches!(reply, Reply::Refused(_))
 }
 
-/// Takes the tickets out of a network and writes them, the oldest first. Tells how many there were.
+/// Takes the tickets out of a network and writes them, the oldest first. Returns how many there were.
 #[inline(always)]
 pub(crate) fn write_tickets<B: Allocator, N: Network, W: Sink>(
     plan: &Plan<B>,

@@ -34,7 +34,7 @@ pub fn write_event<A: Allocator, W: Sink>(
     write_said(event, plan, sink)
 }
 
-/// The same for any event: of an id that the plan has not, no name is written.
+/// The same for any event: of an id that the plan does not have, no name is written.
 pub(crate) fn write_said<A: Allocator, W: Sink>(
     event: &Event,
     plan: &Plan<A>,
@@ -117,7 +117,7 @@ fn write_call<W: Sink>(first: &[u8], call: u32, end: &[u8], sink: &mut W) -> Res
     write_text(&[first, digits.format(call).as_bytes(), end, b""], sink)
 }
 
-/// The party that clears, with what stands before it and behind it.
+/// The party that clears, with what stands before it and after it.
 fn party_end<'a>(party: Party) -> &'a [u8]
     ensures { result.now ≡ codes " " ++ (party_word party ++ codes "\n") }
 {

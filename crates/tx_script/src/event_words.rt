@@ -37,7 +37,7 @@ pub(crate) fn verb_in(words: &mut Words<'_>) -> Option<Verb>
     Verb::read(first)
 }
 
-/// What is left behind these bytes, where the text begins with them.
+/// What is left over these bytes, where the text begins with them.
 #[inline(always)]
 fn behind<'a, const N: usize>(text: &'a [u8], front: &[u8; N]) -> Option<&'a [u8]>
     ensures { IfSome result (λ rest. text.now ≡ front.now ++ rest.now) }
@@ -53,7 +53,7 @@ fn behind<'a, const N: usize>(text: &'a [u8], front: &[u8; N]) -> Option<&'a [u8
     Some(&text[N..])
 }
 
-/// The verb of an event of calls where it stands at the front with a space behind it, and what is left of the line.
+/// The verb of an event of calls where it stands at the front with a space after it, and what is left of the line.
 #[inline(always)]
 fn verb_at(text: &[u8]) -> Option<(Verb, &[u8])>
     ensures { IfSome result (λ v. BeginsWith (words_of text.now) (Some v.0) (words_of v.1.now)) }
@@ -227,7 +227,7 @@ fn circuit_number(word: &[u8]) -> Option<u32>
     }
 }
 
-/// What stands before the first dot, and what stands behind it.
+/// What stands before the first dot, and what stands after it.
 #[inline(always)]
 fn cut_at_dot(word: &[u8]) -> Option<(&[u8], &[u8])>
     ensures { MatchOption result (cut_at_dot word.now ≡ None) (λ c. cut_at_dot word.now ≡ Some (c.0.now, c.1.now)) }

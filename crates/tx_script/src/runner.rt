@@ -135,7 +135,7 @@ pub(crate) fn frame_cause(stop: FrameStop) -> RunCause
     }
 }
 
-/// Writes the last line, and tells what was counted.
+/// Writes the last line, and returns what was counted.
 pub(crate) fn finish<N: Network, W: Sink>(
     tally: &Tally,
     net: &N,

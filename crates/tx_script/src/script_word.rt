@@ -17,7 +17,7 @@ pub enum ScriptWord {
     /// S3: a national number, keyed figures, a call or a circuit that is none.
     #[error("a national number, the keyed figures, a call or a circuit is not what it must be")]
     BadNumber,
-    /// S4: a code or a group that the plan has not.
+    /// S4: a code or a group that the plan does not have.
     #[error("the plan has no such code or group")]
     UnknownName,
 }

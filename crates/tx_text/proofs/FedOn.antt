@@ -34,7 +34,7 @@ ended-added f front =
 leaves_ended : (f : Feed) (front : List ℕ) (o p : Option TextFault) (b : Bool) → o ≡ None → p ≡ None → b ≡ true → leaves_by f front o p b ≡ ended f front
 leaves_ended f front o p b x y z = rw (x, y, z) refl
 
--- the front of a piece was added, with the LF behind it, and no fault was told of it
+-- the front of a piece was added, with the LF after it, and no fault was told of it
 pub record FrontAdded (f b a : Feed) (piece front : List ℕ) (k : ℕ) (told : Option TextFault) : Type 0 where
   pub let_go : b ≡ record f { line = None }
   pub place : k ≡ position_or_len is_lf piece

@@ -90,7 +90,7 @@ module _ (p : ℕ → Bool) where
       ∙ ap (λ b. cond b (length c + prefix_len p (drop (i + n) text)) (prefix_len p c)) (eq-eqb _ _ (all_run c none)) in
       omega (arith, whole, length-chunk i n text room)
 
-  -- what is left of a run behind some of its bytes
+  -- what is left of a run after some of its bytes
   pub run_behind : (text : List ℕ) (i : ℕ) → i ≤ prefix_len p text → prefix_len p text ≡ i + prefix_len p (drop i text)
   run_behind text zero le = omega arith
   run_behind [] (suc i) le = let no : ⊥ = omega (arith, le) in absurd no
@@ -105,7 +105,7 @@ ends_at n text most room some = ends_in is_word_byte 0 n text most (omega (arith
 abbrev pub ends_of : ℕ → List ℕ → ℕ
 ends_of i text = mask_l (map (λ b. not (is_word_byte b)) (chunk i 4 text))
 
--- of a word that has the first four bytes, what is left stands in the last four
+-- of a word that has the first four bytes, what is left is in the last four
 pub far : (text : List ℕ) → 4 ≤ length text → length text ≤ 8 → ends_of 0 text ≡ 0
     → prefix_len is_word_byte text ≡ length text - 4 + prefix_len is_word_byte (drop (length text - 4) text)
 far text least most none =

@@ -1,4 +1,4 @@
--- Words that may stand in a written line: names, figures, numbers, circuits.
+-- Words that may are in a written line: names, figures, numbers, circuits.
 use Rattle.std.proofs.Common.{◌≡◌, ℕ, zero, suc, ◌+◌, ◌*◌, ◌^◌, ◌<◌, ◌≤◌, ◌==◌, ◌%◌, Bool, true, false, not, ◌&&◌, ◌||◌, nat_le, nat_lt, List, [], ◌∷◌, ◌++◌, length, get_or, Some, None, codes, refl, arith, length-append}
 use Rattle.std.specs.List.{AllByRecursion, list_all}
 use Rattle.std.specs.Fmt.{decimal}
@@ -87,7 +87,7 @@ number_figures k n some small h =
 pub number_word : (n : ℕ) → n < 2 ^ 32 → IsShortWord (decimal n)
 number_word n h = figures_word 1 10 (decimal n) (omega arith) (omega arith) (number_figures 10 n (omega arith) (omega arith) (omega arith))
 
--- no zero stands in front of others
+-- no zero is in front of others
 no_zero_first : (n : ℕ) → n < 2 ^ 64 → (length (decimal n) == 1 || not (get_or (decimal n) 0 0 == 48)) ≡ true
 no_zero_first zero h = let e = decimal_digit 0 (omega arith) in rw e refl
 no_zero_first (suc n) h =

@@ -6,7 +6,7 @@ use Rattle.tx_text.specs.declared.source.ReadFault.{ReadFault}
 abbrev pub source_calls : ℕ
 source_calls = 4294967295
 
--- how many calls a text may take that stands in memory: more than any such text is long
+-- how many calls a text may take that is in memory: more than any such text is long
 abbrev pub slice_calls : ℕ
 slice_calls = 2251799813685249
 

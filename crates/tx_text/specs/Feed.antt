@@ -39,7 +39,7 @@ begun_fault bytes = if nat_lt 512 (length (without_cr bytes)) then Some LineTooL
 abbrev pub front_of : List ℕ → List ℕ
 front_of piece = take (position_or_len is_lf piece) piece
 
--- An LF stands in the piece.
+-- An LF is in the piece.
 abbrev pub has_lf : List ℕ → Bool
 has_lf piece = nat_lt (position_or_len is_lf piece) (length piece)
 

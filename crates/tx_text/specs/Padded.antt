@@ -1,11 +1,11 @@
 -- A short text in a longer array: the bytes after it are 0.
 use Rattle.std.specs.Prelude.{◌≡◌, ℕ, ◌-◌, ◌≤◌, ◌++◌, List, length, take, replicate}
 
--- The text, and zeros behind it up to so many bytes.
+-- The text, and zeros after it up to so many bytes.
 abbrev pub padded_to : ℕ → List ℕ → List ℕ
 padded_to room text = text ++ replicate (room - length text) 0
 
--- The first bytes are the text, and zeros stand behind it.
+-- The first bytes are the text, and zeros stand after it.
 pub record IsPadded (room len : ℕ) (bytes : List ℕ) : Type 0 where
   pub fits : len ≤ room
   pub short : length (take len bytes) ≡ len

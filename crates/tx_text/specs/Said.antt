@@ -37,17 +37,17 @@ module _ {S W : Type 0} (declare : ℕ → S → List (List ℕ) → Result S W)
   declares_at n v s (Headed w t) = declares_at n w s t
   declares_at n v s (Has m ws t) = goes_on (declare v s ws) (λ r. (m == n) || declares_at n v r t)
 
--- what declaring did: memory can be wanting only for a line that declares something
+-- what declaring did: memory can run out only for a line that declares something
 abbrev pub DeclaredBy : {S W : Type 0} → Result S W → Bool → W → Type 0
 DeclaredBy r true x = is_ok r ≡ true
 DeclaredBy r false x = r ≡ Err x
 
--- Declaring a line did what it declares, or told its fault, or memory was wanting.
+-- Declaring a line did what it declares, or told its fault, or memory ran out.
 abbrev pub Declared : {S W U : Type 0} → (W → Bool) → Result S W → S → Result U W → Type 0
 Declared memory r new (Ok x) = r ≡ Ok new
 Declared memory r new (Err x) = DeclaredBy r (memory x) x
 
--- In what follows `wanted n` is what is so where memory was wanting at line n, and `untouched` says that nothing was read.
+-- In what follows `wanted n` is what is so where memory ran out at line n, and `untouched` says that nothing was read.
 
 -- what the reader answers
 abbrev pub RefusedBy : {S W : Type 0} → Option (List ℕ) → Option (List ℕ) → (Ending → List ℕ → Result S (ℕ × FaultKind W)) → (ℕ → Type 0) → Bool → ℕ → W → Type 0
@@ -64,17 +64,17 @@ abbrev pub StoppedBy : {S W : Type 0} → Option (List ℕ) → Option (List ℕ
 StoppedBy old new F broken untouched true n k = (n ≡ 1) × untouched
 StoppedBy old new F broken untouched false n k = Stopped old new F broken (is_read k) (Err (n, Frame k))
 
--- A fault is the one that the text has, unless memory was wanting.
+-- A fault is the one that the text has, unless memory ran out.
 abbrev pub Refused : {S W : Type 0} → (W → Bool) → Option (List ℕ) → Option (List ℕ) → (Ending → List ℕ → Result S (ℕ × FaultKind W)) → (broken untouched : Type 0) → (ℕ → Type 0) → ℕ → FaultKind W → Type 0
 Refused memory old new F broken untouched wanted n (Frame k) = StoppedBy old new F broken untouched (is_no_room k) n k
 Refused memory old new F broken untouched wanted n (Word x) = RefusedBy old new F wanted (memory x) n x
 
--- An Ok is what the whole text says, at the source's end; a fault is the one that the text has, unless memory was wanting.
+-- An Ok is what the whole text says, at the source's end; a fault is the one that the text has, unless memory ran out.
 abbrev pub Answered : {S W : Type 0} → (W → Bool) → Option (List ℕ) → Option (List ℕ) → (Ending → List ℕ → Result S (ℕ × FaultKind W)) → (broken untouched : Type 0) → (ℕ → Type 0) → Result S (ℕ × FaultKind W) → Type 0
 Answered memory old new F broken untouched wanted (Ok s) = EndsAs old new F AtEnd (Ok s) × IsAtEnd new
 Answered memory old new F broken untouched wanted (Err x) = Refused memory old new F broken untouched wanted x.0 x.1
 
--- A fault is the one that the text has, unless memory was wanting.
+-- A fault is the one that the text has, unless memory ran out.
 abbrev pub FaultsBy : {S W : Type 0} → Result S (ℕ × FaultKind W) → Type 0 → Bool → ℕ → FaultKind W → Type 0
 FaultsBy x wanting true n k = wanting
 FaultsBy x wanting false n k = x ≡ Err (n, k)
@@ -84,7 +84,7 @@ abbrev pub FaultsAs : {S W : Type 0} → (W → Bool) → Result S (ℕ × Fault
 FaultsAs memory x wanted n (Frame k) = FaultsBy x (n ≡ 1) (is_no_room k) n (Frame k)
 FaultsAs memory x wanted n (Word w) = FaultsBy x (wanted n) (memory w) n (Word w)
 
--- A reader answers what the whole text says, unless memory was wanting.
+-- A reader answers what the whole text says, unless memory ran out.
 abbrev pub AnswersAs : {S W : Type 0} → (W → Bool) → Result S (ℕ × FaultKind W) → (ℕ → Type 0) → Result S (ℕ × FaultKind W) → Type 0
 AnswersAs memory x wanted (Ok s) = x ≡ Ok s
 AnswersAs memory x wanted (Err f) = FaultsAs memory x wanted f.0 f.1

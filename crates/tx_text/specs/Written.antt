@@ -26,7 +26,7 @@ joined [] = []
 joined (w ∷ []) = w
 joined (w ∷ v ∷ ws) = w ++ 32 ∷ joined (v ∷ ws)
 
--- Such words stand in one line, of at most 512 bytes.
+-- Such words are in one line, of at most 512 bytes.
 pub record IsWrittenLine (ws : List (List ℕ)) : Type 0 where
   pub words : AllByRecursion IsWord ws
   pub short : length (joined ws) ≤ 512

@@ -42,7 +42,7 @@ impl<A: Allocator> Model for LineFeeder<A> {
 }
 
 impl<A: Allocator> LineFeeder<A> {
-    /// Reserves the buffer of a line. No other call takes memory. `Err` is want of memory alone.
+    /// Reserves the buffer of a line. No other call takes memory. `Err` means out of memory, and nothing else.
     pub fn new(alloc: A) -> Result<LineFeeder<A>, TextFault>
         ensures ok { IfOk result (λ f. f ≡ record { number = 0; start = 0; begun = []; line = None; fault = None }) }
         ensures err { IfErr result (λ e. e ≡ TextFault.NoMemory) }
@@ -61,7 +61,7 @@ impl<A: Allocator> LineFeeder<A> {
         })
     }
 
-    /// Counts a line that stands whole elsewhere, of so many bytes and an LF, and tells where it starts. Where a line has begun here or a fault stands, it does
+    /// Counts a line that stands whole elsewhere, of so many bytes and an LF, and returns where it starts. Where a line has begun here or a fault stands, it does
     /// nothing.
     #[inline(always)]
     pub(crate) fn pass(&mut self, len: usize) -> Option<usize>
@@ -142,7 +142,7 @@ impl<A: Allocator> LineFeeder<A> {
         Ok(Fed { taken: place, line })
     }
 
-    /// Adds bytes to the line that has begun, and tells what is wrong with it then.
+    /// Adds bytes to the line that has begun, and returns what is wrong with it then.
     #[tactic(auto, unfolding(crate::specs::Feed::begun_fault))]
     #[inline(always)]
     fn add(&mut self, front: &[u8], line: bool) -> Option<TextFault>
@@ -165,7 +165,7 @@ impl<A: Allocator> LineFeeder<A> {
         None
     }
 
-    /// The text came to its end: tells whether an unfinished line stands, and completes it. `Err` tells that this line is too long or has a bad byte.
+    /// The text came to its end: returns whether an unfinished line stands, and completes it. `Err` tells that this line is too long or has a bad byte.
     #[inline(always)]
     pub fn finish(&mut self) -> Result<bool, TextFault>
         ensures gives { result ≡ finish_gives self.old }
@@ -221,7 +221,7 @@ impl<A: Allocator> LineFeeder<A> {
     }
 }
 
-/// Adds bytes to a line that has begun, and tells whether there is room for them. Else it is too long, whatever bytes follow.
+/// Adds bytes to a line that has begun, and returns whether there is room for them. Else it is too long, whatever bytes follow.
 #[inline(always)]
 fn hold<A: Allocator>(held: &mut Vec<u8, A>, front: &[u8]) -> bool
     requires room { 513 ≤ vec_capacity held.old }

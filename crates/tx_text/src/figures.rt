@@ -51,7 +51,7 @@ impl Figures {
         self.text.bytes()
     }
 
-    /// The figures, and zeros behind them up to twelve bytes.
+    /// The figures, and zeros after them up to twelve bytes.
     #[inline(always)]
     pub fn padded(&self) -> &[u8; 12]
         ensures { result.now ≡ padded_to 12 self.now }

@@ -21,7 +21,7 @@ pub enum FormFault {
     /// The text ends without END, or in the middle of a line with words that is not the one word END.
     #[error("the text ends without END, or in the middle of a line")]
     NoEnd,
-    /// A line behind END has words.
+    /// A line after END has words.
     #[error("words stand behind END")]
     AfterEnd,
 }

@@ -25,7 +25,7 @@ pub struct FrameReader<'k, A: Allocator = Global> {
 }
 
 impl<'k, A: Allocator> FrameReader<'k, A> {
-    /// A reader of a text from a source. The header is the key and a version from 1 to `most`, as `PLAN 2`. `Err` is want of memory alone.
+    /// A reader of a text from a source. The header is the key and a version from 1 to `most`, as `PLAN 2`. `Err` means out of memory, and nothing else.
     pub fn new(alloc: A, key: &'k [u8], most: u8) -> Result<FrameReader<'k, A>, TextFault>
         ensures fields { IfOk result (λ r. (r.key.now ≡ key.now) × (r.most ≡ most) × (r.reader ≡ reading_start) × (r.phase ≡ FramePart.Start) × (r.number ≡ 1)) }
         ensures err { IfErr result (λ e. e ≡ TextFault.NoMemory) }
@@ -34,7 +34,7 @@ impl<'k, A: Allocator> FrameReader<'k, A> {
         Ok(FrameReader::of_reader(reader, key, most))
     }
 
-    /// The same for a text that stands in memory: no such text meets the bound on calls.
+    /// The same for a text that is in memory: no such text meets the bound on calls.
     pub fn for_slice(alloc: A, key: &'k [u8], most: u8) -> Result<FrameReader<'k, A>, TextFault>
         ensures fields { IfOk result (λ r. (r.key.now ≡ key.now) × (r.most ≡ most) × (r.reader ≡ slice_start) × (r.phase ≡ FramePart.Start) × (r.number ≡ 1)) }
         ensures err { IfErr result (λ e. e ≡ TextFault.NoMemory) }

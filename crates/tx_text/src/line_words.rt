@@ -173,7 +173,7 @@ fn word_len(text: &[u8]) -> usize
     count_word_bytes(text)
 }
 
-/// The word behind one space, and what stands behind it, where its end is found in the 16 bytes that follow the space.
+/// The word after one space, and what stands after it, where its end is found in the 16 bytes that follow the space.
 #[inline(always)]
 fn spaced_word(text: &[u8]) -> Option<(&[u8], &[u8])>
     ensures { IfSome result (λ x. words_of text.now ≡ x.0.now ∷ words_of x.1.now) }
@@ -195,7 +195,7 @@ fn spaced_word(text: &[u8]) -> Option<(&[u8], &[u8])>
     }
 }
 
-/// The first word, and what stands behind it.
+/// The first word, and what stands after it.
 #[inline(always)]
 fn first_word(text: &[u8]) -> Option<(&[u8], &[u8])>
     ensures { MatchOption result (words_of text.now ≡ [])

@@ -1,4 +1,4 @@
-// The lines of a text that stands in memory.
+// The lines of a text that is in memory.
 ghost use Rattle.std.specs.Prelude.{◌≡◌, ◌+◌, ◌-◌, ◌^◌, ◌<◌, ◌≤◌, ◌∷◌, [], length, IfSome, MatchOption};
 ghost use Rattle.std.specs.Iterator.{YieldsFirstBy, item_count};
 ghost use Rattle.tx_text.specs.Text.{lines_from, checked};
@@ -33,7 +33,7 @@ impl<'a> Model for Lines<'a> {
 }
 
 impl<'a> Lines<'a> {
-    /// The lines of a text that stands in memory, from its first.
+    /// The lines of a text that is in memory, from its first.
     pub fn new(text: &'a [u8]) -> Lines<'a>
         ensures { result ≡ checked (lines_from 1 0 text.now) }
     {

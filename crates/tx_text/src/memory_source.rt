@@ -40,7 +40,7 @@ impl<'a> MemorySource<'a> {
     }
 }
 
-/// Counts a call, and tells whether it is the one that fails.
+/// Counts a call, and returns whether it is the one that fails.
 fn counted(fails_in: &mut Option<u64>) -> bool
     ensures due { result ≡ is_due fails_in.old }
     ensures counts { fails_in.new ≡ sooner fails_in.old }

@@ -19,7 +19,7 @@ use std::marker::Model;
 /// How many calls a text may take that comes from a source.
 const SOURCE_CALLS: u64 = 4_294_967_295;
 
-/// How many calls a text may take that stands in memory: it has fewer than 2^63 bytes, and each call takes 4,096 of them.
+/// How many calls a text may take that is in memory: it has fewer than 2^63 bytes, and each call takes 4,096 of them.
 const SLICE_CALLS: u64 = 2_251_799_813_685_249;
 
 /// Reads a text from a source, line by line. A line that stands whole in the bytes that were read is lent from there, and the feeder holds the others.
@@ -49,7 +49,7 @@ impl<A: Allocator> Model for TextReader<A> {
 }
 
 impl<A: Allocator> TextReader<A> {
-    /// A reader of a text from a source, by at most 4,294,967,295 calls of it, each for at most 4,096 bytes. `Err` is want of memory alone.
+    /// A reader of a text from a source, by at most 4,294,967,295 calls of it, each for at most 4,096 bytes. `Err` means out of memory, and nothing else.
     pub fn new(alloc: A) -> Result<TextReader<A>, TextFault>
         ensures ok { IfOk result (λ r. r ≡ reading_start) }
         ensures err { IfErr result (λ e. e ≡ TextFault.NoMemory) }
@@ -57,7 +57,7 @@ impl<A: Allocator> TextReader<A> {
         TextReader::of_calls(alloc, SOURCE_CALLS)
     }
 
-    /// A reader of a text that stands in memory: no such text meets the bound on calls. `Err` is want of memory alone.
+    /// A reader of a text that is in memory: no such text meets the bound on calls. `Err` means out of memory, and nothing else.
     pub fn for_slice(alloc: A) -> Result<TextReader<A>, TextFault>
         ensures ok { IfOk result (λ r. r ≡ slice_start) }
         ensures err { IfErr result (λ e. e ≡ TextFault.NoMemory) }
@@ -85,7 +85,7 @@ impl<A: Allocator> TextReader<A> {
         })
     }
 
-    /// Feeds the bytes that were read, and tells whether that completed a line.
+    /// Feeds the bytes that were read, and returns whether that completed a line.
     #[inline(always)]
     fn feed(&mut self) -> Result<bool, LineFault>
         ensures known { IsFeed self.old.feed }
@@ -131,7 +131,7 @@ impl<A: Allocator> TextReader<A> {
         }
     }
 
-    /// Goes on to the next line of the source's text, and tells whether there is one. `Err` is a line that is too long or has a bad byte, or that the source
+    /// Goes on to the next line of the source's text, and returns whether there is one. `Err` is a line that is too long or has a bad byte, or that the source
     /// failed or was not at its end after so many calls.
     pub fn advance<R: Source>(&mut self, source: &mut R) -> Result<bool, LineFault>
         requires { self.old.feed.fault ≡ None }
@@ -193,7 +193,7 @@ impl<A: Allocator> TextReader<A> {
         }
     }
 
-    /// Reads the next piece, and tells whether it has any byte.
+    /// Reads the next piece, and returns whether it has any byte.
     #[inline(always)]
     fn fill<R: Source>(&mut self, source: &mut R) -> Result<bool, LineFault>
         requires fed { self.old.piece ≡ [] }

@@ -79,7 +79,7 @@ impl<const N: usize> Short<N> {
         &self.bytes[..usize::from(self.len)]
     }
 
-    /// The text, and zeros behind it up to its room.
+    /// The text, and zeros after it up to its room.
     #[inline(always)]
     pub fn padded(&self) -> &[u8; N]
         ensures { result.now ≡ padded_to N self.now }

@@ -72,7 +72,7 @@ impl<'a, const N: usize> LineRoom<'a, N> {
         self.len = to;
     }
 
-    /// Appends a text of a few bytes that is kept with zeros behind it. All its room is copied, so that no step hangs on how long the text is.
+    /// Appends a text of a few bytes that is kept with zeros after it. All its room is copied, so that no step hangs on how long the text is.
     #[inline(always)]
     pub(crate) fn put_padded<const M: usize>(&mut self, text: &[u8], padded: &[u8; M])
         requires short { length text.now ≤ M }

@@ -12,7 +12,7 @@ use tx_plan::Plan;
 use tx_machine::{Hop, Ticket};
 use tx_text::{Sink, WriteFault, write_bytes};
 
-/// How many bytes of a ticket's line may stand in its room.
+/// How many bytes of a ticket's line may are in its room.
 const ROOM: usize = 192;
 
 /// A line of more bytes may have no room for one more hop and an LF.
@@ -89,7 +89,7 @@ fn put_why<A: Allocator, B: Allocator>(
     line.put_name(plan.exchange_key(ticket.start));
 }
 
-/// Writes a line that has begun, with each hop behind it and an LF. Where the next hop may have no room, what stands there goes out before it.
+/// Writes a line that has begun, with each hop after it and an LF. Where the next hop may have no room, what stands there goes out before it.
 #[inline(always)]
 fn write_path<A: Allocator, W: Sink>(
     hops: &[Hop],

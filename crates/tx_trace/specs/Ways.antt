@@ -8,7 +8,7 @@ use Rattle.tx_plan.specs.Routes.{route_list}
 use Rattle.tx_plan.specs.Circuits.{other_end}
 use Rattle.tx_rank.specs.Walks.{end_of, before_end}
 
--- it stands in the list
+-- it is in the list
 abbrev pub is_in : ℕ → List ℕ → Bool
 is_in y xs = list_any (λ z. z == y) xs
 

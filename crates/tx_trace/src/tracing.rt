@@ -37,7 +37,7 @@ impl<A: Allocator> Trace<A> {
     }
 }
 
-/// Finds how calls for a code go from an exchange. `Err` is want of memory.
+/// Finds how calls for a code go from an exchange. `Err` means out of memory.
 pub fn trace_calls<A: Allocator + Copy>(
     alloc: A,
     plan: &Plan<A>,

@@ -52,13 +52,13 @@ fn tell_replies<A: Allocator>(plan: &Plan<A>, replies: &[Reply], out: &mut Told)
     }
 }
 
-/// Tells how many events a network accepted and calls are open.
+/// Returns how many events a network accepted and calls are open.
 fn tell_end<N: Network>(net: &N, out: &mut Told) {
     tell_count(b"END EVENTS ", net.events(), b"", out);
     tell_count(b" OPEN ", net.open_calls(), b"\n", out);
 }
 
-/// Takes the oldest ticket and writes it. Tells whether there was one.
+/// Takes the oldest ticket and writes it. Returns whether there was one.
 fn tell_ticket<A: Allocator, N: Network>(plan: &Plan<A>, net: &mut N, out: &mut Told) -> bool {
     match net.next_ticket() {
         Some(ticket) => {
@@ -86,7 +86,7 @@ fn tell_driven<A: Allocator, N: Network>(
     tell_end(net, out);
 }
 
-/// Drives the events through a plain network, and tells what comes of it.
+/// Drives the events through a plain network, and returns what comes of it.
 fn drive_and_tell<A: Allocator, N: Network>(
     plan: &Plan<A>,
     net: &mut N,
@@ -100,7 +100,7 @@ fn drive_and_tell<A: Allocator, N: Network>(
     }
 }
 
-/// Drives the events through a new plain network of the plan, and tells what comes of it.
+/// Drives the events through a new plain network of the plan, and returns what comes of it.
 fn drive_plain<A: Allocator + Copy>(
     memory: A,
     plan: &Plan<A>,
@@ -125,13 +125,13 @@ fn tell_tickets<A: Allocator>(plan: &Plan<A>, tickets: Vec<Ticket<A>, A>, out: &
     drop(tickets);
 }
 
-/// Tells how many events an engine accepted and calls are open, and lets it go.
+/// Returns how many events an engine accepted and calls are open, and drops it.
 fn tell_and_close<A: Allocator + Copy>(engine: Engine<'_, A>, out: &mut Told) {
     tell_end(&engine, out);
     engine.close();
 }
 
-/// Tells what events that were played on the engine came to, and drives them again where memory is refused.
+/// Returns what events that were played on the engine came to, and drives them again where memory is refused.
 fn tell_played<A: Allocator + Copy>(
     alloc: Global,
     plan: &Plan<A>,
@@ -225,7 +225,7 @@ fn drive_script<A: Allocator + Copy>(
     drop(events);
 }
 
-/// Tells whether the checker says Yes to the certificate, and drives the events of the script after a Yes.
+/// Returns whether the checker says Yes to the certificate, and drives the events of the script after a Yes.
 fn check_and_drive<A: Allocator + Copy>(
     alloc: Global,
     over: Over,
@@ -261,7 +261,7 @@ fn read_and_drive<A: Allocator + Copy>(
     }
 }
 
-/// Checks a certificate of a plan, with a limit and a spare number, and after a Yes drives the events of the script behind it.
+/// Checks a certificate of a plan, with a limit and a spare number, and after a Yes drives the events of the script after it.
 pub(crate) fn play_certified(
     alloc: Global,
     over: Over,

@@ -20,7 +20,7 @@ fn accepted(replies: &[Reply]) -> u64 {
     count
 }
 
-/// Drives the events, and where memory was wanted the rest of them again. Tells whether the replies were those of the events that were applied.
+/// Drives the events, and where memory was wanted the rest of them again. Returns whether the replies were those of the events that were applied.
 fn drive_on<A: Allocator, N: Network>(
     net: &mut N,
     events: &[Event],
@@ -36,7 +36,7 @@ fn drive_on<A: Allocator, N: Network>(
     drive(net, rest, replies).and(Ok(true))
 }
 
-/// Drives the events through a network, and tells whether the replies are those of a network that never wants memory.
+/// Drives the events through a network, and returns whether the replies are those of a network that never wants memory.
 fn drives_on<A: Allocator + Copy, N: Network>(
     alloc: A,
     net: &mut N,
@@ -87,7 +87,7 @@ fn drives_on_engine<A: Allocator + Copy>(
     }
 }
 
-/// The same over a plan that is read with the allocator. `None` is want of memory.
+/// The same over a plan that is read with the allocator. `None` is lack of memory.
 fn reads_and_drives_on<A: Allocator + Copy>(
     alloc: A,
     over: Over,

@@ -1,4 +1,4 @@
-// Cases of the program: at its ends, and where its words or arguments are refused for want of memory.
+// Cases of the program: at its ends, and where its words or arguments are refused when memory runs out.
 use crate::cases::{EndCase, Log, Told, named, tell, tell_broken, tell_count};
 use crate::end_play::play;
 use std::alloc::Global;
@@ -27,7 +27,7 @@ fn refuse(kind: io::ErrorKind, errors: &mut Vec<u8>) -> u8 {
     status
 }
 
-/// What the program tells where memory is wanting for its words, and its exit status.
+/// What the program tells where memory runs out for its words, and its exit status.
 fn refuse_words(alloc: Global, errors: &mut Vec<u8>) -> u8 {
     let fault = WordsFault::NoMemory;
     let mut output = Vec::new(alloc);
@@ -38,7 +38,7 @@ fn refuse_words(alloc: Global, errors: &mut Vec<u8>) -> u8 {
     status
 }
 
-/// Tells what the program tells on standard error where something is wrong before there are words, and its exit status.
+/// Returns what the program tells on standard error where something is wrong before there are words, and its exit status.
 pub(crate) fn play_arguments(alloc: Global, wrong: &[u8], out: &mut Told) {
     let mut errors = Vec::new(alloc);
     match named(&WRONGS, wrong) {

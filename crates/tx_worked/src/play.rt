@@ -98,7 +98,7 @@ fn try_plain(alloc: Global, run: Task<'_>, job: &[u8], out: &mut Told) {
     }
 }
 
-/// Tells what a task wrote, and its fault.
+/// Returns what a task wrote, and its fault.
 fn tell_whole(whole: Whole<'_>, out: &mut Told) {
     tell(whole.text, out);
     if let Err(fault) = whole.answer {

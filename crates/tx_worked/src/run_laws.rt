@@ -99,7 +99,7 @@ fn try_refusals(alloc: Global, text: Script<'_>, whole: WholeRun<'_>, out: &mut 
     }
 }
 
-/// Tells what was counted of a run.
+/// Returns what was counted of a run.
 pub(crate) fn tell_summary(summary: &Summary, out: &mut Told) {
     tell_count(b"-- ", summary.events, b" events, ", out);
     tell_count(b"", summary.refused, b" refused, ", out);
@@ -107,7 +107,7 @@ pub(crate) fn tell_summary(summary: &Summary, out: &mut Told) {
     tell_count(b"", summary.open_calls, b" open\n", out);
 }
 
-/// Tries the laws of a run, and tells what it counted or where it stopped.
+/// Tries the laws of a run, and returns what it counted or where it stopped.
 pub(crate) fn try_run_laws(alloc: Global, text: Script<'_>, whole: WholeRun<'_>, out: &mut Told) {
     try_reads(alloc, text, whole, out);
     try_rooms(alloc, text, whole, out);

@@ -136,7 +136,7 @@ pub(crate) fn run_text<A: Allocator + Copy>(
     }
 }
 
-/// Runs a script into a room, and tells how it ran beside what is to be written.
+/// Runs a script into a room, and returns how it ran beside what is to be written.
 pub(crate) fn run_in_room(
     alloc: Global,
     text: Script<'_>,

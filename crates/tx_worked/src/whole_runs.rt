@@ -20,7 +20,7 @@ pub(crate) enum Part {
     Calls(usize),
 }
 
-/// Tells what a run writes, and what it counts or the event and the cause that stop it.
+/// Returns what a run writes, and what it counts or the event and the cause that stop it.
 fn tell_run(whole: WholeRun<'_>, out: &mut Told) {
     tell(whole.text, out);
     match whole.end {

@@ -93,7 +93,7 @@ const NO_BUFFER: CertFault = CertFault {
     kind: FaultKind::Frame(FrameFault::Line(LineFault::Text(TextFault::NoMemory))),
 };
 
-/// Whether memory is wanting for a new certificate.
+/// Whether memory runs out for a new certificate.
 fn new_wants<A: Allocator>(alloc: A, plan: &Plan<A>) -> bool {
     match Cert::new(alloc, plan) {
         Ok(cert) => {
@@ -104,7 +104,7 @@ fn new_wants<A: Allocator>(alloc: A, plan: &Plan<A>) -> bool {
     }
 }
 
-/// Whether memory was wanting for a certificate that was read.
+/// Whether memory ran out for a certificate that was read.
 fn has_wanted<A: Allocator>(read: Result<Cert<A>, CertFault>) -> bool {
     match read {
         Ok(cert) => {
@@ -115,7 +115,7 @@ fn has_wanted<A: Allocator>(read: Result<Cert<A>, CertFault>) -> bool {
     }
 }
 
-/// Whether memory is wanting for a new certificate, or for one that is read, at once or in pieces.
+/// Whether memory runs out for a new certificate, or for one that is read, at once or in pieces.
 fn cert_wants<A: Allocator + Copy>(alloc: A, plan: &Plan<A>, cert: &[u8]) -> bool {
     let mut source = MemorySource::new(cert, 7, None);
     new_wants(alloc, plan)
@@ -123,7 +123,7 @@ fn cert_wants<A: Allocator + Copy>(alloc: A, plan: &Plan<A>, cert: &[u8]) -> boo
         || has_wanted(read_cert_from(alloc, &mut source, plan))
 }
 
-/// Whether memory is wanting for a plan, which is a good one, or for its certificate.
+/// Whether memory runs out for a plan, which is a good one, or for its certificate.
 fn wants<A: Allocator + Copy>(alloc: A, plan: &[u8], cert: &[u8]) -> bool {
     match read_plan(alloc, plan) {
         Ok(plan) => {

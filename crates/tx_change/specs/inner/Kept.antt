@@ -1,4 +1,4 @@
--- The routes and bars of one plan that stand in a mixture.
+-- The routes and bars of one plan that are in a mixture.
 use Rattle.std.specs.Prelude.{ℕ, Bool, true, false, not, ◌&&◌, ◌==◌, if◌then◌else◌, List, [], ◌∷◌, Option}
 use Rattle.std.specs.List.{list_any}
 use Rattle.std.specs.Option.{option_map_or}

@@ -95,7 +95,7 @@ pub record AreKept (slots : List Slot) (rows : List Row) : Type 0 where
   pub apart : (g h : ℕ) (r s : Row) → slice_get rows g ≡ Some r → slice_get rows h ≡ Some s → g < h → r.start + r.count ≤ s.start
   pub sound : (g : ℕ) (r : Row) → slice_get rows g ≡ Some r → IsSound (group_slots slots r) r.lists
 
--- The slots of one group more, all idle, stand behind those of the others.
+-- The slots of one group more, all idle, stand after those of the others.
 pub record IsAppended (old new : List Slot) (head : GroupHead) (count : ℕ) (row : Row) : Type 0 where
   pub head_is : row.head ≡ head
   pub start_is : row.start ≡ length old

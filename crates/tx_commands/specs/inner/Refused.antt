@@ -36,7 +36,7 @@ IsClash command other = ⊥
 abbrev pub AskForClash : Option (List ℕ × List Row) → Refusal → Type 0
 AskForClash found refusal = (command : Command) × IsFoundIn found command × IsClash command refusal
 
--- The words that were found are refused for this. That a word is missing, and want of memory, are left open.
+-- The words that were found are refused for this. That a word is missing, and lack of memory, are left open.
 abbrev pub IsRefused : Option (List ℕ × List Row) → Refusal → Type 0
 IsRefused command Together = IsSomeAnd command (λ c. IsRunInPart c.0 c.1)
 IsRefused command CheckedTelling = IsSomeAnd command (λ c. IsCheckedTelling c.0 c.1)

@@ -16,14 +16,14 @@ left rest s = prepend_known s.ahead.now.held (rest s.input.now)
 abbrev pub as_script : {R : Type 0} → PlanPart R → ScriptPart R
 as_script p = record { input = p.input; ahead = p.ahead }
 
--- the bytes of these that are of the plan, and those behind it
+-- the bytes of these that are of the plan, and those after it
 abbrev pub plan_of : Seen → Option (List ℕ) → Option (List ℕ)
 plan_of seen left = option_map (λ t. take (end_from seen t) t) left
 
 abbrev pub script_of : Seen → Option (List ℕ) → Option (List ℕ)
 script_of seen left = option_map (λ t. drop (end_from seen t) t) left
 
--- what is left of the plan, and what stands behind it
+-- what is left of the plan, and what stands after it
 abbrev pub plan_rest : {R : Type 0} → (R → Option (List ℕ)) → PlanPart R → Option (List ℕ)
 plan_rest rest p = plan_of p.seen (left rest (as_script p))
 

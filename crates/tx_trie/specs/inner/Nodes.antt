@@ -1,4 +1,4 @@
--- The nodes of a trie, and the codes that stand in them.
+-- The nodes of a trie, and the codes that are in them.
 use Rattle.std.specs.Prelude.{◌≡◌, ℕ, ◌+◌, ◌-◌, ◌*◌, ◌<◌, ◌≤◌, true, if◌then◌else◌, List, [], ◌∷◌, length, Option, Some, None, option_and_then, slice_get, replicate}
 use Rattle.std.specs.Option.{option_map, option_map_or}
 use Rattle.tx_text.specs.Words.{is_figure}

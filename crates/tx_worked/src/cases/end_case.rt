@@ -33,7 +33,7 @@ pub struct EndCase<'a> {
     /// The file to be shown in the end.
     pub shows: Option<&'a str>,
     pub what: What,
-    /// Whether a setting is none, a number is missing, or memory was wanting for a word.
+    /// Whether a setting is none, a number is missing, or memory ran out for a word.
     pub is_bad: bool,
     pub words: Vec<&'a str>,
 }
@@ -63,7 +63,7 @@ enum Setting {
     Words,
 }
 
-/// The settings, and whether the name of a file and a number stand behind each.
+/// The settings, and whether the name of a file and a number stand after each.
 static SETTINGS: [(&str, (Setting, bool, bool)); 10] = [
     ("input", (Setting::Input, true, false)),
     ("piece", (Setting::Piece, false, true)),
@@ -108,7 +108,7 @@ impl<'a> EndCase<'a> {
         case
     }
 
-    /// Takes the settings, which stand behind the name and the kind of the case.
+    /// Takes the settings, which stand after the name and the kind of the case.
     fn set_all(&mut self, settings: &'a str) {
         let mut rest = settings.split_whitespace();
         let _name = rest.next();
@@ -125,7 +125,7 @@ impl<'a> EndCase<'a> {
         }
     }
 
-    /// Takes a setting, with the name and the number behind it.
+    /// Takes a setting, with the name and the number after it.
     fn set(&mut self, setting: Setting, name: &'a str, number: &str) {
         let number = self.number(number);
         match setting {

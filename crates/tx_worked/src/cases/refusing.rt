@@ -31,7 +31,7 @@ impl<B: Allocator> Drop for Refusing<B> {
     }
 }
 
-// Counts a request down, and tells whether it is the one to be refused.
+// Counts a request down, and returns whether it is the one to be refused.
 fn refuses(left: &Cell<u64>) -> bool {
     let n = left.get();
     if n == 0 {

@@ -5,7 +5,7 @@ use itoa::Buffer;
 use memchr::memchr;
 use tx_text::words;
 
-/// What stands before a byte and behind it.
+/// What stands before a byte and after it.
 fn cut(text: &[u8], byte: u8) -> Option<(&[u8], &[u8])> {
     match memchr(byte, text) {
         Some(end) => Some((&text[..end], &text[end + 1..])),
@@ -13,7 +13,7 @@ fn cut(text: &[u8], byte: u8) -> Option<(&[u8], &[u8])> {
     }
 }
 
-/// The mark whose `{` stands before a text, and what stands behind it. A mark is empty, or begins with a figure or with `lines`: any other `{` is one.
+/// The mark whose `{` stands before a text, and what stands after it. A mark is empty, or begins with a figure or with `lines`: any other `{` is one.
 fn mark_in(text: &[u8]) -> Option<(&[u8], &[u8])> {
     let (mark, behind) = cut(text, b'}')?;
     let is_mark = match mark.first() {
@@ -46,7 +46,7 @@ pub fn spell(text: &[u8], out: &mut Told) {
     tell(rest, out);
 }
 
-/// What stands behind a mark: without its LF, where the line goes on.
+/// What stands after a mark: without its LF, where the line goes on.
 fn behind_mark<'a>(mark: &[u8], behind: &'a [u8]) -> &'a [u8] {
     if mark.is_empty() && behind.starts_with(b"\n") {
         &behind[1..]

@@ -161,7 +161,7 @@ fn judge_pairs(alloc: Global, lines: &[u8], work: &mut PairWork) -> Result<PairT
     Ok(tally)
 }
 
-/// Tells why the judging stopped, and the two plans where it did.
+/// Returns why the judging stopped, and the two plans where it did.
 fn tell_stopped(alloc: Global, stop: Stop, lines: &[u8], work: &PairWork, out: &mut Told) {
     let mut text = Vec::new(alloc);
     let _ = put_plan(lines, work.old as u64, &mut text);
@@ -171,7 +171,7 @@ fn tell_stopped(alloc: Global, stop: Stop, lines: &[u8], work: &PairWork, out: &
     drop(text);
 }
 
-/// Judges the changes between all plans of a family, and tells what there was, or why it stopped
+/// Judges the changes between all plans of a family, and returns what there was, or why it stopped
 /// and the two plans where it did.
 pub fn play_pairs(alloc: Global, lines: &[u8], out: &mut Told) {
     let mut work = PairWork::new(alloc);

@@ -1,4 +1,4 @@
-// The jobs that answer what shows their verdict, which is written behind the report, and those of
+// The jobs that answer what shows their verdict, which is written after the report, and those of
 // outages.
 ghost use Rattle.std.specs.Prelude.{◌≤◌};
 
@@ -15,7 +15,7 @@ use tx_plantext::write_plan;
 use tx_risk::Survival;
 use tx_text::{MemorySink, MemorySource, WriteFault};
 
-/// The exit status of a job that wrote something behind its report.
+/// The exit status of a job that wrote something after its report.
 fn status_behind(status: u8, written: Result<(), WriteFault>) -> Result<u8, JobFault> {
     match written {
         Ok(()) => Ok(status),
@@ -47,7 +47,7 @@ fn keep_script<A: Allocator>(
     written
 }
 
-/// Audits a plan, and writes behind the report what shows its verdict.
+/// Audits a plan, and writes after the report what shows its verdict.
 pub(crate) fn do_audit<A: Allocator + Copy>(
     alloc: A,
     plan: &mut MemorySource<'_>,
@@ -66,7 +66,7 @@ pub(crate) fn do_audit<A: Allocator + Copy>(
     }
 }
 
-/// Writes a mixture, and behind it its script, if it has one.
+/// Writes a mixture, and after it its script, if it has one.
 fn keep_mixture<A: Allocator>(mixture: Mixture<A>, out: &mut MemorySink) -> Result<(), WriteFault> {
     match mixture {
         Mixture::Scripted(script) => match write_plan(&script.plan, out) {
@@ -96,7 +96,7 @@ fn keep_evidence<A: Allocator>(
     }
 }
 
-/// Judges the change of a plan into another one, and writes behind the report what shows its
+/// Judges the change of a plan into another one, and writes after the report what shows its
 /// verdict.
 pub(crate) fn do_change<A: Allocator + Copy>(
     alloc: A,
@@ -118,7 +118,7 @@ pub(crate) fn do_change<A: Allocator + Copy>(
     }
 }
 
-/// Writes a mended plan, and behind it its certificate.
+/// Writes a mended plan, and after it its certificate.
 fn keep_mended<A: Allocator>(
     plan: Plan<A>,
     cert: Cert<A>,
@@ -134,7 +134,7 @@ fn keep_mended<A: Allocator>(
     }
 }
 
-/// Mends a plan, and writes behind the report the mended plan and its certificate.
+/// Mends a plan, and writes after the report the mended plan and its certificate.
 pub(crate) fn do_mend<A: Allocator + Copy>(
     alloc: A,
     plan: &mut MemorySource<'_>,

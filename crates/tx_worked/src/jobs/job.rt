@@ -209,7 +209,7 @@ fn do_task<A: Allocator + Copy>(
     }
 }
 
-/// Does a task into a room, and tells what it did beside what is to be written. The allocator is the same for each task, so that each job is built once.
+/// Does a task into a room, and returns what it did beside what is to be written. The allocator is the same for each task, so that each job is built once.
 pub(crate) fn do_in_room(
     alloc: Global,
     task: Task<'_>,
@@ -244,7 +244,7 @@ pub(crate) fn done(alloc: Global, task: Task<'_>, ends: Ends, whole: &[u8]) -> D
     }
 }
 
-/// Does a task, and tells what it writes.
+/// Does a task, and returns what it writes.
 pub(crate) fn tell_task(alloc: Global, task: Task<'_>, piece: usize, out: &mut Told) {
     match MemorySink::new(alloc, ROOM) {
         Ok(mut room) => {

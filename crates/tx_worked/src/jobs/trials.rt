@@ -31,7 +31,7 @@ fn reads(alloc: Global, task: Task<'_>, end: End, whole: Whole<'_>, out: &mut To
     MANY
 }
 
-/// Gives a task each room, up to one for all: where it is too small, the task has to stop with a write fault behind so many bytes.
+/// Gives a task each room, up to one for all: where it is too small, the task has to stop with a write fault after so many bytes.
 fn try_rooms(alloc: Global, task: Task<'_>, whole: Whole<'_>, out: &mut Told) {
     for room in 0..=whole.text.len() {
         let ends = Ends {

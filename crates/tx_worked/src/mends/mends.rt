@@ -173,7 +173,7 @@ fn judge_mends(alloc: Global, lines: &[u8], work: &mut MendWork) -> Result<MendT
     Ok(tally)
 }
 
-/// Judges the mendings of all plans of a family, and tells what there was, or why it stopped and
+/// Judges the mendings of all plans of a family, and returns what there was, or why it stopped and
 /// the plan where it did.
 pub fn play_mends(alloc: Global, lines: &[u8], out: &mut Told) {
     let mut work = MendWork::new(alloc);

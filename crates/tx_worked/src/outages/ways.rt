@@ -29,7 +29,7 @@ impl<'a> Left<'a> {
         exchange == self.plan.home(self.code)
     }
 
-    /// Whether a group stands in the list of an exchange, and does not go.
+    /// Whether a group is in the list of an exchange, and does not go.
     fn is_left(&self, exchange: ExchangeId, group: GroupId) -> bool {
         self.plan.list(exchange, self.code).contains(&group)
             && !self.failing.takes(self.plan, group)

@@ -26,7 +26,7 @@ static HAPPENS: [(&str, (Mark, bool)); 6] = [
     ("free", (Mark::Engaged, false)),
 ];
 
-/// Gives a line a mark, or takes it. Only a new mark takes room: tells whether there was room for it.
+/// Gives a line a mark, or takes it. Only a new mark takes room: returns whether there was room for it.
 fn set_mark(book: &mut LineBook, line: &Line, mark: Mark, to: bool) -> bool {
     if to && book.reserve_one().is_err() {
         return false;
@@ -56,7 +56,7 @@ fn tell_marks(book: &LineBook, line: &Line, out: &mut Told) {
     );
 }
 
-/// Tells what is answered for a number.
+/// Returns what is answered for a number.
 fn tell_answer(book: &LineBook, code: CodeId, number: &[u8], out: &mut Told) {
     let text = match book.answer(code, number) {
         LineAnswer::NoLine => b": no line\n".as_slice(),
@@ -88,7 +88,7 @@ fn read_asked(line: &[u8]) -> Asked<'_> {
     }
 }
 
-/// Tells what is found, behind what happens to the line, and what is answered.
+/// Returns what is found, after what happens to the line, and what is answered.
 fn play_line(book: &mut LineBook, line: &[u8], out: &mut Told) {
     let Asked {
         code,
@@ -109,7 +109,7 @@ fn play_line(book: &mut LineBook, line: &[u8], out: &mut Told) {
     tell_answer(book, code, number, out);
 }
 
-/// Tells what is found for each line of a case.
+/// Returns what is found for each line of a case.
 pub(crate) fn play_book(book: &mut LineBook, lines: &[u8], out: &mut Told) {
     let mut rest = lines;
     for _ in 0..lines.len() {
@@ -128,7 +128,7 @@ fn line_of(book: &LineBook, number: u32) -> Option<Line> {
     book.find(CodeId::at(0), digits.format(number).as_bytes())
 }
 
-/// Marks the line of a number away. Tells whether there is such a line, and room for its mark.
+/// Marks the line of a number away. Returns whether there is such a line, and room for its mark.
 fn mark_away(book: &mut LineBook, number: u32) -> bool {
     match line_of(book, number) {
         Some(line) => set_mark(book, &line, Mark::Away, true),
@@ -136,7 +136,7 @@ fn mark_away(book: &mut LineBook, number: u32) -> bool {
     }
 }
 
-/// Marks the lines of the first code from one number to another away, and tells how many of them are found so then.
+/// Marks the lines of the first code from one number to another away, and returns how many of them are found so then.
 pub(crate) fn mark_many(book: &mut LineBook, text: &[u8], out: &mut Told) {
     let (line, _) = next_line(text).unwrap_or((b"", b""));
     let mut numbers = words(line);

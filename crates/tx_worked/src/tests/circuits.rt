@@ -10,7 +10,7 @@ use tx_circuits::CircuitTable;
 use tx_plan::{Circuit, GroupId, Plan};
 use tx_text::words;
 
-/// Makes the call that a line says, where it may be made, and tells whether.
+/// Makes the call that a line says, where it may be made, and returns whether.
 fn apply_line(table: &mut CircuitTable, line: &[u8]) -> bool {
     let mut rest = words(line);
     let Some(what) = named(&WHATS, next_word(&mut rest)) else {
@@ -41,13 +41,13 @@ fn has_marks(table: &CircuitTable) -> bool {
     table.is_failed(group) || table.is_blocked(group)
 }
 
-/// Tells which number ALFA and BETA take next, or 0 for none.
+/// Returns which number ALFA and BETA take next, or 0 for none.
 fn tell_next(table: &CircuitTable, out: &mut Told) {
     tell_count(b": ", u64::from(next(table, ALFA)), b"", out);
     tell_count(b" ", u64::from(next(table, BETA)), b"\n", out);
 }
 
-/// Tells the new table, and then makes the call of each line and tells what is next behind it.
+/// Tells the new table, and then makes the call of each line and returns what is next after it.
 pub(crate) fn tell_circuits(table: &mut CircuitTable, lines: &[u8], out: &mut Told) {
     tell(b"built", out);
     if !has_marks(table) {
@@ -68,7 +68,7 @@ pub(crate) fn tell_circuits(table: &mut CircuitTable, lines: &[u8], out: &mut To
     }
 }
 
-/// Makes three of the 43 calls, as far as each may be made, on a table and on the model. Tells whether the two agree.
+/// Makes three of the 43 calls, as far as each may be made, on a table and on the model. Returns whether the two agree.
 fn agree_along(table: &mut CircuitTable, sequence: u32) -> bool {
     let mut model = Model::new();
     let mut rest = sequence;
@@ -94,7 +94,7 @@ fn agrees(alloc: Global, plan: &Plan, sequence: u32) -> bool {
     }
 }
 
-/// Tries all sequences of three calls, and tells how many there are.
+/// Tries all sequences of three calls, and returns how many there are.
 pub(crate) fn try_sequences(alloc: Global, plan: &Plan, out: &mut Told) {
     let mut tried = 0u64;
     for sequence in 0..79_507u32 {

@@ -8,7 +8,7 @@ use tx_text::{
     FromRead, MemorySink, MemorySource, Sink, Source, ToWrite, WriteFault, write_bytes, write_parts,
 };
 
-/// Makes a call of a source, for so many bytes, and tells what it gives.
+/// Makes a call of a source, for so many bytes, and returns what it gives.
 fn tell_read<R: Source>(source: &mut R, room: usize, out: &mut Told) {
     let mut buf = [0; 16];
     match source.read(buf.split_at_mut(room.clamp(1, 16)).0) {
@@ -17,7 +17,7 @@ fn tell_read<R: Source>(source: &mut R, room: usize, out: &mut Told) {
     }
 }
 
-/// Makes calls of a source, each for so many bytes, and tells what they give.
+/// Makes calls of a source, each for so many bytes, and returns what they give.
 pub(crate) fn tell_reads<R: Source>(source: &mut R, calls: u8, room: usize, out: &mut Told) {
     for _ in 0..calls {
         tell_read(source, room, out);
@@ -33,7 +33,7 @@ pub(crate) fn tell_sources(text: &[u8], piece: usize, out: &mut Told) {
     }
 }
 
-/// Calls before and behind the end of the plan of an input, of which that of a number fails, where it is not 0.
+/// Calls before and after the end of the plan of an input, of which that of a number fails, where it is not 0.
 pub(crate) fn tell_two_texts(text: &[u8], piece: usize, fails: u64, room: usize, out: &mut Told) {
     let fails_at = if fails > 0 { Some(fails) } else { None };
     let mut source = MemorySource::new(text, piece.max(1), fails_at);
@@ -44,7 +44,7 @@ pub(crate) fn tell_two_texts(text: &[u8], piece: usize, fails: u64, room: usize,
     tell_reads(&mut script, 3, room, out);
 }
 
-/// Tells what a sink took, and whether it took all that it was given.
+/// Returns what a sink took, and whether it took all that it was given.
 fn tell_taken(taken: &[u8], answer: Result<(), WriteFault>, out: &mut Told) {
     let end = match answer {
         Ok(()) => b"] all, ".as_slice(),

@@ -32,7 +32,7 @@ pub(crate) static MADE: [(&str, Made); 5] = [
 /// What came of it.
 #[derive(Clone, Copy)]
 enum Came {
-    /// All answers are right, and none was for want of memory.
+    /// All answers are right, and none was when memory runs out.
     Right,
     /// The plan wanted memory.
     NoPlan,
@@ -80,7 +80,7 @@ fn make_table<A: Allocator + Copy>(alloc: A, plan: &Plan<A>) -> Came {
     }
 }
 
-/// Engages a free line, for which room is made first. Where memory is wanting it has to stay free.
+/// Engages a free line, for which room is made first. Where memory runs out it has to stay free.
 fn engage<A: Allocator + Copy>(book: &mut LineBook<A>, line: &Line) -> Came {
     let mut came = Came::Wanting;
     if book.reserve_one().is_ok() {
@@ -95,7 +95,7 @@ fn engage<A: Allocator + Copy>(book: &mut LineBook<A>, line: &Line) -> Came {
     }
 }
 
-/// Engages so many lines that their room is made more than once. Where memory is wanting, a line is engaged at the second try.
+/// Engages so many lines that their room is made more than once. Where memory runs out, a line is engaged at the second try.
 fn engage_lines<A: Allocator + Copy>(book: &mut LineBook<A>) -> Came {
     let mut all = Came::Right;
     for count in 1..14u8 {
@@ -155,7 +155,7 @@ fn make<A: Allocator + Copy>(alloc: A, made: Made, plan: &[u8]) -> Came {
     }
 }
 
-/// Refuses each request for memory in turn, until none is refused, and tells how many are not the plan's.
+/// Refuses each request for memory in turn, until none is refused, and returns how many are not the plan's.
 pub(crate) fn play_growths(alloc: Global, made: Option<Made>, plan: &[u8], out: &mut Told) {
     let Some(made) = made else {
         return tell_broken(b"no such type", 0, out);

@@ -22,7 +22,7 @@ pub(crate) enum PlanCall {
     Sequences,
 }
 
-/// Makes a trie, and tells what it reads.
+/// Makes a trie, and returns what it reads.
 fn over_trie(alloc: Global, plan: &Plan, lines: &[u8], out: &mut Told) {
     match CodeTrie::build(alloc, plan) {
         Ok(trie) => tell_trie(plan, &trie, lines, out),
@@ -30,7 +30,7 @@ fn over_trie(alloc: Global, plan: &Plan, lines: &[u8], out: &mut Told) {
     }
 }
 
-/// Makes a line book, and tells what is found in it, or in many of its lines.
+/// Makes a line book, and returns what is found in it, or in many of its lines.
 fn over_book(alloc: Global, plan: &Plan, are_many: bool, lines: &[u8], out: &mut Told) {
     match LineBook::build(alloc, plan) {
         Ok(mut book) => {
@@ -45,7 +45,7 @@ fn over_book(alloc: Global, plan: &Plan, are_many: bool, lines: &[u8], out: &mut
     }
 }
 
-/// Makes a table of circuits, and tells what it gives behind each call.
+/// Makes a table of circuits, and returns what it gives after each call.
 fn over_table(alloc: Global, plan: &Plan, calls: &[u8], out: &mut Told) {
     match CircuitTable::build(alloc, plan) {
         Ok(mut table) => tell_circuits(&mut table, calls, out),

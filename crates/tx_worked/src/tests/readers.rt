@@ -1,4 +1,4 @@
-// The readers of a small plan, as many entries as there may be, and want of memory.
+// The readers of a small plan, as many entries as there may be, and lack of memory.
 use crate::cases::{Refusing, Told, tell, tell_broken, tell_count};
 use std::alloc::{Allocator, Global};
 use tx_plan::{CodeId, Direction, ExchangeId, GroupId, Plan, PlanBuilder, PlanRefusal};
@@ -18,7 +18,7 @@ fn declare<A: Allocator>(plan: &mut PlanBuilder<A>, step: usize) -> Result<(), P
     }
 }
 
-/// Declares the small plan, and again what found no memory. Marks that, and tells whether all was declared.
+/// Declares the small plan, and again what found no memory. Marks that, and returns whether all was declared.
 fn declare_all<A: Allocator>(plan: &mut PlanBuilder<A>, wanting: &mut [bool; 8]) -> bool {
     for step in 0..8usize {
         let mut answer = declare(plan, step);
@@ -33,7 +33,7 @@ fn declare_all<A: Allocator>(plan: &mut PlanBuilder<A>, wanting: &mut [bool; 8])
     true
 }
 
-/// Tells how many exchanges, codes, ranges, groups, routes and bars.
+/// Returns how many exchanges, codes, ranges, groups, routes and bars.
 fn tell_sizes(plan: &Plan, out: &mut Told) {
     let sizes = [
         plan.exchanges(),
@@ -106,7 +106,7 @@ fn has_groups(plan: &Plan) -> bool {
         && plan.may_seize(group, beta)
 }
 
-/// Tells what the readers of the small plan answer.
+/// Returns what the readers of the small plan answer.
 fn tell_readers(plan: &Plan, out: &mut Told) {
     plan.rules();
     let answers = [
@@ -159,7 +159,7 @@ fn fill(plan: &mut PlanBuilder) {
     }
 }
 
-/// Tells what the small plan holds, or how much one does that has more than there may be.
+/// Returns what the small plan holds, or how much one does that has more than there may be.
 pub(crate) fn tell_plan(alloc: Global, full: bool, out: &mut Told) {
     let mut builder = PlanBuilder::new(alloc);
     let _ = declare_all(&mut builder, &mut [false; 8]);
@@ -174,7 +174,7 @@ pub(crate) fn tell_plan(alloc: Global, full: bool, out: &mut Told) {
     drop(plan);
 }
 
-/// Declares the small plan with one request for memory refused, marks what found none, and tells whether the request came.
+/// Declares the small plan with one request for memory refused, marks what found none, and returns whether the request came.
 fn declare_without(alloc: Global, request: u64, wanting: &mut [bool; 8], out: &mut Told) -> bool {
     let refusing = Refusing::new(alloc, request);
     let mut builder = PlanBuilder::new(&refusing);
@@ -185,7 +185,7 @@ fn declare_without(alloc: Global, request: u64, wanting: &mut [bool; 8], out: &m
     refusing.has_refused()
 }
 
-/// Refuses each request for memory in turn, until none is refused, and tells which declarations take memory: the first of each kind.
+/// Refuses each request for memory in turn, until none is refused, and returns which declarations take memory: the first of each kind.
 pub(crate) fn tell_growths(alloc: Global, out: &mut Told) {
     let mut wanting = [false; 8];
     for request in 1..100u64 {

@@ -19,7 +19,7 @@ pub enum EventKind {
     LineMend,
     LineAway,
     LineBack,
-    /// An event of any kind, of any things, also of those that the plan has not.
+    /// An event of any kind, of any things, also of those that the plan does not have.
     Stray,
 }
 

@@ -63,7 +63,7 @@ impl Picture {
         false
     }
 
-    /// The place of the call of this number, or one behind all.
+    /// The place of the call of this number, or one after all.
     fn place(&self, number: u32) -> usize {
         for (place, call) in self.calls.iter().enumerate() {
             if call.number == number {

@@ -65,7 +65,7 @@ fn play_event<P: Network, E: Network>(
     Ok(())
 }
 
-/// Compares two tickets, and takes in what the one of the plain network tells. Tells whether there are any.
+/// Compares two tickets, and takes in what the one of the plain network tells. Returns whether there are any.
 fn note_tickets<A: Allocator, B: Allocator>(
     wanted: Option<&Ticket<A>>,
     ticket: Option<&Ticket<B>>,
@@ -83,7 +83,7 @@ fn note_tickets<A: Allocator, B: Allocator>(
     }
 }
 
-/// Takes the oldest ticket of both networks. Tells whether there was one.
+/// Takes the oldest ticket of both networks. Returns whether there was one.
 fn take_ticket<P: Network, E: Network>(
     plain: &mut P,
     engine: &mut E,

@@ -5,7 +5,7 @@ use tx_plan::{Circuit, CodeId, GroupId, Line, National, Plan};
 use tx_machine::{Event, Party};
 use tx_text::Figures;
 
-/// A place below a count, or one of the two behind it.
+/// A place below a count, or one of the two after it.
 fn place(count: usize, chance: &mut Chance) -> u16 {
     let place = chance.below(count.saturating_add(2));
     u16::try_from(place).unwrap_or(u16::MAX)
@@ -87,7 +87,7 @@ fn stray_of_lines(plan: &Plan, chance: &mut Chance) -> Option<Event> {
     Some(event)
 }
 
-/// An event of any kind, of any things, also of those that the plan has not.
+/// An event of any kind, of any things, also of those that the plan does not have.
 pub fn stray(plan: &Plan, picture: &Picture, chance: &mut Chance) -> Option<Event> {
     match chance.below(3) {
         0 => Some(stray_of_calls(picture, chance)),

@@ -202,7 +202,7 @@ impl Tallies {
     }
 }
 
-/// Tells a count in a line behind its name, or only whether there was any.
+/// Tells a count in a line after its name, or only whether there was any.
 fn tell_line(name: &str, count: u64, is_told: bool, out: &mut Told) {
     tell_parts(&[b"    ", name.as_bytes(), b": "], out);
     if is_told {
@@ -229,13 +229,13 @@ fn tell_counts(
     tell(b"}\n", out);
 }
 
-/// Tells how many events there were, and how many of them were accepted.
+/// Returns how many events there were, and how many of them were accepted.
 pub fn tell_events(events: u64, accepted: u64, out: &mut Told) {
     tell_count(b"", events, b" events, ", out);
     tell_count(b"", accepted, b" of them accepted\n", out);
 }
 
-/// Tells what was counted, and which events met a refused request.
+/// Returns what was counted, and which events met a refused request.
 pub fn tell_tallies(tallies: &Tallies, out: &mut Told) {
     let tally = &tallies.whole;
     tell(b"in all: ", out);

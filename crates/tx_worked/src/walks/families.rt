@@ -83,7 +83,7 @@ fn count_lists_of(line: &[u8], has_two: bool) -> u64 {
     count_lists(count_words(&rest), choice.most)
 }
 
-/// How many ways a line gives, with the text behind it.
+/// How many ways a line gives, with the text after it.
 pub fn count_ways(line: &[u8], behind: &[u8]) -> u64 {
     match kind_of(line) {
         LineKind::Either => count_passages(behind),

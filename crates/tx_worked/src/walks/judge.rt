@@ -222,7 +222,7 @@ fn judge_family(alloc: Global, lines: &[u8], room: &mut Room) -> Result<PlanTall
     Ok(tally)
 }
 
-/// Judges all plans of a family, and tells what there was, or why it stopped and the plan where it did.
+/// Judges all plans of a family, and returns what there was, or why it stopped and the plan where it did.
 pub fn play_family(alloc: Global, lines: &[u8], out: &mut Told) {
     let mut room = Room::new(alloc);
     match judge_family(alloc, lines, &mut room) {

@@ -13,7 +13,7 @@ pub fn count_lists(words: u64, most: u32) -> u64 {
     all
 }
 
-/// Adds words to a text, with a space behind each.
+/// Adds words to a text, with a space after each.
 pub fn put_words(words: &[&[u8]], text: &mut Vec<u8>) -> Result<(), NoMemory> {
     for word in words {
         text.extend_from_slice(*word)?;

@@ -15,7 +15,7 @@ use tx_rank::{Finding, Ranking, rank};
 enum Tried {
     /// Before events were asked for.
     Early,
-    /// With want of memory, when events were asked for.
+    /// With lack of memory, when events were asked for.
     Told,
     /// With events, whose script is told.
     Made,

@@ -137,7 +137,7 @@ fn shows(
     }
 }
 
-/// Runs some events, and tells whether none is refused and they show the finding.
+/// Runs some events, and returns whether none is refused and they show the finding.
 fn runs_and_shows(
     alloc: Global,
     plan: &Plan,
@@ -205,7 +205,7 @@ pub struct Judged<'a> {
     pub spare: u8,
 }
 
-/// Whether the script of the events is one of these events, and want of memory is told where they are made.
+/// Whether the script of the events is one of these events, and lack of memory is told where they are made.
 fn holds_as_sample(alloc: Global, plan: &Plan, judged: Judged<'_>, events: &[Event]) -> bool
     requires limit { judged.limit ≤ 62 }
     requires spare { judged.spare ≤ 15 }
@@ -220,7 +220,7 @@ fn holds_as_sample(alloc: Global, plan: &Plan, judged: Judged<'_>, events: &[Eve
 }
 
 /// Whether the events of the first finding that has some show the first that has to have some. Of a sample, their script has to be one of these events,
-/// and want of memory has to be told where they are made.
+/// and lack of memory has to be told where they are made.
 fn are_first(
     alloc: Global,
     plan: &Plan,

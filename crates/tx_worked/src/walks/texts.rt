@@ -9,7 +9,7 @@ use tx_audit::write_counter;
 use tx_machine::Event;
 use tx_plan::Plan;
 
-/// The script of the events. Where memory is wanting for it, it is cut.
+/// The script of the events. Where memory runs out for it, it is cut.
 pub fn script_of(alloc: Global, plan: &Plan, events: &[Event]) -> Told
     requires { AllByRecursion (IsWritable plan.now) events.now }
 {

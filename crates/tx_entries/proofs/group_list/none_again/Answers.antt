@@ -4,7 +4,7 @@ use Rattle.std.proofs.lemmas.List.{take_all, length-drop, get_or_default}
 use Rattle.tx_entries.proofs.GroupsApart.{one_more, twice}
 use Rattle.tx_entries.proofs.group_list.none_again.Goals as goal
 
--- what was asked of the groups behind a group
+-- what was asked of the groups after a group
 asked : (gs : List ℕ) (i n g : ℕ) → n ≤ length gs → g ≡ get_or gs i 0 → list_any (λ y. y == get_or gs i 0) (drop n gs) ≡ list_any (λ y. y == g) (take (length gs - n) (drop n gs))
 asked gs i n g room e =
     ap (list_any (λ y. y == get_or gs i 0)) (sym (take_all (length gs - n) (drop n gs) (omega (arith, length-drop n gs)))) ∙ ap (λ z. list_any (λ y. y == z) (take (length gs - n) (drop n gs))) (sym e)

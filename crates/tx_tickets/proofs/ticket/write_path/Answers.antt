@@ -19,7 +19,7 @@ module _ {X : Type 0} (f : X → List ℕ) (xs : List X) (i : ℕ) (x : X) (lt :
   text_more : (front : List ℕ) → front ++ flat_map f (take (i + 1) xs) ≡ (front ++ flat_map f (take i xs)) ++ f x
   text_more front = ap (λ l. front ++ l) one_more ∙ sym (append_assoc front (flat_map f (take i xs)) (f x))
 
-  -- the whole text, cut behind this hop
+  -- the whole text, cut after this hop
   whole : (front back : List ℕ) → front ++ (flat_map f xs ++ back) ≡ ((front ++ flat_map f (take i xs)) ++ f x) ++ (flat_map f (drop (i + 1) xs) ++ back)
   whole front back =
       let cut = ap (flat_map f) (sym (take-append-drop (i + 1) xs)) ∙ flat_map-append f (take (i + 1) xs) (drop (i + 1) xs) in

@@ -100,7 +100,7 @@ pub fn call_of(k: u32) -> Call {
     }
 }
 
-/// Makes a call where the table may be asked for it, and tells whether.
+/// Makes a call where the table may be asked for it, and returns whether.
 pub fn apply(table: &mut CircuitTable, call: Call) -> bool {
     let x = Circuit {
         group: GroupId::at(0),

@@ -132,7 +132,7 @@ impl Model {
         }
     }
 
-    /// Makes a call, and tells whether it may be made.
+    /// Makes a call, and returns whether it may be made.
     pub fn apply(&mut self, call: Call) -> bool {
         let number = call.number;
         if 0 < number && number < 4 {
