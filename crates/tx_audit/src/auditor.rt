@@ -90,7 +90,7 @@ fn report_ranking<A: Allocator, W: Sink>(
     requires fits { OnFound (IsCertificateOf plan.now) ranking.now }
     requires certified { OnFound (λ cert. IsCertified plan.now (ranks_of cert) limit spare) ranking.now }
     ensures confirmed { OnFound (λ cert. IsAllowed plan.now cert limit spare) ranking.now }
-    ensures wrote { Wrote (W.taken out.old) (W.taken out.new) (W.failed out.old) (W.failed out.new) (report plan.now limit spare (findings_of ranking.now)) result }
+    ensures wrote { Wrote W.taken W.failed out.old out.new (report plan.now limit spare (findings_of ranking.now)) result }
 {
     match ranking {
         Ranking::Found(cert) => confirm(plan, cert, limit, spare, out),
@@ -111,7 +111,7 @@ fn confirm<A: Allocator, W: Sink>(
     requires fits { IsCertificateOf plan.now cert.now }
     requires certified { IsCertified plan.now (ranks_of cert.now) limit spare }
     ensures confirmed { IsAllowed plan.now cert.now limit spare }
-    ensures wrote { Wrote (W.taken out.old) (W.taken out.new) (W.failed out.old) (W.failed out.new) (report {A = A} plan.now limit spare []) result }
+    ensures wrote { Wrote W.taken W.failed out.old out.new (report {A = A} plan.now limit spare []) result }
 {
     match check(plan, cert, limit, spare) {
         Verdict::Yes => {

@@ -18,7 +18,7 @@ pub(crate) fn write_report<A: Allocator, W: Sink>(
     spare: u8,
     sink: &mut W,
 ) -> Result<(), WriteFault>
-    ensures { Wrote (W.taken sink.old) (W.taken sink.new) (W.failed sink.old) (W.failed sink.new) (report plan.now limit spare findings.now) result }
+    ensures { Wrote W.taken W.failed sink.old sink.new (report plan.now limit spare findings.now) result }
 {
     write_head(limit, spare, sink)?;
     write_findings(plan, findings, sink)?;
@@ -26,7 +26,7 @@ pub(crate) fn write_report<A: Allocator, W: Sink>(
 }
 
 fn write_head<W: Sink>(limit: u8, spare: u8, sink: &mut W) -> Result<(), WriteFault>
-    ensures { Wrote (W.taken sink.old) (W.taken sink.new) (W.failed sink.old) (W.failed sink.new) (head_line limit spare) result }
+    ensures { Wrote W.taken W.failed sink.old sink.new (head_line limit spare) result }
 {
     let mut transits = Buffer::new();
     let mut groups = Buffer::new();
@@ -37,7 +37,7 @@ fn write_head<W: Sink>(limit: u8, spare: u8, sink: &mut W) -> Result<(), WriteFa
 
 /// Writes YES, or NO with the number of findings.
 pub fn write_verdict<W: Sink>(count: usize, sink: &mut W) -> Result<(), WriteFault>
-    ensures { Wrote (W.taken sink.old) (W.taken sink.new) (W.failed sink.old) (W.failed sink.new) (verdict_line count) result }
+    ensures { Wrote W.taken W.failed sink.old sink.new (verdict_line count) result }
 {
     if count == 0 {
         return write_text(&[b"VERDICT YES\n"], sink);
@@ -53,7 +53,7 @@ pub fn write_findings<A: Allocator, W: Sink>(
     findings: &[Finding<A>],
     sink: &mut W,
 ) -> Result<(), WriteFault>
-    ensures { Wrote (W.taken sink.old) (W.taken sink.new) (W.failed sink.old) (W.failed sink.new) (flat_map (finding_line plan.now) findings.now) result }
+    ensures { Wrote W.taken W.failed sink.old sink.new (flat_map (finding_line plan.now) findings.now) result }
 {
     for i in 0..findings.len() {
         write_finding(plan, &findings[i], sink)?;
@@ -66,7 +66,7 @@ fn write_finding<A: Allocator, W: Sink>(
     finding: &Finding<A>,
     sink: &mut W,
 ) -> Result<(), WriteFault>
-    ensures { Wrote (W.taken sink.old) (W.taken sink.new) (W.failed sink.old) (W.failed sink.new) (finding_line plan.now finding.now) result }
+    ensures { Wrote W.taken W.failed sink.old sink.new (finding_line plan.now finding.now) result }
 {
     match finding {
         Finding::Ambiguous(shorter, longer) => {
@@ -88,7 +88,7 @@ fn write_walk<A: Allocator, W: Sink>(
     walk: &Walk<A>,
     sink: &mut W,
 ) -> Result<(), WriteFault>
-    ensures { Wrote (W.taken sink.old) (W.taken sink.new) (W.failed sink.old) (W.failed sink.new) (head.now ++ walk_text plan.now code walk.now) result }
+    ensures { Wrote W.taken W.failed sink.old sink.new (head.now ++ walk_text plan.now code walk.now) result }
 {
     let code = plan.code_figures(code);
     write_text(
@@ -104,7 +104,7 @@ pub fn write_steps<A: Allocator, W: Sink>(
     steps: &[(GroupId, ExchangeId)],
     sink: &mut W,
 ) -> Result<(), WriteFault>
-    ensures { Wrote (W.taken sink.old) (W.taken sink.new) (W.failed sink.old) (W.failed sink.new) (flat_map (step_text plan.now) steps.now ++ codes "\n") result }
+    ensures { Wrote W.taken W.failed sink.old sink.new (flat_map (step_text plan.now) steps.now ++ codes "\n") result }
 {
     for i in 0..steps.len() {
         write_step(plan, steps[i], sink)?;
@@ -117,7 +117,7 @@ fn write_step<A: Allocator, W: Sink>(
     step: (GroupId, ExchangeId),
     sink: &mut W,
 ) -> Result<(), WriteFault>
-    ensures { Wrote (W.taken sink.old) (W.taken sink.new) (W.failed sink.old) (W.failed sink.new) (step_text plan.now step) result }
+    ensures { Wrote W.taken W.failed sink.old sink.new (step_text plan.now step) result }
 {
     let group = plan.group_name(step.0);
     write_text(&[b" ", group, b" ", plan.exchange_name(step.1)], sink)

@@ -22,7 +22,7 @@ pub fn write_counter<A: Allocator, W: Sink>(
     sink: &mut W,
 ) -> Result<(), WriteFault>
     requires { AllByRecursion (IsWritable plan.now) events.now }
-    ensures wrote { Wrote (W.taken sink.old) (W.taken sink.new) (W.failed sink.old) (W.failed sink.new) (script_written plan.now events.now) result }
+    ensures wrote { Wrote W.taken W.failed sink.old sink.new (script_written plan.now events.now) result }
     ensures says { script_of plan.now AtEnd (script_written plan.now events.now) ≡ whole events.now }
 {
     plan.rules();
@@ -34,7 +34,7 @@ pub fn write_counter<A: Allocator, W: Sink>(
 
 /// Writes a text.
 fn write_text<W: Sink>(text: &[u8], sink: &mut W) -> Result<(), WriteFault>
-    ensures { Wrote (W.taken sink.old) (W.taken sink.new) (W.failed sink.old) (W.failed sink.new) text.now result }
+    ensures { Wrote W.taken W.failed sink.old sink.new text.now result }
 {
     write_bytes(text, sink)
 }
@@ -46,7 +46,7 @@ fn write_events<A: Allocator, W: Sink>(
     sink: &mut W,
 ) -> Result<(), WriteFault>
     requires { AllByRecursion (IsWritable plan.now) events.now }
-    ensures { Wrote (W.taken sink.old) (W.taken sink.new) (W.failed sink.old) (W.failed sink.new) (flat_map (event_text plan.now) events.now) result }
+    ensures { Wrote W.taken W.failed sink.old sink.new (flat_map (event_text plan.now) events.now) result }
 {
     for i in 0..events.len() {
         write_event(&events[i], plan, sink)?;

@@ -3,6 +3,7 @@ ghost use Rattle.std.specs.Prelude.{◌≡◌, length, true, OnOk, OnErr};
 ghost use Rattle.std.specs.Io.KnownBytes.{append_known};
 ghost use Rattle.std.specs.List.{flat_map, range_with_len};
 ghost use Rattle.tx_text.specs.Ends.{StopsIn};
+ghost use Rattle.tx_text.specs.Wrote.{Wrote};
 ghost use Rattle.tx_text.specs.Written.{line_written};
 ghost use Rattle.tx_cert.specs.Certificate.{rank_at};
 ghost use Rattle.tx_cert.specs.CertText.{rank_lines, code_lines, cert_lines, cert_written};
@@ -20,10 +21,7 @@ pub fn write_cert<A: Allocator, W: Sink>(
     plan: &Plan<A>,
     sink: &mut W,
 ) -> Result<(), WriteFault>
-    ensures ok { OnOk result (W.taken sink.new ≡ append_known (W.taken sink.old) (cert_written plan.now cert.now)) }
-    ensures err { OnErr result (StopsIn (W.taken sink.old) (W.taken sink.new) (cert_written plan.now cert.now)) }
-    ensures mark { OnErr result (W.failed sink.new ≡ true) }
-    ensures unmarked { OnOk result (W.failed sink.new ≡ W.failed sink.old) }
+    ensures { Wrote W.taken W.failed sink.old sink.new (cert_written plan.now cert.now) result }
 {
     write_bytes(b"CERT 1\n", sink)?;
     write_ranks(cert, plan, sink)?;
@@ -37,10 +35,7 @@ fn write_ranks<A: Allocator, W: Sink>(
     plan: &Plan<A>,
     sink: &mut W,
 ) -> Result<(), WriteFault>
-    ensures ok { OnOk result (W.taken sink.new ≡ append_known (W.taken sink.old) (flat_map line_written (cert_lines plan.now cert.now))) }
-    ensures err { OnErr result (StopsIn (W.taken sink.old) (W.taken sink.new) (flat_map line_written (cert_lines plan.now cert.now))) }
-    ensures mark { OnErr result (W.failed sink.new ≡ true) }
-    ensures unmarked { OnOk result (W.failed sink.new ≡ W.failed sink.old) }
+    ensures { Wrote W.taken W.failed sink.old sink.new (flat_map line_written (cert_lines plan.now cert.now)) result }
 {
     plan.rules();
     for place in 0..plan.codes() {
@@ -56,10 +51,7 @@ fn write_code<A: Allocator, W: Sink>(
     code: CodeId,
     sink: &mut W,
 ) -> Result<(), WriteFault>
-    ensures ok { OnOk result (W.taken sink.new ≡ append_known (W.taken sink.old) (flat_map line_written (code_lines plan.now cert.now code (range_with_len 0 (length plan.now.exchanges))))) }
-    ensures err { OnErr result (StopsIn (W.taken sink.old) (W.taken sink.new) (flat_map line_written (code_lines plan.now cert.now code (range_with_len 0 (length plan.now.exchanges))))) }
-    ensures mark { OnErr result (W.failed sink.new ≡ true) }
-    ensures unmarked { OnOk result (W.failed sink.new ≡ W.failed sink.old) }
+    ensures { Wrote W.taken W.failed sink.old sink.new (flat_map line_written (code_lines plan.now cert.now code (range_with_len 0 (length plan.now.exchanges)))) result }
 {
     plan.rules();
     for place in 0..plan.exchanges() {
@@ -76,10 +68,7 @@ fn write_rank<A: Allocator, W: Sink>(
     exchange: ExchangeId,
     sink: &mut W,
 ) -> Result<(), WriteFault>
-    ensures ok { OnOk result (W.taken sink.new ≡ append_known (W.taken sink.old) (flat_map line_written (rank_lines plan.now code exchange (rank_at cert.now code exchange)))) }
-    ensures err { OnErr result (StopsIn (W.taken sink.old) (W.taken sink.new) (flat_map line_written (rank_lines plan.now code exchange (rank_at cert.now code exchange)))) }
-    ensures mark { OnErr result (W.failed sink.new ≡ true) }
-    ensures unmarked { OnOk result (W.failed sink.new ≡ W.failed sink.old) }
+    ensures { Wrote W.taken W.failed sink.old sink.new (flat_map line_written (rank_lines plan.now code exchange (rank_at cert.now code exchange))) result }
 {
     let Some(rank) = cert.rank(code, exchange) else {
         return Ok(());

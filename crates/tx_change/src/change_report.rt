@@ -18,7 +18,7 @@ pub fn write_change<A: Allocator, W: Sink>(
     spare: u8,
     sink: &mut W,
 ) -> Result<(), WriteFault>
-    ensures { Wrote (W.taken sink.old) (W.taken sink.new) (W.failed sink.old) (W.failed sink.new)
+    ensures { Wrote W.taken W.failed sink.old sink.new
         (change_report plan.now limit spare findings.now) result }
 {
     write_head(limit, spare, sink)?;
@@ -27,7 +27,7 @@ pub fn write_change<A: Allocator, W: Sink>(
 }
 
 fn write_head<W: Sink>(limit: u8, spare: u8, sink: &mut W) -> Result<(), WriteFault>
-    ensures { Wrote (W.taken sink.old) (W.taken sink.new) (W.failed sink.old) (W.failed sink.new)
+    ensures { Wrote W.taken W.failed sink.old sink.new
         (change_head limit spare) result }
 {
     let mut transits = Buffer::new();

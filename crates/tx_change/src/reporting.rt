@@ -64,7 +64,7 @@ fn report_ranking<A: Allocator, W: Sink>(
     requires common { OnFound (λ cert. AreCommon old.now new.now (ranks_of cert) limit spare)
         ranking.now }
     ensures cleared { OnFound (IsCleared old.now new.now limit spare) ranking.now }
-    ensures wrote { Wrote (W.taken out.old) (W.taken out.new) (W.failed out.old) (W.failed out.new)
+    ensures wrote { Wrote W.taken W.failed out.old out.new
         (change_report old.now limit spare (findings_of ranking.now)) result }
 {
     match ranking {
@@ -88,7 +88,7 @@ fn confirm<A: Allocator, W: Sink>(
     requires fits { IsCertificateOf old.now cert.now }
     requires common { AreCommon old.now new.now (ranks_of cert.now) limit spare }
     ensures cleared { IsCleared old.now new.now limit spare cert.now }
-    ensures wrote { Wrote (W.taken out.old) (W.taken out.new) (W.failed out.old) (W.failed out.new)
+    ensures wrote { Wrote W.taken W.failed out.old out.new
         (change_report {A = A} old.now limit spare []) result }
 {
     common_ranks_certify();

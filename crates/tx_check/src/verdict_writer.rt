@@ -20,10 +20,7 @@ pub fn write_verdict<A: Allocator, W: Sink>(
     plan: &Plan<A>,
     sink: &mut W,
 ) -> Result<(), WriteFault>
-    ensures ok { OnOk result (W.taken sink.new ≡ append_known (W.taken sink.old) (verdict_written plan.now verdict.now)) }
-    ensures err { OnErr result (StopsIn (W.taken sink.old) (W.taken sink.new) (verdict_written plan.now verdict.now)) }
-    ensures mark { OnErr result (W.failed sink.new ≡ true) }
-    ensures unmarked { OnOk result (W.failed sink.new ≡ W.failed sink.old) }
+    ensures { Wrote W.taken W.failed sink.old sink.new (verdict_written plan.now verdict.now) result }
 {
     match *verdict {
         Verdict::Yes => write_bytes(b"YES\n", sink),
@@ -37,7 +34,7 @@ fn write_no<A: Allocator, W: Sink>(
     plan: &Plan<A>,
     sink: &mut W,
 ) -> Result<(), WriteFault>
-    ensures { Wrote (W.taken sink.old) (W.taken sink.new) (W.failed sink.old) (W.failed sink.new) (verdict_written plan.now (No fault)) result }
+    ensures { Wrote W.taken W.failed sink.old sink.new (verdict_written plan.now (No fault)) result }
 {
     match fault {
         CheckFault::Ambiguous(a, b) => {
@@ -76,7 +73,7 @@ fn write_exchange<A: Allocator, W: Sink>(
     exchange: ExchangeId,
     sink: &mut W,
 ) -> Result<(), WriteFault>
-    ensures { Wrote (W.taken sink.old) (W.taken sink.new) (W.failed sink.old) (W.failed sink.new)
+    ensures { Wrote W.taken W.failed sink.old sink.new
         (front.now ++ line_written (figures_of plan.now code ∷ exchange_name plan.now exchange ∷ [])) result }
 {
     let name = plan.exchange_name(exchange);
@@ -92,7 +89,7 @@ fn write_group<A: Allocator, W: Sink>(
     group: GroupId,
     sink: &mut W,
 ) -> Result<(), WriteFault>
-    ensures { Wrote (W.taken sink.old) (W.taken sink.new) (W.failed sink.old) (W.failed sink.new)
+    ensures { Wrote W.taken W.failed sink.old sink.new
         (front.now ++ line_written (figures_of plan.now code ∷ exchange_name plan.now exchange ∷ group_name plan.now group ∷ [])) result }
 {
     let code = plan.code_figures(code);

@@ -25,10 +25,7 @@ pub fn write_code_drawing<A: Allocator, W: Sink>(
     findings: &[Finding<A>],
     sink: &mut W,
 ) -> Result<(), WriteFault>
-    ensures ok { OnOk result (W.taken sink.new ≡ append_known (W.taken sink.old) (code_drawing plan.now code reached.now (first_shown code findings.now))) }
-    ensures err { OnErr result (StopsIn (W.taken sink.old) (W.taken sink.new) (code_drawing plan.now code reached.now (first_shown code findings.now))) }
-    ensures mark { OnErr result (W.failed sink.new ≡ true) }
-    ensures unmarked { OnOk result (W.failed sink.new ≡ W.failed sink.old) }
+    ensures { Wrote W.taken W.failed sink.old sink.new (code_drawing plan.now code reached.now (first_shown code findings.now)) result }
 {
     write_first(plan, code, reached, findings, sink)
 }
@@ -41,7 +38,7 @@ fn write_first<A: Allocator, W: Sink>(
     findings: &[Finding<A>],
     sink: &mut W,
 ) -> Result<(), WriteFault>
-    ensures { Wrote (W.taken sink.old) (W.taken sink.new) (W.failed sink.old) (W.failed sink.new) (code_drawing plan.now code reached.now (first_shown code findings.now)) result }
+    ensures { Wrote W.taken W.failed sink.old sink.new (code_drawing plan.now code reached.now (first_shown code findings.now)) result }
 {
     let shown = first_shown(code, findings);
     write_whole(plan, code, reached, &shown, sink)
@@ -55,7 +52,7 @@ fn write_whole<A: Allocator, W: Sink>(
     shown: &Shown<'_>,
     sink: &mut W,
 ) -> Result<(), WriteFault>
-    ensures { Wrote (W.taken sink.old) (W.taken sink.new) (W.failed sink.old) (W.failed sink.new) (code_drawing plan.now code reached.now shown.now) result }
+    ensures { Wrote W.taken W.failed sink.old sink.new (code_drawing plan.now code reached.now shown.now) result }
 {
     write_head(sink)?;
     write_title(plan, code, shown, sink)?;
@@ -70,7 +67,7 @@ fn write_title<A: Allocator, W: Sink>(
     shown: &Shown<'_>,
     sink: &mut W,
 ) -> Result<(), WriteFault>
-    ensures { Wrote (W.taken sink.old) (W.taken sink.new) (W.failed sink.old) (W.failed sink.new) (title plan.now code shown.now) result }
+    ensures { Wrote W.taken W.failed sink.old sink.new (title plan.now code shown.now) result }
 {
     let figures = plan.code_figures(code);
     write_text(&[b"label=\"Code ", figures, shown.word, b"\";\n"], sink)
@@ -85,7 +82,7 @@ fn write_exchanges<A: Allocator, W: Sink>(
     shown: &Shown<'_>,
     sink: &mut W,
 ) -> Result<(), WriteFault>
-    ensures { Wrote (W.taken sink.old) (W.taken sink.new) (W.failed sink.old) (W.failed sink.new) (each_before (length plan.now.exchanges) (exchange_line plan.now code reached.now shown.now)) result }
+    ensures { Wrote W.taken W.failed sink.old sink.new (each_before (length plan.now.exchanges) (exchange_line plan.now code reached.now shown.now)) result }
 {
     plan.rules();
     for place in 0..plan.exchanges() {
@@ -103,7 +100,7 @@ fn write_exchange<A: Allocator, W: Sink>(
     exchange: ExchangeId,
     sink: &mut W,
 ) -> Result<(), WriteFault>
-    ensures { Wrote (W.taken sink.old) (W.taken sink.new) (W.failed sink.old) (W.failed sink.new) (exchange_line plan.now code reached.now shown.now exchange) result }
+    ensures { Wrote W.taken W.failed sink.old sink.new (exchange_line plan.now code reached.now shown.now exchange) result }
 {
     let home = home_text(plan.home(code) == exchange);
     let color = color_text(shown.passes(exchange), is_marked(reached, exchange));
@@ -127,7 +124,7 @@ fn write_lists<A: Allocator, W: Sink>(
     shown: &Shown<'_>,
     sink: &mut W,
 ) -> Result<(), WriteFault>
-    ensures { Wrote (W.taken sink.old) (W.taken sink.new) (W.failed sink.old) (W.failed sink.new) (each_before (length plan.now.exchanges) (list_lines plan.now code reached.now shown.now)) result }
+    ensures { Wrote W.taken W.failed sink.old sink.new (each_before (length plan.now.exchanges) (list_lines plan.now code reached.now shown.now)) result }
 {
     plan.rules();
     for place in 0..plan.exchanges() {
@@ -147,7 +144,7 @@ fn write_list<A: Allocator, W: Sink>(
     list: &[GroupId],
     sink: &mut W,
 ) -> Result<(), WriteFault>
-    ensures { Wrote (W.taken sink.old) (W.taken sink.new) (W.failed sink.old) (W.failed sink.new) (each_before (length list.now) (λ i. choice_line plan.now reached.now shown.now exchange (i + 1) (get_or list.now i 0))) result }
+    ensures { Wrote W.taken W.failed sink.old sink.new (each_before (length list.now) (λ i. choice_line plan.now reached.now shown.now exchange (i + 1) (get_or list.now i 0))) result }
 {
     for i in 0..list.len() {
         write_choice(plan, reached, shown, exchange, i + 1, list[i], sink)?;
@@ -165,7 +162,7 @@ fn write_choice<A: Allocator, W: Sink>(
     group: GroupId,
     sink: &mut W,
 ) -> Result<(), WriteFault>
-    ensures { Wrote (W.taken sink.old) (W.taken sink.new) (W.failed sink.old) (W.failed sink.new) (choice_line plan.now reached.now shown.now exchange order group) result }
+    ensures { Wrote W.taken W.failed sink.old sink.new (choice_line plan.now reached.now shown.now exchange order group) result }
 {
     match plan.other_end(group, exchange) {
         Some(to) => {
@@ -184,7 +181,7 @@ fn write_order<A: Allocator, W: Sink>(
     color: &[u8],
     sink: &mut W,
 ) -> Result<(), WriteFault>
-    ensures { Wrote (W.taken sink.old) (W.taken sink.new) (W.failed sink.old) (W.failed sink.new) (order_label plan.now order group color.now) result }
+    ensures { Wrote W.taken W.failed sink.old sink.new (order_label plan.now order group color.now) result }
 {
     let mut buffer = Buffer::new();
     let order = buffer.format(order).as_bytes();

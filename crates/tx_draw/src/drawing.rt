@@ -15,17 +15,14 @@ use tx_text::{Sink, WriteFault, write_text};
 ///
 /// A one-way group is an arrow, and a both-way group a line. What went out before a failure is a front of the text.
 pub fn write_drawing<A: Allocator, W: Sink>(plan: &Plan<A>, sink: &mut W) -> Result<(), WriteFault>
-    ensures ok { OnOk result (W.taken sink.new ≡ append_known (W.taken sink.old) (drawing plan.now)) }
-    ensures err { OnErr result (StopsIn (W.taken sink.old) (W.taken sink.new) (drawing plan.now)) }
-    ensures mark { OnErr result (W.failed sink.new ≡ true) }
-    ensures unmarked { OnOk result (W.failed sink.new ≡ W.failed sink.old) }
+    ensures { Wrote W.taken W.failed sink.old sink.new (drawing plan.now) result }
 {
     write_whole(plan, sink)
 }
 
 /// The same, said at once.
 fn write_whole<A: Allocator, W: Sink>(plan: &Plan<A>, sink: &mut W) -> Result<(), WriteFault>
-    ensures { Wrote (W.taken sink.old) (W.taken sink.new) (W.failed sink.old) (W.failed sink.new) (drawing plan.now) result }
+    ensures { Wrote W.taken W.failed sink.old sink.new (drawing plan.now) result }
 {
     write_head(sink)?;
     write_exchanges(plan, sink)?;
@@ -34,7 +31,7 @@ fn write_whole<A: Allocator, W: Sink>(plan: &Plan<A>, sink: &mut W) -> Result<()
 }
 
 fn write_exchanges<A: Allocator, W: Sink>(plan: &Plan<A>, sink: &mut W) -> Result<(), WriteFault>
-    ensures { Wrote (W.taken sink.old) (W.taken sink.new) (W.failed sink.old) (W.failed sink.new) (each_before (length plan.now.exchanges) (exchange_line plan.now)) result }
+    ensures { Wrote W.taken W.failed sink.old sink.new (each_before (length plan.now.exchanges) (exchange_line plan.now)) result }
 {
     plan.rules();
     for place in 0..plan.exchanges() {
@@ -48,14 +45,14 @@ fn write_exchange<A: Allocator, W: Sink>(
     exchange: ExchangeId,
     sink: &mut W,
 ) -> Result<(), WriteFault>
-    ensures { Wrote (W.taken sink.old) (W.taken sink.new) (W.failed sink.old) (W.failed sink.new) (exchange_line plan.now exchange) result }
+    ensures { Wrote W.taken W.failed sink.old sink.new (exchange_line plan.now exchange) result }
 {
     write_box(plan, exchange, sink)?;
     write_text(&[b"\"];\n"], sink)
 }
 
 fn write_groups<A: Allocator, W: Sink>(plan: &Plan<A>, sink: &mut W) -> Result<(), WriteFault>
-    ensures { Wrote (W.taken sink.old) (W.taken sink.new) (W.failed sink.old) (W.failed sink.new) (each_before (length plan.now.groups) (group_line plan.now)) result }
+    ensures { Wrote W.taken W.failed sink.old sink.new (each_before (length plan.now.groups) (group_line plan.now)) result }
 {
     plan.rules();
     for place in 0..plan.groups() {
@@ -69,7 +66,7 @@ fn write_group<A: Allocator, W: Sink>(
     group: GroupId,
     sink: &mut W,
 ) -> Result<(), WriteFault>
-    ensures { Wrote (W.taken sink.old) (W.taken sink.new) (W.failed sink.old) (W.failed sink.new) (group_line plan.now group) result }
+    ensures { Wrote W.taken W.failed sink.old sink.new (group_line plan.now group) result }
 {
     let (a, b) = plan.ends(group);
     write_line_between(plan, a, b, sink)?;
@@ -81,7 +78,7 @@ fn write_group_label<A: Allocator, W: Sink>(
     group: GroupId,
     sink: &mut W,
 ) -> Result<(), WriteFault>
-    ensures { Wrote (W.taken sink.old) (W.taken sink.new) (W.failed sink.old) (W.failed sink.new) (group_label plan.now group) result }
+    ensures { Wrote W.taken W.failed sink.old sink.new (group_label plan.now group) result }
 {
     let mut buffer = Buffer::new();
     let count = buffer.format(plan.group_count(group)).as_bytes();

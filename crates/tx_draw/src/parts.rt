@@ -9,7 +9,7 @@ use tx_text::{Sink, WriteFault, write_text};
 
 /// Writes the first lines: what all exchanges and all groups look like.
 pub fn write_head<W: Sink>(sink: &mut W) -> Result<(), WriteFault>
-    ensures { Wrote (W.taken sink.old) (W.taken sink.new) (W.failed sink.old) (W.failed sink.new) head result }
+    ensures { Wrote W.taken W.failed sink.old sink.new head result }
 {
     write_text(
         &[
@@ -28,7 +28,7 @@ pub fn write_box<A: Allocator, W: Sink>(
     exchange: ExchangeId,
     sink: &mut W,
 ) -> Result<(), WriteFault>
-    ensures { Wrote (W.taken sink.old) (W.taken sink.new) (W.failed sink.old) (W.failed sink.new) (box plan.now exchange) result }
+    ensures { Wrote W.taken W.failed sink.old sink.new (box plan.now exchange) result }
 {
     let name = plan.exchange_name(exchange);
     write_text(&[b"\"", name, b"\" [label=\"", name], sink)?;
@@ -40,7 +40,7 @@ fn write_home_rows<A: Allocator, W: Sink>(
     exchange: ExchangeId,
     sink: &mut W,
 ) -> Result<(), WriteFault>
-    ensures { Wrote (W.taken sink.old) (W.taken sink.new) (W.failed sink.old) (W.failed sink.new) (each_before (length plan.now.codes) (home_row plan.now exchange)) result }
+    ensures { Wrote W.taken W.failed sink.old sink.new (each_before (length plan.now.codes) (home_row plan.now exchange)) result }
 {
     plan.rules();
     for place in 0..plan.codes() {
@@ -55,7 +55,7 @@ fn write_home_row<A: Allocator, W: Sink>(
     code: CodeId,
     sink: &mut W,
 ) -> Result<(), WriteFault>
-    ensures { Wrote (W.taken sink.old) (W.taken sink.new) (W.failed sink.old) (W.failed sink.new) (home_row plan.now exchange code) result }
+    ensures { Wrote W.taken W.failed sink.old sink.new (home_row plan.now exchange code) result }
 {
     if plan.home(code) == exchange {
         write_text(&[b"\\n", plan.code_figures(code)], sink)
@@ -71,7 +71,7 @@ pub fn write_line_between<A: Allocator, W: Sink>(
     to: ExchangeId,
     sink: &mut W,
 ) -> Result<(), WriteFault>
-    ensures { Wrote (W.taken sink.old) (W.taken sink.new) (W.failed sink.old) (W.failed sink.new) (line_between plan.now from to) result }
+    ensures { Wrote W.taken W.failed sink.old sink.new (line_between plan.now from to) result }
 {
     write_text(
         &[

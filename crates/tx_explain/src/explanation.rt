@@ -12,7 +12,7 @@ use tx_text::{Sink, WriteFault, write_text};
 /// Writes each entry that a word asks for: its code with its name, what it means and what to do
 /// about it; without a word, a line for each code with its meaning.
 pub fn write_explanation<W: Sink>(word: Option<&str>, sink: &mut W) -> Result<(), WriteFault>
-    ensures { Wrote (W.taken sink.old) (W.taken sink.new) (W.failed sink.old) (W.failed sink.new)
+    ensures { Wrote W.taken W.failed sink.old sink.new
         (explanation_text (option_map (λ w. w.now) word)) result }
 {
     write_tables(&tables(), word, sink)
@@ -23,7 +23,7 @@ fn write_tables<W: Sink>(
     word: Option<&str>,
     sink: &mut W,
 ) -> Result<(), WriteFault>
-    ensures { Wrote (W.taken sink.old) (W.taken sink.new) (W.failed sink.old) (W.failed sink.new)
+    ensures { Wrote W.taken W.failed sink.old sink.new
         (flat_map (λ t. flat_map (λ e. told_text (option_map (λ w. w.now) word) (texts e)) t.now)
         tables.now) result }
 {
@@ -38,7 +38,7 @@ fn write_entries<W: Sink>(
     word: Option<&str>,
     sink: &mut W,
 ) -> Result<(), WriteFault>
-    ensures { Wrote (W.taken sink.old) (W.taken sink.new) (W.failed sink.old) (W.failed sink.new)
+    ensures { Wrote W.taken W.failed sink.old sink.new
         (flat_map (λ e. told_text (option_map (λ w. w.now) word) (texts e)) entries.now) result }
 {
     for i in 0..entries.len() {
@@ -48,7 +48,7 @@ fn write_entries<W: Sink>(
 }
 
 fn write_told<W: Sink>(entry: &Entry, word: Option<&str>, sink: &mut W) -> Result<(), WriteFault>
-    ensures { Wrote (W.taken sink.old) (W.taken sink.new) (W.failed sink.old) (W.failed sink.new)
+    ensures { Wrote W.taken W.failed sink.old sink.new
         (told_text (option_map (λ w. w.now) word) (texts entry.now)) result }
 {
     match word {
@@ -63,7 +63,7 @@ fn write_told<W: Sink>(entry: &Entry, word: Option<&str>, sink: &mut W) -> Resul
 }
 
 fn write_entry<W: Sink>(entry: &Entry, sink: &mut W) -> Result<(), WriteFault>
-    ensures { Wrote (W.taken sink.old) (W.taken sink.new) (W.failed sink.old) (W.failed sink.new)
+    ensures { Wrote W.taken W.failed sink.old sink.new
         (entry_text (texts entry.now)) result }
 {
     let [code, name, meaning, advice] = entry;
@@ -83,7 +83,7 @@ fn write_entry<W: Sink>(entry: &Entry, sink: &mut W) -> Result<(), WriteFault>
 }
 
 fn write_line<W: Sink>(entry: &Entry, sink: &mut W) -> Result<(), WriteFault>
-    ensures { Wrote (W.taken sink.old) (W.taken sink.new) (W.failed sink.old) (W.failed sink.new)
+    ensures { Wrote W.taken W.failed sink.old sink.new
         (entry_line (texts entry.now)) result }
 {
     let [code, name, meaning, _] = entry;

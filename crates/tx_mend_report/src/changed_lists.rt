@@ -12,7 +12,7 @@ use tx_text::{Sink, WriteFault, write_text};
 
 /// Writes what was asked.
 pub fn write_head<W: Sink>(limit: u8, spare: u8, sink: &mut W) -> Result<(), WriteFault>
-    ensures { Wrote (W.taken sink.old) (W.taken sink.new) (W.failed sink.old) (W.failed sink.new)
+    ensures { Wrote W.taken W.failed sink.old sink.new
         (head_line limit spare) result }
 {
     let mut transits = Buffer::new();
@@ -30,7 +30,7 @@ pub fn write_mended<A: Allocator, W: Sink>(
     spare: u8,
     sink: &mut W,
 ) -> Result<(), WriteFault>
-    ensures { Wrote (W.taken sink.old) (W.taken sink.new) (W.failed sink.old) (W.failed sink.new)
+    ensures { Wrote W.taken W.failed sink.old sink.new
         (mended_text before.now plan.now limit spare) result }
 {
     write_head(limit, spare, sink)?;
@@ -43,7 +43,7 @@ fn write_changes<A: Allocator, W: Sink>(
     plan: &Plan<A>,
     sink: &mut W,
 ) -> Result<(), WriteFault>
-    ensures { Wrote (W.taken sink.old) (W.taken sink.new) (W.failed sink.old) (W.failed sink.new)
+    ensures { Wrote W.taken W.failed sink.old sink.new
         (changes before.now plan.now) result }
 {
     plan.rules();
@@ -60,7 +60,7 @@ fn write_code_changes<A: Allocator, W: Sink>(
     code: CodeId,
     sink: &mut W,
 ) -> Result<(), WriteFault>
-    ensures { Wrote (W.taken sink.old) (W.taken sink.new) (W.failed sink.old) (W.failed sink.new)
+    ensures { Wrote W.taken W.failed sink.old sink.new
         (code_changes before.now plan.now code) result }
 {
     plan.rules();
@@ -78,7 +78,7 @@ fn write_change<A: Allocator, W: Sink>(
     exchange: ExchangeId,
     sink: &mut W,
 ) -> Result<(), WriteFault>
-    ensures { Wrote (W.taken sink.old) (W.taken sink.new) (W.failed sink.old) (W.failed sink.new)
+    ensures { Wrote W.taken W.failed sink.old sink.new
         (change_line before.now plan.now code exchange) result }
 {
     if before.list(&Pair { exchange, code }) == plan.list(exchange, code) {
@@ -94,7 +94,7 @@ fn write_list<A: Allocator, W: Sink>(
     exchange: ExchangeId,
     sink: &mut W,
 ) -> Result<(), WriteFault>
-    ensures { Wrote (W.taken sink.old) (W.taken sink.new) (W.failed sink.old) (W.failed sink.new)
+    ensures { Wrote W.taken W.failed sink.old sink.new
         (list_line plan.now code exchange (route_list plan.now exchange code)) result }
 {
     if plan.list(exchange, code).is_empty() {

@@ -66,7 +66,7 @@ fn write_mending<A: Allocator, W: Sink>(
     requires certified { OnMended (λ q before cert. IsCertified q (ranks_of cert) limit spare)
         mending.now }
     ensures confirmed { OnMended (λ q before cert. IsConfirmed q cert limit spare) mending.now }
-    ensures wrote { Wrote (W.taken out.old) (W.taken out.new) (W.failed out.old) (W.failed out.new)
+    ensures wrote { Wrote W.taken W.failed out.old out.new
         (mend_report limit spare mending.now) result }
 {
     match mending {
@@ -91,7 +91,7 @@ fn confirm<A: Allocator, W: Sink>(
     requires fits { IsCertificateOf plan.now cert.now }
     requires certified { IsCertified plan.now (ranks_of cert.now) limit spare }
     ensures confirmed { IsConfirmed plan.now cert.now limit spare }
-    ensures wrote { Wrote (W.taken out.old) (W.taken out.new) (W.failed out.old) (W.failed out.new)
+    ensures wrote { Wrote W.taken W.failed out.old out.new
         (mended_text before.now plan.now limit spare) result }
 {
     match check(plan, cert, limit, spare) {

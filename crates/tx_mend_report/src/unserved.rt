@@ -20,7 +20,7 @@ pub fn write_unserved<A: Allocator, W: Sink>(
     pair: &Option<(CodeId, CodeId)>,
     sink: &mut W,
 ) -> Result<(), WriteFault>
-    ensures { Wrote (W.taken sink.old) (W.taken sink.new) (W.failed sink.old) (W.failed sink.new)
+    ensures { Wrote W.taken W.failed sink.old sink.new
         (unserved_text plan.now limit spare unserved.now pair.now) result }
 {
     write_head(limit, spare, sink)?;
@@ -34,7 +34,7 @@ fn write_pair<A: Allocator, W: Sink>(
     pair: &Option<(CodeId, CodeId)>,
     sink: &mut W,
 ) -> Result<(), WriteFault>
-    ensures { Wrote (W.taken sink.old) (W.taken sink.new) (W.failed sink.old) (W.failed sink.new)
+    ensures { Wrote W.taken W.failed sink.old sink.new
         (pair_line plan.now pair.now) result }
 {
     match pair {
@@ -48,7 +48,7 @@ fn write_both<A: Allocator, W: Sink>(
     pair: (CodeId, CodeId),
     sink: &mut W,
 ) -> Result<(), WriteFault>
-    ensures { Wrote (W.taken sink.old) (W.taken sink.new) (W.failed sink.old) (W.failed sink.new)
+    ensures { Wrote W.taken W.failed sink.old sink.new
         (pair_line plan.now (Some pair)) result }
 {
     let shorter = plan.code_figures(pair.0);
@@ -61,7 +61,7 @@ fn write_each<A: Allocator, W: Sink>(
     unserved: &[(CodeId, ExchangeId)],
     sink: &mut W,
 ) -> Result<(), WriteFault>
-    ensures { Wrote (W.taken sink.old) (W.taken sink.new) (W.failed sink.old) (W.failed sink.new)
+    ensures { Wrote W.taken W.failed sink.old sink.new
         (flat_map (unserved_line plan.now) unserved.now) result }
 {
     for i in 0..unserved.len() {
@@ -75,7 +75,7 @@ fn write_one<A: Allocator, W: Sink>(
     pair: (CodeId, ExchangeId),
     sink: &mut W,
 ) -> Result<(), WriteFault>
-    ensures { Wrote (W.taken sink.old) (W.taken sink.new) (W.failed sink.old) (W.failed sink.new)
+    ensures { Wrote W.taken W.failed sink.old sink.new
         (unserved_line plan.now pair) result }
 {
     let figures = plan.code_figures(pair.0);
@@ -94,7 +94,7 @@ fn pair_count(pair: &Option<(CodeId, CodeId)>) -> usize
 }
 
 fn write_verdict<W: Sink>(count: usize, sink: &mut W) -> Result<(), WriteFault>
-    ensures { Wrote (W.taken sink.old) (W.taken sink.new) (W.failed sink.old) (W.failed sink.new)
+    ensures { Wrote W.taken W.failed sink.old sink.new
         (verdict_line count) result }
 {
     let mut buffer = Buffer::new();

@@ -21,7 +21,7 @@ pub fn write_survival<A: Allocator, W: Sink>(
     survival: &Survival<A>,
     sink: &mut W,
 ) -> Result<(), WriteFault>
-    ensures { Wrote (W.taken sink.old) (W.taken sink.new) (W.failed sink.old) (W.failed sink.new)
+    ensures { Wrote W.taken W.failed sink.old sink.new
         (survival_text plan.now risks.now survival.now) result }
 {
     match survival {
@@ -36,7 +36,7 @@ fn write_tried<A: Allocator, W: Sink>(
     cuts: &[Cut<A>],
     sink: &mut W,
 ) -> Result<(), WriteFault>
-    ensures { Wrote (W.taken sink.old) (W.taken sink.new) (W.failed sink.old) (W.failed sink.new)
+    ensures { Wrote W.taken W.failed sink.old sink.new
         (tried_text plan.now risks.now cuts.now) result }
 {
     plan.rules();
@@ -46,7 +46,7 @@ fn write_tried<A: Allocator, W: Sink>(
 }
 
 fn write_head<W: Sink>(count: usize, sink: &mut W) -> Result<(), WriteFault>
-    ensures { Wrote (W.taken sink.old) (W.taken sink.new) (W.failed sink.old) (W.failed sink.new)
+    ensures { Wrote W.taken W.failed sink.old sink.new
         (head_line count) result }
 {
     let mut buffer = Buffer::new();
@@ -70,7 +70,7 @@ fn write_outage<A: Allocator, W: Sink>(
     outage: &Outage,
     sink: &mut W,
 ) -> Result<(), WriteFault>
-    ensures { Wrote (W.taken sink.old) (W.taken sink.new) (W.failed sink.old) (W.failed sink.new)
+    ensures { Wrote W.taken W.failed sink.old sink.new
         (outage_line plan.now risks.now outage.now) result }
 {
     match outage {
@@ -120,7 +120,7 @@ fn write_cuts<A: Allocator, W: Sink>(
     cuts: &[Cut<A>],
     sink: &mut W,
 ) -> Result<(), WriteFault>
-    ensures { Wrote (W.taken sink.old) (W.taken sink.new) (W.failed sink.old) (W.failed sink.new)
+    ensures { Wrote W.taken W.failed sink.old sink.new
         (cuts_text plan.now risks.now None cuts.now) result }
 {
     for i in 0..cuts.len() {
@@ -137,7 +137,7 @@ fn write_cut<A: Allocator, W: Sink>(
     cut: &Cut<A>,
     sink: &mut W,
 ) -> Result<(), WriteFault>
-    ensures { Wrote (W.taken sink.old) (W.taken sink.new) (W.failed sink.old) (W.failed sink.new)
+    ensures { Wrote W.taken W.failed sink.old sink.new
         ((if same then [] else outage_line plan.now risks.now cut.now.outage)
         ++ cut_line plan.now cut.now) result }
 {
@@ -154,7 +154,7 @@ fn write_line<A: Allocator, W: Sink>(
     cut: &Cut<A>,
     sink: &mut W,
 ) -> Result<(), WriteFault>
-    ensures { Wrote (W.taken sink.old) (W.taken sink.new) (W.failed sink.old) (W.failed sink.new)
+    ensures { Wrote W.taken W.failed sink.old sink.new
         (cut_line plan.now cut.now) result }
 {
     if cut.stray {
@@ -171,7 +171,7 @@ fn write_walk<A: Allocator, W: Sink>(
     walk: &Walk<A>,
     sink: &mut W,
 ) -> Result<(), WriteFault>
-    ensures { Wrote (W.taken sink.old) (W.taken sink.new) (W.failed sink.old) (W.failed sink.new)
+    ensures { Wrote W.taken W.failed sink.old sink.new
         (head.now ++ start_text plan.now code walk.now) result }
 {
     let code = plan.code_figures(code);

@@ -17,7 +17,7 @@ pub(crate) fn write_asked_echo<A: Allocator, W: Sink>(
     plan: &Plan<A>,
     sink: &mut W,
 ) -> Result<(), WriteFault>
-    ensures { Wrote (W.taken sink.old) (W.taken sink.new) (W.failed sink.old) (W.failed sink.new)
+    ensures { Wrote W.taken W.failed sink.old sink.new
         (echo_asked asked plan.now number event.now) result }
 {
     if asked {
@@ -33,7 +33,7 @@ fn write_echo<A: Allocator, W: Sink>(
     plan: &Plan<A>,
     sink: &mut W,
 ) -> Result<(), WriteFault>
-    ensures { Wrote (W.taken sink.old) (W.taken sink.new) (W.failed sink.old) (W.failed sink.new)
+    ensures { Wrote W.taken W.failed sink.old sink.new
         (echo_text plan.now number event.now) result }
 {
     write_number(number, sink)?;
@@ -42,7 +42,7 @@ fn write_echo<A: Allocator, W: Sink>(
 
 /// Writes the number of an event, as `EVENT 2 `.
 fn write_number<W: Sink>(number: u64, sink: &mut W) -> Result<(), WriteFault>
-    ensures { Wrote (W.taken sink.old) (W.taken sink.new) (W.failed sink.old) (W.failed sink.new)
+    ensures { Wrote W.taken W.failed sink.old sink.new
         (number_text number) result }
 {
     let mut digits = Buffer::new();

@@ -25,10 +25,7 @@ pub fn write_event<A: Allocator, W: Sink>(
 ) -> Result<(), WriteFault>
     requires { IsWritable plan.now event.now }
     ensures says { event_in plan.now (event_line plan.now event.now) ≡ Ok event.now }
-    ensures ok { OnOk result (W.taken sink.new ≡ append_known (W.taken sink.old) (event_text plan.now event.now)) }
-    ensures err { OnErr result (StopsIn (W.taken sink.old) (W.taken sink.new) (event_text plan.now event.now)) }
-    ensures mark { OnErr result (W.failed sink.new ≡ true) }
-    ensures unmarked { OnOk result (W.failed sink.new ≡ W.failed sink.old) }
+    ensures wrote { Wrote W.taken W.failed sink.old sink.new (event_text plan.now event.now) result }
 {
     plan.rules();
     write_said(event, plan, sink)
@@ -41,7 +38,7 @@ pub(crate) fn write_said<A: Allocator, W: Sink>(
     sink: &mut W,
 ) -> Result<(), WriteFault>
     ensures event { IsEvent event.now }
-    ensures wrote { Wrote (W.taken sink.old) (W.taken sink.new) (W.failed sink.old) (W.failed sink.new) (event_text plan.now event.now) result }
+    ensures wrote { Wrote W.taken W.failed sink.old sink.new (event_text plan.now event.now) result }
 {
     let first = first_word(event);
     match event {
@@ -93,7 +90,7 @@ fn write_key<A: Allocator, W: Sink>(
 ) -> Result<(), WriteFault>
     ensures national { is_national line.now.national ≡ true }
     ensures keyed { are_figures 1 12 keyed.now ≡ true }
-    ensures wrote { Wrote (W.taken sink.old) (W.taken sink.new) (W.failed sink.old) (W.failed sink.new) (first.now ++ (line_text plan.now line.now ++ (codes " " ++ (keyed.now ++ codes "\n")))) result }
+    ensures wrote { Wrote W.taken W.failed sink.old sink.new (first.now ++ (line_text plan.now line.now ++ (codes " " ++ (keyed.now ++ codes "\n")))) result }
 {
     write_text(
         &[
@@ -111,7 +108,7 @@ fn write_key<A: Allocator, W: Sink>(
 
 /// Writes a first word, given with its space, a call's number, and what ends the line.
 fn write_call<W: Sink>(first: &[u8], call: u32, end: &[u8], sink: &mut W) -> Result<(), WriteFault>
-    ensures { Wrote (W.taken sink.old) (W.taken sink.new) (W.failed sink.old) (W.failed sink.new) (first.now ++ (decimal call ++ end.now)) result }
+    ensures { Wrote W.taken W.failed sink.old sink.new (first.now ++ (decimal call ++ end.now)) result }
 {
     let mut digits = Buffer::new();
     write_text(&[first, digits.format(call).as_bytes(), end, b""], sink)
@@ -134,7 +131,7 @@ fn write_group<A: Allocator, W: Sink>(
     plan: &Plan<A>,
     sink: &mut W,
 ) -> Result<(), WriteFault>
-    ensures { Wrote (W.taken sink.old) (W.taken sink.new) (W.failed sink.old) (W.failed sink.new) (first.now ++ (group_name plan.now group ++ codes "\n")) result }
+    ensures { Wrote W.taken W.failed sink.old sink.new (first.now ++ (group_name plan.now group ++ codes "\n")) result }
 {
     write_text(&[first, plan.group_name(group), b"\n"], sink)
 }
@@ -147,7 +144,7 @@ fn write_line<A: Allocator, W: Sink>(
     sink: &mut W,
 ) -> Result<(), WriteFault>
     ensures national { is_national line.now.national ≡ true }
-    ensures wrote { Wrote (W.taken sink.old) (W.taken sink.new) (W.failed sink.old) (W.failed sink.new) (first.now ++ (line_text plan.now line.now ++ codes "\n")) result }
+    ensures wrote { Wrote W.taken W.failed sink.old sink.new (first.now ++ (line_text plan.now line.now ++ codes "\n")) result }
 {
     write_text(
         &[

@@ -38,10 +38,7 @@ pub trait Sink {
 /// Writes all the bytes, or stops where the sink fails: then a front of them was taken, and not all.
 #[inline(always)]
 pub fn write_bytes<W: Sink>(bytes: &[u8], sink: &mut W) -> Result<(), WriteFault>
-    ensures ok { OnOk result (W.taken sink.new ≡ append_known (W.taken sink.old) bytes.now) }
-    ensures err { OnErr result (StopsIn (W.taken sink.old) (W.taken sink.new) bytes.now) }
-    ensures mark { OnErr result (W.failed sink.new ≡ true) }
-    ensures unmarked { OnOk result (W.failed sink.new ≡ W.failed sink.old) }
+    ensures { Wrote W.taken W.failed sink.old sink.new bytes.now result }
 {
     let mut rest = bytes;
     while !rest.is_empty() {
@@ -55,10 +52,7 @@ pub fn write_bytes<W: Sink>(bytes: &[u8], sink: &mut W) -> Result<(), WriteFault
 /// Writes the parts of a text, one after another, or stops where the sink fails: then a front of the text was taken, and not all.
 #[inline(always)]
 pub fn write_parts<W: Sink>(parts: &[&[u8]], sink: &mut W) -> Result<(), WriteFault>
-    ensures ok { OnOk result (W.taken sink.new ≡ append_known (W.taken sink.old) (flat_map (λ p. p.now) parts.now)) }
-    ensures err { OnErr result (StopsIn (W.taken sink.old) (W.taken sink.new) (flat_map (λ p. p.now) parts.now)) }
-    ensures mark { OnErr result (W.failed sink.new ≡ true) }
-    ensures unmarked { OnOk result (W.failed sink.new ≡ W.failed sink.old) }
+    ensures { Wrote W.taken W.failed sink.old sink.new (flat_map (λ p. p.now) parts.now) result }
 {
     for i in 0..parts.len() {
         write_bytes(parts[i], sink)?;
@@ -69,7 +63,7 @@ pub fn write_parts<W: Sink>(parts: &[&[u8]], sink: &mut W) -> Result<(), WriteFa
 /// Writes the parts of a text, one after another. The four clauses of `write_parts` are one here.
 #[inline(always)]
 pub fn write_text<W: Sink>(parts: &[&[u8]], sink: &mut W) -> Result<(), WriteFault>
-    ensures { Wrote (W.taken sink.old) (W.taken sink.new) (W.failed sink.old) (W.failed sink.new) (flat_map (λ p. p.now) parts.now) result }
+    ensures { Wrote W.taken W.failed sink.old sink.new (flat_map (λ p. p.now) parts.now) result }
 {
     write_parts(parts, sink)
 }

@@ -2,6 +2,7 @@
 ghost use Rattle.std.specs.Prelude.{◌≡◌, ◌+◌, ◌≤◌, ◌++◌, Bool, ℕ, [], true, OnOk, OnErr, codes, decimal, length};
 ghost use Rattle.std.specs.Io.KnownBytes.{append_known};
 ghost use Rattle.tx_text.specs.Ends.{StopsIn};
+ghost use Rattle.tx_text.specs.Wrote.{Wrote};
 ghost use Rattle.tx_plan.specs.Plan.{exchange_name};
 ghost use Rattle.tx_machine.specs.declared.reply.Reply.TheVariants.{Lost};
 ghost use Rattle.tx_tickets.specs.Texts.{circuit_text, line_text, stands_text, reply_text};
@@ -23,10 +24,7 @@ pub fn write_reply<A: Allocator, W: Sink>(
     plan: &Plan<A>,
     sink: &mut W,
 ) -> Result<(), WriteFault>
-    ensures ok { OnOk result (W.taken sink.new ≡ append_known (W.taken sink.old) (reply_text plan.now reply.now)) }
-    ensures err { OnErr result (StopsIn (W.taken sink.old) (W.taken sink.new) (reply_text plan.now reply.now)) }
-    ensures mark { OnErr result (W.failed sink.new ≡ true) }
-    ensures unmarked { OnOk result (W.failed sink.new ≡ W.failed sink.old) }
+    ensures { Wrote W.taken W.failed sink.old sink.new (reply_text plan.now reply.now) result }
 {
     let mut room = [0; ROOM];
     let mut line = LineRoom::new(&mut room);
@@ -151,10 +149,7 @@ pub fn write_circuit<A: Allocator, W: Sink>(
     plan: &Plan<A>,
     sink: &mut W,
 ) -> Result<(), WriteFault>
-    ensures ok { OnOk result (W.taken sink.new ≡ append_known (W.taken sink.old) (first.now ++ (circuit_text plan.now circuit.now ++ codes "\n"))) }
-    ensures err { OnErr result (StopsIn (W.taken sink.old) (W.taken sink.new) (first.now ++ (circuit_text plan.now circuit.now ++ codes "\n"))) }
-    ensures mark { OnErr result (W.failed sink.new ≡ true) }
-    ensures unmarked { OnOk result (W.failed sink.new ≡ W.failed sink.old) }
+    ensures { Wrote W.taken W.failed sink.old sink.new (first.now ++ (circuit_text plan.now circuit.now ++ codes "\n")) result }
 {
     let mut digits = Buffer::new();
     let number = digits.format(circuit.number).as_bytes();

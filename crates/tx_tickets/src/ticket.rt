@@ -3,6 +3,7 @@ ghost use Rattle.std.specs.Prelude.{◌≡◌, ◌≤◌, ◌++◌, [], true, On
 ghost use Rattle.std.specs.List.{flat_map};
 ghost use Rattle.std.specs.Io.KnownBytes.{append_known};
 ghost use Rattle.tx_text.specs.Ends.{StopsIn};
+ghost use Rattle.tx_text.specs.Wrote.{Wrote};
 ghost use Rattle.tx_tickets.specs.Texts.{hop_text, caller_text, events_text, why_text, ticket_text};
 
 use crate::line_room::LineRoom;
@@ -25,10 +26,7 @@ pub fn write_ticket<A: Allocator, B: Allocator, W: Sink>(
     plan: &Plan<B>,
     sink: &mut W,
 ) -> Result<(), WriteFault>
-    ensures ok { OnOk result (W.taken sink.new ≡ append_known (W.taken sink.old) (ticket_text plan.now ticket.now)) }
-    ensures err { OnErr result (StopsIn (W.taken sink.old) (W.taken sink.new) (ticket_text plan.now ticket.now)) }
-    ensures mark { OnErr result (W.failed sink.new ≡ true) }
-    ensures unmarked { OnOk result (W.failed sink.new ≡ W.failed sink.old) }
+    ensures { Wrote W.taken W.failed sink.old sink.new (ticket_text plan.now ticket.now) result }
 {
     let mut room = [0; ROOM];
     let mut line = LineRoom::new(&mut room);
@@ -98,10 +96,7 @@ fn write_path<A: Allocator, W: Sink>(
     sink: &mut W,
 ) -> Result<(), WriteFault>
     requires { length line ≤ 128 }
-    ensures ok { OnOk result (W.taken sink.new ≡ append_known (W.taken sink.old) (line.entry ++ (flat_map (hop_text plan.now) hops.now ++ codes "\n"))) }
-    ensures err { OnErr result (StopsIn (W.taken sink.old) (W.taken sink.new) (line.entry ++ (flat_map (hop_text plan.now) hops.now ++ codes "\n"))) }
-    ensures mark { OnErr result (W.failed sink.new ≡ true) }
-    ensures unmarked { OnOk result (W.failed sink.new ≡ W.failed sink.old) }
+    ensures { Wrote W.taken W.failed sink.old sink.new (line.entry ++ (flat_map (hop_text plan.now) hops.now ++ codes "\n")) result }
 {
     let mut line = line;
     for hop in hops {

@@ -21,7 +21,7 @@ pub fn write_trace<A: Allocator, W: Sink>(
     sink: &mut W,
 ) -> Result<(), WriteFault>
     requires { IsTraceOf plan.now trace.now }
-    ensures { Wrote (W.taken sink.old) (W.taken sink.new) (W.failed sink.old) (W.failed sink.new)
+    ensures { Wrote W.taken W.failed sink.old sink.new
         (trace_text plan.now trace.now.code trace.now.exchange) result }
 {
     write_head(plan, trace.code, trace.exchange, sink)?;
@@ -36,7 +36,7 @@ fn write_head<A: Allocator, W: Sink>(
     exchange: ExchangeId,
     sink: &mut W,
 ) -> Result<(), WriteFault>
-    ensures { Wrote (W.taken sink.old) (W.taken sink.new) (W.failed sink.old) (W.failed sink.new)
+    ensures { Wrote W.taken W.failed sink.old sink.new
         (head_line plan.now code exchange) result }
 {
     let figures = plan.code_figures(code);
@@ -51,7 +51,7 @@ fn write_bar<A: Allocator, W: Sink>(
     exchange: ExchangeId,
     sink: &mut W,
 ) -> Result<(), WriteFault>
-    ensures { Wrote (W.taken sink.old) (W.taken sink.new) (W.failed sink.old) (W.failed sink.new)
+    ensures { Wrote W.taken W.failed sink.old sink.new
         (bar_line plan.now code exchange) result }
 {
     if !plan.is_barred(exchange, code) {
@@ -68,7 +68,7 @@ fn write_way<A: Allocator, W: Sink>(
     way: &[(GroupId, ExchangeId)],
     sink: &mut W,
 ) -> Result<(), WriteFault>
-    ensures { Wrote (W.taken sink.old) (W.taken sink.new) (W.failed sink.old) (W.failed sink.new)
+    ensures { Wrote W.taken W.failed sink.old sink.new
         (way_line plan.now start way.now) result }
 {
     write_text(&[b"FIRST ", plan.exchange_name(start)], sink)?;
@@ -81,7 +81,7 @@ fn write_steps<A: Allocator, W: Sink>(
     way: &[(GroupId, ExchangeId)],
     sink: &mut W,
 ) -> Result<(), WriteFault>
-    ensures { Wrote (W.taken sink.old) (W.taken sink.new) (W.failed sink.old) (W.failed sink.new)
+    ensures { Wrote W.taken W.failed sink.old sink.new
         (flat_map (step_text plan.now) way.now ++ codes "\n") result }
 {
     for i in 0..way.len() {
@@ -95,7 +95,7 @@ fn write_step<A: Allocator, W: Sink>(
     step: (GroupId, ExchangeId),
     sink: &mut W,
 ) -> Result<(), WriteFault>
-    ensures { Wrote (W.taken sink.old) (W.taken sink.new) (W.failed sink.old) (W.failed sink.new)
+    ensures { Wrote W.taken W.failed sink.old sink.new
         (step_text plan.now step) result }
 {
     let group = plan.group_name(step.0);
@@ -107,7 +107,7 @@ fn write_all_met<A: Allocator, W: Sink>(
     trace: &Trace<A>,
     sink: &mut W,
 ) -> Result<(), WriteFault>
-    ensures { Wrote (W.taken sink.old) (W.taken sink.new) (W.failed sink.old) (W.failed sink.new)
+    ensures { Wrote W.taken W.failed sink.old sink.new
         (flat_map (met_lines plan.now trace.now.code (rank_told trace.now.ranks trace.now.code))
         trace.now.met.items) result }
 {
@@ -125,7 +125,7 @@ fn write_met<A: Allocator, W: Sink>(
     exchange: ExchangeId,
     sink: &mut W,
 ) -> Result<(), WriteFault>
-    ensures { Wrote (W.taken sink.old) (W.taken sink.new) (W.failed sink.old) (W.failed sink.new)
+    ensures { Wrote W.taken W.failed sink.old sink.new
         (met_lines plan.now trace.now.code (rank_told trace.now.ranks trace.now.code) exchange)
         result }
 {
@@ -141,7 +141,7 @@ fn write_home<A: Allocator, W: Sink>(
     exchange: ExchangeId,
     sink: &mut W,
 ) -> Result<(), WriteFault>
-    ensures { Wrote (W.taken sink.old) (W.taken sink.new) (W.failed sink.old) (W.failed sink.new)
+    ensures { Wrote W.taken W.failed sink.old sink.new
         (home_line plan.now exchange) result }
 {
     write_text(&[b"HOME ", plan.exchange_name(exchange), b"\n"], sink)
@@ -154,7 +154,7 @@ fn write_list<A: Allocator, W: Sink>(
     exchange: ExchangeId,
     sink: &mut W,
 ) -> Result<(), WriteFault>
-    ensures { Wrote (W.taken sink.old) (W.taken sink.new) (W.failed sink.old) (W.failed sink.new)
+    ensures { Wrote W.taken W.failed sink.old sink.new
         (list_lines plan.now trace.now.code (rank_told trace.now.ranks trace.now.code) exchange)
         result }
 {
@@ -174,7 +174,7 @@ fn write_place<A: Allocator, W: Sink>(
     group: GroupId,
     sink: &mut W,
 ) -> Result<(), WriteFault>
-    ensures { Wrote (W.taken sink.old) (W.taken sink.new) (W.failed sink.old) (W.failed sink.new)
+    ensures { Wrote W.taken W.failed sink.old sink.new
         (place_line plan.now (rank_told trace.now.ranks trace.now.code) exchange place group)
         result }
 {
@@ -192,7 +192,7 @@ fn write_place<A: Allocator, W: Sink>(
 
 /// Writes a rank, if there is one, and the end of the line.
 fn write_rank<W: Sink>(rank: Option<u16>, sink: &mut W) -> Result<(), WriteFault>
-    ensures { Wrote (W.taken sink.old) (W.taken sink.new) (W.failed sink.old) (W.failed sink.new)
+    ensures { Wrote W.taken W.failed sink.old sink.new
         (rank_text rank ++ codes "\n") result }
 {
     let Some(rank) = rank else {

@@ -20,10 +20,7 @@ pub fn write_codes<A: Allocator, W: Sink>(
     sink: &mut W,
 ) -> Result<(), WriteFault>
     requires { trie.now ≡ plan.now.codes }
-    ensures ok { OnOk result (W.taken sink.new ≡ append_known (W.taken sink.old) (codes_text plan.now)) }
-    ensures err { OnErr result (StopsIn (W.taken sink.old) (W.taken sink.new) (codes_text plan.now)) }
-    ensures mark { OnErr result (W.failed sink.new ≡ true) }
-    ensures unmarked { OnOk result (W.failed sink.new ≡ W.failed sink.old) }
+    ensures { Wrote W.taken W.failed sink.old sink.new (codes_text plan.now) result }
 {
     plan.rules();
     for place in 0..plan.codes() {
@@ -39,7 +36,7 @@ fn write_code<A: Allocator, W: Sink>(
     code: CodeId,
     sink: &mut W,
 ) -> Result<(), WriteFault>
-    ensures { Wrote (W.taken sink.old) (W.taken sink.new) (W.failed sink.old) (W.failed sink.new) (line_written (codes "CODE" ∷ figures_of plan.now code ∷ exchange_name plan.now (home_of plan.now code) ∷ [])) result }
+    ensures { Wrote W.taken W.failed sink.old sink.new (line_written (codes "CODE" ∷ figures_of plan.now code ∷ exchange_name plan.now (home_of plan.now code) ∷ [])) result }
 {
     let figures = plan.code_figures(code);
     let home = plan.exchange_name(plan.home(code));
@@ -52,7 +49,7 @@ fn write_pair<A: Allocator, W: Sink>(
     plan: &Plan<A>,
     sink: &mut W,
 ) -> Result<(), WriteFault>
-    ensures { Wrote (W.taken sink.old) (W.taken sink.new) (W.failed sink.old) (W.failed sink.new) (pair_line plan.now pair) result }
+    ensures { Wrote W.taken W.failed sink.old sink.new (pair_line plan.now pair) result }
 {
     let Some((shorter, longer)) = pair else {
         return write_text(&[b"DISTINCT\n"], sink);
