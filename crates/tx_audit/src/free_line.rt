@@ -24,9 +24,8 @@ fn first_range<A: Allocator>(plan: &Plan<A>, code: CodeId) -> Option<LineRange>
 pub(crate) fn first_line<A: Allocator>(plan: &Plan<A>, start: ExchangeId) -> Option<Line>
     ensures { result ≡ first_line plan.now start }
 {
-    plan.rules();
     for place in 0..plan.codes() {
-        let code = CodeId::at(place as u16);
+        let code = CodeId::of(place);
         if plan.home(code) != start {
             continue;
         }

@@ -35,7 +35,6 @@ impl<A: Allocator> Cert<A> {
     pub fn new(alloc: A, plan: &Plan<A>) -> Result<Cert<A>, NoMemory>
         ensures { IfOk result (λ t. t ≡ no_ranks_for plan.now) }
     {
-        plan.rules();
         Cert::of_sizes(alloc, plan.codes(), plan.exchanges())
     }
 

@@ -37,9 +37,8 @@ fn write_ranks<A: Allocator, W: Sink>(
 ) -> Result<(), WriteFault>
     ensures { Wrote W.taken W.failed sink.old sink.new (flat_map line_written (cert_lines plan.now cert.now)) result }
 {
-    plan.rules();
     for place in 0..plan.codes() {
-        write_code(cert, plan, CodeId::at(place as u16), sink)?;
+        write_code(cert, plan, CodeId::of(place), sink)?;
     }
     Ok(())
 }
@@ -53,9 +52,8 @@ fn write_code<A: Allocator, W: Sink>(
 ) -> Result<(), WriteFault>
     ensures { Wrote W.taken W.failed sink.old sink.new (flat_map line_written (code_lines plan.now cert.now code (range_with_len 0 (length plan.now.exchanges)))) result }
 {
-    plan.rules();
     for place in 0..plan.exchanges() {
-        write_rank(cert, plan, code, ExchangeId::at(place as u16), sink)?;
+        write_rank(cert, plan, code, ExchangeId::of(place), sink)?;
     }
     Ok(())
 }

@@ -32,8 +32,7 @@ impl<'a, A: Allocator> Routes for ChangeRoutes<'a, A> {
     }
 
     fn exchange(&self, place: usize) -> ExchangeId {
-        self.old.rules();
-        ExchangeId::at(place as u16)
+        ExchangeId::of(place)
     }
 
     fn home(&self) -> ExchangeId {

@@ -70,9 +70,8 @@ fn change_each<A: Allocator + Copy>(
     ensures { IfOk result (λ _. IsChangedBelow old.now new.now limit spare (length old.now.codes)
         cert.new findings.new.items) }
 {
-    old.rules();
     for place in 0..old.codes() {
-        let code = CodeId::at(place as u16);
+        let code = CodeId::of(place);
         change_code(alloc, old, new, origins, code, limit, spare, cert, findings)?;
     }
     Ok(())

@@ -64,10 +64,9 @@ pub fn joined_lists<A: Allocator + Copy>(
 ) -> Result<Vec<Groups<A>, A>, NoMemory>
     ensures { IfOk result (λ lists. AreJoined old.now new.now code lists.items) }
 {
-    old.rules();
     let mut lists = Vec::new(alloc);
     for place in 0..old.exchanges() {
-        let exchange = ExchangeId::at(place as u16);
+        let exchange = ExchangeId::of(place);
         lists.push(joined(alloc, old, new, code, exchange)?)?;
     }
     Ok(lists)

@@ -90,7 +90,6 @@ fn add_routes<A: Allocator>(
     ensures { IfOk result (λ _. routes.new
         ≡ routes.old ++ filter (keeps_route from_new taking.now) from.now.routes) }
 {
-    from.rules();
     for place in 0..from.routes() {
         add_route(from, taking, from_new, place, routes)?;
     }
@@ -166,7 +165,6 @@ fn add_bars<A: Allocator>(
     ensures { IfOk result (λ _. bars.new
         ≡ bars.old ++ filter (keeps_bar from_new taking.now) from.now.bars) }
 {
-    from.rules();
     for place in 0..from.bars() {
         add_bar(from, taking, from_new, place, bars)?;
     }
@@ -186,7 +184,6 @@ fn add_bar<A: Allocator>(
     ensures { IfOk result (λ _. bars.new ≡ bars.old
         ++ kept_alone (keeps_bar from_new taking.now) (slice_get from.now.bars place)) }
 {
-    from.rules();
     match from.bar_at(place) {
         Some((exchange, code)) => {
             if taking.has_bar(exchange, code) != from_new {

@@ -12,10 +12,9 @@ use tx_plan::{CodeId, Plan};
 pub(crate) fn ambiguous<A: Allocator>(plan: &Plan<A>) -> Option<(CodeId, CodeId)>
     ensures { result ≡ ambiguous_of plan.now.codes }
 {
-    plan.rules();
     let mut least = None;
     for place in 0..plan.codes() {
-        least = least_with(plan, CodeId::at(place as u16), least);
+        least = least_with(plan, CodeId::of(place), least);
     }
     least
 }
@@ -30,14 +29,13 @@ fn least_with<A: Allocator>(
     requires least { IsLeastBelow plan.now first least }
     ensures { IsLeastBelow plan.now (first + 1) result }
 {
-    plan.rules();
     // No code is longer than three figures.
     if plan.code_figures(first).len() >= 3 {
         return least;
     }
     let mut least = least;
     for place in 0..plan.codes() {
-        least = with_pair(plan, first, CodeId::at(place as u16), least);
+        least = with_pair(plan, first, CodeId::of(place), least);
     }
     least
 }

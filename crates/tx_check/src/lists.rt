@@ -59,10 +59,9 @@ pub(crate) fn list_faults<A: Allocator>(plan: &Plan<A>, cert: &Cert<A>, spare: u
     ensures { result ≡ firsts_of (too_short_faults plan.now (ranks_for plan.now cert.now) spare) (target_unranked_faults plan.now (ranks_for plan.now cert.now))
         (not_lower_faults plan.now (ranks_for plan.now cert.now)) }
 {
-    plan.rules();
     let mut firsts = Firsts::none();
     for place in 0..plan.codes() {
-        firsts = firsts.or(code_faults(plan, cert, spare, CodeId::at(place as u16)));
+        firsts = firsts.or(code_faults(plan, cert, spare, CodeId::of(place)));
     }
     firsts
 }
@@ -72,10 +71,9 @@ fn code_faults<A: Allocator>(plan: &Plan<A>, cert: &Cert<A>, spare: u8, code: Co
     ensures { result ≡ firsts_of (at_exchanges plan.now (too_short_at plan.now (ranks_for plan.now cert.now) spare code))
         (at_exchanges plan.now (target_unranked_at plan.now (ranks_for plan.now cert.now) code)) (at_exchanges plan.now (not_lower_at plan.now (ranks_for plan.now cert.now) code)) }
 {
-    plan.rules();
     let mut firsts = Firsts::none();
     for place in 0..plan.exchanges() {
-        firsts = firsts.or(pair_faults(plan, cert, spare, code, ExchangeId::at(place as u16)));
+        firsts = firsts.or(pair_faults(plan, cert, spare, code, ExchangeId::of(place)));
     }
     firsts
 }

@@ -40,10 +40,9 @@ impl<A: Allocator + Copy> CircuitTable<A> {
     pub fn build(alloc: A, plan: &Plan<A>) -> Result<Self, NoMemory>
         ensures { IfOk result (λ t. t ≡ all_free plan.now) }
     {
-        plan.rules();
         let mut groups = Groups::with_room(alloc, plan.groups(), total(plan))?;
         for place in 0..plan.groups() {
-            let group = GroupId::at(place as u16);
+            let group = GroupId::of(place);
             let ends = plan.ends(group);
             let head = GroupHead {
                 a: ends.0,
@@ -60,10 +59,9 @@ impl<A: Allocator + Copy> CircuitTable<A> {
 
 // How many circuits a plan has.
 fn total<A: Allocator>(plan: &Plan<A>) -> usize {
-    plan.rules();
     let mut circuits = 0;
     for place in 0..plan.groups() {
-        circuits += plan.group_count(GroupId::at(place as u16)) as usize;
+        circuits += plan.group_count(GroupId::of(place)) as usize;
     }
     circuits
 }

@@ -84,9 +84,8 @@ fn write_exchanges<A: Allocator, W: Sink>(
 ) -> Result<(), WriteFault>
     ensures { Wrote W.taken W.failed sink.old sink.new (each_before (length plan.now.exchanges) (exchange_line plan.now code reached.now shown.now)) result }
 {
-    plan.rules();
     for place in 0..plan.exchanges() {
-        let exchange = ExchangeId::at(place as u16);
+        let exchange = ExchangeId::of(place);
         write_exchange(plan, code, reached, shown, exchange, sink)?;
     }
     Ok(())
@@ -126,9 +125,8 @@ fn write_lists<A: Allocator, W: Sink>(
 ) -> Result<(), WriteFault>
     ensures { Wrote W.taken W.failed sink.old sink.new (each_before (length plan.now.exchanges) (list_lines plan.now code reached.now shown.now)) result }
 {
-    plan.rules();
     for place in 0..plan.exchanges() {
-        let exchange = ExchangeId::at(place as u16);
+        let exchange = ExchangeId::of(place);
         let list = plan.list(exchange, code);
         write_list(plan, reached, shown, exchange, list, sink)?;
     }

@@ -33,9 +33,8 @@ fn write_whole<A: Allocator, W: Sink>(plan: &Plan<A>, sink: &mut W) -> Result<()
 fn write_exchanges<A: Allocator, W: Sink>(plan: &Plan<A>, sink: &mut W) -> Result<(), WriteFault>
     ensures { Wrote W.taken W.failed sink.old sink.new (each_before (length plan.now.exchanges) (exchange_line plan.now)) result }
 {
-    plan.rules();
     for place in 0..plan.exchanges() {
-        write_exchange(plan, ExchangeId::at(place as u16), sink)?;
+        write_exchange(plan, ExchangeId::of(place), sink)?;
     }
     Ok(())
 }
@@ -54,9 +53,8 @@ fn write_exchange<A: Allocator, W: Sink>(
 fn write_groups<A: Allocator, W: Sink>(plan: &Plan<A>, sink: &mut W) -> Result<(), WriteFault>
     ensures { Wrote W.taken W.failed sink.old sink.new (each_before (length plan.now.groups) (group_line plan.now)) result }
 {
-    plan.rules();
     for place in 0..plan.groups() {
-        write_group(plan, GroupId::at(place as u16), sink)?;
+        write_group(plan, GroupId::of(place), sink)?;
     }
     Ok(())
 }

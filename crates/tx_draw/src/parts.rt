@@ -42,9 +42,8 @@ fn write_home_rows<A: Allocator, W: Sink>(
 ) -> Result<(), WriteFault>
     ensures { Wrote W.taken W.failed sink.old sink.new (each_before (length plan.now.codes) (home_row plan.now exchange)) result }
 {
-    plan.rules();
     for place in 0..plan.codes() {
-        write_home_row(plan, exchange, CodeId::at(place as u16), sink)?;
+        write_home_row(plan, exchange, CodeId::of(place), sink)?;
     }
     Ok(())
 }

@@ -35,7 +35,6 @@ impl<A: Allocator + Copy> Ranges<A> {
     pub fn build(alloc: A, plan: &Plan<A>) -> Result<Self, NoMemory>
         ensures { IfOk result (λ r. IsPermutation plan.now.ranges r) }
     {
-        plan.rules();
         let mut ranges = Vec::with_capacity(alloc, plan.ranges())?;
         for place in 0..plan.ranges() {
             ranges.push_reserved(plan.range_at(place).unwrap());

@@ -23,7 +23,6 @@ impl Entry {
     pub(crate) fn next<A: Allocator>(plan: &Plan<A>, word: &[u8]) -> Option<Entry>
         ensures { result ≡ entry_of plan.now word.now }
     {
-        plan.rules();
         if word == b"EXCHANGE".as_slice() {
             Some(Entry::Exchange(ExchangeId::of(plan.exchanges())))
         } else if word == b"CODE".as_slice() {

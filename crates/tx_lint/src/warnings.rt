@@ -112,7 +112,6 @@ fn add_missing_lists<A: Allocator>(
         (flat_map (λ c. warned_if (wants_list plan.now exchange c) (NoList c))
         (range_with_len 0 (length plan.now.codes)))) }
 {
-    plan.rules();
     let origin = plan.is_origin(exchange);
     for place in 0..plan.codes() {
         let code = CodeId::of(place);

@@ -101,7 +101,6 @@ pub fn all_code_ranks<A: Allocator + Copy>(
     ensures { IfOk result (λ table. table.items
         ≡ map (code_ranks plan.now limit spare) (places (length plan.now.codes))) }
 {
-    plan.rules();
     let mut table = Vec::new(alloc);
     for place in 0..plan.codes() {
         let code = CodeId::of(place);

@@ -37,7 +37,6 @@ fn add_present<A: Allocator>(basis: &Basis<'_, A>, routes: &mut Routes<A>) -> Re
         (present_pairs basis.now.plan.now)) }
 {
     let plan = basis.plan;
-    plan.rules();
     for place in 0..plan.routes() {
         match plan.route_at(place) {
             Some(pair) => {
@@ -63,7 +62,6 @@ fn add_absent<A: Allocator>(
         ≡ routes_below basis.now.plan.now basis.now.limit basis.now.spare (code + 1)) }
 {
     let plan = basis.plan;
-    plan.rules();
     for place in 0..plan.exchanges() {
         let exchange = ExchangeId::of(place);
         if plan.list(exchange, code).is_empty() {
@@ -83,7 +81,6 @@ pub fn full_routes<A: Allocator + Copy>(
         ≡ full_routes basis.now.plan.now basis.now.limit basis.now.spare) }
 {
     let plan = basis.plan;
-    plan.rules();
     let mut routes = Routes::new(alloc);
     add_present(basis, &mut routes)?;
     for place in 0..plan.codes() {

@@ -19,7 +19,6 @@ fn is_start<A: Allocator>(plan: &Plan<A>, origins: &[bool], code: CodeId, place:
     requires place { place < length plan.now.exchanges }
     ensures { result ≡ is_origin_for plan.now place code }
 {
-    plan.rules();
     origins[place] && !plan.is_barred(ExchangeId::of(place), code)
 }
 
@@ -77,7 +76,6 @@ pub fn add_unranked<A: Allocator>(
         (filter (λ x. is_origin_for plan.now x code && is_none (of x))
         (places (length plan.now.exchanges)))) }
 {
-    plan.rules();
     for place in 0..plan.exchanges() {
         if is_unranked(plan, origins, code, ranks, place) {
             unserved.push((code, ExchangeId::of(place)))?;
@@ -97,7 +95,6 @@ pub fn unserved_of<A: Allocator + Copy>(
         ≡ unserved basis.now.plan.now basis.now.limit basis.now.spare) }
 {
     let plan = basis.plan;
-    plan.rules();
     let mut pairs = Vec::new(alloc);
     for place in 0..plan.codes() {
         match least_at(basis.table, place) {

@@ -46,7 +46,6 @@ fn write_changes<A: Allocator, W: Sink>(
     ensures { Wrote W.taken W.failed sink.old sink.new
         (changes before.now plan.now) result }
 {
-    plan.rules();
     for place in 0..plan.codes() {
         write_code_changes(before, plan, CodeId::of(place), sink)?;
     }
@@ -63,7 +62,6 @@ fn write_code_changes<A: Allocator, W: Sink>(
     ensures { Wrote W.taken W.failed sink.old sink.new
         (code_changes before.now plan.now code) result }
 {
-    plan.rules();
     for place in 0..plan.exchanges() {
         write_change(before, plan, code, ExchangeId::of(place), sink)?;
     }

@@ -61,7 +61,6 @@ impl<'p, A: Allocator + Copy> Plain<'p, A> {
     ) -> Result<Self, NoMemory>
         ensures { IfOk result (λ n. n ≡ record { plan = plan.now; state = opening numbers events }) }
     {
-        plan.rules();
         let groups = plan.groups();
         let marks = Marks::new(alloc, groups)?;
         Ok(Plain {

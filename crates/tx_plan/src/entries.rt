@@ -235,7 +235,6 @@ fn pair_of<A: Allocator>(plan: &Plan<A>, exchange: &[u8], code: &[u8]) -> Option
     ensures name { is_some result ≡ true → is_name exchange.now ≡ true }
     ensures figures { is_some result ≡ true → is_code code.now ≡ true }
 {
-    plan.rules();
     let exchange = exchange_of(plan, exchange);
     let code = code_of(plan, code);
     match exchange {

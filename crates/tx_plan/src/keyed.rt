@@ -48,13 +48,12 @@ fn begins(text: &[u8], keyed: &[u8]) -> bool
 pub fn code_of<A: Allocator>(plan: &Plan<A>, keyed: &[u8]) -> Option<CodeId>
     ensures { result ≡ code_of plan.now keyed.now }
 {
-    plan.rules();
     let mut best: Option<CodeId> = None;
     let mut width = 0;
     let mut place = plan.codes();
     while place > 0 {
         place -= 1;
-        let code = CodeId::at(place as u16);
+        let code = CodeId::of(place);
         let text = plan.code_figures(code);
         let first = best.is_none();
         if is_longer(text, keyed, first, width) {

@@ -13,7 +13,6 @@ impl<A: Allocator> Plan<A> {
     pub fn exchange_named(&self, name: &[u8]) -> Option<ExchangeId>
         ensures { result ≡ exchange_named self.now name.now }
     {
-        self.rules();
         if name.len() > 8 {
             return None;
         }
@@ -28,7 +27,6 @@ impl<A: Allocator> Plan<A> {
     pub fn code_named(&self, figures: &[u8]) -> Option<CodeId>
         ensures { result ≡ code_named self.now figures.now }
     {
-        self.rules();
         if figures.len() > 3 {
             return None;
         }
@@ -43,7 +41,6 @@ impl<A: Allocator> Plan<A> {
     pub fn group_named(&self, name: &[u8]) -> Option<GroupId>
         ensures { result ≡ group_named self.now name.now }
     {
-        self.rules();
         if name.len() > 8 {
             return None;
         }

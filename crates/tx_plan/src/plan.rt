@@ -53,7 +53,9 @@ impl<A: Allocator> Plan<A> {
     /// How many exchanges.
     #[inline(always)]
     pub fn exchanges(&self) -> usize
-        ensures { result ≡ length self.now.exchanges }
+        ensures count { result ≡ length self.now.exchanges }
+        ensures few { result ≤ 256 }
+        ensures rules { IsPlan self.now }
     {
         self.exchanges.len()
     }
@@ -61,7 +63,9 @@ impl<A: Allocator> Plan<A> {
     /// How many codes.
     #[inline(always)]
     pub fn codes(&self) -> usize
-        ensures { result ≡ length self.now.codes }
+        ensures count { result ≡ length self.now.codes }
+        ensures few { result ≤ 1100 }
+        ensures rules { IsPlan self.now }
     {
         self.codes.len()
     }
@@ -69,7 +73,9 @@ impl<A: Allocator> Plan<A> {
     /// How many ranges.
     #[inline(always)]
     pub fn ranges(&self) -> usize
-        ensures { result ≡ length self.now.ranges }
+        ensures count { result ≡ length self.now.ranges }
+        ensures few { result ≤ 4096 }
+        ensures rules { IsPlan self.now }
     {
         self.ranges.len()
     }
@@ -77,7 +83,9 @@ impl<A: Allocator> Plan<A> {
     /// How many groups.
     #[inline(always)]
     pub fn groups(&self) -> usize
-        ensures { result ≡ length self.now.groups }
+        ensures count { result ≡ length self.now.groups }
+        ensures few { result ≤ 4096 }
+        ensures rules { IsPlan self.now }
     {
         self.groups.len()
     }
@@ -85,7 +93,8 @@ impl<A: Allocator> Plan<A> {
     /// How many routes.
     #[inline(always)]
     pub fn routes(&self) -> usize
-        ensures { result ≡ length self.now.routes }
+        ensures count { result ≡ length self.now.routes }
+        ensures rules { IsPlan self.now }
     {
         self.routes.len()
     }
@@ -93,7 +102,8 @@ impl<A: Allocator> Plan<A> {
     /// How many bars.
     #[inline(always)]
     pub fn bars(&self) -> usize
-        ensures { result ≡ length self.now.bars }
+        ensures count { result ≡ length self.now.bars }
+        ensures rules { IsPlan self.now }
     {
         self.bars.len()
     }

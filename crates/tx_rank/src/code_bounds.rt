@@ -44,7 +44,7 @@ pub fn code_bounds<A: Allocator>(plan: &Plan<A>, cert: &Cert<A>, code: CodeId) -
     cert.rules();
     let mut bounds = Bounds::widest();
     for place in 0..plan.exchanges() {
-        let exchange = ExchangeId::at(place as u16);
+        let exchange = ExchangeId::of(place);
         bounds = bounds.both(exchange_bounds(plan, cert, code, exchange));
     }
     bounds

@@ -13,10 +13,9 @@ use tx_text::NoMemory;
 pub fn origins_of<A: Allocator + Copy>(alloc: A, plan: &Plan<A>) -> Result<Vec<bool, A>, NoMemory>
     ensures { IfOk result (λ origins. AreOrigins plan.now origins.items) }
 {
-    plan.rules();
     let mut origins = Vec::with_capacity(alloc, plan.exchanges())?;
     for place in 0..plan.exchanges() {
-        origins.push_reserved(plan.is_origin(ExchangeId::at(place as u16)));
+        origins.push_reserved(plan.is_origin(ExchangeId::of(place)));
     }
     Ok(origins)
 }
@@ -39,8 +38,7 @@ impl<'a, A: Allocator> Routes for CodeRoutes<'a, A> {
     }
 
     fn exchange(&self, place: usize) -> ExchangeId {
-        self.plan.rules();
-        ExchangeId::at(place as u16)
+        ExchangeId::of(place)
     }
 
     fn home(&self) -> ExchangeId {

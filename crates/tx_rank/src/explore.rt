@@ -39,7 +39,6 @@ pub fn unseen<'a, A: Allocator + Copy, N: Routes>(
     ensures marked { IfOk result (λ s. IsMarked (N.net net.now) s.marks.items) }
     ensures none { IfOk result (λ s. NoneOpen s.marks.items) }
 {
-    net.rules();
     let home = net.home();
     let mut marks = vec![in alloc; Mark::Unseen; net.exchanges()]?;
     marks[home.index()] = Mark::Ranked(0);
@@ -242,7 +241,6 @@ pub fn pass<'a, A: Allocator, N: Routes>(
     ensures closed { IfOk result (λ closed. closed ≡ true → IsLoop (N.net net.now) search.new.start search.new.steps.items) }
     ensures done { IfOk result (λ closed. closed ≡ false → IsPassed (N.net net.now) search.new.marks.items) }
 {
-    net.rules();
     for place in 0..net.exchanges() {
         if start_from(net, search, place)? {
             return Ok(true);

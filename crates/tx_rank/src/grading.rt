@@ -73,7 +73,6 @@ pub fn grade<A: Allocator + Copy>(alloc: A, plan: &Plan<A>) -> Result<Grade<A>, 
         → AllByRecursion (IsTrueOf plan.now limit spare) g.findings.items) }
     ensures listed { IfOk result (λ g. AreUnmended plan.now g.findings.items) }
 {
-    plan.rules();
     let origins = origins_of(alloc, plan)?;
     let mut cert = Cert::new(alloc, plan)?;
     let mut findings = pair_found(alloc, plan)?;
@@ -84,7 +83,7 @@ pub fn grade<A: Allocator + Copy>(alloc: A, plan: &Plan<A>) -> Result<Grade<A>, 
         None
     };
     for place in 0..plan.codes() {
-        let code = CodeId::at(place as u16);
+        let code = CodeId::of(place);
         let alone = code_grade(alloc, plan, &origins, code, &mut cert, &mut findings)?;
         together = both(together, alone);
         codes.push_reserved((code, alone));

@@ -114,7 +114,6 @@ pub fn long_walk<A: Allocator + Copy, N: Routes>(
     requires { IsPassed (N.net net.now) marks.now }
     ensures { IfOk result (IsLongFound (N.net net.now) (rank_in marks.now) limit) }
 {
-    net.rules();
     for place in 0..net.exchanges() {
         let found = long_from(alloc, net, marks, place, limit)?;
         if found.is_some() {

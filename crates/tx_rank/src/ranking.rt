@@ -79,9 +79,8 @@ fn rank_each<A: Allocator + Copy>(
     requires pair { findings.old.items ≡ pair_findings (ambiguous_of plan.now.codes) }
     ensures { IfOk result (λ _. IsRankedBelow plan.now limit spare (length plan.now.codes) cert.new findings.new.items) }
 {
-    plan.rules();
     for place in 0..plan.codes() {
-        let code = CodeId::at(place as u16);
+        let code = CodeId::of(place);
         let net = CodeRoutes {
             plan,
             origins,

@@ -22,7 +22,6 @@ pub fn reached<A: Allocator + Copy>(
     requires { code < length plan.now.codes }
     ensures { IfOk result (λ marks. AreReached (net_of plan.now code) marks.items) }
 {
-    plan.rules();
     let mut seen = origins(alloc, plan, code)?;
     let mut opened = vec![in alloc; false; plan.exchanges()]?;
     while let Some(exchange) = next(&seen, &opened) {
@@ -41,10 +40,9 @@ fn origins<A: Allocator + Copy>(
     requires { code < length plan.now.codes }
     ensures { IfOk result (λ marks. AreSeen (net_of plan.now code) marks.items) }
 {
-    plan.rules();
     let mut marks = Vec::with_capacity(alloc, plan.exchanges())?;
     for place in 0..plan.exchanges() {
-        marks.push_reserved(plan.is_origin_for(ExchangeId::at(place as u16), code));
+        marks.push_reserved(plan.is_origin_for(ExchangeId::of(place), code));
     }
     Ok(marks)
 }
@@ -64,7 +62,7 @@ fn next(seen: &[bool], opened: &[bool]) -> Option<ExchangeId>
     ensures none { IfNone result ((x : ℕ) → is_marked seen.now x ≡ true → is_marked opened.now x ≡ true) }
 {
     for place in 0..seen.len() {
-        let exchange = ExchangeId::at(place as u16);
+        let exchange = ExchangeId::of(place);
         if is_waiting(seen, opened, exchange) {
             return Some(exchange);
         }
@@ -100,7 +98,6 @@ fn open<A: Allocator>(plan: &Plan<A>, code: CodeId, exchange: ExchangeId, seen: 
     ensures stays { StaysSeen seen.old seen.new }
     ensures leads { LeadsToSeen (net_of plan.now code) seen.new exchange }
 {
-    plan.rules();
     if exchange == plan.home(code) {
         return;
     }

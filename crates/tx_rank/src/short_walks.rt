@@ -113,7 +113,6 @@ pub fn add_shorts<A: Allocator + Copy, N: Routes>(
     requires { IsPassed (N.net net.now) marks.now }
     ensures { IfOk result (λ _. AddsShorts (N.net net.now) code spare findings.old.items findings.new.items) }
 {
-    net.rules();
     if !has_short(net, marks, spare) {
         return Ok(());
     }

@@ -51,7 +51,6 @@ fn add_cut<A: Allocator + Copy>(
         → Adds (AreCutsBefore left.now.plan.now (marked left.now.gone.now) outage.now left.now.code
         (place + 1)) first cuts.new.items) }
 {
-    left.plan.rules();
     let exchange = ExchangeId::of(place);
     if !is_asked(left, origins, outage, exchange) {
         return Ok(());
@@ -100,7 +99,6 @@ pub fn add_cuts<A: Allocator + Copy>(
 {
     let dead_ends = distances_to(alloc, left, Goal::DeadEnd)?;
     let homes = distances_to(alloc, left, Goal::Home)?;
-    left.plan.rules();
     for place in 0..left.plan.exchanges() {
         add_cut(
             alloc, left, origins, outage, &dead_ends, &homes, place, cuts,

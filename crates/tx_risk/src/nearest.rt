@@ -44,7 +44,6 @@ fn measure_at<A: Allocator>(
     ensures none { result ≡ false → NoneAt distances.new distance }
 {
     let mut some = false;
-    left.plan.rules();
     for place in 0..left.plan.exchanges() {
         let exchange = ExchangeId::of(place);
         if distance_at(distances, exchange).is_some() {
@@ -84,7 +83,6 @@ pub fn distances_to<A: Allocator + Copy>(
     ensures { IfOk result (λ d. AreNearest
         (left_net left.now.plan.now left.now.gone.now left.now.code) goal d.items) }
 {
-    left.plan.rules();
     let mut distances = vec![in alloc; None; left.plan.exchanges()]?;
     measure(left, goal, &mut distances);
     Ok(distances)

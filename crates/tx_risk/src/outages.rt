@@ -58,7 +58,6 @@ fn marks_of<A: Allocator + Copy>(
     ensures { IfOk result (λ marks. (g : ℕ)
         → marked marks.items g ≡ risk_of plan.now risks.now outage.now g) }
 {
-    plan.rules();
     let mut marks = Vec::with_capacity(alloc, plan.groups())?;
     for place in 0..plan.groups() {
         marks.push_reserved(goes_with(plan, risks, outage, GroupId::of(place)));
@@ -111,7 +110,6 @@ fn add_outage<A: Allocator + Copy>(
 {
     let gone = marks_of(alloc, plan, risks, outage)?;
     let ends = ends_of(alloc, plan, &gone)?;
-    plan.rules();
     for place in 0..plan.codes() {
         let code = CodeId::of(place);
         add_code(alloc, plan, &gone, &ends, origins, outage, code, cuts)?;
@@ -123,7 +121,6 @@ fn add_outage<A: Allocator + Copy>(
 fn outage_at<A: Allocator>(plan: &Plan<A>, place: usize) -> Outage
     ensures { result ≡ outage_at plan.now place }
 {
-    plan.rules();
     let exchanges = plan.groups() + plan.exchanges();
     if place < plan.groups() {
         Outage::Group(GroupId::of(place))
@@ -146,7 +143,6 @@ pub fn all_cuts<A: Allocator + Copy>(
 {
     let origins = origins_of(alloc, plan)?;
     let mut cuts = Vec::new(alloc);
-    plan.rules();
     let count = plan.groups() + plan.exchanges() + risks.len();
     for place in 0..count {
         let outage = outage_at(plan, place);

@@ -39,7 +39,6 @@ fn write_tried<A: Allocator, W: Sink>(
     ensures { Wrote W.taken W.failed sink.old sink.new
         (tried_text plan.now risks.now cuts.now) result }
 {
-    plan.rules();
     write_head(plan.groups() + plan.exchanges() + risks.len(), sink)?;
     write_cuts(plan, risks, cuts, sink)?;
     write_verdict(cuts.len(), sink)

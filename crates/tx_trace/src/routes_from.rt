@@ -25,8 +25,7 @@ impl<'a, A: Allocator> Routes for RoutesFrom<'a, A> {
     }
 
     fn exchange(&self, place: usize) -> ExchangeId {
-        self.plan.rules();
-        ExchangeId::at(place as u16)
+        ExchangeId::of(place)
     }
 
     fn home(&self) -> ExchangeId {

@@ -22,9 +22,8 @@ pub fn write_codes<A: Allocator, W: Sink>(
     requires { trie.now ≡ plan.now.codes }
     ensures { Wrote W.taken W.failed sink.old sink.new (codes_text plan.now) result }
 {
-    plan.rules();
     for place in 0..plan.codes() {
-        write_code(plan, CodeId::at(place as u16), sink)?;
+        write_code(plan, CodeId::of(place), sink)?;
     }
     write_pair(trie.ambiguous(), plan, sink)?;
     Ok(())

@@ -39,10 +39,9 @@ impl<A: Allocator + Copy> CodeTrie<A> {
     pub fn build(alloc: A, plan: &Plan<A>) -> Result<Self, NoMemory>
         ensures { IfOk result (λ t. t ≡ plan.now.codes) }
     {
-        plan.rules();
         let mut trie = CodeTrie::new(alloc)?;
         for place in 0..plan.codes() {
-            let code = CodeId::at(place as u16);
+            let code = CodeId::of(place);
             let figures = Figures::read(plan.code_figures(code)).unwrap();
             trie.insert(figures, plan.home(code))?;
         }
@@ -110,7 +109,7 @@ impl<A: Allocator> CodeTrie<A> {
         let Some(shorter) = look(&self.nodes, front) else {
             return least;
         };
-        let pair = (shorter, CodeId::at(place as u16));
+        let pair = (shorter, CodeId::of(place));
         let Some(found) = least else {
             return Some(pair);
         };

@@ -12,7 +12,7 @@ returns-then-eq g c =
 pub unreachable-requires : goal.unreachable-requires
 unreachable-requires g c =
     let t = c.loop-place-test.true in
-    let n = c.ranges-place-end.ensures in
+    let n = c.ranges-place-end.ensures.count in
     let e = entry_at c.args.plan.now.ranges c.loop-place.place (omega arith) in
     let at = e.1 in
     let none = sym c.in-None.is ∙ c.range_at.ensures in

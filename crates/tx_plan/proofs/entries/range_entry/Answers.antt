@@ -24,13 +24,13 @@ pub returns-then-ranges-ge4096-clause-err : goal.returns-then-ranges-ge4096-clau
 returns-then-ranges-ge4096-clause-err g c =
     let low = read_right (is_national c.args.low.now) c.args.low.now c.in-Some.least c.in-Some.ensures in
     let high = read_right (is_national c.args.high.now) c.args.high.now c.in-Some-read.greatest c.in-Some-read.ensures in
-    passed_on _ (ap not (sym c.if-not-are_figures.ensures.gives)) ∙ passed_on _ (λ i. not (low i) || not (high i)) ∙ passed_on _ (ap not (sym c.in-Some-code_of.ensures.found)) ∙ passed_on _ (ap not (sym c.if-not-is_ordered.ensures)) ∙ passed_on _ (ap (λ o. overlaps c.args.plan.now o c.args.low.now c.args.high.now) (sym c.in-Some-code_of.ensures.place) ∙ sym c.if-overlaps.ensures) ∙ taken _ (le-leb 4096 (length c.args.plan.now.ranges) (let e = c.ranges-2.ensures in let t = c.if-ranges-ge4096.true in omega arith))
+    passed_on _ (ap not (sym c.if-not-are_figures.ensures.gives)) ∙ passed_on _ (λ i. not (low i) || not (high i)) ∙ passed_on _ (ap not (sym c.in-Some-code_of.ensures.found)) ∙ passed_on _ (ap not (sym c.if-not-is_ordered.ensures)) ∙ passed_on _ (ap (λ o. overlaps c.args.plan.now o c.args.low.now c.args.high.now) (sym c.in-Some-code_of.ensures.place) ∙ sym c.if-overlaps.ensures) ∙ taken _ (le-leb 4096 (length c.args.plan.now.ranges) (let e = c.ranges-2.ensures.count in let t = c.if-ranges-ge4096.true in omega arith))
 
 pub returns-clause-ok : goal.returns-clause-ok
 returns-clause-ok g c =
     let low = read_right (is_national c.args.low.now) c.args.low.now c.in-Some.least c.in-Some.ensures in
     let high = read_right (is_national c.args.high.now) c.args.high.now c.in-Some-read.greatest c.in-Some-read.ensures in
-    passed_on _ (ap not (sym c.if-not-are_figures.ensures.gives)) ∙ passed_on _ (λ i. not (low i) || not (high i)) ∙ passed_on _ (ap not (sym c.in-Some-code_of.ensures.found)) ∙ passed_on _ (ap not (sym c.if-not-is_ordered.ensures)) ∙ passed_on _ (ap (λ o. overlaps c.args.plan.now o c.args.low.now c.args.high.now) (sym c.in-Some-code_of.ensures.place) ∙ sym c.if-overlaps.ensures) ∙ passed_on _ (lt-leb 4096 (length c.args.plan.now.ranges) (let e = c.ranges-2.ensures in let t = c.if-ranges-ge4096.false in omega arith))
+    passed_on _ (ap not (sym c.if-not-are_figures.ensures.gives)) ∙ passed_on _ (λ i. not (low i) || not (high i)) ∙ passed_on _ (ap not (sym c.in-Some-code_of.ensures.found)) ∙ passed_on _ (ap not (sym c.if-not-is_ordered.ensures)) ∙ passed_on _ (ap (λ o. overlaps c.args.plan.now o c.args.low.now c.args.high.now) (sym c.in-Some-code_of.ensures.place) ∙ sym c.if-overlaps.ensures) ∙ passed_on _ (lt-leb 4096 (length c.args.plan.now.ranges) (let e = c.ranges-2.ensures.count in let t = c.if-ranges-ge4096.false in omega arith))
 
 pub returns-clause-entry : goal.returns-clause-entry
 returns-clause-entry g c =
