@@ -16,7 +16,6 @@ use tx_machine::{Hop, Reply, far_of};
 
 impl<'p, A: Allocator + Copy> Parts<'p, A> {
     /// A call is confirmed.
-    #[inline(always)]
     pub(crate) fn confirm(&mut self, number: u32) -> Reply
         requires { IsSound self.old }
         ensures sound { IsSound self.new }

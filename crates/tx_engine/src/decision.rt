@@ -48,7 +48,6 @@ fn choice<A: Allocator>(
 }
 
 /// What is keyed after the code that it begins with.
-#[inline(always)]
 fn behind<'k, A: Allocator>(plan: &Plan<A>, code: CodeId, keyed: &'k [u8]) -> &'k [u8]
     requires { Some code ≡ code_of plan.now keyed.now }
     ensures { result.now ≡ unwrap_or (after (figures_of plan.now code) keyed.now) [] }

@@ -17,7 +17,6 @@ use tx_machine::{Cause, Hop, OpenCall, Party, Path, Phase, Reply, Ticket, far_of
 
 impl<'p, A: Allocator + Copy> Parts<'p, A> {
     /// A call is cleared.
-    #[inline(always)]
     pub(crate) fn clear(&mut self, number: u32, party: Party) -> Reply
         requires { IsSound self.old }
         ensures sound { IsSound self.new }

@@ -69,7 +69,6 @@ impl<'p, A: Allocator + Copy> Engine<'p, A> {
     }
 
     /// A line calls. Where there is room for its call, its refusals are told on the way.
-    #[inline(always)]
     fn key(&mut self, line: Line, keyed: Figures) -> Result<Reply, NoMemory>
         ensures plan { self.new.plan ≡ self.old.plan }
         ensures step { IfOk result (λ reply. step self.old.plan self.old.state (Key line keyed) ≡ (reply, self.new.state)) }
@@ -83,7 +82,6 @@ impl<'p, A: Allocator + Copy> Engine<'p, A> {
     }
 
     /// One event that `apply` has no look-up for: refused by `refusal_of`, or carried out.
-    #[inline(never)]
     fn apply_other(&mut self, event: &Event) -> Result<Reply, NoMemory>
         requires other { is_other event.now ≡ true }
         ensures plan { self.new.plan ≡ self.old.plan }
@@ -109,7 +107,6 @@ impl<'p, A: Allocator + Copy> Network for Engine<'p, A> {
 
     ghost state = { λ n. n.state };
 
-    #[inline(always)]
     fn apply(&mut self, event: Event) -> Result<Reply, NoMemory> {
         match event {
             Event::Key { line, keyed } => self.key(line, keyed),

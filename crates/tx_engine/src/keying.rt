@@ -15,7 +15,6 @@ use tx_text::{Figures, NoMemory};
 
 impl<'p, A: Allocator + Copy> Parts<'p, A> {
     /// A line that may call does so. Room for its call and for its ticket is made where there is none.
-    #[inline(never)]
     pub(crate) fn key_making_room(&mut self, line: Line, keyed: Figures) -> Result<Reply, NoMemory>
         requires sound { IsSound self.old }
         requires open { refusal self.old.plan.now (state_of self.old) (Key line keyed) ≡ None }
@@ -29,7 +28,6 @@ impl<'p, A: Allocator + Copy> Parts<'p, A> {
     }
 
     /// A line calls, unless that is refused, where there is room for its call.
-    #[inline(always)]
     pub(crate) fn key_in_room(&mut self, line: Line, keyed: Figures) -> Result<Reply, NoMemory>
         requires sound { IsSound self.old }
         requires numbers { self.old.numbers < 2 ^ 32 - 1 }
@@ -71,7 +69,6 @@ impl<'p, A: Allocator + Copy> Parts<'p, A> {
     }
 
     /// Whether a call can be opened at once: neither numbers nor events are spent, and there is room for it and for its ticket.
-    #[inline(always)]
     pub(crate) fn is_ready(&self) -> bool
         ensures { IsTrue result ↔ IsReady self.now }
     {

@@ -20,7 +20,6 @@ use tx_text::NoMemory;
 
 impl<'p, A: Allocator + Copy> Parts<'p, A> {
     /// A call is routed from where it stands.
-    #[inline(always)]
     pub(crate) fn route(&mut self, number: u32) -> Result<Reply, NoMemory>
         requires { IsSound self.old }
         ensures sound { IsSound self.new }
@@ -115,7 +114,6 @@ impl<'p, A: Allocator + Copy> Parts<'p, A> {
 }
 
 /// The service code that a line of the plan answers where it is not free.
-#[inline(always)]
 fn service_of(status: Status) -> Option<Service>
     ensures { result ≡ service_of status.faulty status.away status.engaged }
 {

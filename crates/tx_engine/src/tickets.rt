@@ -8,7 +8,6 @@ use tx_machine::Ticket;
 use tx_text::NoMemory;
 
 /// Whether there is room for the tickets of so many open calls and of one more.
-#[inline(always)]
 pub(crate) fn has_ticket_room<A: Allocator>(tickets: &VecDeque<Ticket<A>, A>, calls: usize) -> bool
     ensures { IsTrue result ↔ (deque_len tickets.now + (calls + 1) ≤ deque_capacity tickets.now) }
 {

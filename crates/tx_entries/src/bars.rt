@@ -37,7 +37,6 @@ impl<A: Allocator + Copy> Bars<A> {
 
 impl<A: Allocator> Bars<A> {
     /// How many bars.
-    #[inline(always)]
     pub fn len(&self) -> usize
         ensures { result ≡ length self.now }
     {
@@ -45,7 +44,6 @@ impl<A: Allocator> Bars<A> {
     }
 
     /// Whether the pair is barred.
-    #[inline(always)]
     pub fn has(&self, pair: &Pair) -> bool
         ensures { result ≡ list_any (λ b. (b.exchange == pair.now.exchange) && (b.code == pair.now.code)) self.now }
     {
@@ -53,7 +51,6 @@ impl<A: Allocator> Bars<A> {
     }
 
     /// The pair at a place.
-    #[inline(always)]
     pub fn at(&self, place: usize) -> Option<Pair>
         ensures { result ≡ slice_get self.now place }
     {
@@ -61,7 +58,6 @@ impl<A: Allocator> Bars<A> {
     }
 
     /// Appends a bar.
-    #[inline(always)]
     pub fn add(&mut self, pair: Pair) -> Result<(), NoMemory>
         requires { list_any (λ b. (b.exchange == pair.exchange) && (b.code == pair.code)) self.old
             ≡ false }

@@ -40,7 +40,6 @@ impl<A: Allocator + Copy> Codes<A> {
 
 impl<A: Allocator> Codes<A> {
     /// How many codes.
-    #[inline(always)]
     pub fn len(&self) -> usize
         ensures { result ≡ length self.now }
     {
@@ -48,7 +47,6 @@ impl<A: Allocator> Codes<A> {
     }
 
     /// The place of a code's figures.
-    #[inline(always)]
     pub fn find(&self, figures: &[u8]) -> Option<usize>
         requires { length figures.now ≤ 3 }
         ensures place { result ≡ position (λ c. bytes_eq figures.now c.figures) self.now }
@@ -59,7 +57,6 @@ impl<A: Allocator> Codes<A> {
     }
 
     /// The figures of the code at a place.
-    #[inline(always)]
     pub fn figures(&self, place: usize) -> Option<&NameKey>
         ensures { option_copied result ≡ option_map (λ c. c.figures) (slice_get self.now place) }
     {
@@ -67,7 +64,6 @@ impl<A: Allocator> Codes<A> {
     }
 
     /// The home of the code at a place.
-    #[inline(always)]
     pub fn home(&self, place: usize) -> ExchangeId
         ensures { result ≡ option_map_or (λ c. c.home) (slice_get self.now place) 0 }
     {
@@ -78,7 +74,6 @@ impl<A: Allocator> Codes<A> {
     }
 
     /// Appends a code.
-    #[inline(always)]
     pub fn add(&mut self, figures: NameKey, home: ExchangeId) -> Result<(), NoMemory>
         requires { list_any (λ c. bytes_eq figures c.figures) self.old ≡ false }
         ensures ok { OnOk result (self.new ≡ self.old ++ record { figures = figures; home = home } ∷ []) }

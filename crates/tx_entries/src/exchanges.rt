@@ -38,7 +38,6 @@ impl<A: Allocator + Copy> Exchanges<A> {
 
 impl<A: Allocator> Exchanges<A> {
     /// How many exchanges.
-    #[inline(always)]
     pub fn len(&self) -> usize
         ensures { result ≡ length self.now }
     {
@@ -46,7 +45,6 @@ impl<A: Allocator> Exchanges<A> {
     }
 
     /// The place of a name.
-    #[inline(always)]
     pub fn find(&self, name: &[u8]) -> Option<usize>
         requires { length name.now ≤ 8 }
         ensures place { result ≡ position (bytes_eq name.now) self.now }
@@ -57,7 +55,6 @@ impl<A: Allocator> Exchanges<A> {
     }
 
     /// The name at a place.
-    #[inline(always)]
     pub fn name(&self, place: usize) -> Option<&NameKey>
         ensures { option_copied result ≡ slice_get self.now place }
     {
@@ -65,7 +62,6 @@ impl<A: Allocator> Exchanges<A> {
     }
 
     /// Appends a name.
-    #[inline(always)]
     pub fn add(&mut self, name: NameKey) -> Result<(), NoMemory>
         requires { list_any (bytes_eq name) self.old ≡ false }
         ensures ok { OnOk result (self.new ≡ self.old ++ name ∷ []) }

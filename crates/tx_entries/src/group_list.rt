@@ -25,7 +25,6 @@ impl Model for GroupList {
 
 impl GroupList {
     /// No groups.
-    #[inline(always)]
     pub fn new() -> GroupList
         ensures { result ≡ [] }
     {
@@ -36,7 +35,6 @@ impl GroupList {
     }
 
     /// Appends a group, unless there are 16.
-    #[inline(always)]
     pub fn keep(&mut self, group: GroupId) -> bool
         ensures kept { result ≡ nat_lt (length self.old) 16 }
         ensures list { self.new ≡ (if nat_lt (length self.old) 16 then self.old ++ group ∷ [] else self.old) }
@@ -50,7 +48,6 @@ impl GroupList {
     }
 
     /// Whether no group stands there twice. All sixteen places are compared together, also those after the list, which hold groups that no plan has.
-    #[inline(always)]
     pub fn none_twice(&self) -> bool
         ensures { result ≡ differ self.now }
     {
@@ -58,7 +55,6 @@ impl GroupList {
     }
 
     /// The groups.
-    #[inline(always)]
     pub fn groups(&self) -> &[GroupId]
         ensures value { result.now ≡ self.now }
         ensures few { length result.now ≤ 16 }
@@ -68,7 +64,6 @@ impl GroupList {
 }
 
 /// Sixteen groups that no plan has, all of them different.
-#[inline(always)]
 fn no_groups() -> [GroupId; 16] {
     let mut groups = [GroupId::at(0); 16];
     for place in 0..16 {
@@ -78,7 +73,6 @@ fn no_groups() -> [GroupId; 16] {
 }
 
 /// Whether two of sixteen groups are one. They are in a ring, where each is compared with the eight after it, so that a compiler compares many at once.
-#[inline(always)]
 fn any_twice(groups: &[GroupId; 16]) -> bool
     ensures { result ≡ false → differ groups.now ≡ true }
 {
@@ -115,7 +109,6 @@ fn none_again(groups: &[GroupId]) -> bool
 }
 
 /// Whether the group is one of the groups.
-#[inline(always)]
 fn is_among(group: GroupId, groups: &[GroupId]) -> bool
     ensures { result ≡ list_any (λ g. g == group) groups.now }
 {

@@ -41,7 +41,6 @@ impl<A: Allocator + Copy> Groups<A> {
 
 impl<A: Allocator> Groups<A> {
     /// How many groups.
-    #[inline(always)]
     pub fn len(&self) -> usize
         ensures { result ≡ length self.now }
     {
@@ -49,7 +48,6 @@ impl<A: Allocator> Groups<A> {
     }
 
     /// The place of a group's name.
-    #[inline(always)]
     pub fn find(&self, name: &[u8]) -> Option<usize>
         requires { length name.now ≤ 8 }
         ensures place { result ≡ position (λ g. bytes_eq name.now g.name) self.now }
@@ -60,7 +58,6 @@ impl<A: Allocator> Groups<A> {
     }
 
     /// The name of the group at a place.
-    #[inline(always)]
     pub fn name(&self, place: usize) -> Option<&NameKey>
         ensures { option_copied result ≡ option_map (λ g. g.name) (slice_get self.now place) }
     {
@@ -68,7 +65,6 @@ impl<A: Allocator> Groups<A> {
     }
 
     /// The group at a place.
-    #[inline(always)]
     pub fn at(&self, place: usize) -> Option<&GroupRow>
         ensures { option_copied result ≡ option_map row_of (slice_get self.now place) }
     {
@@ -76,7 +72,6 @@ impl<A: Allocator> Groups<A> {
     }
 
     /// Appends a group.
-    #[inline(always)]
     pub fn add(&mut self, name: NameKey, row: GroupRow) -> Result<(), NoMemory>
         requires { list_any (λ g. bytes_eq name g.name) self.old ≡ false }
         ensures ok { OnOk result (self.new ≡ self.old ++ record { name = name; a = row.a; b = row.b; direction = row.direction; count = row.count } ∷ []) }

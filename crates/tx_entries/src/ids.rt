@@ -21,7 +21,6 @@ impl Model for ExchangeId {
 
 impl ExchangeId {
     /// Its place.
-    #[inline(always)]
     pub(crate) fn place(self) -> u16
         ensures { result ≡ self }
     {
@@ -29,7 +28,6 @@ impl ExchangeId {
     }
 
     /// The exchange at a place.
-    #[inline(always)]
     pub fn at(place: u16) -> ExchangeId
         ensures { result ≡ place }
     {
@@ -37,7 +35,6 @@ impl ExchangeId {
     }
 
     /// The exchange of an index.
-    #[inline(always)]
     pub fn of(index: usize) -> ExchangeId
         requires { index < 65536 }
         ensures { result ≡ index }
@@ -48,7 +45,6 @@ impl ExchangeId {
     }
 
     /// Its place, from 0, in the order of declaration.
-    #[inline(always)]
     pub fn index(self) -> usize
         ensures { result ≡ self }
     {
@@ -74,7 +70,6 @@ impl Model for CodeId {
 
 impl CodeId {
     /// Its place.
-    #[inline(always)]
     pub(crate) fn place(self) -> u16
         ensures { result ≡ self }
     {
@@ -82,7 +77,6 @@ impl CodeId {
     }
 
     /// The code at a place.
-    #[inline(always)]
     pub fn at(place: u16) -> CodeId
         ensures { result ≡ place }
     {
@@ -90,7 +84,6 @@ impl CodeId {
     }
 
     /// The code of an index.
-    #[inline(always)]
     pub fn of(index: usize) -> CodeId
         requires { index < 65536 }
         ensures { result ≡ index }
@@ -101,7 +94,6 @@ impl CodeId {
     }
 
     /// Its place, from 0, in the order of declaration.
-    #[inline(always)]
     pub fn index(self) -> usize
         ensures { result ≡ self }
     {
@@ -127,7 +119,6 @@ impl Model for GroupId {
 
 impl GroupId {
     /// The group at a place.
-    #[inline(always)]
     pub fn at(place: u16) -> GroupId
         ensures { result ≡ place }
     {
@@ -135,7 +126,6 @@ impl GroupId {
     }
 
     /// The group of an index.
-    #[inline(always)]
     pub fn of(index: usize) -> GroupId
         requires { index < 65536 }
         ensures { result ≡ index }
@@ -146,7 +136,6 @@ impl GroupId {
     }
 
     /// Its place, from 0, in the order of declaration.
-    #[inline(always)]
     pub fn index(self) -> usize
         ensures { result ≡ self }
     {

@@ -19,7 +19,6 @@ impl PartialEq for Line {
 
     ghost laws = { partial_equiv_from_equiv same_line_equiv };
 
-    #[inline(always)]
     fn eq(&self, other: &Line) -> bool {
         self.code == other.code && self.national == other.national
     }
@@ -39,7 +38,6 @@ impl Hash for Line {
 
     ghost respects_eq = { λ l m h. ap line_bytes (same_line-is l m h) };
 
-    #[inline(always)]
     fn hash<H: Hasher>(&self, state: &mut H) {
         state.write_u16(self.code.place());
         state.write(self.national.padded());

@@ -37,7 +37,6 @@ impl PartialEq for NameKey {
 
     ghost laws = { partial_equiv_from_equiv nat_list_eq_equiv };
 
-    #[inline(always)]
     fn eq(&self, other: &NameKey) -> bool {
         self.len == other.len && self.word() == other.word()
     }
@@ -65,7 +64,6 @@ impl Hash for NameKey {
 }
 
 /// At most four bytes as a number, the first of them lowest.
-#[inline(always)]
 fn number_of(text: &[u8]) -> u32
     requires { length text.now ≤ 4 }
     ensures { result ≡ from_le_bytes w32 (padded_to 4 text.now) }
@@ -80,7 +78,6 @@ fn number_of(text: &[u8]) -> u32
 }
 
 /// At most eight bytes as a number, the first of them lowest. Eight are read at once.
-#[inline(always)]
 fn word_of(text: &[u8]) -> u64
     requires { length text.now ≤ 8 }
     ensures { result ≡ from_le_bytes w64 (padded_to 8 text.now) }
@@ -96,7 +93,6 @@ fn word_of(text: &[u8]) -> u64
 
 impl NameKey {
     /// The text, which has room.
-    #[inline(always)]
     pub fn new(text: &[u8]) -> NameKey
         requires { length text.now ≤ 8 }
         ensures { result ≡ text.now }
@@ -108,7 +104,6 @@ impl NameKey {
     }
 
     /// All its bytes as a number.
-    #[inline(always)]
     fn word(&self) -> u64
         ensures gives { result ≡ from_le_bytes w64 (padded_to 8 self.now) }
         ensures bytes { to_le_bytes w64 result ≡ padded_to 8 self.now }
@@ -117,7 +112,6 @@ impl NameKey {
     }
 
     /// The text.
-    #[inline(always)]
     pub fn bytes(&self) -> &[u8]
         ensures value { result.now ≡ self.now }
         ensures width { length result.now ≤ 8 }
@@ -126,7 +120,6 @@ impl NameKey {
     }
 
     /// The text, and zeros after it up to eight bytes.
-    #[inline(always)]
     pub fn padded(&self) -> &[u8; 8]
         ensures { result.now ≡ padded_to 8 self.now }
     {

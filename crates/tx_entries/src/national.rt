@@ -29,7 +29,6 @@ impl Model for National {
 
 impl National {
     /// The number that the text spells, if it is 1 to 9 figures.
-    #[inline(always)]
     pub fn read(text: &[u8]) -> Option<National>
         ensures { result ≡ (if is_national text.now then Some text.now else None) }
     {
@@ -41,7 +40,6 @@ impl National {
     }
 
     /// Its figures.
-    #[inline(always)]
     pub fn bytes(&self) -> &[u8]
         ensures value { result.now ≡ self.now }
         ensures width { length result.now ≤ 9 }
@@ -51,7 +49,6 @@ impl National {
     }
 
     /// Its figures, and zeros after them up to nine bytes.
-    #[inline(always)]
     pub fn padded(&self) -> &[u8; 9]
         ensures { result.now ≡ padded_to 9 self.now }
     {

@@ -44,7 +44,6 @@ impl<A: Allocator + Copy> Ranges<A> {
 
 impl<A: Allocator> Ranges<A> {
     /// How many ranges.
-    #[inline(always)]
     pub fn len(&self) -> usize
         ensures { result ≡ length self.now }
     {
@@ -52,7 +51,6 @@ impl<A: Allocator> Ranges<A> {
     }
 
     /// The range at a place.
-    #[inline(always)]
     pub fn at(&self, place: usize) -> Option<&LineRange>
         ensures { option_copied result ≡ slice_get self.now place }
     {
@@ -60,7 +58,6 @@ impl<A: Allocator> Ranges<A> {
     }
 
     /// All of them.
-    #[inline(always)]
     pub fn as_slice(&self) -> &[LineRange]
         ensures { result.now ≡ self.now }
     {
@@ -68,7 +65,6 @@ impl<A: Allocator> Ranges<A> {
     }
 
     /// Whether a national number lies in a range of the code.
-    #[inline(always)]
     pub fn has(&self, code: CodeId, number: &[u8]) -> bool
         ensures { result ≡ list_any (λ r. (r.code == code) && in_range number.now r) self.now }
     {
@@ -78,7 +74,6 @@ impl<A: Allocator> Ranges<A> {
     }
 
     /// Whether a number from low to high lies in a range of the code, where both have one width.
-    #[inline(always)]
     pub fn overlaps(&self, code: CodeId, low: &[u8], high: &[u8]) -> bool
         ensures { result ≡ list_any (shares code low.now high.now) self.now }
     {
@@ -86,7 +81,6 @@ impl<A: Allocator> Ranges<A> {
     }
 
     /// Appends a range.
-    #[inline(always)]
     pub fn add(&mut self, range: LineRange) -> Result<(), NoMemory>
         ensures ok { OnOk result (self.new ≡ self.old ++ range ∷ []) }
         ensures err { OnErr result (self.new ≡ self.old) }
@@ -100,7 +94,6 @@ impl<A: Allocator> Ranges<A> {
 }
 
 /// Whether the one text of figures is not above the other, figure by figure.
-#[inline(always)]
 pub fn at_most(low: &[u8], high: &[u8]) -> bool
     ensures { result ≡ at_most low.now high.now }
 {
@@ -108,7 +101,6 @@ pub fn at_most(low: &[u8], high: &[u8]) -> bool
 }
 
 /// Whether the number has the range's width and lies in it.
-#[inline(always)]
 fn is_in(number: &[u8], range: &LineRange) -> bool
     ensures { result ≡ in_range number.now range.now }
 {
@@ -118,7 +110,6 @@ fn is_in(number: &[u8], range: &LineRange) -> bool
 }
 
 /// Whether a range of the code shares a number with those from low to high, of one width.
-#[inline(always)]
 fn shares(code: CodeId, low: &[u8], high: &[u8], range: &LineRange) -> bool
     ensures { result ≡ shares code low.now high.now range.now }
 {
@@ -129,7 +120,6 @@ fn shares(code: CodeId, low: &[u8], high: &[u8], range: &LineRange) -> bool
 }
 
 /// Whether one of the ranges shares a number with those from low to high, of one width.
-#[inline(always)]
 fn any_shares(ranges: &[LineRange], code: CodeId, low: &[u8], high: &[u8]) -> bool
     ensures { result ≡ list_any (shares code low.now high.now) ranges.now }
 {
@@ -137,7 +127,6 @@ fn any_shares(ranges: &[LineRange], code: CodeId, low: &[u8], high: &[u8]) -> bo
 }
 
 /// Whether the code is one of these, looked at several at a time where their number is fixed.
-#[inline(always)]
 fn is_among(code: CodeId, codes: &[CodeId]) -> bool
     ensures { result ≡ list_any (λ c. c == code) codes.now }
 {
@@ -149,7 +138,6 @@ fn is_among(code: CodeId, codes: &[CodeId]) -> bool
 }
 
 /// The same of ranges beside their codes: each is looked at only where one of them is of the code.
-#[inline(always)]
 fn block_shares(
     codes: &[CodeId],
     ranges: &[LineRange],

@@ -41,7 +41,6 @@ impl<A: Allocator + Copy> Routes<A> {
 
 impl<A: Allocator> Routes<A> {
     /// How many routes.
-    #[inline(always)]
     pub fn len(&self) -> usize
         ensures { result ≡ length self.now }
     {
@@ -49,7 +48,6 @@ impl<A: Allocator> Routes<A> {
     }
 
     /// Whether there is a route for the pair.
-    #[inline(always)]
     pub fn has(&self, pair: &Pair) -> bool
         ensures { result ≡ list_any (λ r. (r.exchange == pair.now.exchange) && (r.code == pair.now.code)) self.now }
     {
@@ -57,7 +55,6 @@ impl<A: Allocator> Routes<A> {
     }
 
     /// The groups of the pair's route.
-    #[inline(always)]
     pub fn list(&self, pair: &Pair) -> &[GroupId]
         ensures { result.now ≡ option_map_or (λ r. r.groups) (find (λ r. (r.exchange == pair.now.exchange) && (r.code == pair.now.code)) self.now) [] }
     {
@@ -68,7 +65,6 @@ impl<A: Allocator> Routes<A> {
     }
 
     /// The pair of the route at a place.
-    #[inline(always)]
     pub fn pair_at(&self, place: usize) -> Option<Pair>
         ensures { result ≡ option_map (λ r. record { exchange = r.exchange; code = r.code }) (slice_get self.now place) }
     {
@@ -77,7 +73,6 @@ impl<A: Allocator> Routes<A> {
     }
 
     /// Appends a route.
-    #[inline(always)]
     pub fn add(&mut self, pair: Pair, groups: GroupList) -> Result<(), NoMemory>
         requires { list_any (λ r. (r.exchange == pair.exchange) && (r.code == pair.code)) self.old
             ≡ false }

@@ -39,7 +39,6 @@ impl<V: Drop, A: Allocator + Copy> Rows<V, A> {
 
 impl<V: Drop, A: Allocator> Rows<V, A> {
     /// How many names.
-    #[inline(always)]
     pub fn len(&self) -> usize
         ensures { result ≡ length self.now }
     {
@@ -47,7 +46,6 @@ impl<V: Drop, A: Allocator> Rows<V, A> {
     }
 
     /// The place of a name.
-    #[inline(always)]
     pub fn find(&self, name: &NameKey) -> Option<usize>
         ensures place { result ≡ position (bytes_eq name.now) (keys_of self.now) }
         ensures found { is_some result ≡ list_any (bytes_eq name.now) (keys_of self.now) }
@@ -57,7 +55,6 @@ impl<V: Drop, A: Allocator> Rows<V, A> {
     }
 
     /// The name at a place.
-    #[inline(always)]
     pub fn name_at(&self, place: usize) -> Option<&NameKey>
         ensures { option_copied result ≡ option_map (λ e. e.0) (slice_get self.now place) }
     {
@@ -66,7 +63,6 @@ impl<V: Drop, A: Allocator> Rows<V, A> {
     }
 
     /// The value at a place.
-    #[inline(always)]
     pub fn value_at(&self, place: usize) -> Option<&V>
         ensures { option_copied result ≡ option_map (λ e. e.1) (slice_get self.now place) }
     {

@@ -47,7 +47,6 @@ impl<A: Allocator + Copy> Ranges<A> {
 
 impl<A: Allocator> Ranges<A> {
     /// Whether a number lies in a range of the code.
-    #[inline(always)]
     pub fn has(&self, code: CodeId, number: &[u8]) -> bool
         ensures { result ≡ list_any (λ r. (r.code == code) && in_range number.now r) self.now }
     {
@@ -61,7 +60,6 @@ impl<A: Allocator> Ranges<A> {
     }
 
     /// From which place and up to which the ranges of the code stand; all places for a code that the plan does not have.
-    #[inline(always)]
     fn places(&self, code: CodeId) -> (usize, usize)
         ensures order { result.0 ≤ result.1 }
         ensures within { result.1 ≤ length self.now }
@@ -94,7 +92,6 @@ fn firsts_of<A: Allocator>(
     Ok(firsts)
 }
 
-#[inline(always)]
 fn compare(code: CodeId, low: &[u8], other: CodeId, number: &[u8]) -> Ordering
     ensures { result ≡ place_cmp (code, low.now) (other, number.now) }
 {
@@ -112,7 +109,6 @@ fn compare_starts(a: &LineRange, b: &LineRange) -> Ordering
 }
 
 /// How many ranges start at the number of the code or before it, where those of the code stand from one place and up to another.
-#[inline(always)]
 fn starting_by(ranges: &[LineRange], code: CodeId, number: &[u8], first: usize, end: usize) -> usize
     requires order { IsInOrder ranges.now }
     requires rising { first ≤ end }
@@ -135,7 +131,6 @@ fn starting_by(ranges: &[LineRange], code: CodeId, number: &[u8], first: usize, 
 }
 
 /// Whether the range starts at the number of the code or before it.
-#[inline(always)]
 fn starts_by(range: &LineRange, code: CodeId, number: &[u8]) -> bool
     ensures { result ≡ is_le (place_cmp (start_of range.now) (code, number.now)) }
 {
@@ -150,7 +145,6 @@ fn starts_by(range: &LineRange, code: CodeId, number: &[u8]) -> bool
 }
 
 /// Whether the one text is not above the other, byte by byte.
-#[inline(always)]
 fn at_most(low: &[u8], high: &[u8]) -> bool
     ensures { result ≡ at_most low.now high.now }
 {
@@ -164,7 +158,6 @@ fn at_most(low: &[u8], high: &[u8]) -> bool
 }
 
 /// Whether a number that does not lie before the range lies in it, and the range is of the code.
-#[inline(always)]
 fn reaches(range: &LineRange, code: CodeId, number: &[u8]) -> bool
     ensures { result ≡ ((range.now.code == code) && ((length number.now == length range.now.low) && at_most number.now range.now.high)) }
 {

@@ -21,7 +21,6 @@ use tx_text::{Words, are_figures, is_name};
 
 /// The exchange of a name, and whether it was declared.
 #[tactic(auto, using(tx_entries::proofs::Lists::found_any))]
-#[inline(always)]
 fn exchange_of<A: Allocator>(plan: &Plan<A>, name: &[u8]) -> Option<ExchangeId>
     ensures place { result ≡ exchange_named plan.now name.now }
     ensures found { is_some result ≡ has_exchange plan.now name.now }
@@ -33,7 +32,6 @@ fn exchange_of<A: Allocator>(plan: &Plan<A>, name: &[u8]) -> Option<ExchangeId>
 
 /// The code of these figures, and whether it was declared.
 #[tactic(auto, using(tx_entries::proofs::Lists::found_any))]
-#[inline(always)]
 fn code_of<A: Allocator>(plan: &Plan<A>, figures: &[u8]) -> Option<CodeId>
     ensures place { result ≡ code_named plan.now figures.now }
     ensures found { is_some result ≡ has_code plan.now figures.now }
@@ -45,7 +43,6 @@ fn code_of<A: Allocator>(plan: &Plan<A>, figures: &[u8]) -> Option<CodeId>
 
 /// The group of a name, and whether it was declared.
 #[tactic(auto, using(tx_entries::proofs::Lists::found_any))]
-#[inline(always)]
 pub(crate) fn group_of<A: Allocator>(plan: &Plan<A>, name: &[u8]) -> Option<GroupId>
     ensures place { result ≡ group_named plan.now name.now }
     ensures found { is_some result ≡ has_group plan.now name.now }
@@ -107,7 +104,6 @@ pub(crate) fn code_entry<A: Allocator>(
 }
 
 /// Whether low and high have one width, and low is not above high.
-#[inline(always)]
 fn is_ordered(low: &[u8], high: &[u8]) -> bool
     ensures { result ≡ is_ordered low.now high.now }
 {
@@ -154,7 +150,6 @@ pub(crate) fn range_entry<A: Allocator>(
 }
 
 /// Whether each is a name.
-#[inline(always)]
 fn are_names(name: &[u8], a: &[u8], b: &[u8]) -> bool
     ensures gives { not result ≡ (not (is_name name.now) || (not (is_name a.now) || not (is_name b.now))) }
     ensures short { result ≡ true → length name.now ≤ 8 }
@@ -163,7 +158,6 @@ fn are_names(name: &[u8], a: &[u8], b: &[u8]) -> bool
 }
 
 /// Whether a group may have so many circuits.
-#[inline(always)]
 fn is_count(count: u32) -> bool
     ensures { result ≡ (nat_le 1 count && nat_le count 240) }
 {
@@ -171,7 +165,6 @@ fn is_count(count: u32) -> bool
 }
 
 /// The exchanges of two names.
-#[inline(always)]
 fn ends_named<A: Allocator>(plan: &Plan<A>, a: &[u8], b: &[u8]) -> Option<(ExchangeId, ExchangeId)>
     ensures found { is_some result ≡ not (not (has_exchange plan.now a.now) || not (has_exchange plan.now b.now)) }
     ensures ends { IfSome result (λ e. e ≡ (exchange_at plan.now a.now, exchange_at plan.now b.now)) }
@@ -228,7 +221,6 @@ pub(crate) fn group_entry<A: Allocator>(
 }
 
 /// The exchange and the code of two words.
-#[inline(always)]
 fn pair_of<A: Allocator>(plan: &Plan<A>, exchange: &[u8], code: &[u8]) -> Option<Pair>
     ensures pair { result ≡ pair_named plan.now exchange.now code.now }
     ensures named { IfSome result (λ x. x ≡ record { exchange = exchange_at plan.now exchange.now; code = code_at plan.now code.now }) }
@@ -278,7 +270,6 @@ pub(crate) fn bar_entry<A: Allocator>(
 
 /// What the words of a route refuse by themselves. The exchange and the code are looked at only where they are not both declared, since what is declared is
 /// well formed, and the groups only where the list that was seen of them is empty.
-#[inline(always)]
 fn route_words(
     exchange: &[u8],
     code: &[u8],
@@ -307,7 +298,6 @@ fn route_words(
 
 /// Why the groups are refused to a declared pair, all of them being declared.
 #[tactic(auto, using(crate::proofs::SeenWords::differ_as_words))]
-#[inline(always)]
 fn route_groups<A: Allocator>(
     plan: &Plan<A>,
     pair: &Pair,
@@ -340,7 +330,6 @@ fn route_groups<A: Allocator>(
 }
 
 /// Why a route is refused to a declared pair.
-#[inline(always)]
 fn route_row<A: Allocator>(
     plan: &Plan<A>,
     pair: &Pair,
@@ -362,7 +351,6 @@ fn route_row<A: Allocator>(
 }
 
 /// The pair and the groups of a new route, or why it is refused.
-#[inline(always)]
 pub(crate) fn route_entry<A: Allocator>(
     plan: &Plan<A>,
     exchange: &[u8],

@@ -9,7 +9,6 @@ use tx_entries::{CodeId, ExchangeId, GroupId, NameKey};
 /// Names, and what they name.
 impl<A: Allocator> Plan<A> {
     /// The exchange of a name, if one is declared.
-    #[inline(always)]
     pub fn exchange_named(&self, name: &[u8]) -> Option<ExchangeId>
         ensures { result ≡ exchange_named self.now name.now }
     {
@@ -23,7 +22,6 @@ impl<A: Allocator> Plan<A> {
     }
 
     /// The code of these figures, if it is declared.
-    #[inline(always)]
     pub fn code_named(&self, figures: &[u8]) -> Option<CodeId>
         ensures { result ≡ code_named self.now figures.now }
     {
@@ -37,7 +35,6 @@ impl<A: Allocator> Plan<A> {
     }
 
     /// The group of a name, if one is declared.
-    #[inline(always)]
     pub fn group_named(&self, name: &[u8]) -> Option<GroupId>
         ensures { result ≡ group_named self.now name.now }
     {
@@ -51,7 +48,6 @@ impl<A: Allocator> Plan<A> {
     }
 
     /// The name of an exchange; no bytes for a foreign one.
-    #[inline(always)]
     pub fn exchange_name(&self, exchange: ExchangeId) -> &[u8]
         ensures { result.now ≡ exchange_name self.now exchange }
     {
@@ -62,7 +58,6 @@ impl<A: Allocator> Plan<A> {
     }
 
     /// The figures of a code; none for a foreign one.
-    #[inline(always)]
     pub fn code_figures(&self, code: CodeId) -> &[u8]
         ensures { result.now ≡ figures_of self.now code }
     {
@@ -73,7 +68,6 @@ impl<A: Allocator> Plan<A> {
     }
 
     /// The name of a group; no bytes for a foreign one.
-    #[inline(always)]
     pub fn group_name(&self, group: GroupId) -> &[u8]
         ensures { result.now ≡ group_name self.now group }
     {
@@ -84,7 +78,6 @@ impl<A: Allocator> Plan<A> {
     }
 
     /// The name of an exchange, as it is kept; one of no bytes for a foreign one.
-    #[inline(always)]
     pub fn exchange_key(&self, exchange: ExchangeId) -> NameKey
         ensures { result ≡ exchange_name self.now exchange }
     {
@@ -95,7 +88,6 @@ impl<A: Allocator> Plan<A> {
     }
 
     /// The figures of a code, as they are kept; none for a foreign one.
-    #[inline(always)]
     pub fn code_key(&self, code: CodeId) -> NameKey
         ensures { result ≡ figures_of self.now code }
     {
@@ -106,7 +98,6 @@ impl<A: Allocator> Plan<A> {
     }
 
     /// The name of a group, as it is kept; one of no bytes for a foreign one.
-    #[inline(always)]
     pub fn group_key(&self, group: GroupId) -> NameKey
         ensures { result ≡ group_name self.now group }
     {

@@ -43,7 +43,6 @@ impl<A: Allocator> Model for Plan<A> {
 /// Counts, and entries by their places.
 impl<A: Allocator> Plan<A> {
     /// Its lists obey the rules. Does nothing: its callers' proofs name it.
-    #[inline(always)]
     pub fn rules(&self)
         ensures { IsPlan self.now }
     {
@@ -51,7 +50,6 @@ impl<A: Allocator> Plan<A> {
     }
 
     /// How many exchanges.
-    #[inline(always)]
     pub fn exchanges(&self) -> usize
         ensures count { result ≡ length self.now.exchanges }
         ensures few { result ≤ 256 }
@@ -61,7 +59,6 @@ impl<A: Allocator> Plan<A> {
     }
 
     /// How many codes.
-    #[inline(always)]
     pub fn codes(&self) -> usize
         ensures count { result ≡ length self.now.codes }
         ensures few { result ≤ 1100 }
@@ -71,7 +68,6 @@ impl<A: Allocator> Plan<A> {
     }
 
     /// How many ranges.
-    #[inline(always)]
     pub fn ranges(&self) -> usize
         ensures count { result ≡ length self.now.ranges }
         ensures few { result ≤ 4096 }
@@ -81,7 +77,6 @@ impl<A: Allocator> Plan<A> {
     }
 
     /// How many groups.
-    #[inline(always)]
     pub fn groups(&self) -> usize
         ensures count { result ≡ length self.now.groups }
         ensures few { result ≤ 4096 }
@@ -91,7 +86,6 @@ impl<A: Allocator> Plan<A> {
     }
 
     /// How many routes.
-    #[inline(always)]
     pub fn routes(&self) -> usize
         ensures count { result ≡ length self.now.routes }
         ensures rules { IsPlan self.now }
@@ -100,7 +94,6 @@ impl<A: Allocator> Plan<A> {
     }
 
     /// How many bars.
-    #[inline(always)]
     pub fn bars(&self) -> usize
         ensures count { result ≡ length self.now.bars }
         ensures rules { IsPlan self.now }
@@ -109,7 +102,6 @@ impl<A: Allocator> Plan<A> {
     }
 
     /// The exchange at a place, from 0.
-    #[inline(always)]
     pub fn exchange_at(&self, place: usize) -> Option<ExchangeId>
         ensures { result ≡ (if nat_lt place (length self.now.exchanges) then Some place else None) }
     {
@@ -121,7 +113,6 @@ impl<A: Allocator> Plan<A> {
     }
 
     /// The code at a place, from 0.
-    #[inline(always)]
     pub fn code_at(&self, place: usize) -> Option<CodeId>
         ensures { result ≡ (if nat_lt place (length self.now.codes) then Some place else None) }
     {
@@ -133,7 +124,6 @@ impl<A: Allocator> Plan<A> {
     }
 
     /// The group at a place, from 0.
-    #[inline(always)]
     pub fn group_at(&self, place: usize) -> Option<GroupId>
         ensures { result ≡ (if nat_lt place (length self.now.groups) then Some place else None) }
     {
@@ -145,7 +135,6 @@ impl<A: Allocator> Plan<A> {
     }
 
     /// The range at a place, from 0.
-    #[inline(always)]
     pub fn range_at(&self, place: usize) -> Option<LineRange>
         ensures { result ≡ slice_get self.now.ranges place }
     {
@@ -153,7 +142,6 @@ impl<A: Allocator> Plan<A> {
     }
 
     /// The exchange and the code of the route at a place, from 0. `list` has its groups.
-    #[inline(always)]
     pub fn route_at(&self, place: usize) -> Option<(ExchangeId, CodeId)>
         ensures { result ≡ option_map (λ r. (r.exchange, r.code)) (slice_get self.now.routes place) }
     {
@@ -164,7 +152,6 @@ impl<A: Allocator> Plan<A> {
     }
 
     /// The exchange and the code of the bar at a place, from 0.
-    #[inline(always)]
     pub fn bar_at(&self, place: usize) -> Option<(ExchangeId, CodeId)>
         ensures { result ≡ option_map (λ b. (b.exchange, b.code)) (slice_get self.now.bars place) }
     {
@@ -192,7 +179,6 @@ impl<A: Allocator> Plan<A> {
 /// Lines, origins and routes.
 impl<A: Allocator> Plan<A> {
     /// The exchange where a code is at home; for a foreign code the id at place 0.
-    #[inline(always)]
     pub fn home(&self, code: CodeId) -> ExchangeId
         ensures { result ≡ home_of self.now code }
     {
@@ -200,7 +186,6 @@ impl<A: Allocator> Plan<A> {
     }
 
     /// The line of a code and a national number, if that lies in a range of the code (ITU-T F.69).
-    #[inline(always)]
     pub fn line_at(&self, code: CodeId, national: &[u8]) -> Option<Line>
         ensures { result ≡ (if is_line_at self.now code national.now then Some (record { code = code; national = national.now }) else None) }
     {
@@ -213,7 +198,6 @@ impl<A: Allocator> Plan<A> {
     }
 
     /// The groups that the exchange tries for the code, in order; none where no route is declared.
-    #[inline(always)]
     pub fn list(&self, exchange: ExchangeId, code: CodeId) -> &[GroupId]
         ensures { result.now ≡ route_list self.now exchange code }
     {
@@ -221,7 +205,6 @@ impl<A: Allocator> Plan<A> {
     }
 
     /// Whether a route is declared for the pair.
-    #[inline(always)]
     pub(crate) fn has_route(&self, pair: &Pair) -> bool
         ensures { result ≡ has_route self.now pair.now.exchange pair.now.code }
     {
@@ -229,7 +212,6 @@ impl<A: Allocator> Plan<A> {
     }
 
     /// Whether a range of the code shares a number with those from low to high, of one width.
-    #[inline(always)]
     pub(crate) fn overlaps(&self, code: CodeId, low: &[u8], high: &[u8]) -> bool
         ensures { result ≡ overlaps self.now (Some code) low.now high.now }
     {
@@ -237,7 +219,6 @@ impl<A: Allocator> Plan<A> {
     }
 
     /// Whether calls that start at the exchange for the code are not admitted.
-    #[inline(always)]
     pub fn is_barred(&self, exchange: ExchangeId, code: CodeId) -> bool
         ensures { result ≡ is_barred self.now exchange code }
     {
@@ -245,7 +226,6 @@ impl<A: Allocator> Plan<A> {
     }
 
     /// Whether calls may start at the exchange: it is the home of a code that has a range.
-    #[inline(always)]
     pub fn is_origin(&self, exchange: ExchangeId) -> bool
         ensures { result ≡ is_origin self.now exchange }
     {
@@ -256,7 +236,6 @@ impl<A: Allocator> Plan<A> {
     }
 
     /// Whether calls for the code may start at the exchange: it is an origin that is not barred for the code.
-    #[inline(always)]
     pub fn is_origin_for(&self, exchange: ExchangeId, code: CodeId) -> bool
         ensures { result ≡ is_origin_for self.now exchange code }
     {
@@ -267,7 +246,6 @@ impl<A: Allocator> Plan<A> {
 /// Groups of circuits.
 impl<A: Allocator> Plan<A> {
     /// From which ends the group may be seized; `OneWay` for a foreign one.
-    #[inline(always)]
     pub fn direction(&self, group: GroupId) -> Direction
         ensures { result ≡ direction_of self.now group }
     {
@@ -278,7 +256,6 @@ impl<A: Allocator> Plan<A> {
     }
 
     /// How many circuits the group has, 1 to 240; 0 for a foreign one.
-    #[inline(always)]
     pub fn group_count(&self, group: GroupId) -> u32
         ensures value { result ≡ count_of self.now group }
         ensures few { result ≤ 240 }
@@ -290,7 +267,6 @@ impl<A: Allocator> Plan<A> {
     }
 
     /// The ends of the group, the first one first; for a foreign group the id at place 0 twice.
-    #[inline(always)]
     pub fn ends(&self, group: GroupId) -> (ExchangeId, ExchangeId)
         ensures { result ≡ ends_of self.now group }
     {
@@ -301,7 +277,6 @@ impl<A: Allocator> Plan<A> {
     }
 
     /// The exchange across the group, if the exchange is an end of it. Which of them it is cannot be foreseen: the sum of both ends less the one is the other.
-    #[inline(always)]
     pub fn other_end(&self, group: GroupId, exchange: ExchangeId) -> Option<ExchangeId>
         ensures { result ≡ other_end self.now group exchange }
     {
@@ -316,7 +291,6 @@ impl<A: Allocator> Plan<A> {
 
     /// Whether the exchange may seize the group: its first end may, and of a both-way group the other end too. Both are looked at, since which of them it is
     /// cannot be foreseen.
-    #[inline(always)]
     pub fn may_seize(&self, group: GroupId, exchange: ExchangeId) -> bool
         ensures { result ≡ may_seize self.now group exchange }
     {

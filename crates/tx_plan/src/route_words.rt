@@ -29,7 +29,6 @@ pub(crate) struct Seen {
 
 impl Seen {
     /// Takes in the next word.
-    #[inline(always)]
     fn note<A: Allocator>(&mut self, plan: &Plan<A>, pair: &Option<Pair>, word: &[u8])
         ensures bad { self.new.bad ≡ (self.old.bad || not (is_name word.now)) }
         ensures unknown { self.new.unknown ≡ (self.old.unknown || not (has_group plan.now word.now)) }
@@ -48,7 +47,6 @@ impl Seen {
 }
 
 /// Whether the pair's exchange may not seize the group.
-#[inline(always)]
 fn is_closed<A: Allocator>(plan: &Plan<A>, pair: &Option<Pair>, group: Option<GroupId>) -> bool
     ensures { result ≡ holds_at pair.now (λ x c. option_map_or (λ i. not (may_seize plan.now i x)) group false) }
 {
@@ -63,7 +61,6 @@ fn is_closed<A: Allocator>(plan: &Plan<A>, pair: &Option<Pair>, group: Option<Gr
 
 /// The groups that the words name, where each names a group that the pair's exchange may seize, and no more than 16 stand there. It stops at the first word
 /// where that fails, and tells nothing of the words then.
-#[inline(always)]
 fn outgoing<A: Allocator>(plan: &Plan<A>, pair: &Pair, words: Words<'_>) -> Option<GroupList>
     ensures { IfSome result (λ list. IsSeen plan.now (Some pair.now) words.entry (record { bad = false; unknown = false; not_outgoing = false; many = false; list = list })) }
 {
@@ -83,7 +80,6 @@ fn outgoing<A: Allocator>(plan: &Plan<A>, pair: &Pair, words: Words<'_>) -> Opti
 }
 
 /// What the words come to for a pair. A list as most are, of outgoing groups alone, is told by a shorter loop.
-#[inline(always)]
 pub(crate) fn see<A: Allocator>(plan: &Plan<A>, pair: &Option<Pair>, words: Words<'_>) -> Seen
     ensures { IsSeen plan.now pair.now words.entry result }
 {

@@ -10,7 +10,6 @@ use tx_plan::{Direction, PlanBuilder, PlanRefusal};
 use tx_text::{Words, number};
 
 /// A refusal of the builder as a fault of the line's words.
-#[inline(always)]
 fn told(answer: Result<(), PlanRefusal>) -> Result<(), PlanWord>
     ensures { result ≡ word_told answer }
 {
@@ -61,7 +60,6 @@ fn lines_line<A: Allocator>(plan: &mut PlanBuilder<A>, words: Words<'_>) -> Resu
 
 /// The words after GROUP, where there are as many as there must be.
 #[tactic(auto, using(crate::proofs::Entries::declared_from, crate::proofs::Entries::same_from))]
-#[inline(always)]
 fn group_by<A: Allocator>(
     plan: &mut PlanBuilder<A>,
     name: &[u8],
@@ -109,7 +107,6 @@ fn group_line<A: Allocator>(plan: &mut PlanBuilder<A>, words: Words<'_>) -> Resu
 
 /// ROUTE exchange code groups.
 #[tactic(auto, using(crate::proofs::Entries::declared_from, crate::proofs::Entries::same_from))]
-#[inline(always)]
 fn route_line<A: Allocator>(plan: &mut PlanBuilder<A>, words: Words<'_>) -> Result<(), PlanWord>
     ensures declared { Declared is_memory (route_line plan.old words.entry) plan.new result }
     ensures same { IfErr result (λ _. plan.new ≡ plan.old) }
@@ -138,14 +135,12 @@ fn bar_line<A: Allocator>(plan: &mut PlanBuilder<A>, words: Words<'_>) -> Result
 }
 
 /// Whether a word is this one.
-#[inline(always)]
 fn is(word: &[u8], wanted: &[u8]) -> bool
     ensures { result ≡ bytes_eq word.now wanted.now }
 {
     word == wanted
 }
 
-#[inline(always)]
 fn direction_of(word: &[u8]) -> Option<Direction>
     ensures { result ≡ direction_of word.now }
 {
@@ -158,7 +153,6 @@ fn direction_of(word: &[u8]) -> Option<Direction>
     None
 }
 
-#[inline(always)]
 fn count_of(word: &[u8]) -> u32
     ensures { result ≡ count_of word.now }
 {
@@ -168,7 +162,6 @@ fn count_of(word: &[u8]) -> u32
 /// Declares what the line does under a header of this version, after the lines before it. A line
 /// that is refused changes nothing.
 #[tactic(auto, unfolding(crate::specs::PlanText::declare))]
-#[inline(always)]
 pub fn declare<A: Allocator>(
     plan: &mut PlanBuilder<A>,
     version: u8,

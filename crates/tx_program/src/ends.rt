@@ -114,7 +114,6 @@ impl<'a, W: Write + Drop, A: Allocator> Sink for OutputSink<'a, W, A> {
 
     ghost called = { λ _ _ _ _. Unit {0} };
 
-    #[inline(always)]
     fn write(&mut self, bytes: &[u8]) -> Result<usize, WriteFault> {
         if !self.failed {
             if let Ok(mut writer) = self.output.writer.try_borrow_mut() {

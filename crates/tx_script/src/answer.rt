@@ -23,7 +23,6 @@ pub(crate) struct Answered {
 }
 
 /// Applies an event to a network whose tickets were taken, and writes the reply and the tickets.
-#[inline(always)]
 pub(crate) fn answer<B: Allocator, N: Network, W: Sink>(
     event: Event,
     plan: &Plan<B>,
@@ -50,7 +49,6 @@ pub(crate) fn answer<B: Allocator, N: Network, W: Sink>(
     })
 }
 
-#[inline(always)]
 pub(crate) fn is_refused(reply: &Reply) -> bool
     ensures { result ≡ is_refused reply.now }
 {
@@ -58,7 +56,6 @@ pub(crate) fn is_refused(reply: &Reply) -> bool
 }
 
 /// Takes the tickets out of a network and writes them, the oldest first. Returns how many there were.
-#[inline(always)]
 pub(crate) fn write_tickets<B: Allocator, N: Network, W: Sink>(
     plan: &Plan<B>,
     net: &mut N,

@@ -11,7 +11,6 @@ use tx_machine::{Event, Network};
 use tx_text::{FaultAt, FaultKind, Sink};
 
 /// Answers a line of this number, whose words say an event or have a fault, over a network whose tickets were taken.
-#[inline(always)]
 pub(crate) fn answer_line<B: Allocator, N: Network, W: Sink>(
     line: u64,
     said: Result<Event, ScriptWord>,

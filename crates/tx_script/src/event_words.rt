@@ -25,7 +25,6 @@ pub(crate) fn event_of<A: Allocator>(words: Words<'_>, plan: &Plan<A>) -> Result
 
 /// Takes the first word: what it says.
 #[tactic(auto, unfolding(crate::specs::Events::event_of))]
-#[inline(always)]
 pub(crate) fn verb_in(words: &mut Words<'_>) -> Option<Verb>
     ensures { BeginsWith words.old result words.new }
 {
@@ -38,7 +37,6 @@ pub(crate) fn verb_in(words: &mut Words<'_>) -> Option<Verb>
 }
 
 /// What is left over these bytes, where the text begins with them.
-#[inline(always)]
 fn behind<'a, const N: usize>(text: &'a [u8], front: &[u8; N]) -> Option<&'a [u8]>
     ensures { IfSome result (λ rest. text.now ≡ front.now ++ rest.now) }
 {
@@ -54,7 +52,6 @@ fn behind<'a, const N: usize>(text: &'a [u8], front: &[u8; N]) -> Option<&'a [u8
 }
 
 /// The verb of an event of calls where it stands at the front with a space after it, and what is left of the line.
-#[inline(always)]
 fn verb_at(text: &[u8]) -> Option<(Verb, &[u8])>
     ensures { IfSome result (λ v. BeginsWith (words_of text.now) (Some v.0) (words_of v.1.now)) }
 {
@@ -74,7 +71,6 @@ fn verb_at(text: &[u8]) -> Option<(Verb, &[u8])>
 }
 
 /// A call's number, a space and a party, where nothing else is left of a line.
-#[inline(always)]
 fn clear_left(text: &[u8]) -> Option<Event>
     ensures { IfSome result (λ e. clear_event (words_of text.now) ≡ Ok e) }
 {
@@ -92,7 +88,6 @@ fn clear_left(text: &[u8]) -> Option<Event>
 }
 
 /// The event of a first word and the words that follow it.
-#[inline(never)]
 pub(crate) fn event_by<A: Allocator>(
     verb: Verb,
     words: Words<'_>,
@@ -121,7 +116,6 @@ pub(crate) fn event_by<A: Allocator>(
 }
 
 /// A code, a national number and the figures that were keyed.
-#[inline(always)]
 pub(crate) fn key_event<A: Allocator>(words: Words<'_>, plan: &Plan<A>) -> Result<Event, ScriptWord>
     ensures { result ≡ key_event plan.now words.entry }
 {
@@ -132,7 +126,6 @@ pub(crate) fn key_event<A: Allocator>(words: Words<'_>, plan: &Plan<A>) -> Resul
 }
 
 /// A call that is routed.
-#[inline(always)]
 pub(crate) fn route_event(words: Words<'_>) -> Result<Event, ScriptWord>
     ensures { result ≡ said_of Route (call_in words.entry) }
 {
@@ -140,7 +133,6 @@ pub(crate) fn route_event(words: Words<'_>) -> Result<Event, ScriptWord>
 }
 
 /// A call whose circuit is confirmed.
-#[inline(always)]
 pub(crate) fn confirm_event(words: Words<'_>) -> Result<Event, ScriptWord>
     ensures { result ≡ said_of Confirm (call_in words.entry) }
 {
@@ -148,7 +140,6 @@ pub(crate) fn confirm_event(words: Words<'_>) -> Result<Event, ScriptWord>
 }
 
 /// A call's number.
-#[inline(always)]
 fn call_in(words: Words<'_>) -> Result<u32, ScriptWord>
     ensures { result ≡ call_in words.entry }
 {
@@ -161,7 +152,6 @@ fn call_in(words: Words<'_>) -> Result<u32, ScriptWord>
 }
 
 /// A call's number, and CALLER or CALLED.
-#[inline(always)]
 pub(crate) fn clear_event(words: Words<'_>) -> Result<Event, ScriptWord>
     ensures { result ≡ clear_event words.entry }
 {
@@ -174,7 +164,6 @@ pub(crate) fn clear_event(words: Words<'_>) -> Result<Event, ScriptWord>
     Ok(Event::Clear { call, party })
 }
 
-#[inline(always)]
 fn party_of(word: &[u8]) -> Option<Party>
     ensures { result ≡ party_of word.now }
 {
@@ -186,7 +175,6 @@ fn party_of(word: &[u8]) -> Option<Party>
 }
 
 /// A circuit that is released.
-#[inline(always)]
 pub(crate) fn released_event<A: Allocator>(
     words: Words<'_>,
     plan: &Plan<A>,
@@ -197,7 +185,6 @@ pub(crate) fn released_event<A: Allocator>(
 }
 
 /// A circuit.
-#[inline(always)]
 fn circuit_in<A: Allocator>(words: Words<'_>, plan: &Plan<A>) -> Result<Circuit, ScriptWord>
     ensures { result ≡ circuit_in plan.now words.entry }
 {
@@ -206,7 +193,6 @@ fn circuit_in<A: Allocator>(words: Words<'_>, plan: &Plan<A>) -> Result<Circuit,
 }
 
 /// The circuit that a word names, as G1.1.
-#[inline(always)]
 fn circuit_of<A: Allocator>(word: &[u8], plan: &Plan<A>) -> Result<Circuit, ScriptWord>
     ensures { result ≡ circuit_of plan.now word.now }
 {
@@ -217,7 +203,6 @@ fn circuit_of<A: Allocator>(word: &[u8], plan: &Plan<A>) -> Result<Circuit, Scri
 }
 
 /// A number from 1 to 240.
-#[inline(always)]
 fn circuit_number(word: &[u8]) -> Option<u32>
     ensures { result ≡ circuit_number word.now }
 {
@@ -228,7 +213,6 @@ fn circuit_number(word: &[u8]) -> Option<u32>
 }
 
 /// What stands before the first dot, and what stands after it.
-#[inline(always)]
 fn cut_at_dot(word: &[u8]) -> Option<(&[u8], &[u8])>
     ensures { MatchOption result (cut_at_dot word.now ≡ None) (λ c. cut_at_dot word.now ≡ Some (c.0.now, c.1.now)) }
 {
@@ -239,7 +223,6 @@ fn cut_at_dot(word: &[u8]) -> Option<(&[u8], &[u8])>
 }
 
 /// Where the first dot stands.
-#[inline(always)]
 fn first_dot(word: &[u8]) -> Option<usize>
     ensures place { result ≡ position is_dot word.now }
     ensures within { IfSome result (λ dot. dot < length word.now) }
@@ -248,7 +231,6 @@ fn first_dot(word: &[u8]) -> Option<usize>
 }
 
 /// A group.
-#[inline(always)]
 fn group_in<A: Allocator>(words: Words<'_>, plan: &Plan<A>) -> Result<GroupId, ScriptWord>
     ensures { result ≡ group_in plan.now words.entry }
 {
@@ -259,7 +241,6 @@ fn group_in<A: Allocator>(words: Words<'_>, plan: &Plan<A>) -> Result<GroupId, S
 }
 
 /// A line: a code and a national number.
-#[inline(always)]
 fn line_in<A: Allocator>(words: Words<'_>, plan: &Plan<A>) -> Result<Line, ScriptWord>
     ensures { result ≡ line_in plan.now words.entry }
 {
@@ -269,7 +250,6 @@ fn line_in<A: Allocator>(words: Words<'_>, plan: &Plan<A>) -> Result<Line, Scrip
     line_of(code, national, plan)
 }
 
-#[inline(always)]
 fn line_of<A: Allocator>(code: &[u8], national: &[u8], plan: &Plan<A>) -> Result<Line, ScriptWord>
     ensures { result ≡ line_of plan.now code.now national.now }
 {
@@ -279,7 +259,6 @@ fn line_of<A: Allocator>(code: &[u8], national: &[u8], plan: &Plan<A>) -> Result
 }
 
 /// END is no event.
-#[inline(always)]
 fn end_event(words: Words<'_>) -> Result<Event, ScriptWord>
     ensures { result ≡ end_event words.entry }
 {
@@ -291,7 +270,6 @@ fn end_event(words: Words<'_>) -> Result<Event, ScriptWord>
 }
 
 /// The word, where it is the only one.
-#[inline(always)]
 fn one_word(words: Words<'_>) -> Option<&[u8]>
     ensures { MatchOption result (one_word words.entry ≡ None) (λ w. one_word words.entry ≡ Some w.now) }
 {
@@ -304,7 +282,6 @@ fn one_word(words: Words<'_>) -> Option<&[u8]>
 }
 
 /// The words, where they are two.
-#[inline(always)]
 fn two_words(words: Words<'_>) -> Option<(&[u8], &[u8])>
     ensures { MatchOption result (two_words words.entry ≡ None) (λ w. two_words words.entry ≡ Some (w.0.now, w.1.now)) }
 {
@@ -318,7 +295,6 @@ fn two_words(words: Words<'_>) -> Option<(&[u8], &[u8])>
 }
 
 /// The words, where they are three.
-#[inline(always)]
 fn three_words(words: Words<'_>) -> Option<(&[u8], &[u8], &[u8])>
     ensures { MatchOption result (three_words words.entry ≡ None) (λ w. three_words words.entry ≡ Some (w.0.now, w.1.now, w.2.now)) }
 {

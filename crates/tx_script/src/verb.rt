@@ -69,7 +69,6 @@ impl Verb {
     }
 
     /// The verb that a word is.
-    #[inline(never)]
     pub(crate) fn read(word: &[u8]) -> Option<Verb>
         ensures { result ≡ verb_of word.now }
     {

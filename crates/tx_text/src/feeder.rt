@@ -63,7 +63,6 @@ impl<A: Allocator> LineFeeder<A> {
 
     /// Counts a line that stands whole elsewhere, of so many bytes and an LF, and returns where it starts. Where a line has begun here or a fault stands, it does
     /// nothing.
-    #[inline(always)]
     pub(crate) fn pass(&mut self, len: usize) -> Option<usize>
         requires { self.old.start + len + 1 < 2 ^ 64 - 1 }
         ensures start { IfSome result (λ start. start ≡ self.old.start) }
@@ -83,7 +82,6 @@ impl<A: Allocator> LineFeeder<A> {
     }
 
     /// How many lines are complete.
-    #[inline(always)]
     pub(crate) fn number(&self) -> u64
         ensures number { result ≡ self.now.number }
         ensures small { result < 2 ^ 64 - 1 }
@@ -92,7 +90,6 @@ impl<A: Allocator> LineFeeder<A> {
     }
 
     /// Lets the completed line go.
-    #[inline(always)]
     fn begin(&mut self)
         ensures { self.new ≡ record self.old { line = None } }
     {
@@ -102,7 +99,6 @@ impl<A: Allocator> LineFeeder<A> {
         }
     }
 
-    #[inline(always)]
     fn fail(&mut self, fault: TextFault)
         ensures { self.new ≡ faulted self.old fault }
     {
@@ -112,7 +108,6 @@ impl<A: Allocator> LineFeeder<A> {
     }
 
     /// Takes the bytes of a piece up to and with the first LF, or all of them. `Err` tells that the line is too long or has a bad byte.
-    #[inline(always)]
     pub fn feed(&mut self, piece: &[u8]) -> Result<Fed, TextFault>
         requires { self.old.start + length self.old.begun + length piece.now < 2 ^ 64 - 1 }
         ensures gives { result ≡ feed_gives self.old piece.now }
@@ -144,7 +139,6 @@ impl<A: Allocator> LineFeeder<A> {
 
     /// Adds bytes to the line that has begun, and returns what is wrong with it then.
     #[tactic(auto, unfolding(crate::specs::Feed::begun_fault))]
-    #[inline(always)]
     fn add(&mut self, front: &[u8], line: bool) -> Option<TextFault>
         requires begun { self.old.line ≡ None }
         requires fed { self.old.start + length self.old.begun + length front.now < 2 ^ 64 - 1 }
@@ -166,7 +160,6 @@ impl<A: Allocator> LineFeeder<A> {
     }
 
     /// The text came to its end: returns whether an unfinished line stands, and completes it. `Err` tells that this line is too long or has a bad byte.
-    #[inline(always)]
     pub fn finish(&mut self) -> Result<bool, TextFault>
         ensures gives { result ≡ finish_gives self.old }
         ensures leaves { self.new ≡ finish_leaves self.old }
@@ -191,7 +184,6 @@ impl<A: Allocator> LineFeeder<A> {
     }
 
     /// The line that the last call of `feed` or `finish` completed.
-    #[inline(always)]
     pub fn line(&self) -> TextLine<'_>
         requires { IsSome self.now.line }
         ensures line { self.now.line ≡ Some (line_of result) }
@@ -206,7 +198,6 @@ impl<A: Allocator> LineFeeder<A> {
     }
 
     /// Completes the line that has begun, at an LF. A CR at its end goes.
-    #[inline(always)]
     fn complete_line(&mut self)
         requires begun { self.old.line ≡ None }
         requires fed { self.old.start + length self.old.begun + 1 < 2 ^ 64 - 1 }
@@ -222,7 +213,6 @@ impl<A: Allocator> LineFeeder<A> {
 }
 
 /// Adds bytes to a line that has begun, and returns whether there is room for them. Else it is too long, whatever bytes follow.
-#[inline(always)]
 fn hold<A: Allocator>(held: &mut Vec<u8, A>, front: &[u8]) -> bool
     requires room { 513 ≤ vec_capacity held.old }
     requires short { vec_len held.old ≤ 513 }
@@ -243,7 +233,6 @@ fn hold<A: Allocator>(held: &mut Vec<u8, A>, front: &[u8]) -> bool
 
 /// Takes the one CR at the end away, if there is one.
 #[tactic(auto, using(crate::proofs::LineFaults::take_without_cr))]
-#[inline(always)]
 fn drop_cr<A: Allocator>(held: &mut Vec<u8, A>)
     ensures room { vec_capacity held.new ≡ vec_capacity held.old }
     ensures items { held.new.items ≡ without_cr held.old.items }

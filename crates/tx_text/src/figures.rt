@@ -30,7 +30,6 @@ impl Model for Figures {
 
 impl Figures {
     /// The figures, where the text is 1 to 12 of them and nothing else.
-    #[inline(always)]
     pub fn read(text: &[u8]) -> Option<Figures>
         ensures { result ≡ figures_of text.now }
     {
@@ -43,7 +42,6 @@ impl Figures {
     }
 
     /// The figures, each a byte from `0` to `9`.
-    #[inline(always)]
     pub fn bytes(&self) -> &[u8]
         ensures value { result.now ≡ self.now }
         ensures figures { are_figures 1 12 self.now ≡ true }
@@ -52,7 +50,6 @@ impl Figures {
     }
 
     /// The figures, and zeros after them up to twelve bytes.
-    #[inline(always)]
     pub fn padded(&self) -> &[u8; 12]
         ensures { result.now ≡ padded_to 12 self.now }
     {
@@ -60,7 +57,6 @@ impl Figures {
     }
 }
 
-#[inline(always)]
 pub(crate) fn is_figure(byte: u8) -> bool
     ensures { result ≡ is_figure byte }
 {
@@ -68,7 +64,6 @@ pub(crate) fn is_figure(byte: u8) -> bool
 }
 
 /// Whether all these bytes are figures, looked at several at a time where their number is fixed.
-#[inline(always)]
 fn are_all_figures(bytes: &[u8]) -> bool
     ensures { result ≡ list_all is_figure bytes.now }
 {
@@ -80,7 +75,6 @@ fn are_all_figures(bytes: &[u8]) -> bool
 }
 
 /// Whether a text is figures. Of 4 to 16 bytes the front and the end are looked at in blocks, which may overlap.
-#[inline(always)]
 pub(crate) fn all_figures(text: &[u8]) -> bool
     ensures { result ≡ list_all is_figure text.now }
 {
@@ -95,7 +89,6 @@ pub(crate) fn all_figures(text: &[u8]) -> bool
 }
 
 /// Whether the text is at least `least` and at most `most` figures, and nothing else.
-#[inline(always)]
 pub fn are_figures(text: &[u8], least: usize, most: usize) -> bool
     ensures gives { result ≡ are_figures least most text.now }
     ensures short { result ≡ true → length text.now ≤ most }

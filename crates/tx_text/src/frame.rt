@@ -102,7 +102,6 @@ pub enum LineForm {
 }
 
 /// Whether the words are the one word END.
-#[inline(always)]
 pub fn is_end(words: Words<'_>) -> bool
     ensures { result ≡ is_end words.entry }
 {
@@ -113,7 +112,6 @@ pub fn is_end(words: Words<'_>) -> bool
     }
 }
 
-#[inline(always)]
 fn header(key: &[u8], most: u8, words: Words<'_>) -> Option<u8>
     ensures { result ≡ header_of key.now most words.entry }
 {
@@ -133,7 +131,6 @@ fn header(key: &[u8], most: u8, words: Words<'_>) -> Option<u8>
 }
 
 /// Whether the line begins with a word that is not END, by the first byte alone. Of such a line between the header and END nothing more is to be looked at.
-#[inline(always)]
 fn begins_plain(line: &[u8]) -> bool
     ensures { result ≡ true → (h : List (List ℕ) → Option ℕ) → looked h Body (words_of line.now) ≡ Plain }
 {
@@ -145,7 +142,6 @@ fn begins_plain(line: &[u8]) -> bool
 }
 
 /// What a finished line is.
-#[inline(always)]
 pub fn look(key: &[u8], most: u8, phase: FramePart, line: &[u8]) -> LineForm
     ensures { result ≡ looked (header_of key.now most) phase (words_of line.now) }
 {
@@ -173,7 +169,6 @@ pub fn look(key: &[u8], most: u8, phase: FramePart, line: &[u8]) -> LineForm
 }
 
 /// What is wrong where the text ends.
-#[inline(always)]
 pub fn closing(phase: FramePart) -> Option<FormFault>
     ensures { result ≡ closing phase }
 {
@@ -185,7 +180,6 @@ pub fn closing(phase: FramePart) -> Option<FormFault>
 }
 
 /// What is wrong where the text ends with this unfinished line.
-#[inline(always)]
 pub fn last_fault(phase: FramePart, line: &[u8]) -> Option<FormFault>
     ensures { result ≡ last_fault phase (words_of line.now) }
 {
@@ -208,7 +202,6 @@ pub fn last_fault(phase: FramePart, line: &[u8]) -> Option<FormFault>
 }
 
 /// What to answer where the text ends.
-#[inline(always)]
 pub(crate) fn end_as(number: u64, fault: Option<FormFault>) -> Result<FrameStep, FrameStop>
     ensures { result ≡ end_as number fault }
 {

@@ -61,7 +61,6 @@ impl<'k, A: Allocator> FrameReader<'k, A> {
 
     /// Goes on to the header, to the next line with words or to the end. `Err` is the first fault, with its line. A fault before the end of the source stands
     /// whatever bytes follow; a read fault means that the source failed, or was not at its end after so many calls.
-    #[inline(always)]
     pub fn advance<R: Source>(&mut self, source: &mut R) -> Result<FrameStep, FrameStop>
         requires { self.old.reader.feed.fault ≡ None }
         ensures fault { IfOk result (λ _. self.new.reader.feed.fault ≡ None) }
@@ -110,7 +109,6 @@ impl<'k, A: Allocator> FrameReader<'k, A> {
     }
 
     /// The number of the line that stands, from 1.
-    #[inline(always)]
     pub fn number(&self) -> u64
         requires { IsSome self.now.reader.feed.line }
         ensures { result ≡ number_of_line self.now.reader.feed.line }
@@ -119,7 +117,6 @@ impl<'k, A: Allocator> FrameReader<'k, A> {
     }
 
     /// The words of the line that stands.
-    #[inline(always)]
     pub fn words(&self) -> Words<'_>
         requires { IsSome self.now.reader.feed.line }
         ensures { result ≡ words_of_line self.now.reader.feed.line }

@@ -17,7 +17,6 @@ impl<R: Read> FromRead<R> {
 
     /// A source that has not been called.
     #[tactic(auto, using(crate::proofs::ReadCalls::tells_why))]
-    #[inline(always)]
     pub fn new(reader: R) -> FromRead<R>
         ensures reader { result.reader ≡ reader }
         ensures calls { result.calls ≡ 0 }
@@ -49,7 +48,6 @@ impl<R: Read> Source for FromRead<R> {
 
     ghost called = { counted };
 
-    #[inline(always)]
     fn read(&mut self, buf: &mut [u8]) -> Result<usize, ReadFault> {
         self.calls = self.calls.saturating_add(1);
         if !self.failed {

@@ -8,7 +8,6 @@ use memchr::memchr;
 
 /// The line without the one CR at its end, if there is one.
 #[tactic(auto, unfolding(crate::specs::Text::without_cr))]
-#[inline(always)]
 pub fn without_cr(line: &[u8]) -> &[u8]
     ensures { result.now ≡ without_cr line.now }
 {
@@ -55,7 +54,6 @@ fn is_text(line: &[u8]) -> bool
 
 /// What is wrong with the bytes of a line, given without its LF and the CR before it.
 #[tactic(auto, unfolding(crate::specs::Text::bytes_fault))]
-#[inline(always)]
 pub fn bytes_fault(line: &[u8]) -> Option<TextFault>
     ensures { result ≡ bytes_fault line.now }
 {

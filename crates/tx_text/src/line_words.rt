@@ -8,7 +8,6 @@ ghost use Rattle.tx_text.specs.Words.{words_of, is_blank, is_word_byte};
 use std::marker::Model;
 use std::simd::prelude::*;
 
-#[inline(always)]
 pub(crate) fn is_blank(byte: u8) -> bool
     ensures { result ≡ is_blank byte }
 {
@@ -16,7 +15,6 @@ pub(crate) fn is_blank(byte: u8) -> bool
 }
 
 /// How many blanks stand at the front: none before the first word of most lines, and one before the others.
-#[inline(always)]
 fn count_blanks(text: &[u8]) -> usize
     ensures within { result ≤ length text.now }
     ensures count { result ≡ prefix_len is_blank text.now }
@@ -51,7 +49,6 @@ impl<'a> Model for Words<'a> {
 
 impl<'a> Words<'a> {
     /// The words of a line, or of what is left of one.
-    #[inline(always)]
     pub fn new(line: &'a [u8]) -> Words<'a>
         ensures { result ≡ words_of line.now }
     {
@@ -59,7 +56,6 @@ impl<'a> Words<'a> {
     }
 
     /// What is left of the line: these words, and what stands around them.
-    #[inline(always)]
     pub fn rest(&self) -> &'a [u8]
         ensures { words_of result.now ≡ self.now }
     {
@@ -67,7 +63,6 @@ impl<'a> Words<'a> {
     }
 
     /// The next word, as `next` gives it. It is found in fewer steps where one space stands before it and more words follow.
-    #[inline(always)]
     pub fn next_of_many(&mut self) -> Option<&'a [u8]>
         ensures { YieldsFirstBy (λ x. x.now) (λ s. s) self.old result self.new }
     {
@@ -81,7 +76,6 @@ impl<'a> Words<'a> {
     }
 
     /// The same words once more.
-    #[inline(always)]
     pub fn again(&self) -> Words<'a>
         ensures { result ≡ self.now }
     {
@@ -96,7 +90,6 @@ impl<'a> Iterator for Words<'a> {
 
     ghost remaining = { item_count (λ s. s) };
 
-    #[inline(always)]
     fn next(&mut self) -> Option<&'a [u8]> {
         let (word, rest) = first_word(self.rest)?;
         self.rest = rest;
@@ -105,7 +98,6 @@ impl<'a> Iterator for Words<'a> {
 }
 
 /// How long the word at the front is, looked at byte by byte.
-#[inline(always)]
 fn count_word_bytes(text: &[u8]) -> usize
     ensures within { result ≤ length text.now }
     ensures count { result ≡ prefix_len is_word_byte text.now }
@@ -119,7 +111,6 @@ fn count_word_bytes(text: &[u8]) -> usize
 }
 
 /// A bit for each byte of a block, set where it is no byte of a word.
-#[inline(always)]
 fn word_ends(block: u8x16) -> u64
     ensures { result ≡ mask_l (map (λ b. not (is_word_byte b)) block) }
 {
@@ -129,7 +120,6 @@ fn word_ends(block: u8x16) -> u64
 }
 
 /// The same of a block of eight bytes.
-#[inline(always)]
 fn word_ends_of_eight(block: u8x8) -> u64
     ensures { result ≡ mask_l (map (λ b. not (is_word_byte b)) block) }
 {
@@ -139,7 +129,6 @@ fn word_ends_of_eight(block: u8x8) -> u64
 }
 
 /// Whether four to eight bytes are all of a word, looked at as the first four and the last four at once.
-#[inline(always)]
 fn is_one_word(text: &[u8]) -> bool
     requires least { 4 ≤ length text.now }
     requires most { length text.now ≤ 8 }
@@ -151,7 +140,6 @@ fn is_one_word(text: &[u8]) -> bool
 }
 
 /// How long the word at the front is. Where more than 8 bytes follow, its end is looked for in 16 or 8 of them at once; a line's last word mostly has 4 to 8.
-#[inline(always)]
 fn word_len(text: &[u8]) -> usize
     ensures within { result ≤ length text.now }
     ensures count { result ≡ prefix_len is_word_byte text.now }
@@ -174,7 +162,6 @@ fn word_len(text: &[u8]) -> usize
 }
 
 /// The word after one space, and what stands after it, where its end is found in the 16 bytes that follow the space.
-#[inline(always)]
 fn spaced_word(text: &[u8]) -> Option<(&[u8], &[u8])>
     ensures { IfSome result (λ x. words_of text.now ≡ x.0.now ∷ words_of x.1.now) }
 {
@@ -196,7 +183,6 @@ fn spaced_word(text: &[u8]) -> Option<(&[u8], &[u8])>
 }
 
 /// The first word, and what stands after it.
-#[inline(always)]
 fn first_word(text: &[u8]) -> Option<(&[u8], &[u8])>
     ensures { MatchOption result (words_of text.now ≡ [])
         (λ x. words_of text.now ≡ x.0.now ∷ words_of x.1.now) }

@@ -30,7 +30,6 @@ impl Model for Name {
 
 impl Name {
     /// The name, where the text is one.
-    #[inline(always)]
     pub fn read(text: &[u8]) -> Option<Name>
         ensures { result ≡ name_of text.now }
     {
@@ -43,7 +42,6 @@ impl Name {
     }
 
     /// The signs of the name.
-    #[inline(always)]
     pub fn bytes(&self) -> &[u8]
         ensures { result.now ≡ self.now }
     {
@@ -51,7 +49,6 @@ impl Name {
     }
 }
 
-#[inline(always)]
 fn is_letter(byte: u8) -> bool
     ensures { result ≡ is_letter byte }
 {
@@ -59,7 +56,6 @@ fn is_letter(byte: u8) -> bool
 }
 
 /// Whether the text is a name.
-#[inline(always)]
 pub fn is_name(text: &[u8]) -> bool
     ensures gives { result ≡ is_name text.now }
     ensures short { result ≡ true → length text.now ≤ 8 }
@@ -70,7 +66,6 @@ pub fn is_name(text: &[u8]) -> bool
     }
 }
 
-#[inline(always)]
 fn are_signs(text: &[u8]) -> bool
     ensures { result ≡ list_all (λ x. is_letter x || is_figure x) text.now }
 {

@@ -86,7 +86,6 @@ impl<A: Allocator> TextReader<A> {
     }
 
     /// Feeds the bytes that were read, and returns whether that completed a line.
-    #[inline(always)]
     fn feed(&mut self) -> Result<bool, LineFault>
         ensures known { IsFeed self.old.feed }
         ensures known_after { IsFeed self.new.feed }
@@ -107,7 +106,6 @@ impl<A: Allocator> TextReader<A> {
     }
 
     /// Lends the first line of the bytes that were read, and tells so, where it stands whole there and is right.
-    #[inline(always)]
     fn lend(&mut self) -> bool
         ensures known { IsFeed self.old.feed }
         ensures known_after { IsFeed self.new.feed }
@@ -161,7 +159,6 @@ impl<A: Allocator> TextReader<A> {
     }
 
     /// The text came to its end.
-    #[inline(always)]
     fn finish(&mut self) -> Result<bool, LineFault>
         requires { self.old.piece ≡ [] }
         ensures gives { result ≡ ended_as (finish_gives self.old.feed) }
@@ -175,7 +172,6 @@ impl<A: Allocator> TextReader<A> {
     }
 
     /// The line that the last call of `advance` gave.
-    #[inline(always)]
     pub fn line(&self) -> TextLine<'_>
         requires { IsSome self.now.feed.line }
         ensures line { self.now.feed.line ≡ Some (line_of result) }
@@ -194,7 +190,6 @@ impl<A: Allocator> TextReader<A> {
     }
 
     /// Reads the next piece, and returns whether it has any byte.
-    #[inline(always)]
     fn fill<R: Source>(&mut self, source: &mut R) -> Result<bool, LineFault>
         requires fed { self.old.piece ≡ [] }
         requires line { self.old.feed.line ≡ None }
@@ -223,7 +218,6 @@ impl<A: Allocator> TextReader<A> {
 }
 
 /// The bytes from one place up to another.
-#[inline(always)]
 fn part(piece: &[u8], from: usize, to: usize) -> &[u8]
     requires order { from ≤ to }
     requires within { to ≤ length piece.now }

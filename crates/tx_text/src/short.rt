@@ -34,7 +34,6 @@ impl<const N: usize> PartialEq for Short<N> {
 
     ghost laws = { partial_equiv_from_equiv nat_list_eq_equiv };
 
-    #[inline(always)]
     fn eq(&self, other: &Short<N>) -> bool {
         self.len == other.len && same_bytes(&self.bytes, &other.bytes)
     }
@@ -50,7 +49,6 @@ impl<const N: usize> Short<N> {
     ghost use Rattle.tx_text.specs.Padded.{padded_to};
 
     /// The text, of at most N bytes.
-    #[inline(always)]
     pub fn new(text: &[u8]) -> Short<N>
         requires text { length text.now ≤ N }
         requires room { N ≤ 255 }
@@ -71,7 +69,6 @@ impl<const N: usize> Short<N> {
     }
 
     /// The text.
-    #[inline(always)]
     pub fn bytes(&self) -> &[u8]
         ensures value { result.now ≡ self.now }
         ensures width { length result.now ≤ N }
@@ -80,7 +77,6 @@ impl<const N: usize> Short<N> {
     }
 
     /// The text, and zeros after it up to its room.
-    #[inline(always)]
     pub fn padded(&self) -> &[u8; N]
         ensures { result.now ≡ padded_to N self.now }
     {
@@ -89,7 +85,6 @@ impl<const N: usize> Short<N> {
 }
 
 /// Whether two arrays are alike, looked at several bytes at a time where their number is fixed.
-#[inline(always)]
 fn same_bytes<const N: usize>(one: &[u8; N], other: &[u8; N]) -> bool
     ensures { result ≡ bytes_eq one.now other.now }
 {

@@ -36,7 +36,6 @@ pub trait Sink {
 }
 
 /// Writes all the bytes, or stops where the sink fails: then a front of them was taken, and not all.
-#[inline(always)]
 pub fn write_bytes<W: Sink>(bytes: &[u8], sink: &mut W) -> Result<(), WriteFault>
     ensures { Wrote W.taken W.failed sink.old sink.new bytes.now result }
 {
@@ -50,7 +49,6 @@ pub fn write_bytes<W: Sink>(bytes: &[u8], sink: &mut W) -> Result<(), WriteFault
 }
 
 /// Writes the parts of a text, one after another, or stops where the sink fails: then a front of the text was taken, and not all.
-#[inline(always)]
 pub fn write_parts<W: Sink>(parts: &[&[u8]], sink: &mut W) -> Result<(), WriteFault>
     ensures { Wrote W.taken W.failed sink.old sink.new (flat_map (λ p. p.now) parts.now) result }
 {
@@ -61,7 +59,6 @@ pub fn write_parts<W: Sink>(parts: &[&[u8]], sink: &mut W) -> Result<(), WriteFa
 }
 
 /// Writes the parts of a text, one after another. The four clauses of `write_parts` are one here.
-#[inline(always)]
 pub fn write_text<W: Sink>(parts: &[&[u8]], sink: &mut W) -> Result<(), WriteFault>
     ensures { Wrote W.taken W.failed sink.old sink.new (flat_map (λ p. p.now) parts.now) result }
 {

@@ -14,7 +14,6 @@ pub struct ToWrite<W> {
 
 impl<W: Write> ToWrite<W> {
     /// A sink that has not been called.
-    #[inline(always)]
     pub fn new(writer: W) -> ToWrite<W>
         ensures writer { result.writer ≡ writer }
         ensures failed { result.failed ≡ false }
@@ -35,7 +34,6 @@ impl<W: Write> Sink for ToWrite<W> {
 
     ghost called = { λ _ _ _ _. Unit {0} };
 
-    #[inline(always)]
     fn write(&mut self, bytes: &[u8]) -> Result<usize, WriteFault> {
         if !self.failed {
             if let Ok(n) = self.writer.write(bytes) {

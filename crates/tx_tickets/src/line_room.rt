@@ -26,7 +26,6 @@ impl<'a, const N: usize> Model for LineRoom<'a, N> {
 
 impl<'a, const N: usize> LineRoom<'a, N> {
     /// A line of no bytes.
-    #[inline(always)]
     pub(crate) fn new(room: &'a mut [u8; N]) -> LineRoom<'a, N>
         requires { N ≤ 255 }
         ensures { result ≡ [] }
@@ -35,7 +34,6 @@ impl<'a, const N: usize> LineRoom<'a, N> {
     }
 
     /// The line so far.
-    #[inline(always)]
     pub(crate) fn bytes(&self) -> &[u8]
         ensures { result.now ≡ self.now }
     {
@@ -43,7 +41,6 @@ impl<'a, const N: usize> LineRoom<'a, N> {
     }
 
     /// How many bytes it has.
-    #[inline(always)]
     pub(crate) fn len(&self) -> usize
         ensures { result ≡ length self.now }
     {
@@ -51,7 +48,6 @@ impl<'a, const N: usize> LineRoom<'a, N> {
     }
 
     /// Goes back to no bytes.
-    #[inline(always)]
     pub(crate) fn clear(&mut self)
         ensures { self.new ≡ [] }
     {
@@ -59,7 +55,6 @@ impl<'a, const N: usize> LineRoom<'a, N> {
     }
 
     /// Appends bytes.
-    #[inline(always)]
     pub(crate) fn put(&mut self, bytes: &[u8])
         requires { length self.old + length bytes.now ≤ N }
         ensures text { self.new ≡ self.old ++ bytes.now }
@@ -73,7 +68,6 @@ impl<'a, const N: usize> LineRoom<'a, N> {
     }
 
     /// Appends a text of a few bytes that is kept with zeros after it. All its room is copied, so that no step hangs on how long the text is.
-    #[inline(always)]
     pub(crate) fn put_padded<const M: usize>(&mut self, text: &[u8], padded: &[u8; M])
         requires short { length text.now ≤ M }
         requires padded { padded.now ≡ padded_to M text.now }
@@ -88,7 +82,6 @@ impl<'a, const N: usize> LineRoom<'a, N> {
     }
 
     /// Appends a name, or the figures of a code.
-    #[inline(always)]
     pub(crate) fn put_name(&mut self, name: NameKey)
         requires { length self.old + 8 ≤ N }
         ensures text { self.new ≡ self.old ++ name }
@@ -98,7 +91,6 @@ impl<'a, const N: usize> LineRoom<'a, N> {
     }
 
     /// Appends a national number.
-    #[inline(always)]
     pub(crate) fn put_national(&mut self, national: National)
         requires { length self.old + 9 ≤ N }
         ensures text { self.new ≡ self.old ++ national }
@@ -109,7 +101,6 @@ impl<'a, const N: usize> LineRoom<'a, N> {
 
     /// Appends the figures of a number. At most eight are made in their place.
     #[tactic(auto, using(itoa::proofs::Decimal::length_four))]
-    #[inline(always)]
     pub(crate) fn put_number(&mut self, number: u64)
         requires { length self.old + 20 ≤ N }
         ensures text { self.new ≡ self.old ++ decimal number }
@@ -127,7 +118,6 @@ impl<'a, const N: usize> LineRoom<'a, N> {
 
     /// The same for a number of at most four figures. Each count has a branch of its own, where it is known.
     #[tactic(auto, using(itoa::proofs::Decimal::length_one, itoa::proofs::Decimal::length_two, itoa::proofs::Decimal::length_pair))]
-    #[inline(always)]
     fn put_four(&mut self, number: u64)
         requires number { number < 10 ^ 4 }
         requires room { length self.old + 4 ≤ N }
@@ -146,7 +136,6 @@ impl<'a, const N: usize> LineRoom<'a, N> {
     }
 
     /// Appends the figures of a number, which are so many.
-    #[inline(always)]
     fn put_figures(&mut self, number: u64, count: usize)
         requires count { count ≡ length (decimal number) }
         requires room { length self.old + count ≤ N }
@@ -161,7 +150,6 @@ impl<'a, const N: usize> LineRoom<'a, N> {
 
 /// How many figures a number of at most four has.
 #[tactic(auto, using(itoa::proofs::Decimal::length_one, itoa::proofs::Decimal::length_two, itoa::proofs::Decimal::length_pair))]
-#[inline(always)]
 fn count_figures(number: u64) -> usize
     requires { number < 10 ^ 4 }
     ensures figures { result ≡ length (decimal number) }
@@ -177,7 +165,6 @@ fn count_figures(number: u64) -> usize
 }
 
 /// Copies bytes. Of 2 to 16 the front and the end are read at once, and then written: they may overlap.
-#[inline(always)]
 fn copy(to: &mut [u8], from: &[u8])
     requires { length to.old ≡ length from.now }
     ensures { to.new ≡ from.now }

@@ -33,7 +33,6 @@ pub fn write_reply<A: Allocator, W: Sink>(
 }
 
 /// Puts a reply on an empty line.
-#[inline(always)]
 fn put_reply<A: Allocator>(reply: &Reply, plan: &Plan<A>, line: &mut LineRoom<'_, ROOM>)
     requires { line.old ≡ [] }
     ensures { line.new ≡ reply_text plan.now reply.now }
@@ -58,7 +57,6 @@ fn put_reply<A: Allocator>(reply: &Reply, plan: &Plan<A>, line: &mut LineRoom<'_
 }
 
 /// Puts a first word, given with its space, and another.
-#[inline(always)]
 fn put_word(first: &[u8], word: &[u8], line: &mut LineRoom<'_, ROOM>)
     requires first { length first.now ≤ 10 }
     requires word { length word.now ≤ 20 }
@@ -71,7 +69,6 @@ fn put_word(first: &[u8], word: &[u8], line: &mut LineRoom<'_, ROOM>)
 }
 
 /// Puts the exchange that a call came to.
-#[inline(always)]
 fn put_at<A: Allocator>(exchange: ExchangeId, plan: &Plan<A>, line: &mut LineRoom<'_, ROOM>)
     requires { line.old ≡ [] }
     ensures { line.new ≡ codes "AT " ++ (exchange_name plan.now exchange ++ codes "\n") }
@@ -82,7 +79,6 @@ fn put_at<A: Allocator>(exchange: ExchangeId, plan: &Plan<A>, line: &mut LineRoo
 }
 
 /// Puts a first word, given with its space, and a number.
-#[inline(always)]
 fn put_count(first: &[u8], count: u64, line: &mut LineRoom<'_, ROOM>)
     requires first { length first.now ≤ 10 }
     requires line { line.old ≡ [] }
@@ -93,7 +89,6 @@ fn put_count(first: &[u8], count: u64, line: &mut LineRoom<'_, ROOM>)
     line.put(b"\n");
 }
 
-#[inline(always)]
 fn put_circuit<A: Allocator>(circuit: &Circuit, plan: &Plan<A>, line: &mut LineRoom<'_, ROOM>)
     requires { line.old ≡ [] }
     ensures { line.new ≡ codes "SEIZED " ++ (circuit_text plan.now circuit.now ++ codes "\n") }
@@ -105,7 +100,6 @@ fn put_circuit<A: Allocator>(circuit: &Circuit, plan: &Plan<A>, line: &mut LineR
     line.put(b"\n");
 }
 
-#[inline(always)]
 fn put_connected<A: Allocator>(called: Line, plan: &Plan<A>, line: &mut LineRoom<'_, ROOM>)
     requires { line.old ≡ [] }
     ensures { line.new ≡ codes "CONNECTED " ++ (line_text plan.now called ++ codes "\n") }
@@ -118,7 +112,6 @@ fn put_connected<A: Allocator>(called: Line, plan: &Plan<A>, line: &mut LineRoom
 }
 
 /// Puts how many calls were lost. The reply comes by value, since the count of every reply would else be read before it is known which one it is.
-#[inline(never)]
 fn put_lost(reply: Reply, line: &mut LineRoom<'_, ROOM>)
     requires { line.old ≡ [] }
     ensures { (n : ℕ) → reply ≡ Lost n → line.new ≡ codes "LOST " ++ (decimal n ++ codes "\n") }

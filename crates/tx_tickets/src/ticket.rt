@@ -37,7 +37,6 @@ pub fn write_ticket<A: Allocator, B: Allocator, W: Sink>(
 }
 
 /// Puts the call's number, its line and what was keyed.
-#[inline(always)]
 fn put_caller<A: Allocator, B: Allocator>(
     ticket: &Ticket<A>,
     plan: &Plan<B>,
@@ -59,7 +58,6 @@ fn put_caller<A: Allocator, B: Allocator>(
 }
 
 /// Puts the events of the call's start and its end.
-#[inline(always)]
 fn put_events<A: Allocator>(ticket: &Ticket<A>, line: &mut LineRoom<'_, ROOM>)
     requires { length line.old ≤ 66 }
     ensures text { line.new ≡ line.old ++ events_text ticket.now }
@@ -72,7 +70,6 @@ fn put_events<A: Allocator>(ticket: &Ticket<A>, line: &mut LineRoom<'_, ROOM>)
 }
 
 /// Puts why the call ended, and where it started.
-#[inline(always)]
 fn put_why<A: Allocator, B: Allocator>(
     ticket: &Ticket<A>,
     plan: &Plan<B>,
@@ -88,7 +85,6 @@ fn put_why<A: Allocator, B: Allocator>(
 }
 
 /// Writes a line that has begun, with each hop after it and an LF. Where the next hop may have no room, what stands there goes out before it.
-#[inline(always)]
 fn write_path<A: Allocator, W: Sink>(
     hops: &[Hop],
     plan: &Plan<A>,
@@ -112,7 +108,6 @@ fn write_path<A: Allocator, W: Sink>(
 }
 
 /// Puts a hop: its circuit, and the exchange that it leads to.
-#[inline(always)]
 fn put_hop<A: Allocator>(hop: &Hop, plan: &Plan<A>, line: &mut LineRoom<'_, ROOM>)
     requires { length line.old ≤ 152 }
     ensures text { line.new ≡ line.old ++ hop_text plan.now hop.now }

@@ -5,7 +5,6 @@ ghost use Rattle.tx_tickets.specs.Texts.{service_text, cause_text, refusal_text,
 use tx_machine::{Cause, Refusal, Service};
 
 /// A service code, as it is printed.
-#[inline(always)]
 pub(crate) fn service_word<'a>(service: Service) -> &'a [u8]
     ensures text { result.now ≡ service_text service }
     ensures width { length result.now ≤ 4 }
@@ -20,7 +19,6 @@ pub(crate) fn service_word<'a>(service: Service) -> &'a [u8]
     }
 }
 
-#[inline(always)]
 pub(crate) fn cause_word<'a>(cause: Cause) -> &'a [u8]
     ensures text { result.now ≡ cause_text cause }
     ensures width { length result.now ≤ 4 }
@@ -33,7 +31,6 @@ pub(crate) fn cause_word<'a>(cause: Cause) -> &'a [u8]
     }
 }
 
-#[inline(always)]
 pub(crate) fn refusal_word<'a>(refusal: Refusal) -> &'a [u8]
     ensures text { result.now ≡ refusal_text refusal }
     ensures width { length result.now ≤ 4 }
@@ -54,7 +51,6 @@ pub(crate) fn refusal_word<'a>(refusal: Refusal) -> &'a [u8]
     }
 }
 
-#[inline(always)]
 pub(crate) fn stands_word<'a>(stands: bool) -> &'a [u8]
     ensures text { result.now ≡ stands_text stands }
     ensures width { length result.now ≤ 7 }
