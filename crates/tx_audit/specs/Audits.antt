@@ -21,7 +21,8 @@ use Rattle.tx_audit.specs.declared.audited.AuditFault.{AuditFault}
 use Rattle.tx_audit.specs.declared.audited.AuditFault.TheVariants.{Plan as PlanRefused, Write, NoMemory}
 use Rattle.tx_audit.specs.Report.{report}
 
--- The certificate ranks by heights and certifies the plan, the checker says Yes to it, and so the plan is sound and calls are routed a few times only.
+-- The certificate ranks by heights and certifies the plan, the checker says Yes to it, and so the
+-- plan is sound and calls are routed a few times only.
 pub record IsCleared (p : Plan) (cert : Certificate) (limit spare : ℕ) : Type 0 where
   pub fits : IsCertificateOf p cert
   pub heights : AreHeights p (ranks_of cert)
@@ -34,10 +35,12 @@ module _ {A : Type 0} where
   -- the findings that the rules list, in order, each true; none where no finding is true
   abbrev pub IsAllFound : Plan → (limit spare : ℕ) → List (Finding A) → Type 0
   IsAllFound p limit spare [] = (f : Finding A) → IsTrueOf p limit spare f → ⊥
-  IsAllFound p limit spare (f ∷ findings) = AllByRecursion (IsTrueOf p limit spare) (f ∷ findings) × AreFindings p limit spare (f ∷ findings)
+  IsAllFound p limit spare (f ∷ findings) = AllByRecursion (IsTrueOf p limit spare) (f ∷ findings)
+      × AreFindings p limit spare (f ∷ findings)
 
   -- the plan of the whole text was audited, and the report was written
-  pub record Reported (p : Plan) (limit spare : ℕ) (old new taken_old taken_new : Option (List ℕ)) (findings : List (Finding A)) : Type 0 where
+  pub record Reported (p : Plan) (limit spare : ℕ)
+      (old new taken_old taken_new : Option (List ℕ)) (findings : List (Finding A)) : Type 0 where
     pub rules : IsPlan p
     pub read : SaysPlan old new p
     pub found : IsAllFound p limit spare findings
@@ -49,7 +52,8 @@ OnUnsound Holds (Sound p cert) = Unit {0}
 OnUnsound Holds (Unsound p findings) = Holds p findings.items
 
 -- the plan was audited, but a write failed within the report
-pub record ReportedInPart (A : Type 0) (limit spare : ℕ) (old new taken_old taken_new : Option (List ℕ)) : Type 0 where
+pub record ReportedInPart (A : Type 0) (limit spare : ℕ)
+    (old new taken_old taken_new : Option (List ℕ)) : Type 0 where
   pub plan : Plan
   pub rules : IsPlan plan
   pub read : SaysPlan old new plan
@@ -64,13 +68,22 @@ pub record ReadAlone (old new : Option (List ℕ)) : Type 0 where
   pub rules : IsPlan plan
   pub read : SaysPlan old new plan
 
--- WHAT AN AUDIT ANSWERS. Broken says that the source failed or met the bound on calls, unread that nothing was read, silent that nothing was written.
-abbrev pub AuditAnswers : {A : Type 0} → (limit spare : ℕ) → (old new taken_old taken_new : Option (List ℕ)) → (broken unread silent : Type 0) → Result (Audited A) AuditFault → Type 0
-AuditAnswers {A} limit spare old new taken_old taken_new broken unread silent (Ok (Sound p cert)) = Reported {A = A} p limit spare old new taken_old taken_new [] × IsCleared p cert limit spare
-AuditAnswers limit spare old new taken_old taken_new broken unread silent (Ok (Unsound p findings)) = Reported p limit spare old new taken_old taken_new findings.items × (findings.items ≢ []) × (CanBeCertified p limit spare → ⊥)
-AuditAnswers limit spare old new taken_old taken_new broken unread silent (Err (PlanRefused f)) = ReadsPlan old new broken unread (Err (f.line, f.kind)) × silent
-AuditAnswers {A} limit spare old new taken_old taken_new broken unread silent (Err Write) = ReportedInPart A limit spare old new taken_old taken_new
-AuditAnswers limit spare old new taken_old taken_new broken unread silent (Err NoMemory) = ReadAlone old new × silent
+-- WHAT AN AUDIT ANSWERS. Broken says that the source failed or met the bound on calls, unread that
+-- nothing was read, silent that nothing was written.
+abbrev pub AuditAnswers : {A : Type 0} → (limit spare : ℕ)
+    → (old new taken_old taken_new : Option (List ℕ))
+    → (broken unread silent : Type 0) → Result (Audited A) AuditFault → Type 0
+AuditAnswers {A} limit spare old new taken_old taken_new broken unread silent (Ok (Sound p cert)) =
+    Reported {A = A} p limit spare old new taken_old taken_new [] × IsCleared p cert limit spare
+AuditAnswers limit spare old new taken_old taken_new broken unread silent
+    (Ok (Unsound p findings)) = Reported p limit spare old new taken_old taken_new findings.items
+    × (findings.items ≢ []) × (CanBeCertified p limit spare → ⊥)
+AuditAnswers limit spare old new taken_old taken_new broken unread silent (Err (PlanRefused f)) =
+    ReadsPlan old new broken unread (Err (f.line, f.kind)) × silent
+AuditAnswers {A} limit spare old new taken_old taken_new broken unread silent (Err Write) =
+    ReportedInPart A limit spare old new taken_old taken_new
+AuditAnswers limit spare old new taken_old taken_new broken unread silent (Err NoMemory) =
+    ReadAlone old new × silent
 
 -- a write fault is told where the sink's mark is set, and otherwise the mark is as before
 abbrev pub mark_by : Bool → AuditFault → Bool

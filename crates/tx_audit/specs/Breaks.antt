@@ -35,7 +35,8 @@ pub record AnswersBare (p : Plan) (spare : ℕ) (s : State) (events : List Event
   pub reply : moment.reply ≡ Answered Nc
   pub bare : IsExcused p spare moment.before moment.event moment.reply → ⊥
 
--- what the run from the opening state breaks, by the kind of the finding: nothing follows from an ambiguous pair
+-- what the run from the opening state breaks, by the kind of the finding: nothing follows from an
+-- ambiguous pair
 abbrev pub Breaks : {A : Type 0} → Plan → ℕ → ℕ → Finding A → List Event → Type 0
 Breaks p limit spare (Ambiguous a b) events = ⊥
 Breaks p limit spare (Loop c w) events = PassesTwice p (state_after p (opening 0 0) events)
@@ -43,13 +44,15 @@ Breaks p limit spare (Short c w) events = AnswersBare p spare (opening 0 0) even
 Breaks p limit spare (Long c w) events = PassesMany p limit (state_after p (opening 0 0) events)
 
 -- THE EVENTS SHOW THE FINDING: none of them is refused, and their run is not that of a sound plan.
-pub record Shows {A : Type 0} (p : Plan) (limit spare : ℕ) (finding : Finding A) (events : List Event) : Type 0 where
+pub record Shows {A : Type 0} (p : Plan) (limit spare : ℕ)
+    (finding : Finding A) (events : List Event) : Type 0 where
   pub unrefused : NoneRefused p (opening 0 0) events
   pub breaks : Breaks p limit spare finding events
   pub unsound : IsSound p limit spare → ⊥
 
 -- they show one of some findings
-pub record ShowsOne {A : Type 0} (p : Plan) (limit spare : ℕ) (findings : List (Finding A)) (events : List Event) : Type 0 where
+pub record ShowsOne {A : Type 0} (p : Plan) (limit spare : ℕ)
+    (findings : List (Finding A)) (events : List Event) : Type 0 where
   pub finding : Finding A
   pub listed : Among finding findings
   pub shows : Shows p limit spare finding events

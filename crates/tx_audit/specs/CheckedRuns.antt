@@ -21,11 +21,12 @@ pub record Bytes : Type 0 where
   pub taken_new : Option (List ℕ)
 
 -- the script was run over a network of the plan, from the opening state
-pub record RanFromOpening (p : Plan) (x : Bytes) (broken untouched : Type 0) (answer : Result Summary RunFault) : Type 0 where
+pub record RanFromOpening (p : Plan) (x : Bytes)
+    (broken untouched : Type 0) (answer : Result Summary RunFault) : Type 0 where
   pub state : State
-  pub ran :
-      RunAnswers p (record { rest_old = x.rest_old; rest_new = x.rest_new; taken_old = x.taken_old; taken_new = x.taken_new; state_old = opening 0 0; state_new = state }) broken
-      (untouched × (state ≡ opening 0 0)) answer
+  pub ran : RunAnswers p (record { rest_old = x.rest_old; rest_new = x.rest_new;
+      taken_old = x.taken_old; taken_new = x.taken_new; state_old = opening 0 0;
+      state_new = state }) broken (untouched × (state ≡ opening 0 0)) answer
 
 -- there was no memory for the network: the first event is told, and nothing was read or written
 abbrev pub HadNoRoom : (untouched : Type 0) → RunFault → Type 0
@@ -34,19 +35,26 @@ HadNoRoom untouched f = (f ≡ record { event = 1; cause = NoMemory }) × untouc
 -- WHAT A RUN OVER THE ENGINE ANSWERS
 abbrev pub Simulated : Plan → Bytes → (broken untouched : Type 0) → Result Summary RunFault → Type 0
 Simulated p x broken untouched (Ok summary) = RanFromOpening p x broken untouched (Ok summary)
-Simulated p x broken untouched (Err f) = RanFromOpening p x broken untouched (Err f) ⊎ HadNoRoom untouched f
+Simulated p x broken untouched (Err f) = RanFromOpening p x broken untouched (Err f)
+    ⊎ HadNoRoom untouched f
 
--- The checker said Yes. So every state of the run is safe, every NC is excused, and few Routes of one call are accepted.
+-- The checker said Yes. So every state of the run is safe, every NC is excused, and few Routes of
+-- one call are accepted.
 pub record IsAllowed (p : Plan) (cert : Certificate) (limit spare : ℕ) : Type 0 where
   pub yes : verdict_of (check_faults p (ranks_for p cert) limit spare) ≡ Yes
   pub sound : IsSound p limit spare
   pub few_routes : HasFewRoutes p limit
 
--- WHAT A CHECKED RUN ANSWERS. It ran only after a Yes; after a No it read and wrote nothing, and returns that No.
-abbrev pub CheckedAnswers : Plan → Certificate → (limit spare : ℕ) → Bytes → (broken untouched : Type 0) → Result Checked RunFault → Type 0
-CheckedAnswers p cert limit spare x broken untouched (Ok (Ran summary)) = IsAllowed p cert limit spare × Simulated p x broken untouched (Ok summary)
-CheckedAnswers p cert limit spare x broken untouched (Ok (Denied f)) = (verdict_of (check_faults p (ranks_for p cert) limit spare) ≡ No f) × untouched
-CheckedAnswers p cert limit spare x broken untouched (Err f) = IsAllowed p cert limit spare × Simulated p x broken untouched (Err f)
+-- WHAT A CHECKED RUN ANSWERS. It ran only after a Yes; after a No it read and wrote nothing, and
+-- returns that No.
+abbrev pub CheckedAnswers : Plan → Certificate
+    → (limit spare : ℕ) → Bytes → (broken untouched : Type 0) → Result Checked RunFault → Type 0
+CheckedAnswers p cert limit spare x broken untouched (Ok (Ran summary)) =
+    IsAllowed p cert limit spare × Simulated p x broken untouched (Ok summary)
+CheckedAnswers p cert limit spare x broken untouched (Ok (Denied f)) =
+    (verdict_of (check_faults p (ranks_for p cert) limit spare) ≡ No f) × untouched
+CheckedAnswers p cert limit spare x broken untouched (Err f) = IsAllowed p cert limit spare
+    × Simulated p x broken untouched (Err f)
 
 -- a write fault is told where the sink's mark is set, and otherwise the mark is as before
 abbrev pub mark_after : Bool → Result Checked RunFault → Bool

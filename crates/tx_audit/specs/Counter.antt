@@ -34,7 +34,8 @@ low_line code r = record { code = code; national = r.low }
 
 -- the low end of the first range of the first code that is at home at x and has a range
 abbrev pub first_line : Plan → ℕ → Option Line
-first_line p x = option_and_then (λ code. option_map (low_line code) (first_range p code)) (first_code p x)
+first_line p x = option_and_then (λ code. option_map (low_line code) (first_range p code))
+    (first_code p x)
 
 -- THE WAY OF THE CALL
 
@@ -44,7 +45,8 @@ listed_before g list = before (λ h. h == g) list
 
 -- The call goes on by the group g of a list: those before it are blocked while it is routed.
 abbrev pub step_events : List ℕ → ℕ → List Event
-step_events list g = map Block (listed_before g list) ++ (Route 1 ∷ (map Unblock (listed_before g list) ++ (Confirm 1 ∷ [])))
+step_events list g = map Block (listed_before g list)
+    ++ (Route 1 ∷ (map Unblock (listed_before g list) ++ (Confirm 1 ∷ [])))
 
 -- the steps in turn, for the code c from x on
 abbrev pub walk_events : Plan → ℕ → ℕ → List (ℕ × ℕ) → List Event

@@ -26,18 +26,25 @@ module _ {A : Type 0} where
 
   -- a certificate that clears a plan without findings, or the findings of one that no ranks certify
   abbrev pub IsRight : Plan → (limit spare : ℕ) → Ranking A → Type 0
-  IsRight p limit spare (Found cert) = IsAllFound {A = A} p limit spare [] × IsCleared p cert limit spare
-  IsRight p limit spare (Fails findings) = IsAllFound p limit spare findings.items × (findings.items ≢ []) × (CanBeCertified p limit spare → ⊥)
+  IsRight p limit spare (Found cert) = IsAllFound {A = A} p limit spare []
+      × IsCleared p cert limit spare
+  IsRight p limit spare (Fails findings) = IsAllFound p limit spare findings.items
+      × (findings.items ≢ []) × (CanBeCertified p limit spare → ⊥)
 
 -- a ranking that is right, whose report was written in part
-pub record ToldInPart (A : Type 0) (p : Plan) (limit spare : ℕ) (taken_old taken_new : Option (List ℕ)) : Type 0 where
+pub record ToldInPart (A : Type 0) (p : Plan)
+    (limit spare : ℕ) (taken_old taken_new : Option (List ℕ)) : Type 0 where
   pub ranking : Ranking A
   pub right : IsRight p limit spare ranking
   pub wrote : StopsIn taken_old taken_new (report p limit spare (findings_of ranking))
 
 -- The ranking is right, and its report was written. Silent says that nothing was written.
-abbrev pub RankAnswers : {A : Type 0} → Plan → (limit spare : ℕ) → (taken_old taken_new : Option (List ℕ)) → (silent : Type 0) → Result (Ranking A) AuditFault → Type 0
-RankAnswers p limit spare taken_old taken_new silent (Ok r) = IsRight p limit spare r × (taken_new ≡ append_known taken_old (report p limit spare (findings_of r)))
-RankAnswers {A} p limit spare taken_old taken_new silent (Err Write) = ToldInPart A p limit spare taken_old taken_new
+abbrev pub RankAnswers : {A : Type 0} → Plan → (limit spare : ℕ)
+    → (taken_old taken_new : Option (List ℕ))
+    → (silent : Type 0) → Result (Ranking A) AuditFault → Type 0
+RankAnswers p limit spare taken_old taken_new silent (Ok r) = IsRight p limit spare r
+    × (taken_new ≡ append_known taken_old (report p limit spare (findings_of r)))
+RankAnswers {A} p limit spare taken_old taken_new silent (Err Write) =
+    ToldInPart A p limit spare taken_old taken_new
 RankAnswers p limit spare taken_old taken_new silent (Err NoMemory) = silent
 RankAnswers p limit spare taken_old taken_new silent (Err (PlanRefused f)) = ⊥

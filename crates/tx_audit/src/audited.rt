@@ -34,7 +34,8 @@ impl<A: Allocator> Audited<A> {
 /// Why an audit stopped.
 #[derive(Clone, Copy, Debug, Error)]
 pub enum AuditFault {
-    /// The plan's text is refused, its source failed, or its reader wanted memory. Nothing was written.
+    /// The plan's text is refused, its source failed, or its reader wanted memory. Nothing was
+    /// written.
     #[error("plan {0}")]
     Plan(PlanFault),
     /// The sink failed: a front of the report was written.

@@ -22,10 +22,12 @@ use tx_plantext::read_plan_from;
 use tx_rank::{Finding, Ranking, rank};
 use tx_text::{Sink, Source, WriteFault};
 
-/// Reads a plan, and writes the report on it: YES where some certificate certifies it for at most `limit` transits (0 to 62) and `spare` groups to spare (0
+/// Reads a plan, and writes the report on it: YES where some certificate certifies it for at most
+/// `limit` transits (0 to 62) and `spare` groups to spare (0
 /// to 15), or what is wrong with it, with walks that show it.
 ///
-/// Nothing is written where the plan is refused or memory runs out. The report says YES only where the checker says Yes to the certificate that is told.
+/// Nothing is written where the plan is refused or memory runs out. The report says YES only where
+/// the checker says Yes to the certificate that is told.
 pub fn audit<A: Allocator + Copy, R: Source, W: Sink>(
     alloc: A,
     source: &mut R,
@@ -35,8 +37,11 @@ pub fn audit<A: Allocator + Copy, R: Source, W: Sink>(
 ) -> Result<Audited<A>, AuditFault>
     requires limit { limit ≤ 62 }
     requires spare { spare ≤ 15 }
-    ensures answers { AuditAnswers limit spare (R.rest source.old) (R.rest source.new) (W.taken out.old) (W.taken out.new) (Broken R.called (R.failed source.new) source_calls source.old source.new) (source.new ≡ source.old) (out.new ≡ out.old) result }
-    ensures each { IfOk result (OnUnsound (λ p findings. AllByRecursion (IsTrueOf p limit spare) findings)) }
+    ensures answers { AuditAnswers limit spare (R.rest source.old) (R.rest source.new)
+        (W.taken out.old) (W.taken out.new) (Broken R.called (R.failed source.new)
+        source_calls source.old source.new) (source.new ≡ source.old) (out.new ≡ out.old) result }
+    ensures each { IfOk result
+        (OnUnsound (λ p findings. AllByRecursion (IsTrueOf p limit spare) findings)) }
     ensures mark { W.failed out.new ≡ mark_after (W.failed out.old) result }
     ensures calls { CallsAtMost R.called source_calls source.old source.new }
 {
@@ -65,7 +70,8 @@ fn rank_and_report<A: Allocator + Copy, W: Sink>(
 ) -> Result<Ranking<A>, AuditFault>
     requires limit { limit ≤ 62 }
     requires spare { spare ≤ 15 }
-    ensures answers { RankAnswers plan.now limit spare (W.taken out.old) (W.taken out.new) (out.new ≡ out.old) result }
+    ensures answers { RankAnswers plan.now limit spare
+        (W.taken out.old) (W.taken out.new) (out.new ≡ out.old) result }
     ensures mark { W.failed out.new ≡ mark_after (W.failed out.old) result }
 {
     match rank(alloc, plan, limit, spare) {
@@ -88,9 +94,11 @@ fn report_ranking<A: Allocator, W: Sink>(
     requires limit { limit ≤ 62 }
     requires spare { spare ≤ 15 }
     requires fits { OnFound (IsCertificateOf plan.now) ranking.now }
-    requires certified { OnFound (λ cert. IsCertified plan.now (ranks_of cert) limit spare) ranking.now }
+    requires certified { OnFound (λ cert. IsCertified plan.now (ranks_of cert) limit spare)
+        ranking.now }
     ensures confirmed { OnFound (λ cert. IsAllowed plan.now cert limit spare) ranking.now }
-    ensures wrote { Wrote W.taken W.failed out.old out.new (report plan.now limit spare (findings_of ranking.now)) result }
+    ensures wrote { Wrote W.taken W.failed out.old out.new
+        (report plan.now limit spare (findings_of ranking.now)) result }
 {
     match ranking {
         Ranking::Found(cert) => confirm(plan, cert, limit, spare, out),
@@ -111,7 +119,8 @@ fn confirm<A: Allocator, W: Sink>(
     requires fits { IsCertificateOf plan.now cert.now }
     requires certified { IsCertified plan.now (ranks_of cert.now) limit spare }
     ensures confirmed { IsAllowed plan.now cert.now limit spare }
-    ensures wrote { Wrote W.taken W.failed out.old out.new (report {A = A} plan.now limit spare []) result }
+    ensures wrote { Wrote W.taken W.failed out.old out.new
+        (report {A = A} plan.now limit spare []) result }
 {
     match check(plan, cert, limit, spare) {
         Verdict::Yes => {

@@ -38,7 +38,8 @@ fn walked<A: Allocator + Copy>(
     walk: &Walk<A>,
 ) -> Result<Option<Vec<Event, A>>, NoMemory>
     requires { code < length plan.now.codes }
-    ensures { IfOk result (λ o. (last : List Event) → option_map (λ v. v.items ++ last) o ≡ walked plan.now code walk.now last) }
+    ensures { IfOk result (λ o. (last : List Event)
+        → option_map (λ v. v.items ++ last) o ≡ walked plan.now code walk.now last) }
 {
     plan.rules();
     let Some(line) = first_line(plan, walk.start) else {
@@ -81,9 +82,12 @@ fn events_of<A: Allocator + Copy>(
     }
 }
 
-/// The events that show a true finding to whoever applies them from the opening state: none of them is refused, and they break what a plan that is
-/// sound for the limit and the spare number keeps. A loop passes an exchange twice, a short list gives an NC that is not excused, and a long walk has
-/// more transits than the limit. None for an ambiguous pair, and for a loop whose last two steps go by one both-way group of a single circuit.
+/// The events that show a true finding to whoever applies them from the opening state: none of them
+/// is refused, and they break what a plan that is
+/// sound for the limit and the spare number keeps. A loop passes an exchange twice, a short list
+/// gives an NC that is not excused, and a long walk has
+/// more transits than the limit. None for an ambiguous pair, and for a loop whose last two steps go
+/// by one both-way group of a single circuit.
 pub fn counter<A: Allocator + Copy>(
     alloc: A,
     plan: &Plan<A>,
@@ -92,10 +96,13 @@ pub fn counter<A: Allocator + Copy>(
     spare: u8,
 ) -> Result<Option<Vec<Event, A>>, NoMemory>
     requires { IsTrueOf plan.now limit spare finding.now }
-    ensures events { IfOk result (λ o. option_map (λ v. v.items) o ≡ counter_of plan.now finding.now) }
+    ensures events { IfOk result (λ o. option_map (λ v. v.items) o
+        ≡ counter_of plan.now finding.now) }
     ensures which { IfOk result (λ o. is_some o ≡ has_counter plan.now finding.now) }
-    ensures shows { IfOk result (λ o. IfSome o (λ v. Shows plan.now limit spare finding.now v.items)) }
-    ensures writable { IfOk result (λ o. IfSome o (λ v. AllByRecursion (IsWritable plan.now) v.items)) }
+    ensures shows { IfOk result
+        (λ o. IfSome o (λ v. Shows plan.now limit spare finding.now v.items)) }
+    ensures writable { IfOk result
+        (λ o. IfSome o (λ v. AllByRecursion (IsWritable plan.now) v.items)) }
 {
     plan.rules();
     events_of(alloc, plan, finding)

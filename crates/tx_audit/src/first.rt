@@ -14,7 +14,8 @@ use tx_rank::Finding;
 use tx_machine::Event;
 use tx_text::NoMemory;
 
-/// The events that show the first of some true findings that has any, if one has. `Err` means out of memory.
+/// The events that show the first of some true findings that has any, if one has. `Err` means out
+/// of memory.
 pub fn first_counter<A: Allocator + Copy>(
     alloc: A,
     plan: &Plan<A>,
@@ -23,10 +24,13 @@ pub fn first_counter<A: Allocator + Copy>(
     spare: u8,
 ) -> Result<Option<Vec<Event, A>>, NoMemory>
     requires { AllByRecursion (IsTrueOf plan.now limit spare) findings.now }
-    ensures events { IfOk result (λ o. option_map (λ v. v.items) o ≡ first_counter_of plan.now findings.now) }
+    ensures events { IfOk result (λ o. option_map (λ v. v.items) o
+        ≡ first_counter_of plan.now findings.now) }
     ensures which { IfOk result (λ o. is_some o ≡ list_any (has_counter plan.now) findings.now) }
-    ensures shows { IfOk result (λ o. IfSome o (λ v. ShowsOne plan.now limit spare findings.now v.items)) }
-    ensures writable { IfOk result (λ o. IfSome o (λ v. AllByRecursion (IsWritable plan.now) v.items)) }
+    ensures shows { IfOk result
+        (λ o. IfSome o (λ v. ShowsOne plan.now limit spare findings.now v.items)) }
+    ensures writable { IfOk result
+        (λ o. IfSome o (λ v. AllByRecursion (IsWritable plan.now) v.items)) }
 {
     plan.rules();
     first_events(alloc, plan, findings, limit, spare)
@@ -41,7 +45,8 @@ fn first_events<A: Allocator + Copy>(
     spare: u8,
 ) -> Result<Option<Vec<Event, A>>, NoMemory>
     requires { AllByRecursion (IsTrueOf plan.now limit spare) findings.now }
-    ensures { IfOk result (λ o. option_map (λ v. v.items) o ≡ first_counter_of plan.now findings.now) }
+    ensures { IfOk result (λ o. option_map (λ v. v.items) o
+        ≡ first_counter_of plan.now findings.now) }
 {
     for finding in findings {
         match counter(alloc, plan, finding, limit, spare)? {

@@ -20,7 +20,8 @@ fn first_range<A: Allocator>(plan: &Plan<A>, code: CodeId) -> Option<LineRange>
     None
 }
 
-/// The low end of the first range of the first code that is at home at the exchange and has a range.
+/// The low end of the first range of the first code that is at home at the exchange and has a
+/// range.
 pub(crate) fn first_line<A: Allocator>(plan: &Plan<A>, start: ExchangeId) -> Option<Line>
     ensures { result ≡ first_line plan.now start }
 {

@@ -1,4 +1,5 @@
-//! The audit of a plan and its report, the text of a grade, the events that show what is wrong, and runs of scripts, also after a check.
+//! The audit of a plan and its report, the text of a grade, the events that show what is wrong, and
+//! runs of scripts, also after a check.
 #![tactic(auto)]
 
 mod audited;

@@ -18,7 +18,8 @@ pub(crate) fn write_report<A: Allocator, W: Sink>(
     spare: u8,
     sink: &mut W,
 ) -> Result<(), WriteFault>
-    ensures { Wrote W.taken W.failed sink.old sink.new (report plan.now limit spare findings.now) result }
+    ensures { Wrote W.taken W.failed sink.old sink.new
+        (report plan.now limit spare findings.now) result }
 {
     write_head(limit, spare, sink)?;
     write_findings(plan, findings, sink)?;
@@ -53,7 +54,8 @@ pub fn write_findings<A: Allocator, W: Sink>(
     findings: &[Finding<A>],
     sink: &mut W,
 ) -> Result<(), WriteFault>
-    ensures { Wrote W.taken W.failed sink.old sink.new (flat_map (finding_line plan.now) findings.now) result }
+    ensures { Wrote W.taken W.failed sink.old sink.new
+        (flat_map (finding_line plan.now) findings.now) result }
 {
     for i in 0..findings.len() {
         write_finding(plan, &findings[i], sink)?;
@@ -80,7 +82,8 @@ fn write_finding<A: Allocator, W: Sink>(
     }
 }
 
-/// Writes the head of a line, a code and the exchanges of a walk with the groups between them, and the end of the line.
+/// Writes the head of a line, a code and the exchanges of a walk with the groups between them, and
+/// the end of the line.
 fn write_walk<A: Allocator, W: Sink>(
     head: &[u8],
     plan: &Plan<A>,
@@ -88,7 +91,8 @@ fn write_walk<A: Allocator, W: Sink>(
     walk: &Walk<A>,
     sink: &mut W,
 ) -> Result<(), WriteFault>
-    ensures { Wrote W.taken W.failed sink.old sink.new (head.now ++ walk_text plan.now code walk.now) result }
+    ensures { Wrote W.taken W.failed sink.old sink.new
+        (head.now ++ walk_text plan.now code walk.now) result }
 {
     let code = plan.code_figures(code);
     write_text(
@@ -104,7 +108,8 @@ pub fn write_steps<A: Allocator, W: Sink>(
     steps: &[(GroupId, ExchangeId)],
     sink: &mut W,
 ) -> Result<(), WriteFault>
-    ensures { Wrote W.taken W.failed sink.old sink.new (flat_map (step_text plan.now) steps.now ++ codes "\n") result }
+    ensures { Wrote W.taken W.failed sink.old sink.new
+        (flat_map (step_text plan.now) steps.now ++ codes "\n") result }
 {
     for i in 0..steps.len() {
         write_step(plan, steps[i], sink)?;

@@ -14,7 +14,8 @@ use tx_script::write_event;
 use tx_machine::Event;
 use tx_text::{Sink, WriteFault, write_bytes};
 
-/// Writes a script of the events: the header, a line for each event, and END. The plan has the events' ids, and their circuits have numbers from 1 to
+/// Writes a script of the events: the header, a line for each event, and END. The plan has the
+/// events' ids, and their circuits have numbers from 1 to
 /// 240. The script says these events again. Stops where the sink fails.
 pub fn write_counter<A: Allocator, W: Sink>(
     plan: &Plan<A>,
@@ -22,8 +23,10 @@ pub fn write_counter<A: Allocator, W: Sink>(
     sink: &mut W,
 ) -> Result<(), WriteFault>
     requires { AllByRecursion (IsWritable plan.now) events.now }
-    ensures wrote { Wrote W.taken W.failed sink.old sink.new (script_written plan.now events.now) result }
-    ensures says { script_of plan.now AtEnd (script_written plan.now events.now) ≡ whole events.now }
+    ensures wrote { Wrote W.taken W.failed sink.old sink.new
+        (script_written plan.now events.now) result }
+    ensures says { script_of plan.now AtEnd (script_written plan.now events.now)
+        ≡ whole events.now }
 {
     plan.rules();
     all_event_rules(events);
@@ -46,7 +49,8 @@ fn write_events<A: Allocator, W: Sink>(
     sink: &mut W,
 ) -> Result<(), WriteFault>
     requires { AllByRecursion (IsWritable plan.now) events.now }
-    ensures { Wrote W.taken W.failed sink.old sink.new (flat_map (event_text plan.now) events.now) result }
+    ensures { Wrote W.taken W.failed sink.old sink.new
+        (flat_map (event_text plan.now) events.now) result }
 {
     for i in 0..events.len() {
         write_event(&events[i], plan, sink)?;

@@ -67,7 +67,8 @@ pub(crate) fn push_walk<A: Allocator>(
     steps: &[(GroupId, ExchangeId)],
     events: &mut Vec<Event, A>,
 ) -> Result<(), NoMemory>
-    ensures { IfOk result (λ _. events.new.items ≡ events.old.items ++ walk_events plan.now code start steps.now) }
+    ensures { IfOk result (λ _. events.new.items
+        ≡ events.old.items ++ walk_events plan.now code start steps.now) }
 {
     let mut at = start;
     for step in steps {
@@ -84,7 +85,8 @@ pub(crate) fn push_shut<A: Allocator>(
     exchange: ExchangeId,
     events: &mut Vec<Event, A>,
 ) -> Result<(), NoMemory>
-    ensures { IfOk result (λ _. events.new.items ≡ events.old.items ++ shut_events plan.now code exchange) }
+    ensures { IfOk result (λ _. events.new.items
+        ≡ events.old.items ++ shut_events plan.now code exchange) }
 {
     push_blocks(plan.list(exchange, code), events)?;
     events.push(Event::Route(1))?;

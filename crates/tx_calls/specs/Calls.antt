@@ -1,4 +1,5 @@
--- What contracts see of the open calls: what is kept under each key, and the calls in order of their numbers.
+-- What contracts see of the open calls: what is kept under each key, and the calls in order of
+-- their numbers.
 use Rattle.std.specs.Prelude.{◌≡◌, ◌≢◌, ℕ, ◌-◌, ◌<◌, List, [], ◌∷◌, map, nat_lt, if◌then◌else◌, Option, Some, None, slice_index_or, vec_len, vec_capacity}
 use Rattle.std.specs.Option.{option_map}
 use Rattle.slab.specs.Slab.{Slab, slab_len}
@@ -56,4 +57,5 @@ module _ {A : Type 0} where
   slots_of s = map (option_map kept_of) s.slots
 
   abbrev pub calls_of : {S : Type 0} → Slab (OpenCall A) → IndexMap ℕ ℕ S → Calls
-  calls_of s m = record { slots = slots_of s; call_room = s.capacity - slab_len s; number_room = index.spare m }
+  calls_of s m = record { slots = slots_of s;
+      call_room = s.capacity - slab_len s; number_room = index.spare m }

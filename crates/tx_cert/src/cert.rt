@@ -60,7 +60,8 @@ impl<A: Allocator> Cert<A> {
         let _ = &self.ranks;
     }
 
-    /// Gives the exchange a rank for the code, in place of one that it had. Both are of the certificate's plan.
+    /// Gives the exchange a rank for the code, in place of one that it had. Both are of the
+    /// certificate's plan.
     pub fn set(&mut self, code: CodeId, exchange: ExchangeId, rank: u16)
         requires code { code < self.old.codes }
         requires exchange { exchange < self.old.exchanges }

@@ -26,7 +26,8 @@ pub fn read_cert<A: Allocator + Copy>(
     text: &[u8],
     plan: &Plan<A>,
 ) -> Result<Cert<A>, CertFault>
-    ensures gives { AnswersAs is_memory (cert_of plan.now AtEnd text.now) (λ n. n ≡ 1) (told_fault result) }
+    ensures gives { AnswersAs is_memory (cert_of plan.now AtEnd text.now)
+        (λ n. n ≡ 1) (told_fault result) }
     ensures fits { IfOk result (λ t. IsCertificateOf plan.now t) }
 {
     let cert = match Cert::new(alloc, plan) {
@@ -42,7 +43,8 @@ pub fn read_cert<A: Allocator + Copy>(
     read_lines(frame, cert, plan, &mut source)
 }
 
-/// Reads a certificate of the plan from a source, to its end, in pieces of any size and by at most 4,294,967,295 calls. `Err` is the first fault, with its
+/// Reads a certificate of the plan from a source, to its end, in pieces of any size and by at most
+/// 4,294,967,295 calls. `Err` is the first fault, with its
 /// line.
 pub fn read_cert_from<A: Allocator + Copy, R: Source>(
     alloc: A,
@@ -50,7 +52,8 @@ pub fn read_cert_from<A: Allocator + Copy, R: Source>(
     plan: &Plan<A>,
 ) -> Result<Cert<A>, CertFault>
     ensures gives { ReadsCert plan.now (R.rest source.old) (R.rest source.new)
-        (Broken R.called (R.failed source.new) source_calls source.old source.new) (source.new ≡ source.old) (told_fault result) }
+        (Broken R.called (R.failed source.new) source_calls source.old source.new)
+        (source.new ≡ source.old) (told_fault result) }
     ensures calls { CallsAtMost R.called source_calls source.old source.new }
     ensures fits { IfOk result (λ t. IsCertificateOf plan.now t) }
 {
@@ -99,7 +102,8 @@ fn read_lines<A: Allocator, R: Source>(
     requires number { frame.number ≡ 1 }
     requires cert { cert ≡ no_ranks_for plan.now }
     ensures gives { ReadsCert plan.now (R.rest source.old) (R.rest source.new)
-        (Broken R.called (R.failed source.new) frame.entry.reader.left source.old source.new) (source.new ≡ source.old) (told_fault result) }
+        (Broken R.called (R.failed source.new) frame.entry.reader.left source.old source.new)
+        (source.new ≡ source.old) (told_fault result) }
     ensures calls { CallsAtMost R.called frame.entry.reader.left source.old source.new }
     ensures fits { IfOk result (λ t. IsCertificateOf plan.now t) }
 {

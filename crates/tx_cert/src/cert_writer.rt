@@ -14,7 +14,8 @@ use std::alloc::Allocator;
 use tx_plan::{CodeId, ExchangeId, Plan};
 use tx_text::{Sink, WriteFault, write_bytes, write_parts};
 
-/// Writes the certificate: its header, its ranks by codes and then by exchanges, each in the plan's order, and END. Where the sink fails, a front of the text
+/// Writes the certificate: its header, its ranks by codes and then by exchanges, each in the plan's
+/// order, and END. Where the sink fails, a front of the text
 /// was taken.
 pub fn write_cert<A: Allocator, W: Sink>(
     cert: &Cert<A>,
@@ -35,7 +36,8 @@ fn write_ranks<A: Allocator, W: Sink>(
     plan: &Plan<A>,
     sink: &mut W,
 ) -> Result<(), WriteFault>
-    ensures { Wrote W.taken W.failed sink.old sink.new (flat_map line_written (cert_lines plan.now cert.now)) result }
+    ensures { Wrote W.taken W.failed sink.old sink.new
+        (flat_map line_written (cert_lines plan.now cert.now)) result }
 {
     for place in 0..plan.codes() {
         write_code(cert, plan, CodeId::of(place), sink)?;
@@ -50,7 +52,8 @@ fn write_code<A: Allocator, W: Sink>(
     code: CodeId,
     sink: &mut W,
 ) -> Result<(), WriteFault>
-    ensures { Wrote W.taken W.failed sink.old sink.new (flat_map line_written (code_lines plan.now cert.now code (range_with_len 0 (length plan.now.exchanges)))) result }
+    ensures { Wrote W.taken W.failed sink.old sink.new (flat_map line_written
+        (code_lines plan.now cert.now code (range_with_len 0 (length plan.now.exchanges)))) result }
 {
     for place in 0..plan.exchanges() {
         write_rank(cert, plan, code, ExchangeId::of(place), sink)?;
@@ -66,7 +69,8 @@ fn write_rank<A: Allocator, W: Sink>(
     exchange: ExchangeId,
     sink: &mut W,
 ) -> Result<(), WriteFault>
-    ensures { Wrote W.taken W.failed sink.old sink.new (flat_map line_written (rank_lines plan.now code exchange (rank_at cert.now code exchange))) result }
+    ensures { Wrote W.taken W.failed sink.old sink.new (flat_map line_written
+        (rank_lines plan.now code exchange (rank_at cert.now code exchange))) result }
 {
     let Some(rank) = cert.rank(code, exchange) else {
         return Ok(());

@@ -20,8 +20,10 @@ fn add_rank<A: Allocator>(
 ) -> Result<(), CertWord>
     requires codes { cert.old.codes ≡ length plan.now.codes }
     requires exchanges { cert.old.exchanges ≡ length plan.now.exchanges }
-    ensures ok { IfOk result (λ _. rank_said cert.old (code_named plan.now code.now) (exchange_named plan.now exchange.now) (number_of 65535 rank.now) ≡ Ok cert.new) }
-    ensures err { IfErr result (λ e. rank_said cert.old (code_named plan.now code.now) (exchange_named plan.now exchange.now) (number_of 65535 rank.now) ≡ Err e) }
+    ensures ok { IfOk result (λ _. rank_said cert.old (code_named plan.now code.now)
+        (exchange_named plan.now exchange.now) (number_of 65535 rank.now) ≡ Ok cert.new) }
+    ensures err { IfErr result (λ e. rank_said cert.old (code_named plan.now code.now)
+        (exchange_named plan.now exchange.now) (number_of 65535 rank.now) ≡ Err e) }
     ensures memory { IfErr result (λ e. e ≢ CertWord.NoMemory) }
     ensures codes { cert.new.codes ≡ cert.old.codes }
     ensures exchanges { cert.new.exchanges ≡ cert.old.exchanges }

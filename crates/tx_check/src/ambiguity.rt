@@ -8,7 +8,8 @@ use std::alloc::Allocator;
 use std::cmp::{Ord, Ordering};
 use tx_plan::{CodeId, Plan};
 
-/// The least pair of a code and a longer code that begins with it, if there is one. Takes no memory.
+/// The least pair of a code and a longer code that begins with it, if there is one. Takes no
+/// memory.
 pub(crate) fn ambiguous<A: Allocator>(plan: &Plan<A>) -> Option<(CodeId, CodeId)>
     ensures { result ≡ ambiguous_of plan.now.codes }
 {

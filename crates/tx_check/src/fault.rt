@@ -2,8 +2,10 @@
 use thiserror::Error;
 use tx_plan::{CodeId, ExchangeId, GroupId};
 
-/// What a check finds. Of several faults the first in this order is told. Of several of one kind it is the first by order of declaration of the code and then
-/// of the exchange, and then by place in the list; of ambiguous pairs it is the least by their figures.
+/// What a check finds. Of several faults the first in this order is told. Of several of one kind it
+/// is the first by order of declaration of the code and then
+/// of the exchange, and then by place in the list; of ambiguous pairs it is the least by their
+/// figures.
 #[derive(Clone, Copy, Debug, PartialEq, Eq, Error)]
 pub enum CheckFault {
     /// K1: the first code begins the second.
@@ -21,7 +23,8 @@ pub enum CheckFault {
     /// K5: a ranked exchange other than the home has a list of no more groups than are to spare.
     #[error("the list of the exchange has no more groups than are to spare")]
     Short(CodeId, ExchangeId),
-    /// K6: a group in the list of a ranked exchange other than the home leads to an exchange without rank.
+    /// K6: a group in the list of a ranked exchange other than the home leads to an exchange
+    /// without rank.
     #[error("the group in the list of the exchange leads to an exchange without a rank")]
     TargetUnranked(CodeId, ExchangeId, GroupId),
     /// K7: a group in the list of such an exchange leads to a rank that is not smaller.

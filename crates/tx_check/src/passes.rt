@@ -53,7 +53,8 @@ pub(crate) fn origin_fault<A: Allocator>(plan: &Plan<A>, cert: &Cert<A>) -> Opti
 
 /// Which exchanges are origins.
 fn origins<A: Allocator>(plan: &Plan<A>) -> [bool; 256]
-    ensures { (x : ℕ) → x < length plan.now.exchanges → slice_index_or result x false ≡ is_origin plan.now x }
+    ensures { (x : ℕ) → x < length plan.now.exchanges
+        → slice_index_or result x false ≡ is_origin plan.now x }
 {
     let mut marks = [false; 256];
     for place in 0..plan.exchanges() {
@@ -68,8 +69,10 @@ fn origin_fault_for<A: Allocator>(
     origins: &[bool; 256],
     code: CodeId,
 ) -> Option<CheckFault>
-    requires { (x : ℕ) → x < length plan.now.exchanges → slice_index_or origins.now x false ≡ is_origin plan.now x }
-    ensures { result ≡ foremost (at_exchanges plan.now (origin_unranked_at plan.now (ranks_for plan.now cert.now) code)) }
+    requires { (x : ℕ) → x < length plan.now.exchanges
+        → slice_index_or origins.now x false ≡ is_origin plan.now x }
+    ensures { result ≡ foremost
+        (at_exchanges plan.now (origin_unranked_at plan.now (ranks_for plan.now cert.now) code)) }
 {
     for place in 0..plan.exchanges() {
         let exchange = ExchangeId::of(place);
@@ -89,7 +92,8 @@ fn origin_fault_at<A: Allocator>(
     exchange: ExchangeId,
 ) -> Option<CheckFault>
     requires { origin ≡ is_origin plan.now exchange }
-    ensures { result ≡ foremost (origin_unranked_at plan.now (ranks_for plan.now cert.now) code exchange) }
+    ensures { result
+        ≡ foremost (origin_unranked_at plan.now (ranks_for plan.now cert.now) code exchange) }
 {
     if origin && rank_of(plan, cert, code, exchange).is_none() && !plan.is_barred(exchange, code) {
         Some(CheckFault::OriginUnranked(code, exchange))
@@ -121,7 +125,8 @@ fn height_fault_for<A: Allocator>(
     limit: u8,
     code: CodeId,
 ) -> Option<CheckFault>
-    ensures { result ≡ foremost (at_exchanges plan.now (too_high_at (ranks_for plan.now cert.now) limit code)) }
+    ensures { result
+        ≡ foremost (at_exchanges plan.now (too_high_at (ranks_for plan.now cert.now) limit code)) }
 {
     for place in 0..plan.exchanges() {
         let found = height_fault_at(plan, cert, limit, code, ExchangeId::of(place));

@@ -14,13 +14,15 @@ use std::alloc::Allocator;
 use tx_plan::{CodeId, ExchangeId, GroupId, Plan};
 use tx_text::{Sink, WriteFault, write_bytes, write_text};
 
-/// Writes the verdict as one line, as `YES` or `NO K7 24 CENTRAL CENO1`, with its LF. Where the sink fails, a front of the line was taken.
+/// Writes the verdict as one line, as `YES` or `NO K7 24 CENTRAL CENO1`, with its LF. Where the
+/// sink fails, a front of the line was taken.
 pub fn write_verdict<A: Allocator, W: Sink>(
     verdict: &Verdict,
     plan: &Plan<A>,
     sink: &mut W,
 ) -> Result<(), WriteFault>
-    ensures { Wrote W.taken W.failed sink.old sink.new (verdict_written plan.now verdict.now) result }
+    ensures { Wrote W.taken W.failed sink.old sink.new
+        (verdict_written plan.now verdict.now) result }
 {
     match *verdict {
         Verdict::Yes => write_bytes(b"YES\n", sink),
@@ -34,7 +36,8 @@ fn write_no<A: Allocator, W: Sink>(
     plan: &Plan<A>,
     sink: &mut W,
 ) -> Result<(), WriteFault>
-    ensures { Wrote W.taken W.failed sink.old sink.new (verdict_written plan.now (No fault)) result }
+    ensures { Wrote W.taken W.failed sink.old sink.new
+        (verdict_written plan.now (No fault)) result }
 {
     match fault {
         CheckFault::Ambiguous(a, b) => {
@@ -73,8 +76,8 @@ fn write_exchange<A: Allocator, W: Sink>(
     exchange: ExchangeId,
     sink: &mut W,
 ) -> Result<(), WriteFault>
-    ensures { Wrote W.taken W.failed sink.old sink.new
-        (front.now ++ line_written (figures_of plan.now code ∷ exchange_name plan.now exchange ∷ [])) result }
+    ensures { Wrote W.taken W.failed sink.old sink.new (front.now
+        ++ line_written (figures_of plan.now code ∷ exchange_name plan.now exchange ∷ [])) result }
 {
     let name = plan.exchange_name(exchange);
     write_text(&[front, plan.code_figures(code), b" ", name, b"\n"], sink)
@@ -89,8 +92,8 @@ fn write_group<A: Allocator, W: Sink>(
     group: GroupId,
     sink: &mut W,
 ) -> Result<(), WriteFault>
-    ensures { Wrote W.taken W.failed sink.old sink.new
-        (front.now ++ line_written (figures_of plan.now code ∷ exchange_name plan.now exchange ∷ group_name plan.now group ∷ [])) result }
+    ensures { Wrote W.taken W.failed sink.old sink.new (front.now ++ line_written (figures_of
+        plan.now code ∷ exchange_name plan.now exchange ∷ group_name plan.now group ∷ [])) result }
 {
     let code = plan.code_figures(code);
     let exchange = plan.exchange_name(exchange);

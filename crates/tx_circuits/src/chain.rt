@@ -33,9 +33,12 @@ fn follow(slots: &[Slot], list: &FreeList, end: End, way: Way, from: Option<u8>)
 fn set_link(slots: &mut [Slot], end: End, way: Way, place: usize, to: Option<u8>)
     requires { place < length slots.old }
     ensures here { link_at end way slots.new place ≡ to }
-    ensures apart { (k : ℕ) → k ≢ place → link_at end way slots.new k ≡ link_at end way slots.old k }
-    ensures turned { (k : ℕ) → link_at end (back way) slots.new k ≡ link_at end (back way) slots.old k }
-    ensures other { (w : WayValue) (k : ℕ) → link_at (opposite end) w slots.new k ≡ link_at (opposite end) w slots.old k }
+    ensures apart { (k : ℕ) → k ≢ place
+        → link_at end way slots.new k ≡ link_at end way slots.old k }
+    ensures turned { (k : ℕ) → link_at end (back way) slots.new k
+        ≡ link_at end (back way) slots.old k }
+    ensures other { (w : WayValue) (k : ℕ)
+        → link_at (opposite end) w slots.new k ≡ link_at (opposite end) w slots.old k }
     ensures states { map state_of slots.new ≡ map state_of slots.old }
 {
     slots[place] = slots[place].with_link(end, way, to);
@@ -52,9 +55,12 @@ fn lead(
 )
     requires { IfSome from (λ k. k < length slots.old) }
     ensures here { chain end way slots.new list.new from ≡ to }
-    ensures apart { (q : Option ℕ) → q ≢ from → chain end way slots.new list.new q ≡ chain end way slots.old list.old q }
-    ensures turned { (q : Option ℕ) → chain end (back way) slots.new list.new q ≡ chain end (back way) slots.old list.old q }
-    ensures other { (w : WayValue) (k : ℕ) → link_at (opposite end) w slots.new k ≡ link_at (opposite end) w slots.old k }
+    ensures apart { (q : Option ℕ) → q ≢ from
+        → chain end way slots.new list.new q ≡ chain end way slots.old list.old q }
+    ensures turned { (q : Option ℕ)
+        → chain end (back way) slots.new list.new q ≡ chain end (back way) slots.old list.old q }
+    ensures other { (w : WayValue) (k : ℕ)
+        → link_at (opposite end) w slots.new k ≡ link_at (opposite end) w slots.old k }
     ensures states { map state_of slots.new ≡ map state_of slots.old }
 {
     match (from, way) {
@@ -84,7 +90,8 @@ fn last_before(slots: &[Slot], list: &FreeList, end: End, way: Way, place: usize
     last
 }
 
-// The neighbours that a circuit would have in the list of an end: looked for from the end of the list that is nearer.
+// The neighbours that a circuit would have in the list of an end: looked for from the end of the
+// list that is nearer.
 fn neighbours(slots: &[Slot], list: &FreeList, end: End, place: usize) -> Links
     requires short { length slots.now ≤ 240 }
     requires listed { IsListed (free_at end slots.now) end slots.now list.now }
@@ -111,8 +118,10 @@ fn neighbours(slots: &[Slot], list: &FreeList, end: End, place: usize) -> Links
 fn set_links(slots: &mut [Slot], end: End, place: usize, links: Links)
     requires { place < length slots.old }
     ensures here { (way : WayValue) → link_at end way slots.new place ≡ ahead way links }
-    ensures apart { (way : WayValue) (k : ℕ) → k ≢ place → link_at end way slots.new k ≡ link_at end way slots.old k }
-    ensures other { (way : WayValue) (k : ℕ) → link_at (opposite end) way slots.new k ≡ link_at (opposite end) way slots.old k }
+    ensures apart { (way : WayValue) (k : ℕ) → k ≢ place
+        → link_at end way slots.new k ≡ link_at end way slots.old k }
+    ensures other { (way : WayValue) (k : ℕ)
+        → link_at (opposite end) way slots.new k ≡ link_at (opposite end) way slots.old k }
     ensures states { map state_of slots.new ≡ map state_of slots.old }
 {
     slots[place] = slots[place].with_links(end, links);
@@ -125,10 +134,14 @@ pub fn insert(slots: &mut [Slot], list: &mut FreeList, end: End, place: usize, l
     requires above { IfSome links.above (λ k. k < length slots.old) }
     requires below { IfSome links.below (λ k. k < length slots.old) }
     requires apart { (way : WayValue) → Some place ≢ ahead way links }
-    ensures placed { (way : WayValue) → chain end way slots.new list.new (Some place) ≡ ahead way links }
-    ensures joined { (way : WayValue) → chain end way slots.new list.new (ahead (back way) links) ≡ Some place }
-    ensures rest { (way : WayValue) (q : Option ℕ) → q ≢ Some place → q ≢ ahead (back way) links → chain end way slots.new list.new q ≡ chain end way slots.old list.old q }
-    ensures other { (way : WayValue) (k : ℕ) → link_at (opposite end) way slots.new k ≡ link_at (opposite end) way slots.old k }
+    ensures placed { (way : WayValue)
+        → chain end way slots.new list.new (Some place) ≡ ahead way links }
+    ensures joined { (way : WayValue)
+        → chain end way slots.new list.new (ahead (back way) links) ≡ Some place }
+    ensures rest { (way : WayValue) (q : Option ℕ) → q ≢ Some place → q ≢ ahead (back way) links
+        → chain end way slots.new list.new q ≡ chain end way slots.old list.old q }
+    ensures other { (way : WayValue) (k : ℕ)
+        → link_at (opposite end) way slots.new k ≡ link_at (opposite end) way slots.old k }
     ensures states { map state_of slots.new ≡ map state_of slots.old }
 {
     let Links { above, below } = links;
@@ -145,7 +158,8 @@ fn put(slots: &mut [Slot], list: &mut FreeList, end: End, place: usize)
     requires place { place < length slots.old }
     requires taken { free_at end slots.old place ≡ false }
     ensures listed { IsListed (with (free_at end slots.old) place true) end slots.new list.new }
-    ensures other { (way : WayValue) (k : ℕ) → link_at (opposite end) way slots.new k ≡ link_at (opposite end) way slots.old k }
+    ensures other { (way : WayValue) (k : ℕ)
+        → link_at (opposite end) way slots.new k ≡ link_at (opposite end) way slots.old k }
     ensures states { map state_of slots.new ≡ map state_of slots.old }
 {
     let links = neighbours(slots, list, end, place);
@@ -159,7 +173,8 @@ fn take(slots: &mut [Slot], list: &mut FreeList, end: End, place: usize)
     requires place { place < length slots.old }
     requires free { free_at end slots.old place ≡ true }
     ensures listed { IsListed (with (free_at end slots.old) place false) end slots.new list.new }
-    ensures other { (way : WayValue) (k : ℕ) → link_at (opposite end) way slots.new k ≡ link_at (opposite end) way slots.old k }
+    ensures other { (way : WayValue) (k : ℕ)
+        → link_at (opposite end) way slots.new k ≡ link_at (opposite end) way slots.old k }
     ensures states { map state_of slots.new ≡ map state_of slots.old }
 {
     let links = links(slots, end, place);
@@ -172,8 +187,10 @@ pub fn relink(slots: &mut [Slot], list: &mut FreeList, end: End, place: usize, t
     requires short { length slots.old ≤ 240 }
     requires listed { IsListed (free_at end slots.old) end slots.old list.old }
     requires place { place < length slots.old }
-    ensures listed { IsListed (with (free_at end slots.old) place (is_free end to)) end slots.new list.new }
-    ensures other { (way : WayValue) (k : ℕ) → link_at (opposite end) way slots.new k ≡ link_at (opposite end) way slots.old k }
+    ensures listed { IsListed (with (free_at end slots.old) place (is_free end to))
+        end slots.new list.new }
+    ensures other { (way : WayValue) (k : ℕ)
+        → link_at (opposite end) way slots.new k ≡ link_at (opposite end) way slots.old k }
     ensures states { map state_of slots.new ≡ map state_of slots.old }
 {
     let was = slots[place].state.is_free(end);

@@ -1,4 +1,5 @@
-// The free lists of a group: its ends, the ways through a list, the links of a circuit, and the heads.
+// The free lists of a group: its ends, the ways through a list, the links of a circuit, and the
+// heads.
 ghost use Rattle.std.specs.Prelude.{◌≡◌, ◌<◌, None};
 ghost use Rattle.tx_circuits.specs.declared.free_lists.End.{End as EndValue};
 ghost use Rattle.tx_circuits.specs.declared.free_lists.Way.{Way as WayValue};

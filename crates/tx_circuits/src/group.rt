@@ -26,7 +26,8 @@ fn append(slots: &mut [Slot], list: &mut FreeList, end: End, place: usize)
     requires place { place < length slots.old }
     requires listed { IsListed (until place (free_at end slots.old)) end slots.old list.old }
     ensures listed { IsListed (until (place + 1) (free_at end slots.old)) end slots.new list.new }
-    ensures other { (way : WayValue) (k : ℕ) → link_at (opposite end) way slots.new k ≡ link_at (opposite end) way slots.old k }
+    ensures other { (way : WayValue) (k : ℕ)
+        → link_at (opposite end) way slots.new k ≡ link_at (opposite end) way slots.old k }
     ensures states { map state_of slots.new ≡ map state_of slots.old }
 {
     if !slots[place].state.is_free(end) {

@@ -15,7 +15,8 @@ use std::marker::Model;
 use tx_plan::{Circuit, ExchangeId, GroupId};
 use tx_text::NoMemory;
 
-/// The groups of a plan with the states of their circuits: all circuits in one vector, group by group, linked in free lists.
+/// The groups of a plan with the states of their circuits: all circuits in one vector, group by
+/// group, linked in free lists.
 #[derive(Drop)]
 pub struct Groups<A: Allocator = Global> {
     slots: Vec<Slot, A>,
@@ -69,7 +70,8 @@ impl<A: Allocator> Groups<A> {
     /// Appends a group with so many circuits, all free.
     pub fn add(&mut self, head: GroupHead, count: usize) -> Result<(), NoMemory>
         requires { count ≤ 240 }
-        ensures ok { OnOk result (self.new ≡ self.old ++ record { head = head; states = replicate count idle } ∷ []) }
+        ensures ok { OnOk result
+            (self.new ≡ self.old ++ record { head = head; states = replicate count idle } ∷ []) }
         ensures err { OnErr result (self.new ≡ self.old) }
     {
         let row = append(&mut self.slots, head, count)?;
@@ -142,7 +144,8 @@ impl<A: Allocator> Groups<A> {
 
     /// Whether an exchange has seized a circuit of a group that is in this state.
     pub fn seizes_in(&self, state: State, group: GroupId, exchange: ExchangeId) -> bool
-        ensures { result ≡ option_map_or (λ end. has_seized end state) (end_at self.now group exchange) false }
+        ensures { result ≡ option_map_or (λ end. has_seized end state)
+            (end_at self.now group exchange) false }
     {
         match self.end(group, exchange) {
             Some(end) => state.has_seized(end),
@@ -175,7 +178,8 @@ impl<A: Allocator> Groups<A> {
     /// Takes all calls off the circuits of a group.
     pub fn clear(&mut self, group: GroupId)
         requires { group < length self.old }
-        ensures { self.new ≡ change_at (λ t. record t { states = map cleared t.states }) group self.old }
+        ensures { self.new ≡ change_at
+            (λ t. record t { states = map cleared t.states }) group self.old }
     {
         let row = &mut self.rows[group.index()];
         row.clear(self.slots.as_mut_slice());

@@ -43,7 +43,8 @@ impl Slot {
     /// The slot with another link in the list of an end.
     pub fn with_link(self, end: End, way: Way, to: Option<u8>) -> Slot
         ensures here { ahead way (links_of end result) ≡ to }
-        ensures turned { ahead (back way) (links_of end result) ≡ ahead (back way) (links_of end self) }
+        ensures turned { ahead (back way) (links_of end result)
+            ≡ ahead (back way) (links_of end self) }
         ensures other { links_of (opposite end) result ≡ links_of (opposite end) self }
         ensures state { result.state ≡ self.state }
     {

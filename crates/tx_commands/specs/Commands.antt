@@ -43,23 +43,25 @@ pub record TellsNoMore (found : List Row) : Type 0 where
 -- what was found after the name of a command asks for this
 abbrev pub Asks : List ℕ → List Row → Command → Type 0
 Asks name found Pipe = ⊥
-Asks name found (Run plan script None) =
-    (name ≡ codes "run") × Names found (codes "plan") plan × Names found (codes "script") script × (first_of (codes "cert") found ≡ None)
-    × (first_of (codes "limit") found ≡ None) × (first_of (codes "spare") found ≡ None) × TellsNoMore found
-Asks name found (Run plan script (Some (cert, limit, spare))) =
-    (name ≡ codes "run") × Names found (codes "plan") plan × Names found (codes "script") script × Names found (codes "cert") cert × Gives found (codes "limit") limit × Gives found (codes "spare") spare
-    × TellsNoMore found
+Asks name found (Run plan script None) = (name ≡ codes "run") × Names found (codes "plan") plan
+    × Names found (codes "script") script × (first_of (codes "cert") found ≡ None) × (first_of
+    (codes "limit") found ≡ None) × (first_of (codes "spare") found ≡ None) × TellsNoMore found
+Asks name found (Run plan script (Some (cert, limit, spare))) = (name ≡ codes "run") × Names found
+    (codes "plan") plan × Names found (codes "script") script × Names found (codes "cert") cert
+    × Gives found (codes "limit") limit × Gives found (codes "spare") spare × TellsNoMore found
 Asks name found (RunTelling plan script strict echo) =
     (name ≡ codes "run") × Names found (codes "plan") plan × Names found (codes "script") script
     × (first_of (codes "cert") found ≡ None) × (first_of (codes "limit") found ≡ None)
     × (first_of (codes "spare") found ≡ None)
     × (is_set found (codes "strict") ≡ strict) × (is_set found (codes "echo") ≡ echo)
-Asks name found (Check plan cert limit spare) =
-    (name ≡ codes "check") × Names found (codes "plan") plan × Names found (codes "cert") cert × Gives found (codes "limit") limit × Gives found (codes "spare") spare
+Asks name found (Check plan cert limit spare) = (name ≡ codes "check")
+    × Names found (codes "plan") plan × Names found (codes "cert") cert
+    × Gives found (codes "limit") limit × Gives found (codes "spare") spare
 Asks name found (Lint plan) = (name ≡ codes "lint") × Names found (codes "plan") plan
 Asks name found (Codes plan) = (name ≡ codes "codes") × Names found (codes "plan") plan
-Asks name found (Audit plan limit spare cert counter) =
-    (name ≡ codes "audit") × Names found (codes "plan") plan × Gives found (codes "limit") limit × Gives found (codes "spare") spare × (first_of (codes "cert") found ≡ option_map string_bytes cert)
+Asks name found (Audit plan limit spare cert counter) = (name ≡ codes "audit")
+    × Names found (codes "plan") plan × Gives found (codes "limit") limit × Gives found
+    (codes "spare") spare × (first_of (codes "cert") found ≡ option_map string_bytes cert)
     × (first_of (codes "counter") found ≡ option_map string_bytes counter)
 Asks name found (Change old new limit spare cert mixture counter) =
     (name ≡ codes "change") × Names found (codes "old") old × Names found (codes "new") new
@@ -79,12 +81,15 @@ Asks name found (Grade plan) = (name ≡ codes "grade") × Names found (codes "p
 Asks name found (Trace plan exchange code) =
     (name ≡ codes "trace") × Names found (codes "plan") plan
     × Names found (codes "exchange") exchange × Names found (codes "code") code
-Asks name found (Draw plan None) =
-    (name ≡ codes "draw") × Names found (codes "plan") plan × (first_of (codes "code") found ≡ None) × (first_of (codes "limit") found ≡ None) × (first_of (codes "spare") found ≡ None)
-Asks name found (Draw plan (Some (code, None))) =
-    (name ≡ codes "draw") × Names found (codes "plan") plan × Names found (codes "code") code × (first_of (codes "limit") found ≡ None) × (first_of (codes "spare") found ≡ None)
-Asks name found (Draw plan (Some (code, Some (limit, spare)))) =
-    (name ≡ codes "draw") × Names found (codes "plan") plan × Names found (codes "code") code × Gives found (codes "limit") limit × Gives found (codes "spare") spare
+Asks name found (Draw plan None) = (name ≡ codes "draw")
+    × Names found (codes "plan") plan × (first_of (codes "code") found ≡ None)
+    × (first_of (codes "limit") found ≡ None) × (first_of (codes "spare") found ≡ None)
+Asks name found (Draw plan (Some (code, None))) = (name ≡ codes "draw")
+    × Names found (codes "plan") plan × Names found (codes "code") code
+    × (first_of (codes "limit") found ≡ None) × (first_of (codes "spare") found ≡ None)
+Asks name found (Draw plan (Some (code, Some (limit, spare)))) = (name ≡ codes "draw")
+    × Names found (codes "plan") plan × Names found (codes "code") code
+    × Gives found (codes "limit") limit × Gives found (codes "spare") spare
 Asks name found (Explain None) = (name ≡ codes "explain") × (first_of (codes "code") found ≡ None)
 Asks name found (Explain (Some word)) =
     (name ≡ codes "explain") × Names found (codes "code") word

@@ -13,8 +13,8 @@ given (Some file ∷ rest) = file ∷ given rest
 -- the files that a command reads
 abbrev pub files_read : Command → List (List ℕ)
 files_read Pipe = []
-files_read (Run plan script checked) =
-    string_bytes plan ∷ string_bytes script ∷ given (option_map (λ c. string_bytes c.0) checked ∷ [])
+files_read (Run plan script checked) = string_bytes plan ∷ string_bytes script ∷ given
+    (option_map (λ c. string_bytes c.0) checked ∷ [])
 files_read (RunTelling plan script strict echo) = string_bytes plan ∷ string_bytes script ∷ []
 files_read (Check plan cert limit spare) = string_bytes plan ∷ string_bytes cert ∷ []
 files_read (Lint plan) = string_bytes plan ∷ []
@@ -64,6 +64,7 @@ has_clash known (file ∷ rest) =
 abbrev pub reads_input_twice : Command → Bool
 reads_input_twice command = has_input_twice (files_read command)
 
--- a file to be made is one that is read, or another one to be made, or has the name of standard input
+-- a file to be made is one that is read, or another one to be made, or has the name of standard
+-- input
 abbrev pub overwrites : Command → Bool
 overwrites command = has_clash (standard_input ∷ files_read command) (files_made command)

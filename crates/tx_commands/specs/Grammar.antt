@@ -1,4 +1,5 @@
--- The words that the program takes, as the library of command lines sees them: commands, whose files go by place and whose options go by name.
+-- The words that the program takes, as the library of command lines sees them: commands, whose
+-- files go by place and whose options go by name.
 use Rattle.std.specs.Prelude.{ℕ, List, Some, true, codes, pos}
 use Rattle.clap.specs.Words.{App, Rule, new_app, new_rule, with_rule, with_subcommand}
 use Rattle.clap.specs.declared.builder.action.ArgAction.TheVariants.{Set, SetTrue}
@@ -40,7 +41,8 @@ run_words =
     (flag (codes "strict"))) (flag (codes "echo"))
 
 abbrev pub check_words : App
-check_words = with_rule (with_rule (with_rule (plan_words (codes "check")) (file (codes "cert"))) (needed limit)) (needed spare)
+check_words = with_rule (with_rule (with_rule (plan_words (codes "check")) (file (codes "cert")))
+    (needed limit)) (needed spare)
 
 abbrev pub lint_words : App
 lint_words = plan_words (codes "lint")
@@ -52,7 +54,8 @@ abbrev pub codes_words : App
 codes_words = plan_words (codes "codes")
 
 abbrev pub audit_words : App
-audit_words = with_rule (with_rule (with_rule (with_rule (plan_words (codes "audit")) (needed limit)) (needed spare)) (option (codes "cert"))) (option (codes "counter"))
+audit_words = with_rule (with_rule (with_rule (with_rule (plan_words (codes "audit"))
+    (needed limit)) (needed spare)) (option (codes "cert"))) (option (codes "counter"))
 
 -- a command with a plan, and an option that names another one, so the plan goes by another id
 abbrev pub mend_words : App
@@ -66,22 +69,23 @@ survive_words = with_rule (plan_words (codes "survive")) (option (codes "risks")
 
 -- a command with a plan, and with two words that have to be given as it has
 abbrev pub trace_words : App
-trace_words =
-    with_rule (with_rule (plan_words (codes "trace")) (file (codes "exchange"))) (file (codes "code"))
+trace_words = with_rule (with_rule (plan_words (codes "trace")) (file (codes "exchange")))
+    (file (codes "code"))
 
 -- a command whose words are two plans
 abbrev pub change_words : App
-change_words =
-    with_rule (with_rule (with_rule (with_rule (with_rule (with_rule (with_rule
-    (new_app (codes "change")) (file (codes "old"))) (file (codes "new"))) (needed limit)) (needed spare))
-    (option (codes "cert"))) (option (codes "mixture"))) (option (codes "counter"))
+change_words = with_rule (with_rule (with_rule (with_rule (with_rule (with_rule (with_rule
+    (new_app (codes "change")) (file (codes "old"))) (file (codes "new"))) (needed limit))
+    (needed spare)) (option (codes "cert"))) (option (codes "mixture"))) (option (codes "counter"))
 
 abbrev pub draw_words : App
-draw_words = with_rule (with_rule (with_rule (plan_words (codes "draw")) (option (codes "code"))) limit) spare
+draw_words = with_rule
+    (with_rule (with_rule (plan_words (codes "draw")) (option (codes "code"))) limit) spare
 
 -- a code, which need not be given
 abbrev pub explain_words : App
-explain_words = with_rule (new_app (codes "explain")) (record (new_rule (codes "code")) { value_names = 1; action = Some Set })
+explain_words = with_rule (new_app (codes "explain"))
+    (record (new_rule (codes "code")) { value_names = 1; action = Some Set })
 
 -- the program takes its words from the first on, tells its version, and has twelve commands
 abbrev pub top_words : App

@@ -29,7 +29,8 @@ fn with_arg<'a>(
     arg: Arg<'a>,
 ) -> Result<clap::Command<'a>, AllocError>
     requires { arg.global ≡ false }
-    ensures { (app : App) → IfOk command.entry (λ c. app_of c ≡ app) → IfOk result (λ c. app_of c ≡ with_rule app (rule_of arg.entry)) }
+    ensures { (app : App) → IfOk command.entry (λ c. app_of c ≡ app)
+        → IfOk result (λ c. app_of c ≡ with_rule app (rule_of arg.entry)) }
 {
     match command {
         Ok(made) => made.arg(arg),
@@ -48,14 +49,16 @@ pub(crate) fn with_file<'a>(
     shown: &'a str,
     help: &'a str,
 ) -> Result<clap::Command<'a>, AllocError>
-    ensures { (app : App) → IfOk command.entry (λ c. app_of c ≡ app) → IfOk result (λ c. app_of c ≡ with_rule app (grammar.file id.now)) }
+    ensures { (app : App) → IfOk command.entry (λ c. app_of c ≡ app)
+        → IfOk result (λ c. app_of c ≡ with_rule app (grammar.file id.now)) }
 {
     with_arg(command, word(alloc, id, shown, help).required(true))
 }
 
 /// A word that goes by its place.
 pub(crate) fn word<'a>(alloc: Global, id: &'a str, shown: &'a str, help: &'a str) -> Arg<'a>
-    ensures rule { rule_of result ≡ record (new_rule id.now) { value_names = 1; action = Some Set } }
+    ensures rule { rule_of result ≡ record (new_rule id.now)
+        { value_names = 1; action = Some Set } }
     ensures local { result.global ≡ false }
 {
     Arg::new(alloc, id)
@@ -80,7 +83,8 @@ pub(crate) fn with_option<'a>(
     shown: &'a str,
     help: &'a str,
 ) -> Result<clap::Command<'a>, AllocError>
-    ensures { (app : App) → IfOk command.entry (λ c. app_of c ≡ app) → IfOk result (λ c. app_of c ≡ with_rule app (grammar.option id.now)) }
+    ensures { (app : App) → IfOk command.entry (λ c. app_of c ≡ app)
+        → IfOk result (λ c. app_of c ≡ with_rule app (grammar.option id.now)) }
 {
     with_arg(command, option(alloc, id, shown, help))
 }
@@ -92,7 +96,8 @@ pub(crate) fn with_flag<'a>(
     id: &'a str,
     help: &'a str,
 ) -> Result<clap::Command<'a>, AllocError>
-    ensures { (app : App) → IfOk command.entry (λ c. app_of c ≡ app) → IfOk result (λ c. app_of c ≡ with_rule app (grammar.flag id.now)) }
+    ensures { (app : App) → IfOk command.entry (λ c. app_of c ≡ app)
+        → IfOk result (λ c. app_of c ≡ with_rule app (grammar.flag id.now)) }
 {
     with_arg(command, flag(alloc, id, help))
 }
@@ -142,7 +147,9 @@ pub(crate) fn with_bounds<'a>(
     alloc: Global,
     needed: bool,
 ) -> Result<clap::Command<'a>, AllocError>
-    ensures { (app : App) → IfOk command.entry (λ c. app_of c ≡ app) → IfOk result (λ c. app_of c ≡ with_rule (with_rule app (record grammar.limit { required = needed })) (record grammar.spare { required = needed })) }
+    ensures { (app : App) → IfOk command.entry (λ c. app_of c ≡ app) → IfOk result
+        (λ c. app_of c ≡ with_rule (with_rule app (record grammar.limit { required = needed }))
+        (record grammar.spare { required = needed })) }
 {
     let command = with_arg(command, limit(alloc).required(needed));
     with_arg(command, spare(alloc).required(needed))

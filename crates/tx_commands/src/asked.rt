@@ -17,7 +17,8 @@ pub(crate) fn text(
     matches: &ArgMatches<'_>,
     id: &str,
 ) -> Result<Option<String>, AllocError>
-    ensures { IfOk result (λ word. first_of id.now (rows_of (found_of matches.now)) ≡ option_map string_bytes word) }
+    ensures { IfOk result (λ word. first_of id.now (rows_of (found_of matches.now))
+        ≡ option_map string_bytes word) }
 {
     match matches.get_str(id) {
         Some(word) => Ok(Some(String::from_str(alloc, word)?)),
@@ -56,7 +57,8 @@ fn number(matches: &ArgMatches<'_>, id: &str, most: u8) -> Option<u8>
 /// The limit and the spare number, if both are given.
 fn bounds(matches: &ArgMatches<'_>) -> Option<(u8, u8)>
     ensures range { IfSome result (λ b. (b.0 ≤ 62) × (b.1 ≤ 15)) }
-    ensures given { IfSome result (λ b. Gives (rows_of (found_of matches.now)) (codes "limit") b.0 × Gives (rows_of (found_of matches.now)) (codes "spare") b.1) }
+    ensures given { IfSome result (λ b. Gives (rows_of (found_of matches.now)) (codes "limit") b.0
+        × Gives (rows_of (found_of matches.now)) (codes "spare") b.1) }
 {
     match (number(matches, "limit", 62), number(matches, "spare", 15)) {
         (Some(limit), Some(spare)) => Some((limit, spare)),

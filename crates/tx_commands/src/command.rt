@@ -11,7 +11,8 @@ pub enum Command {
         script: String,
         checked: Option<(String, u8, u8)>,
     },
-    /// `run PLAN SCRIPT` where more is told: by the status that an event was refused, or the line of
+    /// `run PLAN SCRIPT` where more is told: by the status that an event was refused, or the line
+    /// of
     /// each event before its reply.
     RunTelling {
         plan: String,
@@ -34,7 +35,8 @@ pub enum Command {
     Codes {
         plan: String,
     },
-    /// `audit PLAN --limit L --spare K`: the certificate goes to a file, if one is named, and so does the counter script.
+    /// `audit PLAN --limit L --spare K`: the certificate goes to a file, if one is named, and so
+    /// does the counter script.
     Audit {
         plan: String,
         limit: u8,
@@ -53,7 +55,8 @@ pub enum Command {
         mixture: Option<String>,
         counter: Option<String>,
     },
-    /// `mend PLAN --limit L --spare K`: the mended plan goes to a file, if one is named, and so does
+    /// `mend PLAN --limit L --spare K`: the mended plan goes to a file, if one is named, and so
+    /// does
     /// its certificate.
     Mend {
         plan: String,
@@ -77,7 +80,8 @@ pub enum Command {
         exchange: String,
         code: String,
     },
-    /// `draw PLAN [--code C [--limit L --spare K]]`: a picture of the plan, or of the routes for a code, with what an audit finds first if numbers are given.
+    /// `draw PLAN [--code C [--limit L --spare K]]`: a picture of the plan, or of the routes for a
+    /// code, with what an audit finds first if numbers are given.
     Draw {
         plan: String,
         routes: Option<(String, Option<(u8, u8)>)>,

@@ -22,7 +22,8 @@ pub enum WordsFault {
 }
 
 impl WordsFault {
-    /// The exit status: 0 for a request for help or for the version, 4 when memory runs out, else 64.
+    /// The exit status: 0 for a request for help or for the version, 4 when memory runs out, else
+    /// 64.
     pub fn status(&self) -> u8
         ensures { result ≡ status_of self.now }
     {

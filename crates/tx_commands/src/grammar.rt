@@ -286,7 +286,8 @@ fn with_command<'a>(
     program: Result<clap::Command<'a>, AllocError>,
     command: Result<clap::Command<'a>, AllocError>,
 ) -> Result<clap::Command<'a>, AllocError>
-    ensures { IfOk result (λ c. (top : Command) × (words : Command) × (program.entry ≡ Ok top) × (command.entry ≡ Ok words) × AddsSubcommand top words c) }
+    ensures { IfOk result (λ c. (top : Command) × (words : Command)
+        × (program.entry ≡ Ok top) × (command.entry ≡ Ok words) × AddsSubcommand top words c) }
 {
     match program {
         Ok(top) => match command {

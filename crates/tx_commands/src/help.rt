@@ -1,4 +1,5 @@
-// What the help says of plans, and what the help of each command ends with: an example, and the exit
+// What the help says of plans, and what the help of each command ends with: an example, and the
+// exit
 // statuses.
 
 pub(crate) const PLAN: &str =

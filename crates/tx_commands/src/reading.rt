@@ -134,7 +134,8 @@ fn command_in<'a>(
     }
 }
 
-/// Reads the words after the program's name. `Err` is refused words, a request for help or for the version, or lack of memory.
+/// Reads the words after the program's name. `Err` is refused words, a request for help or for the
+/// version, or lack of memory.
 pub fn read_command(alloc: Global, words: &[&str]) -> Result<Command, WordsFault>
     ensures in_range { IfOk result IsInRange }
     ensures pipe { words.now ≡ [] → result ≡ Ok Command.Pipe }

@@ -15,9 +15,11 @@ use tx_plan::{CodeId, ExchangeId, GroupId, Plan};
 use tx_rank::{Finding, is_marked};
 use tx_text::{Sink, WriteFault, write_text};
 
-/// Writes the picture of the routes for a code as a Graphviz text: the exchanges, and for each group of a list an arrow with its place in that list.
+/// Writes the picture of the routes for a code as a Graphviz text: the exchanges, and for each
+/// group of a list an arrow with its place in that list.
 ///
-/// The home has a double border, what is not marked as reached is grey, and the walk of the first finding of the code is red. What went out before a failure is a front of the text.
+/// The home has a double border, what is not marked as reached is grey, and the walk of the first
+/// finding of the code is red. What went out before a failure is a front of the text.
 pub fn write_code_drawing<A: Allocator, W: Sink>(
     plan: &Plan<A>,
     code: CodeId,
@@ -25,7 +27,8 @@ pub fn write_code_drawing<A: Allocator, W: Sink>(
     findings: &[Finding<A>],
     sink: &mut W,
 ) -> Result<(), WriteFault>
-    ensures { Wrote W.taken W.failed sink.old sink.new (code_drawing plan.now code reached.now (first_shown code findings.now)) result }
+    ensures { Wrote W.taken W.failed sink.old sink.new
+        (code_drawing plan.now code reached.now (first_shown code findings.now)) result }
 {
     write_first(plan, code, reached, findings, sink)
 }
@@ -38,7 +41,8 @@ fn write_first<A: Allocator, W: Sink>(
     findings: &[Finding<A>],
     sink: &mut W,
 ) -> Result<(), WriteFault>
-    ensures { Wrote W.taken W.failed sink.old sink.new (code_drawing plan.now code reached.now (first_shown code findings.now)) result }
+    ensures { Wrote W.taken W.failed sink.old sink.new
+        (code_drawing plan.now code reached.now (first_shown code findings.now)) result }
 {
     let shown = first_shown(code, findings);
     write_whole(plan, code, reached, &shown, sink)
@@ -52,7 +56,8 @@ fn write_whole<A: Allocator, W: Sink>(
     shown: &Shown<'_>,
     sink: &mut W,
 ) -> Result<(), WriteFault>
-    ensures { Wrote W.taken W.failed sink.old sink.new (code_drawing plan.now code reached.now shown.now) result }
+    ensures { Wrote W.taken W.failed sink.old sink.new
+        (code_drawing plan.now code reached.now shown.now) result }
 {
     write_head(sink)?;
     write_title(plan, code, shown, sink)?;
@@ -82,7 +87,8 @@ fn write_exchanges<A: Allocator, W: Sink>(
     shown: &Shown<'_>,
     sink: &mut W,
 ) -> Result<(), WriteFault>
-    ensures { Wrote W.taken W.failed sink.old sink.new (each_before (length plan.now.exchanges) (exchange_line plan.now code reached.now shown.now)) result }
+    ensures { Wrote W.taken W.failed sink.old sink.new (each_before
+        (length plan.now.exchanges) (exchange_line plan.now code reached.now shown.now)) result }
 {
     for place in 0..plan.exchanges() {
         let exchange = ExchangeId::of(place);
@@ -99,7 +105,8 @@ fn write_exchange<A: Allocator, W: Sink>(
     exchange: ExchangeId,
     sink: &mut W,
 ) -> Result<(), WriteFault>
-    ensures { Wrote W.taken W.failed sink.old sink.new (exchange_line plan.now code reached.now shown.now exchange) result }
+    ensures { Wrote W.taken W.failed sink.old sink.new
+        (exchange_line plan.now code reached.now shown.now exchange) result }
 {
     let home = home_text(plan.home(code) == exchange);
     let color = color_text(shown.passes(exchange), is_marked(reached, exchange));
@@ -123,7 +130,8 @@ fn write_lists<A: Allocator, W: Sink>(
     shown: &Shown<'_>,
     sink: &mut W,
 ) -> Result<(), WriteFault>
-    ensures { Wrote W.taken W.failed sink.old sink.new (each_before (length plan.now.exchanges) (list_lines plan.now code reached.now shown.now)) result }
+    ensures { Wrote W.taken W.failed sink.old sink.new (each_before
+        (length plan.now.exchanges) (list_lines plan.now code reached.now shown.now)) result }
 {
     for place in 0..plan.exchanges() {
         let exchange = ExchangeId::of(place);
@@ -142,7 +150,8 @@ fn write_list<A: Allocator, W: Sink>(
     list: &[GroupId],
     sink: &mut W,
 ) -> Result<(), WriteFault>
-    ensures { Wrote W.taken W.failed sink.old sink.new (each_before (length list.now) (λ i. choice_line plan.now reached.now shown.now exchange (i + 1) (get_or list.now i 0))) result }
+    ensures { Wrote W.taken W.failed sink.old sink.new (each_before (length list.now) (λ i.
+        choice_line plan.now reached.now shown.now exchange (i + 1) (get_or list.now i 0))) result }
 {
     for i in 0..list.len() {
         write_choice(plan, reached, shown, exchange, i + 1, list[i], sink)?;
@@ -160,7 +169,8 @@ fn write_choice<A: Allocator, W: Sink>(
     group: GroupId,
     sink: &mut W,
 ) -> Result<(), WriteFault>
-    ensures { Wrote W.taken W.failed sink.old sink.new (choice_line plan.now reached.now shown.now exchange order group) result }
+    ensures { Wrote W.taken W.failed sink.old sink.new
+        (choice_line plan.now reached.now shown.now exchange order group) result }
 {
     match plan.other_end(group, exchange) {
         Some(to) => {
@@ -179,7 +189,8 @@ fn write_order<A: Allocator, W: Sink>(
     color: &[u8],
     sink: &mut W,
 ) -> Result<(), WriteFault>
-    ensures { Wrote W.taken W.failed sink.old sink.new (order_label plan.now order group color.now) result }
+    ensures { Wrote W.taken W.failed sink.old sink.new
+        (order_label plan.now order group color.now) result }
 {
     let mut buffer = Buffer::new();
     let order = buffer.format(order).as_bytes();

@@ -11,9 +11,11 @@ use std::alloc::Allocator;
 use tx_plan::{Direction, ExchangeId, GroupId, Plan};
 use tx_text::{Sink, WriteFault, write_text};
 
-/// Writes the picture of a plan as a Graphviz text: each exchange with the codes that are at home there, and each group with its circuits.
+/// Writes the picture of a plan as a Graphviz text: each exchange with the codes that are at home
+/// there, and each group with its circuits.
 ///
-/// A one-way group is an arrow, and a both-way group a line. What went out before a failure is a front of the text.
+/// A one-way group is an arrow, and a both-way group a line. What went out before a failure is a
+/// front of the text.
 pub fn write_drawing<A: Allocator, W: Sink>(plan: &Plan<A>, sink: &mut W) -> Result<(), WriteFault>
     ensures { Wrote W.taken W.failed sink.old sink.new (drawing plan.now) result }
 {
@@ -31,7 +33,8 @@ fn write_whole<A: Allocator, W: Sink>(plan: &Plan<A>, sink: &mut W) -> Result<()
 }
 
 fn write_exchanges<A: Allocator, W: Sink>(plan: &Plan<A>, sink: &mut W) -> Result<(), WriteFault>
-    ensures { Wrote W.taken W.failed sink.old sink.new (each_before (length plan.now.exchanges) (exchange_line plan.now)) result }
+    ensures { Wrote W.taken W.failed sink.old sink.new
+        (each_before (length plan.now.exchanges) (exchange_line plan.now)) result }
 {
     for place in 0..plan.exchanges() {
         write_exchange(plan, ExchangeId::of(place), sink)?;
@@ -51,7 +54,8 @@ fn write_exchange<A: Allocator, W: Sink>(
 }
 
 fn write_groups<A: Allocator, W: Sink>(plan: &Plan<A>, sink: &mut W) -> Result<(), WriteFault>
-    ensures { Wrote W.taken W.failed sink.old sink.new (each_before (length plan.now.groups) (group_line plan.now)) result }
+    ensures { Wrote W.taken W.failed sink.old sink.new
+        (each_before (length plan.now.groups) (group_line plan.now)) result }
 {
     for place in 0..plan.groups() {
         write_group(plan, GroupId::of(place), sink)?;

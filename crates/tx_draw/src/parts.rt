@@ -40,7 +40,8 @@ fn write_home_rows<A: Allocator, W: Sink>(
     exchange: ExchangeId,
     sink: &mut W,
 ) -> Result<(), WriteFault>
-    ensures { Wrote W.taken W.failed sink.old sink.new (each_before (length plan.now.codes) (home_row plan.now exchange)) result }
+    ensures { Wrote W.taken W.failed sink.old sink.new
+        (each_before (length plan.now.codes) (home_row plan.now exchange)) result }
 {
     for place in 0..plan.codes() {
         write_home_row(plan, exchange, CodeId::of(place), sink)?;

@@ -20,7 +20,8 @@ impl<'p, A: Allocator + Copy> Parts<'p, A> {
         requires { IsSound self.old }
         ensures sound { IsSound self.new }
         ensures plan { self.new.plan.now ≡ self.old.plan.now }
-        ensures step { step self.old.plan.now (state_of self.old) (Confirm number) ≡ (result, state_of self.new) }
+        ensures step { step self.old.plan.now (state_of self.old) (Confirm number)
+            ≡ (result, state_of self.new) }
     {
         let (key, circuit) = match self.calling(number) {
             Ok(found) => found,
@@ -38,11 +39,13 @@ impl<'p, A: Allocator + Copy> Parts<'p, A> {
     fn go_on(&mut self, number: u32, key: usize, circuit: &Circuit, far: ExchangeId)
         requires sound { IsSound self.old }
         requires events { self.old.events < 2 ^ 64 - 1 }
-        requires calls { (k : Kept) × IsUnder self.old.calls number key k × (k.call.phase ≡ Calling circuit.now) × (far ≡ far_of self.old.plan.now k.call circuit.now) }
+        requires calls { (k : Kept) × IsUnder self.old.calls number key k × (k.call.phase
+            ≡ Calling circuit.now) × (far ≡ far_of self.old.plan.now k.call circuit.now) }
         requires alone { set.contains self.old.circuits.seized (circuit.now, far) ≡ false }
         ensures sound { IsSound self.new }
         ensures plan { self.new.plan.now ≡ self.old.plan.now }
-        ensures step { counted (accepted self.old.plan.now (state_of self.old) (Confirm number)) ≡ (At far, state_of self.new) }
+        ensures step { counted (accepted self.old.plan.now (state_of self.old) (Confirm number))
+            ≡ (At far, state_of self.new) }
     {
         self.circuits.hold(circuit);
         self.keys.set_both(circuit, key);

@@ -21,7 +21,8 @@ impl<'p, A: Allocator + Copy> Parts<'p, A> {
         requires { IsSound self.old }
         ensures sound { IsSound self.new }
         ensures plan { self.new.plan.now ≡ self.old.plan.now }
-        ensures step { step self.old.plan.now (state_of self.old) (Clear number party) ≡ (result, state_of self.new) }
+        ensures step { step self.old.plan.now (state_of self.old) (Clear number party)
+            ≡ (result, state_of self.new) }
     {
         let key = match self.clearable(number, party) {
             Ok(key) => key,
@@ -36,7 +37,8 @@ impl<'p, A: Allocator + Copy> Parts<'p, A> {
         Reply::Cleared
     }
 
-    /// The call under the key ends: its lines are free, its circuits are given back, and its ticket is written.
+    /// The call under the key ends: its lines are free, its circuits are given back, and its ticket
+    /// is written.
     pub(crate) fn end_call(&mut self, key: usize, cause: Cause)
         requires sound { IsSound self.old }
         requires there { is_some (kept_at self.old.calls key) ≡ true }
@@ -44,8 +46,10 @@ impl<'p, A: Allocator + Copy> Parts<'p, A> {
         ensures sound { IsSound self.new }
         ensures plan { self.new.plan.now ≡ self.old.plan.now }
         ensures events { self.new.events ≡ self.old.events }
-        ensures others { (other : ℕ) → other ≢ key → kept_at self.new.calls other ≡ kept_at self.old.calls other }
-        ensures state { (k : Kept) → kept_at self.old.calls key ≡ Some k → state_of self.new ≡ end_call self.old.plan.now cause k.call.number (state_of self.old) }
+        ensures others { (other : ℕ) → other ≢ key
+            → kept_at self.new.calls other ≡ kept_at self.old.calls other }
+        ensures state { (k : Kept) → kept_at self.old.calls key ≡ Some k → state_of self.new
+            ≡ end_call self.old.plan.now cause k.call.number (state_of self.old) }
     {
         let call = self.calls.take_out(key);
         free_lines(&mut self.lines, &call);
@@ -73,7 +77,8 @@ fn ticket_of<A: Allocator>(plan: &Plan<A>, call: OpenCall<A>, cause: Cause, even
 
 /// The lines of a call are free.
 fn free_lines<A: Allocator>(lines: &mut LineBook<A>, call: &OpenCall<A>)
-    ensures { lines.new ≡ record lines.old { engaged = freed (call_seen call.now) lines.old.engaged; room = lines.new.room } }
+    ensures { lines.new ≡ record lines.old { engaged = freed (call_seen call.now) lines.old.engaged;
+        room = lines.new.room } }
 {
     lines.free(&call.line);
     match &call.phase {
@@ -83,7 +88,8 @@ fn free_lines<A: Allocator>(lines: &mut LineBook<A>, call: &OpenCall<A>)
     }
 }
 
-/// A call gives all its circuits back: those of its hops are releasing, and so is the one that it has seized, unless its far end has seized it too.
+/// A call gives all its circuits back: those of its hops are releasing, and so is the one that it
+/// has seized, unless its far end has seized it too.
 fn give_back<A: Allocator>(circuits: &mut CircuitTable<A>, plan: &Plan<A>, call: &OpenCall<A>)
     requires { CanGiveBack plan.now (call_seen call.now) circuits.old }
     ensures { circuits.new ≡ given_back plan.now (call_seen call.now) circuits.old }
@@ -118,8 +124,10 @@ pub(crate) fn throw_off<A: Allocator>(
     other: &OpenCall<A>,
     circuit: &Circuit,
 )
-    requires { CanThrowOff plan.now (call_seen call.now) (call_seen other.now) circuit.now circuits.old }
-    ensures { circuits.new ≡ thrown_off plan.now (call_seen call.now) (call_seen other.now) circuit.now circuits.old }
+    requires { CanThrowOff plan.now (call_seen call.now)
+        (call_seen other.now) circuit.now circuits.old }
+    ensures { circuits.new ≡ thrown_off plan.now
+        (call_seen call.now) (call_seen other.now) circuit.now circuits.old }
 {
     let near = place_of(plan, call);
     let far = place_of(plan, other);

@@ -14,8 +14,10 @@ use tx_plan::{Line, Plan};
 use tx_machine::{Event, Network, Reply, Ticket, refusal_of};
 use tx_text::{Figures, NoMemory};
 
-/// The indexed network. It finds lines and circuits by index, and a call by its number, at worst by a binary search. So the work of an event hardly grows
-/// with the open calls, but where it takes more room: then it may move what it keeps. No clause counts these steps.
+/// The indexed network. It finds lines and circuits by index, and a call by its number, at worst by
+/// a binary search. So the work of an event hardly grows
+/// with the open calls, but where it takes more room: then it may move what it keeps. No clause
+/// counts these steps.
 #[derive(Drop)]
 pub struct Engine<'p, A: Allocator = Global> {
     pub(crate) parts: Parts<'p, A>,
@@ -31,7 +33,8 @@ impl<'p, A: Allocator> Model for Engine<'p, A> {
     ghost use Rattle.std.specs.Coded.{coded_ℕ, codes};
     ghost use Rattle.tx_plan.specs.Orders.{coded_circuit, coded_line, circuit_cmp, line_cmp};
 
-    ghost coded = { Prim.hlevel (codes, set.code {R = nat_cmp} coded_ℕ, set.code {R = circuit_cmp} coded_circuit, set.code {R = line_cmp} coded_line) };
+    ghost coded = { Prim.hlevel (codes, set.code {R = nat_cmp} coded_ℕ, set.code
+        {R = circuit_cmp} coded_circuit, set.code {R = line_cmp} coded_line) };
 
     ghost use Rattle.tx_engine.specs.inner.Sound.{IsSound, state_of};
 
@@ -41,7 +44,8 @@ impl<'p, A: Allocator> Model for Engine<'p, A> {
 }
 
 impl<'p, A: Allocator> Engine<'p, A> {
-    /// Drops the network. A crate that drops a network itself proves once more how each of its parts is dropped.
+    /// Drops the network. A crate that drops a network itself proves once more how each of its
+    /// parts is dropped.
     pub fn close(self) {
         drop(self);
     }
@@ -55,14 +59,16 @@ impl<'p, A: Allocator + Copy> Engine<'p, A> {
         Engine::starting_at(alloc, plan, 0, 0)
     }
 
-    /// The network in the opening state with so many call numbers given and so many events accepted.
+    /// The network in the opening state with so many call numbers given and so many events
+    /// accepted.
     pub fn starting_at(
         alloc: A,
         plan: &'p Plan<A>,
         numbers: u32,
         events: u64,
     ) -> Result<Self, NoMemory>
-        ensures { IfOk result (λ n. n ≡ record { plan = plan.now; state = opening numbers events }) }
+        ensures { IfOk result
+            (λ n. n ≡ record { plan = plan.now; state = opening numbers events }) }
     {
         let parts = Parts::build(alloc, plan, numbers, events)?;
         Ok(Engine { parts })
@@ -71,7 +77,8 @@ impl<'p, A: Allocator + Copy> Engine<'p, A> {
     /// A line calls. Where there is room for its call, its refusals are told on the way.
     fn key(&mut self, line: Line, keyed: Figures) -> Result<Reply, NoMemory>
         ensures plan { self.new.plan ≡ self.old.plan }
-        ensures step { IfOk result (λ reply. step self.old.plan self.old.state (Key line keyed) ≡ (reply, self.new.state)) }
+        ensures step { IfOk result (λ reply. step self.old.plan self.old.state (Key line keyed)
+            ≡ (reply, self.new.state)) }
         ensures err { OnErr result (self.new ≡ self.old) }
         ensures open { OnErr result (refusal self.old.plan self.old.state (Key line keyed) ≡ None) }
     {
@@ -85,9 +92,11 @@ impl<'p, A: Allocator + Copy> Engine<'p, A> {
     fn apply_other(&mut self, event: &Event) -> Result<Reply, NoMemory>
         requires other { is_other event.now ≡ true }
         ensures plan { self.new.plan ≡ self.old.plan }
-        ensures step { IfOk result (λ reply. step self.old.plan self.old.state event.now ≡ (reply, self.new.state)) }
+        ensures step { IfOk result
+            (λ reply. step self.old.plan self.old.state event.now ≡ (reply, self.new.state)) }
         ensures err { OnErr result (self.new ≡ self.old) }
-        ensures memory { OnErr result ((takes_memory event.now ≡ true) × (refusal self.old.plan self.old.state event.now ≡ None)) }
+        ensures memory { OnErr result ((takes_memory event.now ≡ true)
+            × (refusal self.old.plan self.old.state event.now ≡ None)) }
     {
         if let Some(refusal) = refusal_of(self, event) {
             return Ok(Reply::Refused(refusal));

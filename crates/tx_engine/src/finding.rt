@@ -14,10 +14,13 @@ use tx_machine::{Party, Phase, Refusal};
 impl<'p, A: Allocator + Copy> Parts<'p, A> {
     /// The key of the call that is routed.
     pub(crate) fn standing(&self, number: u32) -> Result<usize, Refusal>
-        ensures found { IfOk result (λ key. (k : Kept) × IsUnder self.now.calls number key k × (k.call.phase ≡ Standing)) }
-        ensures open { OnOk result (refusal self.now.plan.now (state_of self.now) (Route number) ≡ None) }
+        ensures found { IfOk result (λ key. (k : Kept)
+            × IsUnder self.now.calls number key k × (k.call.phase ≡ Standing)) }
+        ensures open { OnOk result
+            (refusal self.now.plan.now (state_of self.now) (Route number) ≡ None) }
         ensures events { OnOk result (self.now.events < 2 ^ 64 - 1) }
-        ensures refused { IfErr result (λ r. refusal self.now.plan.now (state_of self.now) (Route number) ≡ Some r) }
+        ensures refused { IfErr result
+            (λ r. refusal self.now.plan.now (state_of self.now) (Route number) ≡ Some r) }
     {
         let Some(key) = self.calls.find(number) else {
             return Err(Refusal::UnknownCall);
@@ -35,10 +38,13 @@ impl<'p, A: Allocator + Copy> Parts<'p, A> {
 
     /// The key of the call that is confirmed, and the circuit that it has seized.
     pub(crate) fn calling(&self, number: u32) -> Result<(usize, Circuit), Refusal>
-        ensures found { IfOk result (λ r. (k : Kept) × IsUnder self.now.calls number r.0 k × (k.call.phase ≡ Calling r.1)) }
-        ensures open { OnOk result (refusal self.now.plan.now (state_of self.now) (Confirm number) ≡ None) }
+        ensures found { IfOk result (λ r. (k : Kept)
+            × IsUnder self.now.calls number r.0 k × (k.call.phase ≡ Calling r.1)) }
+        ensures open { OnOk result
+            (refusal self.now.plan.now (state_of self.now) (Confirm number) ≡ None) }
         ensures events { OnOk result (self.now.events < 2 ^ 64 - 1) }
-        ensures refused { IfErr result (λ r. refusal self.now.plan.now (state_of self.now) (Confirm number) ≡ Some r) }
+        ensures refused { IfErr result
+            (λ r. refusal self.now.plan.now (state_of self.now) (Confirm number) ≡ Some r) }
     {
         let Some(key) = self.calls.find(number) else {
             return Err(Refusal::UnknownCall);
@@ -55,9 +61,11 @@ impl<'p, A: Allocator + Copy> Parts<'p, A> {
     /// The key of the call that is cleared.
     pub(crate) fn clearable(&self, number: u32, party: Party) -> Result<usize, Refusal>
         ensures found { IfOk result (λ key. (k : Kept) × IsUnder self.now.calls number key k) }
-        ensures open { OnOk result (refusal self.now.plan.now (state_of self.now) (Clear number party) ≡ None) }
+        ensures open { OnOk result
+            (refusal self.now.plan.now (state_of self.now) (Clear number party) ≡ None) }
         ensures events { OnOk result (self.now.events < 2 ^ 64 - 1) }
-        ensures refused { IfErr result (λ r. refusal self.now.plan.now (state_of self.now) (Clear number party) ≡ Some r) }
+        ensures refused { IfErr result
+            (λ r. refusal self.now.plan.now (state_of self.now) (Clear number party) ≡ Some r) }
     {
         let Some(key) = self.calls.find(number) else {
             return Err(Refusal::UnknownCall);

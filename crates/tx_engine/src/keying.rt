@@ -14,13 +14,15 @@ use tx_machine::{OpenCall, Phase, Refusal, Reply};
 use tx_text::{Figures, NoMemory};
 
 impl<'p, A: Allocator + Copy> Parts<'p, A> {
-    /// A line that may call does so. Room for its call and for its ticket is made where there is none.
+    /// A line that may call does so. Room for its call and for its ticket is made where there is
+    /// none.
     pub(crate) fn key_making_room(&mut self, line: Line, keyed: Figures) -> Result<Reply, NoMemory>
         requires sound { IsSound self.old }
         requires open { refusal self.old.plan.now (state_of self.old) (Key line keyed) ≡ None }
         ensures sound { IsSound self.new }
         ensures plan { self.new.plan.now ≡ self.old.plan.now }
-        ensures step { IfOk result (λ reply. step self.old.plan.now (state_of self.old) (Key line keyed) ≡ (reply, state_of self.new)) }
+        ensures step { IfOk result (λ reply. step self.old.plan.now
+            (state_of self.old) (Key line keyed) ≡ (reply, state_of self.new)) }
         ensures err { OnErr result (state_of self.new ≡ state_of self.old) }
     {
         self.reserve_call()?;
@@ -36,9 +38,11 @@ impl<'p, A: Allocator + Copy> Parts<'p, A> {
         requires tickets { HasTicketRoom self.old }
         ensures sound { IsSound self.new }
         ensures plan { self.new.plan.now ≡ self.old.plan.now }
-        ensures step { IfOk result (λ reply. step self.old.plan.now (state_of self.old) (Key line keyed) ≡ (reply, state_of self.new)) }
+        ensures step { IfOk result (λ reply. step self.old.plan.now
+            (state_of self.old) (Key line keyed) ≡ (reply, state_of self.new)) }
         ensures err { OnErr result (state_of self.new ≡ state_of self.old) }
-        ensures open { OnErr result (refusal self.old.plan.now (state_of self.old) (Key line keyed) ≡ None) }
+        ensures open { OnErr result
+            (refusal self.old.plan.now (state_of self.old) (Key line keyed) ≡ None) }
     {
         if !self.lines.has(&line) {
             return Ok(Reply::Refused(Refusal::UnknownLine));
@@ -68,7 +72,8 @@ impl<'p, A: Allocator + Copy> Parts<'p, A> {
         Ok(Reply::Keyed(number))
     }
 
-    /// Whether a call can be opened at once: neither numbers nor events are spent, and there is room for it and for its ticket.
+    /// Whether a call can be opened at once: neither numbers nor events are spent, and there is
+    /// room for it and for its ticket.
     pub(crate) fn is_ready(&self) -> bool
         ensures { IsTrue result ↔ IsReady self.now }
     {
@@ -78,7 +83,8 @@ impl<'p, A: Allocator + Copy> Parts<'p, A> {
             && has_ticket_room(&self.tickets, self.calls.len())
     }
 
-    /// Makes room for one more call and for its ticket. Where there is some, no memory is asked for.
+    /// Makes room for one more call and for its ticket. Where there is some, no memory is asked
+    /// for.
     fn reserve_call(&mut self) -> Result<(), NoMemory>
         requires { IsSound self.old }
         ensures sound { IsSound self.new }
@@ -88,7 +94,8 @@ impl<'p, A: Allocator + Copy> Parts<'p, A> {
         ensures state { state_of self.new ≡ state_of self.old }
         ensures calls { OnOk result (HasRoom self.new.calls) }
         ensures tickets { OnOk result (HasTicketRoom self.new) }
-        ensures unasked { HasRoom self.old.calls → HasTicketRoom self.old → IsOk result × (self.new ≡ self.old) }
+        ensures unasked { HasRoom self.old.calls
+            → HasTicketRoom self.old → IsOk result × (self.new ≡ self.old) }
     {
         self.calls.reserve_one()?;
         reserve_tickets(&mut self.tickets, self.calls.len())

@@ -1,6 +1,7 @@
 //! The indexed network: the engine that runs play on.
 //!
-//! An `Engine` keeps the open calls under keys, by number and by circuit, and the states of lines and circuits by index. It replies as the definitions of
+//! An `Engine` keeps the open calls under keys, by number and by circuit, and the states of lines
+//! and circuits by index. It replies as the definitions of
 //! tx_machine do, event by event, as every `Network`. `play` takes a list of events.
 //!
 //! ```

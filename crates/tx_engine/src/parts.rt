@@ -13,7 +13,8 @@ use tx_machine::Ticket;
 use tx_text::NoMemory;
 use tx_trie::CodeTrie;
 
-/// What the engine keeps. Its methods see keys of calls, which the network that it stands for does not show.
+/// What the engine keeps. Its methods see keys of calls, which the network that it stands for does
+/// not show.
 #[derive(Drop)]
 pub(crate) struct Parts<'p, A: Allocator> {
     pub plan: &'p Plan<A>,

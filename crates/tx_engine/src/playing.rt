@@ -21,8 +21,10 @@ pub struct Played<'p, A: Allocator = Global> {
     pub network: Engine<'p, A>,
 }
 
-/// Plays events on the engine of a plan, from the opening state with so many numbers given and so many events accepted. The replies, the tickets and the
-/// state after them are those of the run, whatever the plan, the two numbers and the events are. `Err` means out of memory.
+/// Plays events on the engine of a plan, from the opening state with so many numbers given and so
+/// many events accepted. The replies, the tickets and the
+/// state after them are those of the run, whatever the plan, the two numbers and the events are.
+/// `Err` means out of memory.
 pub fn play<'p, A: Allocator + Copy>(
     alloc: A,
     plan: &'p Plan<A>,
@@ -30,9 +32,12 @@ pub fn play<'p, A: Allocator + Copy>(
     accepted: u64,
     events: &[Event],
 ) -> Result<Played<'p, A>, NoMemory>
-    ensures replies { IfOk result (λ played. played.replies.items ≡ replies_to plan.now (opening numbers accepted) events.now) }
-    ensures tickets { IfOk result (λ played. played.tickets.items ≡ (state_after plan.now (opening numbers accepted) events.now).tickets) }
-    ensures network { IfOk result (λ played. played.network ≡ record { plan = plan.now; state = drained (state_after plan.now (opening numbers accepted) events.now) [] }) }
+    ensures replies { IfOk result (λ played. played.replies.items
+        ≡ replies_to plan.now (opening numbers accepted) events.now) }
+    ensures tickets { IfOk result (λ played. played.tickets.items
+        ≡ (state_after plan.now (opening numbers accepted) events.now).tickets) }
+    ensures network { IfOk result (λ played. played.network ≡ record { plan = plan.now;
+        state = drained (state_after plan.now (opening numbers accepted) events.now) [] }) }
 {
     match Engine::starting_at(alloc, plan, numbers, accepted) {
         Ok(network) => play_on(alloc, network, events),
@@ -46,9 +51,12 @@ fn play_on<'p, A: Allocator + Copy>(
     mut network: Engine<'p, A>,
     events: &[Event],
 ) -> Result<Played<'p, A>, NoMemory>
-    ensures replies { IfOk result (λ played. played.replies.items ≡ replies_to network.entry.plan network.entry.state events.now) }
-    ensures tickets { IfOk result (λ played. played.tickets.items ≡ (state_after network.entry.plan network.entry.state events.now).tickets) }
-    ensures network { IfOk result (λ played. played.network ≡ record network.entry { state = drained (state_after network.entry.plan network.entry.state events.now) [] }) }
+    ensures replies { IfOk result (λ played. played.replies.items
+        ≡ replies_to network.entry.plan network.entry.state events.now) }
+    ensures tickets { IfOk result (λ played. played.tickets.items
+        ≡ (state_after network.entry.plan network.entry.state events.now).tickets) }
+    ensures network { IfOk result (λ played. played.network ≡ record network.entry
+        { state = drained (state_after network.entry.plan network.entry.state events.now) [] }) }
 {
     let mut replies = Vec::new(alloc);
     match drive_out(alloc, &mut network, events, &mut replies) {
@@ -72,9 +80,12 @@ fn drive_out<A: Allocator + Copy>(
     events: &[Event],
     replies: &mut Vec<Reply, A>,
 ) -> Result<Vec<Ticket<A>, A>, NoMemory>
-    ensures replies { OnOk result (replies.new.items ≡ replies.old.items ++ replies_to network.old.plan network.old.state events.now) }
-    ensures tickets { IfOk result (λ tickets. tickets.items ≡ (state_after network.old.plan network.old.state events.now).tickets) }
-    ensures network { OnOk result (network.new ≡ record network.old { state = drained (state_after network.old.plan network.old.state events.now) [] }) }
+    ensures replies { OnOk result (replies.new.items
+        ≡ replies.old.items ++ replies_to network.old.plan network.old.state events.now) }
+    ensures tickets { IfOk result (λ tickets. tickets.items
+        ≡ (state_after network.old.plan network.old.state events.now).tickets) }
+    ensures network { OnOk result (network.new ≡ record network.old
+        { state = drained (state_after network.old.plan network.old.state events.now) [] }) }
 {
     drive(network, events, replies)?;
     take_tickets(alloc, network)
@@ -86,7 +97,8 @@ fn take_tickets<A: Allocator + Copy>(
     network: &mut Engine<'_, A>,
 ) -> Result<Vec<Ticket<A>, A>, NoMemory>
     ensures tickets { IfOk result (λ tickets. tickets.items ≡ network.old.state.tickets) }
-    ensures network { OnOk result (network.new ≡ record network.old { state = drained network.old.state [] }) }
+    ensures network { OnOk result (network.new
+        ≡ record network.old { state = drained network.old.state [] }) }
 {
     let mut tickets = Vec::new(alloc);
     while let Some(ticket) = network.next_ticket() {

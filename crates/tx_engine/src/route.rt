@@ -24,9 +24,11 @@ impl<'p, A: Allocator + Copy> Parts<'p, A> {
         requires { IsSound self.old }
         ensures sound { IsSound self.new }
         ensures plan { self.new.plan.now ≡ self.old.plan.now }
-        ensures step { IfOk result (λ reply. step self.old.plan.now (state_of self.old) (Route number) ≡ (reply, state_of self.new)) }
+        ensures step { IfOk result (λ reply. step self.old.plan.now
+            (state_of self.old) (Route number) ≡ (reply, state_of self.new)) }
         ensures err { OnErr result (state_of self.new ≡ state_of self.old) }
-        ensures open { OnErr result (refusal self.old.plan.now (state_of self.old) (Route number) ≡ None) }
+        ensures open { OnErr result
+            (refusal self.old.plan.now (state_of self.old) (Route number) ≡ None) }
     {
         let key = match self.standing(number) {
             Ok(key) => key,
@@ -46,7 +48,8 @@ impl<'p, A: Allocator + Copy> Parts<'p, A> {
     fn decision(&self, key: usize) -> Decision
         requires sound { IsSound self.now }
         requires there { is_some (kept_at self.now.calls key) ≡ true }
-        ensures { (k : Kept) → kept_at self.now.calls key ≡ Some k → result ≡ decided self.now.plan.now self.now.lines self.now.circuits k.call }
+        ensures { (k : Kept) → kept_at self.now.calls key ≡ Some k
+            → result ≡ decided self.now.plan.now self.now.lines self.now.circuits k.call }
     {
         decide(
             self.plan,
@@ -64,7 +67,9 @@ impl<'p, A: Allocator + Copy> Parts<'p, A> {
         requires events { self.old.events < 2 ^ 64 - 1 }
         ensures sound { IsSound self.new }
         ensures plan { self.new.plan.now ≡ self.old.plan.now }
-        ensures step { (k : Kept) → kept_at self.old.calls key ≡ Some k → counted (answered self.old.plan.now k.call.number service (state_of self.old)) ≡ (result, state_of self.new) }
+        ensures step { (k : Kept) → kept_at self.old.calls key ≡ Some k
+            → counted (answered self.old.plan.now k.call.number service (state_of self.old))
+            ≡ (result, state_of self.new) }
     {
         self.end_call(key, Cause::Service(service));
         self.events += 1;
@@ -78,7 +83,9 @@ impl<'p, A: Allocator + Copy> Parts<'p, A> {
         requires events { self.old.events < 2 ^ 64 - 1 }
         ensures sound { IsSound self.new }
         ensures plan { self.new.plan.now ≡ self.old.plan.now }
-        ensures ok { IfOk result (λ reply. (k : Kept) → kept_at self.old.calls key ≡ Some k → counted (carry_out self.old.plan.now (state_of self.old) k.call (Reach line.now)) ≡ (reply, state_of self.new)) }
+        ensures ok { IfOk result (λ reply. (k : Kept) → kept_at self.old.calls key ≡ Some k
+            → counted (carry_out self.old.plan.now (state_of self.old) k.call (Reach line.now))
+            ≡ (reply, state_of self.new)) }
         ensures err { OnErr result (state_of self.new ≡ state_of self.old) }
     {
         match service_of(self.lines.status(line)) {
@@ -100,7 +107,9 @@ impl<'p, A: Allocator + Copy> Parts<'p, A> {
         requires events { self.old.events < 2 ^ 64 - 1 }
         ensures sound { IsSound self.new }
         ensures plan { self.new.plan.now ≡ self.old.plan.now }
-        ensures ok { OnOk result ((k : Kept) → kept_at self.old.calls key ≡ Some k → counted (carry_out self.old.plan.now (state_of self.old) k.call (Seize circuit.now here)) ≡ (Seized circuit.now, state_of self.new)) }
+        ensures ok { OnOk result ((k : Kept) → kept_at self.old.calls key ≡ Some k → counted
+            (carry_out self.old.plan.now (state_of self.old) k.call (Seize circuit.now here))
+            ≡ (Seized circuit.now, state_of self.new)) }
         ensures err { OnErr result (state_of self.new ≡ state_of self.old) }
     {
         self.calls.reserve_hop(key)?;

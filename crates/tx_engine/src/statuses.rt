@@ -17,7 +17,8 @@ use tx_text::NoMemory;
 impl<'p, A: Allocator + Copy> Engine<'p, A> {
     /// A circuit is released, unless that is refused.
     pub(crate) fn released(&mut self, circuit: &Circuit) -> Reply
-        ensures step { step self.old.plan self.old.state (Released circuit.now) ≡ (result, self.new.state) }
+        ensures step { step self.old.plan self.old.state (Released circuit.now)
+            ≡ (result, self.new.state) }
         ensures plan { self.new.plan ≡ self.old.plan }
     {
         match self.released_refusal(circuit) {
@@ -50,7 +51,8 @@ impl<'p, A: Allocator + Copy> Engine<'p, A> {
         requires open { refusal self.old.plan self.old.state event.now ≡ None }
         requires marks { is_mark event.now ≡ true }
         ensures plan { self.new.plan ≡ self.old.plan }
-        ensures step { IfOk result (λ reply. step self.old.plan self.old.state event.now ≡ (reply, self.new.state)) }
+        ensures step { IfOk result
+            (λ reply. step self.old.plan self.old.state event.now ≡ (reply, self.new.state)) }
         ensures err { OnErr result (self.new ≡ self.old) }
         ensures memory { OnErr result (takes_memory event.now ≡ true) }
     {
@@ -63,7 +65,8 @@ impl<'p, A: Allocator + Copy> Engine<'p, A> {
 
 /// The mark of a line that an event sets or takes away.
 fn mark_line<A: Allocator + Copy>(lines: &mut LineBook<A>, event: &Event) -> Result<(), NoMemory>
-    ensures ok { OnOk result (lines.new ≡ record (marked_book event.now lines.old) { room = lines.new.room }) }
+    ensures ok { OnOk result
+        (lines.new ≡ record (marked_book event.now lines.old) { room = lines.new.room }) }
     ensures err { OnErr result (lines.new ≡ record lines.old { room = lines.new.room }) }
     ensures memory { OnErr result (takes_memory event.now ≡ true) }
 {
@@ -109,7 +112,8 @@ fn mark_circuits<A: Allocator>(circuits: &mut CircuitTable<A>, event: &Event)
 fn make_room<A: Allocator + Copy>(lines: &mut LineBook<A>, line: &Line) -> Result<(), NoMemory>
     ensures ok { OnOk result (has_status lines.old line.now ≡ false → 0 < lines.new.room) }
     ensures rest { lines.new ≡ record lines.old { room = lines.new.room } }
-    ensures unasked { place_taken lines.old line.now ≤ lines.old.room → IsOk result × (lines.new ≡ lines.old) }
+    ensures unasked { place_taken lines.old line.now ≤ lines.old.room
+        → IsOk result × (lines.new ≡ lines.old) }
 {
     let status = lines.status(line);
     if status.faulty || status.away || status.engaged {

@@ -14,7 +14,8 @@ pub(crate) fn has_ticket_room<A: Allocator>(tickets: &VecDeque<Ticket<A>, A>, ca
     tickets.capacity() - tickets.len() > calls
 }
 
-/// Makes room for the tickets of so many open calls and of one more, where there is none. The room at least doubles, so that few calls take any.
+/// Makes room for the tickets of so many open calls and of one more, where there is none. The room
+/// at least doubles, so that few calls take any.
 pub(crate) fn reserve_tickets<A: Allocator>(
     tickets: &mut VecDeque<Ticket<A>, A>,
     calls: usize,
@@ -23,7 +24,8 @@ pub(crate) fn reserve_tickets<A: Allocator>(
     ensures items { tickets.new.items ≡ tickets.old.items }
     ensures room { deque_len tickets.new + calls ≤ deque_capacity tickets.new }
     ensures ok { OnOk result (deque_len tickets.new + (calls + 1) ≤ deque_capacity tickets.new) }
-    ensures unasked { deque_len tickets.old + (calls + 1) ≤ deque_capacity tickets.old → IsOk result × (tickets.new ≡ tickets.old) }
+    ensures unasked { deque_len tickets.old + (calls + 1) ≤ deque_capacity tickets.old
+        → IsOk result × (tickets.new ≡ tickets.old) }
 {
     if !has_ticket_room(tickets, calls) {
         tickets.reserve((calls + 1).saturating_add(calls))?;
@@ -31,7 +33,8 @@ pub(crate) fn reserve_tickets<A: Allocator>(
     Ok(())
 }
 
-/// Takes the oldest ticket out. One that is alone leaves from the back, so that the next comes to the same place.
+/// Takes the oldest ticket out. One that is alone leaves from the back, so that the next comes to
+/// the same place.
 pub(crate) fn take_oldest<A: Allocator>(tickets: &mut VecDeque<Ticket<A>, A>) -> Option<Ticket<A>>
     ensures first { result ≡ slice_get tickets.old.items 0 }
     ensures rest { tickets.new.items ≡ drop 1 tickets.old.items }

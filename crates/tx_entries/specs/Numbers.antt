@@ -19,8 +19,10 @@ at_most low high = is_le (slice_cmp nat_cmp low high)
 
 -- of the range's width, and from low to high
 abbrev pub in_range : List ℕ → LineRange → Bool
-in_range number r = (length number == length r.low) && (at_most r.low number && at_most number r.high)
+in_range number r = (length number == length r.low)
+    && (at_most r.low number && at_most number r.high)
 
 -- two ranges of one code and width share a number
 abbrev pub shares : ℕ → List ℕ → List ℕ → LineRange → Bool
-shares code low high r = (r.code == code) && ((length r.low == length low) && (at_most r.low high && at_most low r.high))
+shares code low high r = (r.code == code)
+    && ((length r.low == length low) && (at_most r.low high && at_most low r.high))

@@ -31,22 +31,27 @@ line_cmp l m = ordering_then (nat_cmp l.code m.code) (slice_cmp nat_cmp l.nation
 
 -- circuits and lines as pairs, so that sets of them are values
 abbrev pub coded_circuit : Coded Circuit
-coded_circuit = code_by (ℕ × ℕ) (coded× coded_ℕ coded_ℕ) (λ x. (x.group, x.number)) (λ p. record { group = p.0; number = p.1 }) (λ _. refl)
+coded_circuit = code_by (ℕ × ℕ) (coded× coded_ℕ coded_ℕ)
+    (λ x. (x.group, x.number)) (λ p. record { group = p.0; number = p.1 }) (λ _. refl)
 
 abbrev pub coded_line : Coded Line
-coded_line = code_by (ℕ × List ℕ) (coded× coded_ℕ (coded_list coded_ℕ)) (λ x. (x.code, x.national)) (λ p. record { code = p.0; national = p.1 }) (λ _. refl)
+coded_line = code_by (ℕ × List ℕ) (coded× coded_ℕ (coded_list coded_ℕ))
+    (λ x. (x.code, x.national)) (λ p. record { code = p.0; national = p.1 }) (λ _. refl)
 
 -- the laws of `==` on lines
 pub same_line-is : (l m : Line) → same_line l m ≡ true → l ≡ m
 same_line-is l m h = let r = and_parts (l.code == m.code) (bytes_eq l.national m.national) h in λ i. record { code = eqb-true l.code m.code r.0 i; national = (bytes_eq-Decides l.national m.national).0 r.1 i }
 
 pub same_line-itself : (l : Line) → same_line l l ≡ true
-same_line-itself l = and_from (l.code == l.code) (bytes_eq l.national l.national) (eq-eqb l.code l.code refl) ((bytes_eq-Decides l.national l.national).1 refl)
+same_line-itself l = and_from (l.code == l.code) (bytes_eq l.national l.national)
+    (eq-eqb l.code l.code refl) ((bytes_eq-Decides l.national l.national).1 refl)
 
 pub same_line_equiv : IsEquivalence same_line
 same_line_equiv = record {
   refl = same_line-itself;
-  symm = λ l m. same_from_decides {P = same_line m l ≡ true} (same_line l m) (same_line m l) (λ h. ap (λ z. same_line m z) (same_line-is l m h) ∙ same_line-itself m, λ h. ap (λ z. same_line l z) (same_line-is m l h) ∙ same_line-itself l) (λ h. h, λ h. h);
+  symm = λ l m. same_from_decides {P = same_line m l ≡ true} (same_line l m)
+    (same_line m l) (λ h. ap (λ z. same_line m z) (same_line-is l m h) ∙ same_line-itself m, λ h.
+    ap (λ z. same_line l z) (same_line-is m l h) ∙ same_line-itself l) (λ h. h, λ h. h);
   congr = λ l m n h. ap (λ z. same_line z n) (same_line-is l m h);
 }
 

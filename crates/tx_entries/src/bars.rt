@@ -45,7 +45,8 @@ impl<A: Allocator> Bars<A> {
 
     /// Whether the pair is barred.
     pub fn has(&self, pair: &Pair) -> bool
-        ensures { result ≡ list_any (λ b. (b.exchange == pair.now.exchange) && (b.code == pair.now.code)) self.now }
+        ensures { result ≡ list_any
+            (λ b. (b.exchange == pair.now.exchange) && (b.code == pair.now.code)) self.now }
     {
         self.pairs.contains(pair)
     }

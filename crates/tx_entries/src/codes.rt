@@ -76,7 +76,8 @@ impl<A: Allocator> Codes<A> {
     /// Appends a code.
     pub fn add(&mut self, figures: NameKey, home: ExchangeId) -> Result<(), NoMemory>
         requires { list_any (λ c. bytes_eq figures c.figures) self.old ≡ false }
-        ensures ok { OnOk result (self.new ≡ self.old ++ record { figures = figures; home = home } ∷ []) }
+        ensures ok { OnOk result
+            (self.new ≡ self.old ++ record { figures = figures; home = home } ∷ []) }
         ensures err { OnErr result (self.new ≡ self.old) }
     {
         self.rows.add(figures, home)

@@ -37,7 +37,8 @@ impl GroupList {
     /// Appends a group, unless there are 16.
     pub fn keep(&mut self, group: GroupId) -> bool
         ensures kept { result ≡ nat_lt (length self.old) 16 }
-        ensures list { self.new ≡ (if nat_lt (length self.old) 16 then self.old ++ group ∷ [] else self.old) }
+        ensures list { self.new
+            ≡ (if nat_lt (length self.old) 16 then self.old ++ group ∷ [] else self.old) }
     {
         if self.len >= 16 {
             return false;
@@ -47,7 +48,8 @@ impl GroupList {
         true
     }
 
-    /// Whether no group stands there twice. All sixteen places are compared together, also those after the list, which hold groups that no plan has.
+    /// Whether no group stands there twice. All sixteen places are compared together, also those
+    /// after the list, which hold groups that no plan has.
     pub fn none_twice(&self) -> bool
         ensures { result ≡ differ self.now }
     {
@@ -72,7 +74,8 @@ fn no_groups() -> [GroupId; 16] {
     groups
 }
 
-/// Whether two of sixteen groups are one. They are in a ring, where each is compared with the eight after it, so that a compiler compares many at once.
+/// Whether two of sixteen groups are one. They are in a ring, where each is compared with the eight
+/// after it, so that a compiler compares many at once.
 fn any_twice(groups: &[GroupId; 16]) -> bool
     ensures { result ≡ false → differ groups.now ≡ true }
 {

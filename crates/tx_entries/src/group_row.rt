@@ -2,7 +2,8 @@
 use crate::direction::Direction;
 use crate::ids::ExchangeId;
 
-/// What is declared of the group of a name, in six bytes, so that the rows of all groups of a plan stay in the nearest cache.
+/// What is declared of the group of a name, in six bytes, so that the rows of all groups of a plan
+/// stay in the nearest cache.
 #[derive(Clone, Copy)]
 pub struct GroupRow {
     pub a: ExchangeId,

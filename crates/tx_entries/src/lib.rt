@@ -1,6 +1,7 @@
 //! The entries of a plan, and the tables that keep them.
 //!
-//! Exchanges, codes and groups are spoken of by ids, which are places in the order of declaration. Each of the six lists of a plan has a table, with its index.
+//! Exchanges, codes and groups are spoken of by ids, which are places in the order of declaration.
+//! Each of the six lists of a plan has a table, with its index.
 #![tactic(auto)]
 
 mod bars;

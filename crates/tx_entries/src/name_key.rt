@@ -6,7 +6,8 @@ ghost use Rattle.tx_text.specs.Padded.{padded_to};
 use std::hash::{Hash, Hasher};
 use std::marker::Model;
 
-/// A text of at most 8 bytes. Behind the text stand zeros, so that all of it is made, compared and hashed as one number.
+/// A text of at most 8 bytes. Behind the text stand zeros, so that all of it is made, compared and
+/// hashed as one number.
 #[derive(Clone, Copy)]
 pub struct NameKey {
     bytes: [u8; 8],

@@ -11,7 +11,8 @@ use std::alloc::{Allocator, Global};
 use std::marker::Model;
 use tx_text::NoMemory;
 
-/// Ranges, in the order of their declarations. Their codes stand once more side by side, so that those of one code are found many at a time.
+/// Ranges, in the order of their declarations. Their codes stand once more side by side, so that
+/// those of one code are found many at a time.
 #[derive(Drop)]
 pub struct Ranges<A: Allocator = Global> {
     ranges: Vec<LineRange, A>,

@@ -49,14 +49,16 @@ impl<A: Allocator> Routes<A> {
 
     /// Whether there is a route for the pair.
     pub fn has(&self, pair: &Pair) -> bool
-        ensures { result ≡ list_any (λ r. (r.exchange == pair.now.exchange) && (r.code == pair.now.code)) self.now }
+        ensures { result ≡ list_any
+            (λ r. (r.exchange == pair.now.exchange) && (r.code == pair.now.code)) self.now }
     {
         self.rows.contains_key(pair)
     }
 
     /// The groups of the pair's route.
     pub fn list(&self, pair: &Pair) -> &[GroupId]
-        ensures { result.now ≡ option_map_or (λ r. r.groups) (find (λ r. (r.exchange == pair.now.exchange) && (r.code == pair.now.code)) self.now) [] }
+        ensures { result.now ≡ option_map_or (λ r. r.groups) (find
+            (λ r. (r.exchange == pair.now.exchange) && (r.code == pair.now.code)) self.now) [] }
     {
         match self.rows.get(pair) {
             Some(groups) => groups.groups(),
@@ -66,7 +68,8 @@ impl<A: Allocator> Routes<A> {
 
     /// The pair of the route at a place.
     pub fn pair_at(&self, place: usize) -> Option<Pair>
-        ensures { result ≡ option_map (λ r. record { exchange = r.exchange; code = r.code }) (slice_get self.now place) }
+        ensures { result ≡ option_map (λ r. record { exchange = r.exchange; code = r.code })
+            (slice_get self.now place) }
     {
         let (pair, _) = self.rows.get_index(place)?;
         Some(*pair)
@@ -76,7 +79,8 @@ impl<A: Allocator> Routes<A> {
     pub fn add(&mut self, pair: Pair, groups: GroupList) -> Result<(), NoMemory>
         requires { list_any (λ r. (r.exchange == pair.exchange) && (r.code == pair.code)) self.old
             ≡ false }
-        ensures ok { OnOk result (self.new ≡ self.old ++ record { exchange = pair.exchange; code = pair.code; groups = groups } ∷ []) }
+        ensures ok { OnOk result (self.new ≡ self.old
+            ++ record { exchange = pair.exchange; code = pair.code; groups = groups } ∷ []) }
         ensures err { OnErr result (self.new ≡ self.old) }
     {
         self.rows.insert(pair, groups)?;

@@ -51,7 +51,8 @@ CertFaultsAreExplained = (kind : FaultKind CertWord) → IsExplained (cert_row k
 
 -- a source that failed is no fault of a script
 abbrev pub ScriptFaultsAreExplained : Type 0
-ScriptFaultsAreExplained = (kind : FaultKind ScriptWord) → kind ≢ Frame (Line Read) → IsExplained (script_row kind)
+ScriptFaultsAreExplained = (kind : FaultKind ScriptWord)
+    → kind ≢ Frame (Line Read) → IsExplained (script_row kind)
 
 abbrev pub RiskFaultsAreExplained : Type 0
 RiskFaultsAreExplained = (kind : FaultKind RiskWord) → IsExplained (risk_row kind)

@@ -6,7 +6,8 @@ use std::alloc::Allocator;
 /// The code of an entry asks for that entry alone; a name may be that of several, as `Short`.
 ///
 /// Each code that is printed has an entry: of a fault of a text, of a warning, of a finding, and of
-/// what no lists can serve by the name that is printed with it, of a refusal, of why a call ended and
+/// what no lists can serve by the name that is printed with it, of a refusal, of why a call ended
+/// and
 /// of a fault of a check by its code.
 pub fn codes_are_explained<A: Allocator>()
     ensures once { CodesAreDistinct }

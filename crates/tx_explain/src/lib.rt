@@ -1,4 +1,5 @@
-//! What the codes of faults, warnings, refusals, findings and causes mean, and what to do about each.
+//! What the codes of faults, warnings, refusals, findings and causes mean, and what to do about
+//! each.
 #![tactic(auto)]
 
 mod asked;

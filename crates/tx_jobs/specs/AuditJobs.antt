@@ -20,6 +20,8 @@ told_audit (Ok audited) = Ok audited
 told_audit (Err f) = Err (audit_fault f)
 
 -- `audit PLAN --limit L --spare K`
-abbrev pub AuditJobAnswers : {A : Type 0} → (limit spare : ℕ) → Input → Output → Result (Audited A) JobFault → Type 0
-AuditJobAnswers {A} limit spare plan out result =
-    (answer : Result (Audited A) AuditFault) × AuditAnswers limit spare plan.old plan.new out.old out.new plan.broken plan.unread out.silent answer × (result ≡ told_audit answer)
+abbrev pub AuditJobAnswers : {A : Type 0} → (limit spare : ℕ)
+    → Input → Output → Result (Audited A) JobFault → Type 0
+AuditJobAnswers {A} limit spare plan out result = (answer : Result (Audited A) AuditFault)
+    × AuditAnswers limit spare plan.old plan.new
+    out.old out.new plan.broken plan.unread out.silent answer × (result ≡ told_audit answer)

@@ -23,9 +23,12 @@ abbrev pub verdict_for : Plan → Certificate → (limit spare : ℕ) → Verdic
 verdict_for p t limit spare = verdict_of (check_faults p (ranks_for p t) limit spare)
 
 -- the verdict was written, and is told; after a Yes the plan is sound
-abbrev pub ToldVerdict : Plan → Certificate → (limit spare : ℕ) → Output → Result Verdict JobFault → Type 0
-ToldVerdict p t limit spare out (Ok v) = (v ≡ verdict_for p t limit spare) × (out.new ≡ append_known out.old (verdict_written p v)) × (v ≡ Yes → IsSound p limit spare)
-ToldVerdict p t limit spare out (Err Write) = StopsIn out.old out.new (verdict_written p (verdict_for p t limit spare))
+abbrev pub ToldVerdict : Plan → Certificate → (limit spare : ℕ)
+    → Output → Result Verdict JobFault → Type 0
+ToldVerdict p t limit spare out (Ok v) = (v ≡ verdict_for p t limit spare)
+    × (out.new ≡ append_known out.old (verdict_written p v)) × (v ≡ Yes → IsSound p limit spare)
+ToldVerdict p t limit spare out (Err Write) =
+    StopsIn out.old out.new (verdict_written p (verdict_for p t limit spare))
 ToldVerdict p t limit spare out (Err other) = ⊥
 
 -- the certificate was read, and then checked
@@ -36,18 +39,23 @@ pub record CertRead (p : Plan) (text : Input) (after : Certificate → Type 0) :
   pub goes_on : after cert
 
 -- the certificate was refused, and nothing else was read or written
-pub record CertRefused {X : Type 0} (p : Plan) (text : Input) (untouched : Type 0) (result : Result X JobFault) : Type 0 where
+pub record CertRefused {X : Type 0} (p : Plan)
+    (text : Input) (untouched : Type 0) (result : Result X JobFault) : Type 0 where
   pub fault : FaultAt CertWord
   pub read : ReadsCert p text.old text.new text.broken text.unread (Err (fault.line, fault.kind))
   pub told : result ≡ Err (cert_fault fault)
   pub rest : untouched
 
-abbrev pub CheckAnswers : Plan → (limit spare : ℕ) → Input → Output → Result Verdict JobFault → Type 0
-CheckAnswers p limit spare cert out result = CertRead p cert (λ t. ToldVerdict p t limit spare out result) ⊎ CertRefused p cert out.silent result
+abbrev pub CheckAnswers : Plan → (limit spare : ℕ)
+    → Input → Output → Result Verdict JobFault → Type 0
+CheckAnswers p limit spare cert out result = CertRead p cert
+    (λ t. ToldVerdict p t limit spare out result) ⊎ CertRefused p cert out.silent result
 
 -- `check PLAN CERT --limit L --spare K`
-abbrev pub CheckJobAnswers : (limit spare : ℕ) → (plan cert : Input) → Output → Result Verdict JobFault → Type 0
-CheckJobAnswers limit spare plan cert out result = PlanRead plan (λ p. CheckAnswers p limit spare cert out result) ⊎ PlanRefused plan (cert.unread × out.silent) result
+abbrev pub CheckJobAnswers : (limit spare : ℕ)
+    → (plan cert : Input) → Output → Result Verdict JobFault → Type 0
+CheckJobAnswers limit spare plan cert out result = PlanRead plan (λ p.
+    CheckAnswers p limit spare cert out result) ⊎ PlanRefused plan (cert.unread × out.silent) result
 
 -- 0 after a Yes, 1 after a No
 abbrev pub status_for : Verdict → ℕ
@@ -59,5 +67,7 @@ told_status (Ok v) = Ok (status_for v)
 told_status (Err f) = Err f
 
 -- the same, told as an exit status
-abbrev pub CheckStatusAnswers : (limit spare : ℕ) → (plan cert : Input) → Output → Result ℕ JobFault → Type 0
-CheckStatusAnswers limit spare plan cert out result = (answer : Result Verdict JobFault) × CheckJobAnswers limit spare plan cert out answer × (result ≡ told_status answer)
+abbrev pub CheckStatusAnswers : (limit spare : ℕ)
+    → (plan cert : Input) → Output → Result ℕ JobFault → Type 0
+CheckStatusAnswers limit spare plan cert out result = (answer : Result Verdict JobFault)
+    × CheckJobAnswers limit spare plan cert out answer × (result ≡ told_status answer)

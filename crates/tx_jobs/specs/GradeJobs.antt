@@ -16,14 +16,16 @@ use Rattle.tx_jobs.specs.declared.job_fault.JobFault.TheVariants.{Write, NoMemor
 use Rattle.tx_jobs.specs.JobEnds.{Input, Output}
 use Rattle.tx_jobs.specs.Jobs.{PlanRead, PlanRefused}
 
--- no ranks certify the plan, whatever the limit and the spare number, and the findings say why: those that the rules list, in order, each true
+-- no ranks certify the plan, whatever the limit and the spare number, and the findings say why:
+-- those that the rules list, in order, each true
 pub record IsUngraded {A : Type 0} (p : Plan) (findings : List (Finding A)) : Type 0 where
   pub nowhere : (limit spare : ℕ) → CanBeCertified p limit spare → ⊥
   pub some : findings ≢ []
   pub each : (limit spare : ℕ) → AllByRecursion (IsTrueOf p limit spare) findings
   pub listed : AreUnmended p findings
 
--- the bounds with which ranks certify a plan and with which it is sound, and no findings; or that it
+-- the bounds with which ranks certify a plan and with which it is sound, and no findings; or that
+-- it
 -- has none
 abbrev pub IsGradeOfPlan : {A : Type 0} → Plan → Option Bounds → List (Finding A) → Type 0
 IsGradeOfPlan p (Some b) findings =
@@ -42,14 +44,16 @@ pub record GradedInPart (A : Type 0) (p : Plan) (out : Output) : Type 0 where
 
 -- the grade was written, and is told
 abbrev pub ToldGrade : {A : Type 0} → Plan → Output → Result (Grade A) JobFault → Type 0
-ToldGrade p out (Ok grade) = IsGradeOf p grade × (out.new ≡ append_known out.old (grade_text p grade))
+ToldGrade p out (Ok grade) = IsGradeOf p grade
+    × (out.new ≡ append_known out.old (grade_text p grade))
 ToldGrade {A} p out (Err Write) = GradedInPart A p out
 ToldGrade p out (Err NoMemory) = out.silent
 ToldGrade p out (Err other) = ⊥
 
 -- `grade PLAN`
 abbrev pub GradeJobAnswers : {A : Type 0} → Input → Output → Result (Grade A) JobFault → Type 0
-GradeJobAnswers plan out result = PlanRead plan (λ p. ToldGrade p out result) ⊎ PlanRefused plan out.silent result
+GradeJobAnswers plan out result = PlanRead plan (λ p. ToldGrade p out result)
+    ⊎ PlanRefused plan out.silent result
 
 -- 0 where there is a grade, else 1
 abbrev pub status_of_grade : {A : Type 0} → Grade A → ℕ
@@ -61,4 +65,5 @@ told_grade_status (Err fault) = Err fault
 
 -- the same, told as an exit status
 abbrev pub GradeStatusAnswers : (A : Type 0) → Input → Output → Result ℕ JobFault → Type 0
-GradeStatusAnswers A plan out result = (answer : Result (Grade A) JobFault) × GradeJobAnswers plan out answer × (result ≡ told_grade_status answer)
+GradeStatusAnswers A plan out result = (answer : Result (Grade A) JobFault)
+    × GradeJobAnswers plan out answer × (result ≡ told_grade_status answer)

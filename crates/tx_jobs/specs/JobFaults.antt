@@ -81,7 +81,8 @@ mark_after old (Err f) = mark_by old f
 -- THE LINE that tells a fault
 
 abbrev pub text_fault_line : List ℕ → ℕ → List ℕ × List ℕ → List ℕ
-text_fault_line text n row = codes "telexplan: " ++ (text ++ (codes " line " ++ (decimal n ++ (codes ": " ++ (row.0 ++ (codes " " ++ (row.1 ++ codes "\n")))))))
+text_fault_line text n row = codes "telexplan: " ++ (text ++ (codes " line "
+    ++ (decimal n ++ (codes ": " ++ (row.0 ++ (codes " " ++ (row.1 ++ codes "\n")))))))
 
 abbrev pub fault_line : JobFault → List ℕ
 fault_line (Plan f) = text_fault_line (codes "plan") f.line (plan_row f.kind)

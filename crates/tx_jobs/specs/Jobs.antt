@@ -23,9 +23,11 @@ told_run (Ok summary) = Ok summary
 told_run (Err f) = Err (run_fault f)
 
 -- the script was run over a network of the plan, from the opening state
-pub record RanPlan (p : Plan) (script : Input) (out : Output) (result : Result Summary JobFault) : Type 0 where
+pub record RanPlan (p : Plan) (script : Input)
+    (out : Output) (result : Result Summary JobFault) : Type 0 where
   pub answer : Result Summary RunFault
-  pub ran : RanFromOpening p (bytes_moved script out) script.broken (script.unread × out.silent) answer
+  pub ran : RanFromOpening p (bytes_moved script out) script.broken
+      (script.unread × out.silent) answer
   pub told : result ≡ told_run answer
 
 -- there was no memory for the network, and nothing was read or written
@@ -44,7 +46,8 @@ pub record PlanRead (text : Input) (after : Plan → Type 0) : Type 0 where
   pub goes_on : after plan
 
 -- the plan was refused, and nothing else was read or written
-pub record PlanRefused {X : Type 0} (text : Input) (untouched : Type 0) (result : Result X JobFault) : Type 0 where
+pub record PlanRefused {X : Type 0} (text : Input)
+    (untouched : Type 0) (result : Result X JobFault) : Type 0 where
   pub fault : FaultAt PlanWord
   pub read : ReadsPlan text.old text.new text.broken text.unread (Err (fault.line, fault.kind))
   pub told : result ≡ Err (plan_fault fault)
@@ -52,17 +55,20 @@ pub record PlanRefused {X : Type 0} (text : Input) (untouched : Type 0) (result 
 
 -- `run PLAN SCRIPT`
 abbrev pub RunJobAnswers : (plan script : Input) → Output → Result Summary JobFault → Type 0
-RunJobAnswers plan script out result = PlanRead plan (λ p. ScriptRan p script out result) ⊎ PlanRefused plan (script.unread × out.silent) result
+RunJobAnswers plan script out result = PlanRead plan (λ p. ScriptRan p script out result)
+    ⊎ PlanRefused plan (script.unread × out.silent) result
 
 -- `codes PLAN`: the codes and the least ambiguous pair were written, and that pair is told
 abbrev pub ToldCodes : Plan → Output → Result (Option (ℕ × ℕ)) JobFault → Type 0
-ToldCodes p out (Ok pair) = (pair ≡ ambiguous_of p.codes) × (out.new ≡ append_known out.old (codes_text p))
+ToldCodes p out (Ok pair) = (pair ≡ ambiguous_of p.codes)
+    × (out.new ≡ append_known out.old (codes_text p))
 ToldCodes p out (Err Write) = StopsIn out.old out.new (codes_text p)
 ToldCodes p out (Err NoMemory) = out.silent
 ToldCodes p out (Err other) = ⊥
 
 abbrev pub CodesJobAnswers : Input → Output → Result (Option (ℕ × ℕ)) JobFault → Type 0
-CodesJobAnswers plan out result = PlanRead plan (λ p. ToldCodes p out result) ⊎ PlanRefused plan out.silent result
+CodesJobAnswers plan out result = PlanRead plan (λ p. ToldCodes p out result)
+    ⊎ PlanRefused plan out.silent result
 
 -- 1 where a code begins another, else 0
 abbrev pub status_of_codes : Option (ℕ × ℕ) → ℕ
@@ -75,4 +81,5 @@ told_codes_status (Err fault) = Err fault
 
 -- the same, told as an exit status
 abbrev pub CodesStatusAnswers : Input → Output → Result ℕ JobFault → Type 0
-CodesStatusAnswers plan out result = (answer : Result (Option (ℕ × ℕ)) JobFault) × CodesJobAnswers plan out answer × (result ≡ told_codes_status answer)
+CodesStatusAnswers plan out result = (answer : Result (Option (ℕ × ℕ)) JobFault)
+    × CodesJobAnswers plan out answer × (result ≡ told_codes_status answer)

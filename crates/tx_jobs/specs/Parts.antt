@@ -1,14 +1,17 @@
--- The two texts of one input: a plan, which goes up to and with the first line whose only word is END, and then a script.
+-- The two texts of one input: a plan, which goes up to and with the first line whose only word is
+-- END, and then a script.
 use Rattle.std.specs.Prelude.{ℕ, ◌-◌, List, [], ◌∷◌, Option, None, Some, length, take, drop, if◌then◌else◌}
 use Rattle.tx_text.specs.Text.{Line, lines_of}
 use Rattle.tx_text.specs.Words.{words_of}
 use Rattle.tx_text.specs.Frame.{is_end}
 
--- Where the plan ends in a text of this length: after the first line whose only word is END, which is where the next line starts; or at the end of the text.
+-- Where the plan ends in a text of this length: after the first line whose only word is END, which
+-- is where the next line starts; or at the end of the text.
 unfoldable pub plan_end : ℕ → List Line → ℕ
 plan_end size [] = size
 plan_end size (last ∷ []) = size
-plan_end size (line ∷ next ∷ lines) = if is_end (words_of line.bytes) then next.start else plan_end size (next ∷ lines)
+plan_end size (line ∷ next ∷ lines) = if is_end (words_of line.bytes)
+    then next.start else plan_end size (next ∷ lines)
 
 -- THE CUT
 abbrev pub cut_of : List ℕ → ℕ

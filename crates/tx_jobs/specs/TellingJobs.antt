@@ -10,21 +10,25 @@ use Rattle.tx_jobs.specs.JobEnds.{Input, Output}
 use Rattle.tx_jobs.specs.Jobs.{PlanRead, PlanRefused, HadNoRoom, told_run}
 
 -- the script was run over a network of the plan, from the opening state, and its events were told
-pub record ToldPlan (p : Plan) (echo : Bool) (script : Input) (out : Output) (result : Result Summary JobFault) : Type 0 where
+pub record ToldPlan (p : Plan) (echo : Bool) (script : Input)
+    (out : Output) (result : Result Summary JobFault) : Type 0 where
   pub state : State
   pub answer : Result Summary RunFault
-  pub ran :
-      TellingAnswers p echo (record { rest_old = script.old; rest_new = script.new; taken_old = out.old; taken_new = out.new; state_old = opening 0 0; state_new = state }) script.broken
-      ((script.unread × out.silent) × (state ≡ opening 0 0)) answer
+  pub ran : TellingAnswers p echo (record { rest_old = script.old; rest_new = script.new;
+      taken_old = out.old; taken_new = out.new; state_old = opening 0 0; state_new = state })
+      script.broken ((script.unread × out.silent) × (state ≡ opening 0 0)) answer
   pub told : result ≡ told_run answer
 
 -- the script was run, or there was no memory for the network
 abbrev pub ScriptTold : Plan → (echo : Bool) → Input → Output → Result Summary JobFault → Type 0
-ScriptTold p echo script out result = ToldPlan p echo script out result ⊎ HadNoRoom script out result
+ScriptTold p echo script out result = ToldPlan p echo script out result
+    ⊎ HadNoRoom script out result
 
 -- `run PLAN SCRIPT --echo`
-abbrev pub TellingJobAnswers : (echo : Bool) → (plan script : Input) → Output → Result Summary JobFault → Type 0
-TellingJobAnswers echo plan script out result = PlanRead plan (λ p. ScriptTold p echo script out result) ⊎ PlanRefused plan (script.unread × out.silent) result
+abbrev pub TellingJobAnswers : (echo : Bool) → (plan script : Input)
+    → Output → Result Summary JobFault → Type 0
+TellingJobAnswers echo plan script out result = PlanRead plan (λ p.
+    ScriptTold p echo script out result) ⊎ PlanRefused plan (script.unread × out.silent) result
 
 -- an event of the run was refused
 abbrev pub has_refused : Summary → Bool

@@ -17,8 +17,10 @@ use tx_plan::Plan;
 use tx_rank::Finding;
 use tx_text::{Sink, Source};
 
-/// Reads a plan, and writes the report of its audit for at most `limit` transits (0 to 62) and `spare` groups to spare (0 to 15). Answers what shows the
-/// verdict: after a Yes the certificate, and after a No, if it is asked for, the script of the first finding that has one. `Err` is the fault of the first
+/// Reads a plan, and writes the report of its audit for at most `limit` transits (0 to 62) and
+/// `spare` groups to spare (0 to 15). Answers what shows the
+/// verdict: after a Yes the certificate, and after a No, if it is asked for, the script of the
+/// first finding that has one. `Err` is the fault of the first
 /// call that failed. Where there is no memory for that script, the report was written.
 pub fn evidence_job<A: Allocator + Copy, P: Source, W: Sink>(
     alloc: A,
@@ -30,7 +32,8 @@ pub fn evidence_job<A: Allocator + Copy, P: Source, W: Sink>(
 ) -> Result<Evidence<A>, JobFault>
     requires limit { limit ≤ 62 }
     requires spare { spare ≤ 15 }
-    ensures answers { EvidenceJobAnswers with_script limit spare (input P.rest P.failed P.called plan.old plan.new) (output W.taken out.old out.new) result }
+    ensures answers { EvidenceJobAnswers with_script limit spare
+        (input P.rest P.failed P.called plan.old plan.new) (output W.taken out.old out.new) result }
     ensures mark { W.failed out.new ≡ mark_after (W.failed out.old) result }
     ensures calls { CallsAtMost P.called source_calls plan.old plan.new }
 {

@@ -13,7 +13,8 @@ use tx_plan::Plan;
 use tx_plantext::read_plan_from;
 use tx_text::{Sink, Source, WriteFault};
 
-/// Reads a plan and then a certificate, and writes whether the plan is certified by its ranks for at most `limit` transits (0 to 62) and `spare` groups to
+/// Reads a plan and then a certificate, and writes whether the plan is certified by its ranks for
+/// at most `limit` transits (0 to 62) and `spare` groups to
 /// spare (0 to 15). Answers the verdict. `Err` is the fault of the first call that failed.
 pub fn check_job<A: Allocator + Copy, P: Source, R: Source, W: Sink>(
     alloc: A,
@@ -25,7 +26,8 @@ pub fn check_job<A: Allocator + Copy, P: Source, R: Source, W: Sink>(
 ) -> Result<Verdict, JobFault>
     requires limit { limit ≤ 62 }
     requires spare { spare ≤ 15 }
-    ensures answers { CheckJobAnswers limit spare (input P.rest P.failed P.called plan.old plan.new) (input R.rest R.failed R.called cert.old cert.new) (output W.taken out.old out.new) result }
+    ensures answers { CheckJobAnswers limit spare (input P.rest P.failed P.called plan.old plan.new)
+        (input R.rest R.failed R.called cert.old cert.new) (output W.taken out.old out.new) result }
     ensures mark { W.failed out.new ≡ mark_after (W.failed out.old) result }
     ensures plan_calls { CallsAtMost P.called source_calls plan.old plan.new }
     ensures cert_calls { CallsAtMost R.called source_calls cert.old cert.new }
@@ -52,7 +54,9 @@ pub fn check_status<A: Allocator + Copy, P: Source, R: Source, W: Sink>(
 ) -> Result<u8, JobFault>
     requires limit { limit ≤ 62 }
     requires spare { spare ≤ 15 }
-    ensures answers { CheckStatusAnswers limit spare (input P.rest P.failed P.called plan.old plan.new) (input R.rest R.failed R.called cert.old cert.new) (output W.taken out.old out.new) result }
+    ensures answers { CheckStatusAnswers limit spare
+        (input P.rest P.failed P.called plan.old plan.new)
+        (input R.rest R.failed R.called cert.old cert.new) (output W.taken out.old out.new) result }
     ensures mark { W.failed out.new ≡ mark_after (W.failed out.old) result }
     ensures plan_calls { CallsAtMost P.called source_calls plan.old plan.new }
     ensures cert_calls { CallsAtMost R.called source_calls cert.old cert.new }
@@ -83,7 +87,8 @@ fn check_cert<A: Allocator + Copy, R: Source, W: Sink>(
 ) -> Result<Verdict, JobFault>
     requires limit { limit ≤ 62 }
     requires spare { spare ≤ 15 }
-    ensures answers { CheckAnswers plan.now limit spare (input R.rest R.failed R.called cert.old cert.new) (output W.taken out.old out.new) result }
+    ensures answers { CheckAnswers plan.now limit spare
+        (input R.rest R.failed R.called cert.old cert.new) (output W.taken out.old out.new) result }
     ensures mark { W.failed out.new ≡ mark_after (W.failed out.old) result }
     ensures calls { CallsAtMost R.called source_calls cert.old cert.new }
 {
@@ -103,7 +108,8 @@ fn tell_verdict<A: Allocator, W: Sink>(
 ) -> Result<Verdict, JobFault>
     requires limit { limit ≤ 62 }
     requires spare { spare ≤ 15 }
-    ensures told { ToldVerdict plan.now cert.now limit spare (output W.taken out.old out.new) result }
+    ensures told { ToldVerdict plan.now cert.now limit spare
+        (output W.taken out.old out.new) result }
     ensures mark { W.failed out.new ≡ mark_after (W.failed out.old) result }
 {
     let verdict = check(plan, cert, limit, spare);

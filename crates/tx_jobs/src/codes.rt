@@ -12,14 +12,16 @@ use tx_plantext::read_plan_from;
 use tx_text::{Sink, Source, WriteFault};
 use tx_trie::{CodeTrie, write_codes};
 
-/// Reads a plan, and writes its codes and then the least pair of a code and a longer one that begins with it, or `DISTINCT`. Answers that pair, if there is
+/// Reads a plan, and writes its codes and then the least pair of a code and a longer one that
+/// begins with it, or `DISTINCT`. Answers that pair, if there is
 /// one. `Err` is the fault of the first call that failed.
 pub fn codes_job<A: Allocator + Copy, P: Source, W: Sink>(
     alloc: A,
     plan: &mut P,
     out: &mut W,
 ) -> Result<Option<(CodeId, CodeId)>, JobFault>
-    ensures answers { CodesJobAnswers (input P.rest P.failed P.called plan.old plan.new) (output W.taken out.old out.new) result }
+    ensures answers { CodesJobAnswers (input P.rest P.failed P.called plan.old plan.new)
+        (output W.taken out.old out.new) result }
     ensures mark { W.failed out.new ≡ mark_after (W.failed out.old) result }
     ensures calls { CallsAtMost P.called source_calls plan.old plan.new }
 {
@@ -40,7 +42,8 @@ pub fn codes_status<A: Allocator + Copy, P: Source, W: Sink>(
     plan: &mut P,
     out: &mut W,
 ) -> Result<u8, JobFault>
-    ensures answers { CodesStatusAnswers (input P.rest P.failed P.called plan.old plan.new) (output W.taken out.old out.new) result }
+    ensures answers { CodesStatusAnswers (input P.rest P.failed P.called plan.old plan.new)
+        (output W.taken out.old out.new) result }
     ensures mark { W.failed out.new ≡ mark_after (W.failed out.old) result }
     ensures calls { CallsAtMost P.called source_calls plan.old plan.new }
 {

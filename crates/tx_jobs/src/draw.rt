@@ -15,10 +15,12 @@ use tx_plantext::read_plan_from;
 use tx_rank::{Finding, Ranking, rank, reached};
 use tx_text::{NoMemory, Sink, Source, WriteFault};
 
-/// Reads a plan, and writes its picture; with the figures of a code that of the routes for the code, and with a limit and a spare number too that with the
+/// Reads a plan, and writes its picture; with the figures of a code that of the routes for the
+/// code, and with a limit and a spare number too that with the
 /// walk of the code's first finding.
 ///
-/// Answers whether the picture was written, or the plan has no such code. Nothing is written where it has none or is refused, or where memory runs out.
+/// Answers whether the picture was written, or the plan has no such code. Nothing is written where
+/// it has none or is refused, or where memory runs out.
 /// Without a code the limit and the spare number change nothing.
 pub fn draw_job<A: Allocator + Copy, P: Source, W: Sink>(
     alloc: A,
@@ -29,7 +31,8 @@ pub fn draw_job<A: Allocator + Copy, P: Source, W: Sink>(
 ) -> Result<Drawn, JobFault>
     requires limit { IfSome bounds (λ b. b.0 ≤ 62) }
     requires spare { IfSome bounds (λ b. b.1 ≤ 15) }
-    ensures answers { DrawJobAnswers A (option_map (λ f. f.now) code.entry) bounds (input P.rest P.failed P.called plan.old plan.new) (output W.taken out.old out.new) result }
+    ensures answers { DrawJobAnswers A (option_map (λ f. f.now) code.entry) bounds
+        (input P.rest P.failed P.called plan.old plan.new) (output W.taken out.old out.new) result }
     ensures mark { W.failed out.new ≡ mark_after (W.failed out.old) result }
     ensures calls { CallsAtMost P.called source_calls plan.old plan.new }
 {
@@ -54,7 +57,8 @@ fn draw_plan<A: Allocator + Copy, W: Sink>(
 ) -> Result<Drawn, JobFault>
     requires limit { IfSome bounds (λ b. b.0 ≤ 62) }
     requires spare { IfSome bounds (λ b. b.1 ≤ 15) }
-    ensures drew { Drew A plan.now (option_map (λ f. f.now) code.entry) bounds (output W.taken out.old out.new) result }
+    ensures drew { Drew A plan.now (option_map (λ f. f.now) code.entry) bounds
+        (output W.taken out.old out.new) result }
     ensures mark { W.failed out.new ≡ mark_after (W.failed out.old) result }
 {
     match code {

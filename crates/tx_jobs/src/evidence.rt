@@ -6,7 +6,8 @@ use tx_cert::Cert;
 use tx_plan::Plan;
 use tx_machine::Event;
 
-/// A plan, and events that can be written as a script for it. `evidence_job` says that they show what is wrong with the plan.
+/// A plan, and events that can be written as a script for it. `evidence_job` says that they show
+/// what is wrong with the plan.
 #[derive(Drop)]
 pub struct CounterScript<A: Allocator = Global> {
     pub plan: Plan<A>,

@@ -39,7 +39,8 @@ pub(crate) fn write_text_fault<'a, W: Sink>(
     row: (&'a [u8], &'a [u8]),
     sink: &mut W,
 ) -> Result<(), WriteFault>
-    ensures { Wrote W.taken W.failed sink.old sink.new (text_fault_line text.now line (row.entry.0.now, row.entry.1.now)) result }
+    ensures { Wrote W.taken W.failed sink.old sink.new
+        (text_fault_line text.now line (row.entry.0.now, row.entry.1.now)) result }
 {
     let mut number = Buffer::new();
     write_parts(

@@ -22,7 +22,8 @@ pub fn grade_job<A: Allocator + Copy, P: Source, W: Sink>(
     plan: &mut P,
     out: &mut W,
 ) -> Result<Grade<A>, JobFault>
-    ensures answers { GradeJobAnswers (input P.rest P.failed P.called plan.old plan.new) (output W.taken out.old out.new) result }
+    ensures answers { GradeJobAnswers (input P.rest P.failed P.called plan.old plan.new)
+        (output W.taken out.old out.new) result }
     ensures mark { W.failed out.new ≡ mark_after (W.failed out.old) result }
     ensures calls { CallsAtMost P.called source_calls plan.old plan.new }
 {
@@ -43,7 +44,8 @@ pub fn grade_status<A: Allocator + Copy, P: Source, W: Sink>(
     plan: &mut P,
     out: &mut W,
 ) -> Result<u8, JobFault>
-    ensures answers { GradeStatusAnswers A (input P.rest P.failed P.called plan.old plan.new) (output W.taken out.old out.new) result }
+    ensures answers { GradeStatusAnswers A (input P.rest P.failed P.called plan.old plan.new)
+        (output W.taken out.old out.new) result }
     ensures mark { W.failed out.new ≡ mark_after (W.failed out.old) result }
     ensures calls { CallsAtMost P.called source_calls plan.old plan.new }
 {

@@ -39,7 +39,8 @@ pub enum JobFault {
 }
 
 impl JobFault {
-    /// The exit status: 2 for a refused text, 3 for a read or a write fault, 4 when memory runs out.
+    /// The exit status: 2 for a refused text, 3 for a read or a write fault, 4 when memory runs
+    /// out.
     pub fn status(&self) -> u8
         ensures { result ≡ status_of self.now }
     {

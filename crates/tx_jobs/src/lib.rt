@@ -1,4 +1,5 @@
-//! The jobs of the commands that read a plan, over sources and a sink. `explain` reads none, and has
+//! The jobs of the commands that read a plan, over sources and a sink. `explain` reads none, and
+//! has
 //! none.
 #![tactic(auto)]
 

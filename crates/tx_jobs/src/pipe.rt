@@ -18,7 +18,8 @@ use tx_plantext::{PlanFault, read_plan_from};
 use tx_script::Summary;
 use tx_text::{Sink, Source};
 
-/// Reads a plan from an input, up to and with the first line whose one word is END, and then runs the script that follows, whose lines count from 1. `Err` is
+/// Reads a plan from an input, up to and with the first line whose one word is END, and then runs
+/// the script that follows, whose lines count from 1. `Err` is
 /// the fault of the first call that failed.
 pub fn pipe_job<A: Allocator + Copy, R: Source, W: Sink>(
     alloc: A,

@@ -14,8 +14,10 @@ use tx_plan::Plan;
 use tx_plantext::read_plan_from;
 use tx_text::{Sink, Source, WriteFault};
 
-/// Reads a plan and a certificate, and runs a script over the plan after a Yes of the checker for at most `limit` transits (0 to 62) and `spare` groups to
-/// spare (0 to 15). After a No it writes the verdict alone, and reads nothing of the script. `Err` is the fault of the first call that failed.
+/// Reads a plan and a certificate, and runs a script over the plan after a Yes of the checker for
+/// at most `limit` transits (0 to 62) and `spare` groups to
+/// spare (0 to 15). After a No it writes the verdict alone, and reads nothing of the script. `Err`
+/// is the fault of the first call that failed.
 pub fn run_checked_job<A: Allocator + Copy, P: Source, C: Source, R: Source, W: Sink>(
     alloc: A,
     plan: &mut P,
@@ -27,8 +29,9 @@ pub fn run_checked_job<A: Allocator + Copy, P: Source, C: Source, R: Source, W: 
 ) -> Result<Checked, JobFault>
     requires limit { limit ≤ 62 }
     requires spare { spare ≤ 15 }
-    ensures answers { CheckedJobAnswers limit spare (input P.rest P.failed P.called plan.old plan.new) (input C.rest C.failed C.called cert.old cert.new)
-        (input R.rest R.failed R.called script.old script.new) (output W.taken out.old out.new) result }
+    ensures answers { CheckedJobAnswers limit spare (input P.rest P.failed
+        P.called plan.old plan.new) (input C.rest C.failed C.called cert.old cert.new) (input
+        R.rest R.failed R.called script.old script.new) (output W.taken out.old out.new) result }
     ensures mark { W.failed out.new ≡ mark_after (W.failed out.old) result }
     ensures plan_calls { CallsAtMost P.called source_calls plan.old plan.new }
     ensures cert_calls { CallsAtMost C.called source_calls cert.old cert.new }
@@ -57,8 +60,9 @@ pub fn run_checked_status<A: Allocator + Copy, P: Source, C: Source, R: Source, 
 ) -> Result<u8, JobFault>
     requires limit { limit ≤ 62 }
     requires spare { spare ≤ 15 }
-    ensures answers { CheckedStatusAnswers limit spare (input P.rest P.failed P.called plan.old plan.new) (input C.rest C.failed C.called cert.old cert.new)
-        (input R.rest R.failed R.called script.old script.new) (output W.taken out.old out.new) result }
+    ensures answers { CheckedStatusAnswers limit spare (input P.rest P.failed
+        P.called plan.old plan.new) (input C.rest C.failed C.called cert.old cert.new) (input
+        R.rest R.failed R.called script.old script.new) (output W.taken out.old out.new) result }
     ensures mark { W.failed out.new ≡ mark_after (W.failed out.old) result }
     ensures plan_calls { CallsAtMost P.called source_calls plan.old plan.new }
     ensures cert_calls { CallsAtMost C.called source_calls cert.old cert.new }
@@ -83,7 +87,9 @@ fn read_and_run<A: Allocator + Copy, C: Source, R: Source, W: Sink>(
 ) -> Result<Checked, JobFault>
     requires limit { limit ≤ 62 }
     requires spare { spare ≤ 15 }
-    ensures answers { CertAnswers plan.now limit spare (input C.rest C.failed C.called cert.old cert.new) (input R.rest R.failed R.called script.old script.new) (output W.taken out.old out.new) result }
+    ensures answers { CertAnswers plan.now limit spare
+        (input C.rest C.failed C.called cert.old cert.new) (input
+        R.rest R.failed R.called script.old script.new) (output W.taken out.old out.new) result }
     ensures mark { W.failed out.new ≡ mark_after (W.failed out.old) result }
     ensures cert_calls { CallsAtMost C.called source_calls cert.old cert.new }
     ensures script_calls { CallsAtMost R.called source_calls script.old script.new }
@@ -106,7 +112,8 @@ fn run_or_tell<A: Allocator + Copy, R: Source, W: Sink>(
 ) -> Result<Checked, JobFault>
     requires limit { limit ≤ 62 }
     requires spare { spare ≤ 15 }
-    ensures told { ToldRun plan.now cert.now limit spare (input R.rest R.failed R.called script.old script.new) (output W.taken out.old out.new) result }
+    ensures told { ToldRun plan.now cert.now limit spare (input
+        R.rest R.failed R.called script.old script.new) (output W.taken out.old out.new) result }
     ensures mark { W.failed out.new ≡ mark_after (W.failed out.old) result }
     ensures calls { CallsAtMost R.called source_calls script.old script.new }
 {

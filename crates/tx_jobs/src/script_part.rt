@@ -4,7 +4,8 @@ ghost use Rattle.std.specs.Prelude.{◌≡◌};
 use crate::ahead::Ahead;
 use tx_text::{ReadFault, Source};
 
-/// The script of an input whose plan was read, as a source: the rest of the piece that was read, and then the input.
+/// The script of an input whose plan was read, as a source: the rest of the piece that was read,
+/// and then the input.
 #[derive(Drop)]
 pub struct ScriptPart<'a, R> {
     input: &'a mut R,

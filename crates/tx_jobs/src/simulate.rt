@@ -18,7 +18,8 @@ pub(crate) fn simulate<A: Allocator + Copy, R: Source, W: Sink>(
     script: &mut R,
     out: &mut W,
 ) -> Result<Summary, JobFault>
-    ensures answers { ScriptRan plan.now (input R.rest R.failed R.called script.old script.new) (output W.taken out.old out.new) result }
+    ensures answers { ScriptRan plan.now (input R.rest R.failed R.called script.old script.new)
+        (output W.taken out.old out.new) result }
     ensures mark { W.failed out.new ≡ mark_after (W.failed out.old) result }
     ensures calls { CallsAtMost R.called source_calls script.old script.new }
 {

@@ -14,7 +14,8 @@ use tx_plantext::read_plan_from;
 use tx_script::{Summary, run_telling};
 use tx_text::{Sink, Source};
 
-/// Reads a plan, and then runs a script over it as `run_job` does. Where the lines of events are asked for, the line of each stands before its reply.
+/// Reads a plan, and then runs a script over it as `run_job` does. Where the lines of events are
+/// asked for, the line of each stands before its reply.
 pub fn run_telling_job<A: Allocator + Copy, P: Source, R: Source, W: Sink>(
     alloc: A,
     echo: bool,
@@ -22,7 +23,9 @@ pub fn run_telling_job<A: Allocator + Copy, P: Source, R: Source, W: Sink>(
     script: &mut R,
     out: &mut W,
 ) -> Result<Summary, JobFault>
-    ensures answers { TellingJobAnswers echo (input P.rest P.failed P.called plan.old plan.new) (input R.rest R.failed R.called script.old script.new) (output W.taken out.old out.new) result }
+    ensures answers { TellingJobAnswers echo (input P.rest P.failed P.called plan.old plan.new)
+        (input R.rest R.failed R.called script.old script.new)
+        (output W.taken out.old out.new) result }
     ensures mark { W.failed out.new ≡ mark_after (W.failed out.old) result }
     ensures plan_calls { CallsAtMost P.called source_calls plan.old plan.new }
     ensures script_calls { CallsAtMost R.called source_calls script.old script.new }
@@ -46,7 +49,8 @@ fn tell_script<A: Allocator + Copy, R: Source, W: Sink>(
     script: &mut R,
     out: &mut W,
 ) -> Result<Summary, JobFault>
-    ensures answers { ScriptTold plan.now echo (input R.rest R.failed R.called script.old script.new) (output W.taken out.old out.new) result }
+    ensures answers { ScriptTold plan.now echo (input
+        R.rest R.failed R.called script.old script.new) (output W.taken out.old out.new) result }
     ensures mark { W.failed out.new ≡ mark_after (W.failed out.old) result }
     ensures calls { CallsAtMost R.called source_calls script.old script.new }
 {

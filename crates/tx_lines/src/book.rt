@@ -49,7 +49,8 @@ impl<A: Allocator> Model for LineBook<A> {
 impl<A: Allocator + Copy> LineBook<A> {
     /// The book of a plan's lines, none of which has a status.
     pub fn build(alloc: A, plan: &Plan<A>) -> Result<Self, NoMemory>
-        ensures lines { IfOk result (λ b. (code : ℕ) (number : List ℕ) → is_line_of b.ranges code number ≡ is_line_at plan.now code number) }
+        ensures lines { IfOk result (λ b. (code : ℕ) (number : List ℕ)
+            → is_line_of b.ranges code number ≡ is_line_at plan.now code number) }
         ensures faulty { IfOk result (λ b. b.faulty ≡ set.empty) }
         ensures away { IfOk result (λ b. b.away ≡ set.empty) }
         ensures engaged { IfOk result (λ b. b.engaged ≡ set.empty) }
@@ -79,7 +80,8 @@ impl<A: Allocator> LineBook<A> {
 
     /// The line of a code and a national number, if the number lies in a range of the code.
     pub fn find(&self, code: CodeId, national: &[u8]) -> Option<Line>
-        ensures { result ≡ (if is_line_of self.now.ranges code national.now then Some (record { code = code; national = national.now }) else None) }
+        ensures { result ≡ (if is_line_of self.now.ranges code national.now
+            then Some (record { code = code; national = national.now }) else None) }
     {
         let national = National::read(national)?;
         if self.ranges.has(code, national.bytes()) {

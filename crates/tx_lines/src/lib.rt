@@ -1,4 +1,5 @@
-//! The states of subscribers' lines, by index: which lines are engaged, out of order or absent, and what a line answers to a call.
+//! The states of subscribers' lines, by index: which lines are engaged, out of order or absent, and
+//! what a line answers to a call.
 #![tactic(auto)]
 
 mod answer;

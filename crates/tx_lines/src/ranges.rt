@@ -11,7 +11,8 @@ use std::marker::Model;
 use tx_plan::{CodeId, LineRange, Plan};
 use tx_text::NoMemory;
 
-/// Ranges in order of code, width and low end, no two of which share a number; and for each code where its own begin.
+/// Ranges in order of code, width and low end, no two of which share a number; and for each code
+/// where its own begin.
 #[derive(Drop)]
 pub struct Ranges<A: Allocator = Global> {
     ranges: Vec<LineRange, A>,
@@ -59,7 +60,8 @@ impl<A: Allocator> Ranges<A> {
         reaches(range, code, number)
     }
 
-    /// From which place and up to which the ranges of the code stand; all places for a code that the plan does not have.
+    /// From which place and up to which the ranges of the code stand; all places for a code that
+    /// the plan does not have.
     fn places(&self, code: CodeId) -> (usize, usize)
         ensures order { result.0 ≤ result.1 }
         ensures within { result.1 ≤ length self.now }
@@ -108,7 +110,8 @@ fn compare_starts(a: &LineRange, b: &LineRange) -> Ordering
     compare(a.code, a.low.bytes(), b.code, b.low.bytes())
 }
 
-/// How many ranges start at the number of the code or before it, where those of the code stand from one place and up to another.
+/// How many ranges start at the number of the code or before it, where those of the code stand from
+/// one place and up to another.
 fn starting_by(ranges: &[LineRange], code: CodeId, number: &[u8], first: usize, end: usize) -> usize
     requires order { IsInOrder ranges.now }
     requires rising { first ≤ end }
@@ -159,7 +162,8 @@ fn at_most(low: &[u8], high: &[u8]) -> bool
 
 /// Whether a number that does not lie before the range lies in it, and the range is of the code.
 fn reaches(range: &LineRange, code: CodeId, number: &[u8]) -> bool
-    ensures { result ≡ ((range.now.code == code) && ((length number.now == length range.now.low) && at_most number.now range.now.high)) }
+    ensures { result ≡ ((range.now.code == code)
+        && ((length number.now == length range.now.low) && at_most number.now range.now.high)) }
 {
     range.code == code
         && number.len() == range.low.bytes().len()

@@ -5,7 +5,8 @@ ghost use Rattle.tx_lint.specs.AtFault.{entry_of};
 use std::alloc::Allocator;
 use tx_plan::{CodeId, ExchangeId, GroupId, Plan};
 
-/// What a line of a plan's text declares. Ranges, routes and bars are known by their places in their
+/// What a line of a plan's text declares. Ranges, routes and bars are known by their places in
+/// their
 /// lists, from 0.
 #[derive(Clone, Copy)]
 pub(crate) enum Entry {

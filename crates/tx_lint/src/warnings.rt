@@ -13,7 +13,8 @@ use std::alloc::Allocator;
 use tx_plan::{CodeId, ExchangeId, Plan};
 use tx_text::NoMemory;
 
-/// The warnings of a plan, in order of its entries, which are given with the numbers of their lines.
+/// The warnings of a plan, in order of its entries, which are given with the numbers of their
+/// lines.
 pub(crate) fn warnings_of<A: Allocator + Copy>(
     alloc: A,
     plan: &Plan<A>,
@@ -121,7 +122,8 @@ fn add_missing_lists<A: Allocator>(
     Ok(())
 }
 
-/// Whether calls for the code may start at an exchange that has no list for it, and is not its home.
+/// Whether calls for the code may start at an exchange that has no list for it, and is not its
+/// home.
 fn wants_list<A: Allocator>(
     plan: &Plan<A>,
     exchange: ExchangeId,

@@ -7,7 +7,8 @@ use Rattle.tx_machine.specs.declared.hop.Hop.{Hop}
 pub use Rattle.tx_machine.specs.declared.phase.Phase.{Phase}
 pub use Rattle.tx_machine.specs.declared.phase.Phase.TheVariants.{Standing, Calling, Connected}
 
--- An open call: its number, the line that calls, the figures that were keyed and the event by which they were, the hops so far, its phase, and
+-- An open call: its number, the line that calls, the figures that were keyed and the event by which
+-- they were, the hops so far, its phase, and
 -- whether a head-on collision threw it back to the exchange where it stands.
 pub record Call : Type 0 where
   pub number : ℕ

@@ -11,7 +11,8 @@ use Rattle.tx_machine.specs.Step.{step}
 abbrev pub drained : State → List Ended → State
 drained s ts = record s { tickets = ts }
 
--- the replies are one, both steps append the same tickets, and but for tickets the states after them are one
+-- the replies are one, both steps append the same tickets, and but for tickets the states after
+-- them are one
 pub record IsAppending (s : State) (ts : List Ended) (r q : Reply × State) : Type 0 where
   pub reply : q.0 ≡ r.0
   pub made : List Ended
@@ -20,4 +21,5 @@ pub record IsAppending (s : State) (ts : List Ended) (r q : Reply × State) : Ty
 
 -- no reply depends on the tickets not yet taken, and a step only appends tickets
 abbrev pub AppendsTickets : Type 0
-AppendsTickets = (p : Plan) (s : State) (ts : List Ended) (e : Event) → IsAppending s ts (step p s e) (step p (drained s ts) e)
+AppendsTickets = (p : Plan) (s : State) (ts : List Ended) (e : Event)
+    → IsAppending s ts (step p s e) (step p (drained s ts) e)

@@ -28,16 +28,20 @@ ticket_of p cause event c =
       path = c.hops;
     }
 
--- the circuits that the calls that end give up: all that they used, unless a remaining call has seized it
+-- the circuits that the calls that end give up: all that they used, unless a remaining call has
+-- seized it
 abbrev pub given_up : List Call → List Call → List Circuit
-given_up ended kept = filter (λ x. not (list_any (λ c. seizes c x) kept)) (flat_map circuits_used ended)
+given_up ended kept = filter (λ x. not (list_any (λ c. seizes c x) kept))
+    (flat_map circuits_used ended)
 
--- The calls that the test tells end with this cause: what they give up is releasing, and each leaves a ticket, in order of their numbers.
+-- The calls that the test tells end with this cause: what they give up is releasing, and each
+-- leaves a ticket, in order of their numbers.
 abbrev pub end_calls : Plan → Cause → (Call → Bool) → State → State
 end_calls p cause ends s =
     record s {
       calls = filter (λ c. not (ends c)) s.calls;
-      releasing = set.union s.releasing (set.from_list (given_up (filter ends s.calls) (filter (λ c. not (ends c)) s.calls)));
+      releasing = set.union s.releasing
+        (set.from_list (given_up (filter ends s.calls) (filter (λ c. not (ends c)) s.calls)));
       tickets = s.tickets ++ map (ticket_of p cause (s.events + 1)) (filter ends s.calls);
     }
 

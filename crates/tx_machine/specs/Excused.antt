@@ -18,7 +18,8 @@ use Rattle.tx_machine.specs.InUse.{is_down, is_free_at, first_free}
 
 -- the group is down, or has no circuit free at the exchange
 abbrev pub IsTaken : Plan → State → ℕ → ℕ → Type 0
-IsTaken p s place g = (is_down s g ≡ true) ⊎ ((x : Circuit) → is_circuit p x ≡ true → x.group ≡ g → is_free_at p s place x ≡ false)
+IsTaken p s place g = (is_down s g ≡ true)
+    ⊎ ((x : Circuit) → is_circuit p x ≡ true → x.group ≡ g → is_free_at p s place x ≡ false)
 
 -- the list of an exchange for a code has more groups than spare, and each is taken
 pub record AllTaken (p : Plan) (s : State) (spare place code : ℕ) : Type 0 where
@@ -49,13 +50,16 @@ IsExcusedTo p spare s (Some n) Nc = FoundNone p s spare n
 IsExcusedTo p spare s None Nc = ⊥
 IsExcusedTo p spare s n other = Unit {0}
 
--- NC is told of a call that a collision ends, and that had collided at its exchange before; no call is answered NC
+-- NC is told of a call that a collision ends, and that had collided at its exchange before; no call
+-- is answered NC
 abbrev pub IsNcByCollision : State → Reply → Type 0
 IsNcByCollision s (Answered Nc) = ⊥
-IsNcByCollision s (HeadOn a b a_stands b_stands) = (a_stands ≡ false → HadCollided s a) × (b_stands ≡ false → HadCollided s b)
+IsNcByCollision s (HeadOn a b a_stands b_stands) = (a_stands ≡ false → HadCollided s a)
+    × (b_stands ≡ false → HadCollided s b)
 IsNcByCollision s other = Unit {0}
 
--- An answer NC to a routed call is excused where it found no circuit in a list of more groups than spare. The NC of a call that a collision ends is
+-- An answer NC to a routed call is excused where it found no circuit in a list of more groups than
+-- spare. The NC of a call that a collision ends is
 -- excused where it had collided at its exchange before. Other replies need no excuse.
 abbrev pub IsExcused : Plan → ℕ → State → Event → Reply → Type 0
 IsExcused p spare s e (Answered service) = IsExcusedTo p spare s (routed_call e) service
@@ -66,8 +70,9 @@ IsExcused p spare s e other = IsNcByCollision s other
 abbrev pub FewDown : Plan → State → ℕ → Type 0
 FewDown p s spare = count_by (is_down s) (range_with_len 0 (length p.groups)) ≤ spare
 
--- in each group that is not down and that may be seized where the routed call stands, a circuit is free there
+-- in each group that is not down and that may be seized where the routed call stands, a circuit is
+-- free there
 abbrev pub OthersFree : Plan → State → Event → Type 0
-OthersFree p s e =
-    (n : ℕ) (c : Call) → routed_call e ≡ Some n → call_of n s.calls ≡ Some c
-    → (g : ℕ) → may_seize p g (place_of p c) ≡ true → is_down s g ≡ false → is_some (first_free p s (place_of p c) g) ≡ true
+OthersFree p s e = (n : ℕ) (c : Call) → routed_call e ≡ Some n
+    → call_of n s.calls ≡ Some c → (g : ℕ) → may_seize p g (place_of p c) ≡ true
+    → is_down s g ≡ false → is_some (first_free p s (place_of p c) g) ≡ true

@@ -38,19 +38,22 @@ circuits_used c = circuits_carried c ++ circuit_called c.phase
 abbrev pub uses_group : ℕ → Call → Bool
 uses_group g c = list_any (λ x. x.group == g) (circuits_used c)
 
--- Free at an exchange: no call carries the circuit, it is not releasing, it is not out, and no call has seized it from there. A seizure from the
+-- Free at an exchange: no call carries the circuit, it is not releasing, it is not out, and no call
+-- has seized it from there. A seizure from the
 -- other end is not seen.
 abbrev pub is_free_at : Plan → State → ℕ → Circuit → Bool
-is_free_at p s place x =
-    not (list_any (λ c. carries c x) s.calls) && (not (set.contains s.releasing x) && (not (set.contains s.out x) && not (list_any (λ c. seizes_from p c x place) s.calls)))
+is_free_at p s place x = not (list_any (λ c. carries c x) s.calls) && (not (set.contains s.releasing
+    x) && (not (set.contains s.out x) && not (list_any (λ c. seizes_from p c x place) s.calls)))
 
 -- a group is down if it is failed or blocked
 abbrev pub is_down : State → ℕ → Bool
 is_down s g = set.contains s.failed g || set.contains s.blocked g
 
--- the circuit of a group that an exchange would seize: none of a group that is down, else the first in its order that is free there
+-- the circuit of a group that an exchange would seize: none of a group that is down, else the first
+-- in its order that is free there
 abbrev pub first_free : Plan → State → ℕ → ℕ → Option Circuit
-first_free p s place g = if is_down s g then None else find (is_free_at p s place) (circuits_at p g place)
+first_free p s place g = if is_down s g then None
+    else find (is_free_at p s place) (circuits_at p g place)
 
 -- the circuit of the first of some groups that has one
 abbrev pub first_in : (ℕ → Option Circuit) → List ℕ → Option Circuit

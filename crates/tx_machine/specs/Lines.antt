@@ -28,7 +28,8 @@ lines_of c = c.line ∷ lines_called c.phase
 abbrev pub is_engaged : State → Line → Bool
 is_engaged s l = list_any (λ c. takes_part c l) s.calls
 
--- The answer of a line: NP if the plan has no such line, DER if it is out of order, ABS if it is away, OCC if it is engaged; else it is free.
+-- The answer of a line: NP if the plan has no such line, DER if it is out of order, ABS if it is
+-- away, OCC if it is engaged; else it is free.
 abbrev pub line_answer : Plan → State → Line → Option Service
 line_answer p s l =
     if not (is_line p l) then Some Np

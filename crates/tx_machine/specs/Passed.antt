@@ -6,10 +6,12 @@ use Rattle.tx_plan.specs.Circuits.{is_circuit, other_end}
 use Rattle.tx_machine.specs.declared.hop.Hop.{Hop}
 use Rattle.tx_machine.specs.Call.{Call, start_of}
 
--- from the exchange x on, the circuit of each hop is one of the plan, and joins the exchange before it to the one after it
+-- from the exchange x on, the circuit of each hop is one of the plan, and joins the exchange before
+-- it to the one after it
 abbrev pub Joins : Plan → ℕ → List Hop → Type 0
 Joins p x [] = Unit {0}
-Joins p x (h ∷ hops) = (is_circuit p h.circuit ≡ true) × (other_end p h.circuit.group x ≡ Some h.far) × Joins p h.far hops
+Joins p x (h ∷ hops) = (is_circuit p h.circuit ≡ true)
+    × (other_end p h.circuit.group x ≡ Some h.far) × Joins p h.far hops
 
 -- the exchange where a call starts, and those that its hops lead to
 abbrev pub passed : Plan → Call → List ℕ

@@ -31,10 +31,13 @@ abbrev pub state_after : Plan → State → List Event → State
 state_after p s [] = s
 state_after p s (e ∷ es) = state_after p (step p s e).1 es
 
--- it holds in every state of every run: of every opening state, and after each event of every list of events, refused ones and foreign ids included
+-- it holds in every state of every run: of every opening state, and after each event of every list
+-- of events, refused ones and foreign ids included
 abbrev pub InEveryState : Plan → (State → Type 0) → Type 0
-InEveryState p Holds = (numbers count : ℕ) (events : List Event) → Holds (opening numbers count) × AllByRecursion (λ m. Holds m.after) (run p (opening numbers count) events)
+InEveryState p Holds = (numbers count : ℕ) (events : List Event) → Holds (opening numbers count)
+    × AllByRecursion (λ m. Holds m.after) (run p (opening numbers count) events)
 
 -- it holds of every event of every run: of the state before it, the event and the reply to it
 abbrev pub OfEveryEvent : Plan → (State → Event → Reply → Type 0) → Type 0
-OfEveryEvent p Holds = (numbers count : ℕ) (events : List Event) → AllByRecursion (λ m. Holds m.before m.event m.reply) (run p (opening numbers count) events)
+OfEveryEvent p Holds = (numbers count : ℕ) (events : List Event)
+    → AllByRecursion (λ m. Holds m.before m.event m.reply) (run p (opening numbers count) events)

@@ -32,12 +32,14 @@ OfConnected (Connected l) Holds = Holds l
 
 -- WHAT HOLDS IN EVERY RUN OF EVERY PLAN
 
--- each hop's circuit is one of the plan and joins the exchange before it to the one after it, and no circuit is carried twice, by one call or by two
+-- each hop's circuit is one of the plan and joins the exchange before it to the one after it, and
+-- no circuit is carried twice, by one call or by two
 pub record JoinsAndCarriesOnce (p : Plan) (s : State) : Type 0 where
   pub joined : AllByRecursion (λ c. Joins p (start_of p c) c.hops) s.calls
   pub once : NoneTwice same_circuit (flat_map circuits_carried s.calls)
 
--- No line takes part twice, as the line that calls or as the one that a call is connected to, in one call or in two. A connected call stands at the
+-- No line takes part twice, as the line that calls or as the one that a call is connected to, in
+-- one call or in two. A connected call stands at the
 -- home of the code of the line, and the full number of that line is the keyed text.
 pub record TakesPartOnce (p : Plan) (s : State) : Type 0 where
   pub once : NoneTwice same_line (flat_map lines_of s.calls)
@@ -45,7 +47,8 @@ pub record TakesPartOnce (p : Plan) (s : State) : Type 0 where
 
 -- WHAT HOLDS IN EVERY RUN OF A CERTIFIED PLAN
 
--- ranks for the code of a call fall along its hops, it passes no exchange twice and at most limit transits, and it is connected to the only line of its number
+-- ranks for the code of a call fall along its hops, it passes no exchange twice and at most limit
+-- transits, and it is connected to the only line of its number
 pub record FallsInRank (p : Plan) (ranks : Ranks) (limit : ℕ) (c : Call) : Type 0 where
   pub falls : (code : ℕ) → code_of p c.keyed ≡ Some code → Falls (ranks code) (start_of p c) c.hops
   pub once : NoneTwice (λ x y. x == y) (passed p c)
@@ -57,15 +60,18 @@ RanksFall p ranks limit s = AllByRecursion (FallsInRank p ranks limit) s.calls
 
 -- SAFE
 
--- each hop's circuit is one of the plan and joins the exchange before it to the one after it, no exchange is passed twice, there are at most limit
--- transits, and a connected call stands at the home of the one line of the plan whose full number was keyed
+-- each hop's circuit is one of the plan and joins the exchange before it to the one after it, no
+-- exchange is passed twice, there are at most limit
+-- transits, and a connected call stands at the home of the one line of the plan whose full number
+-- was keyed
 pub record IsSafeCall (p : Plan) (limit : ℕ) (c : Call) : Type 0 where
   pub joined : Joins p (start_of p c) c.hops
   pub once : NoneTwice (λ x y. x == y) (passed p c)
   pub few : length (transits p c) ≤ limit
   pub right : OfConnected c.phase (λ l. IsKeyedLine p c l × IsOnlyLine p c l)
 
--- A state is safe: each call is, no circuit is carried twice, and no line takes part twice, in one call or in two.
+-- A state is safe: each call is, no circuit is carried twice, and no line takes part twice, in one
+-- call or in two.
 pub record IsSafe (p : Plan) (limit : ℕ) (s : State) : Type 0 where
   pub calls : AllByRecursion (IsSafeCall p limit) s.calls
   pub circuits : NoneTwice same_circuit (flat_map circuits_carried s.calls)

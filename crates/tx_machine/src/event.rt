@@ -3,7 +3,8 @@ use crate::party::Party;
 use tx_plan::{Circuit, GroupId, Line};
 use tx_text::Figures;
 
-/// One action of an exchange, a subscriber, the end of a circuit, or one fault. An id in it may be foreign to the plan, and a call number may be one
+/// One action of an exchange, a subscriber, the end of a circuit, or one fault. An id in it may be
+/// foreign to the plan, and a call number may be one
 /// that was never given: such an event is refused.
 #[derive(Clone, Copy)]
 pub enum Event {
@@ -11,7 +12,8 @@ pub enum Event {
     Key { line: Line, keyed: Figures },
     /// The exchange where the call of this number stands routes it.
     Route(u32),
-    /// The circuit that the call of this number has seized is confirmed: call confirmation, proceed to select and selection (ITU-T U.1).
+    /// The circuit that the call of this number has seized is confirmed: call confirmation, proceed
+    /// to select and selection (ITU-T U.1).
     Confirm(u32),
     /// A party clears the call of this number (ITU-T U.1, clearing).
     Clear { call: u32, party: Party },

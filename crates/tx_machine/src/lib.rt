@@ -1,4 +1,5 @@
-//! The network of exchanges: its events, its replies, its state and the step, what is promised of every run, and what both networks use.
+//! The network of exchanges: its events, its replies, its state and the step, what is promised of
+//! every run, and what both networks use.
 #![tactic(auto)]
 
 mod cause;

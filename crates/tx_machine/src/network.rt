@@ -20,13 +20,16 @@ pub trait Network {
 
     ghost state: { Self → State };
 
-    /// Applies one event: the reply and the change are those of the step. Where no memory is left nothing changes, nothing would have been refused,
+    /// Applies one event: the reply and the change are those of the step. Where no memory is left
+    /// nothing changes, nothing would have been refused,
     /// and the event is a Key, a Route, a LineFault or a LineAway.
     fn apply(&mut self, event: Event) -> Result<Reply, NoMemory>
         ensures plan { plan self.new ≡ plan self.old }
-        ensures step { IfOk result (λ reply. step (plan self.old) (state self.old) event ≡ (reply, state self.new)) }
+        ensures step { IfOk result
+            (λ reply. step (plan self.old) (state self.old) event ≡ (reply, state self.new)) }
         ensures err { OnErr result (state self.new ≡ state self.old) }
-        ensures memory { OnErr result ((takes_memory event ≡ true) × (refusal (plan self.old) (state self.old) event ≡ None)) };
+        ensures memory { OnErr result ((takes_memory event ≡ true)
+            × (refusal (plan self.old) (state self.old) event ≡ None)) };
 
     /// Takes out the oldest ticket.
     fn next_ticket(&mut self) -> Option<Ticket<Self::A>>

@@ -9,7 +9,8 @@ use tx_plan::{Circuit, Line};
 pub enum Phase {
     /// It stands at an exchange and waits to be routed there.
     Standing,
-    /// It has seized the circuit (call), and waits for call confirmation, proceed to select and selection.
+    /// It has seized the circuit (call), and waits for call confirmation, proceed to select and
+    /// selection.
     Calling(Circuit),
     /// It is connected to the line (call connected), and waits for clearing.
     Connected(Line),

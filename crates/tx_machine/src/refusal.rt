@@ -37,7 +37,8 @@ pub enum Refusal {
     /// M11: the plan has no such circuit or group.
     #[error("the plan has no such circuit or group")]
     UnknownCircuit,
-    /// M12: all 4,294,967,295 call numbers were given (of `Key` alone), or 18,446,744,073,709,551,615 events were accepted.
+    /// M12: all 4,294,967,295 call numbers were given (of `Key` alone), or
+    /// 18,446,744,073,709,551,615 events were accepted.
     #[error("all 4,294,967,295 call numbers were given, or 18,446,744,073,709,551,615 events were accepted")]
     Exhausted,
 }

@@ -130,7 +130,9 @@ fn of_released<N: Facts>(network: &N, circuit: &Circuit) -> Option<Refusal>
 
 /// The refusal of an event that makes a fact of a circuit so, or no longer so, by whether it is.
 fn of_circuit<N: Facts>(network: &N, circuit: &Circuit, is: bool, will: bool) -> Option<Refusal>
-    ensures { result ≡ first_true ((is_circuit (N.plan network.now) circuit.now && is_idle is will, idle will) ∷ (not (is_circuit (N.plan network.now) circuit.now), UnknownCircuit) ∷ (nat_le (2 ^ 64 - 1) (N.state network.now).events, Exhausted) ∷ []) }
+    ensures { result ≡ first_true ((is_circuit (N.plan network.now) circuit.now && is_idle
+        is will, idle will) ∷ (not (is_circuit (N.plan network.now) circuit.now), UnknownCircuit)
+        ∷ (nat_le (2 ^ 64 - 1) (N.state network.now).events, Exhausted) ∷ []) }
 {
     if !network.has_circuit(circuit) {
         Some(Refusal::UnknownCircuit)
@@ -141,7 +143,9 @@ fn of_circuit<N: Facts>(network: &N, circuit: &Circuit, is: bool, will: bool) ->
 
 /// The refusal of an event that makes a fact of a group so, or no longer so, by whether it is.
 fn of_group<N: Facts>(network: &N, group: GroupId, is: bool, will: bool) -> Option<Refusal>
-    ensures { result ≡ first_true ((is_group (N.plan network.now) group && is_idle is will, idle will) ∷ (not (is_group (N.plan network.now) group), UnknownCircuit) ∷ (nat_le (2 ^ 64 - 1) (N.state network.now).events, Exhausted) ∷ []) }
+    ensures { result ≡ first_true ((is_group (N.plan network.now) group
+        && is_idle is will, idle will) ∷ (not (is_group (N.plan network.now) group), UnknownCircuit)
+        ∷ (nat_le (2 ^ 64 - 1) (N.state network.now).events, Exhausted) ∷ []) }
 {
     if !network.has_group(group) {
         Some(Refusal::UnknownCircuit)
@@ -152,7 +156,9 @@ fn of_group<N: Facts>(network: &N, group: GroupId, is: bool, will: bool) -> Opti
 
 /// The refusal of an event that makes a fact of a line so, or no longer so, by whether it is.
 fn of_line<N: Facts>(network: &N, line: &Line, is: bool, will: bool) -> Option<Refusal>
-    ensures { result ≡ first_true ((not (is_line (N.plan network.now) line.now), UnknownLine) ∷ (is_idle is will, idle will) ∷ (nat_le (2 ^ 64 - 1) (N.state network.now).events, Exhausted) ∷ []) }
+    ensures { result ≡ first_true
+        ((not (is_line (N.plan network.now) line.now), UnknownLine) ∷ (is_idle is will, idle will)
+        ∷ (nat_le (2 ^ 64 - 1) (N.state network.now).events, Exhausted) ∷ []) }
 {
     if !network.has_line(line) {
         Some(Refusal::UnknownLine)
@@ -163,7 +169,8 @@ fn of_line<N: Facts>(network: &N, line: &Line, is: bool, will: bool) -> Option<R
 
 /// The refusal of an event that makes a fact so, or no longer so, of what the plan has.
 fn of_fact<N: Facts>(network: &N, is: bool, will: bool) -> Option<Refusal>
-    ensures { result ≡ first_true ((is_idle is will, idle will) ∷ (nat_le (2 ^ 64 - 1) (N.state network.now).events, Exhausted) ∷ []) }
+    ensures { result ≡ first_true ((is_idle is will, idle will)
+        ∷ (nat_le (2 ^ 64 - 1) (N.state network.now).events, Exhausted) ∷ []) }
 {
     match (is, will) {
         (true, true) => Some(Refusal::AlreadySo),
@@ -174,7 +181,8 @@ fn of_fact<N: Facts>(network: &N, is: bool, will: bool) -> Option<Refusal>
 
 /// The refusal of any event, where all events were counted.
 fn exhausted<N: Facts>(network: &N) -> Option<Refusal>
-    ensures { result ≡ first_true ((nat_le (2 ^ 64 - 1) (N.state network.now).events, Exhausted) ∷ []) }
+    ensures { result ≡ first_true
+        ((nat_le (2 ^ 64 - 1) (N.state network.now).events, Exhausted) ∷ []) }
 {
     if network.events_accepted() == u64::MAX {
         Some(Refusal::Exhausted)

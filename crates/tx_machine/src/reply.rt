@@ -16,7 +16,8 @@ pub enum Reply {
     Connected(Line),
     /// The call ended with a service code.
     Answered(Service),
-    /// Two calls had seized the circuit from its two ends: `a`, that of the event, and `b`. Each stands again at its exchange, or ends with NC.
+    /// Two calls had seized the circuit from its two ends: `a`, that of the event, and `b`. Each
+    /// stands again at its exchange, or ends with NC.
     HeadOn {
         a: u32,
         b: u32,

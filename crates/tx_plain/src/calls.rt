@@ -78,7 +78,8 @@ fn seizes_from<A: Allocator>(
     circuit: &Circuit,
     place: ExchangeId,
 ) -> bool
-    ensures { result ≡ (seizes (call_seen call.now) circuit.now && (place_of plan.now (call_seen call.now) == place)) }
+    ensures { result ≡ (seizes (call_seen call.now) circuit.now
+        && (place_of plan.now (call_seen call.now) == place)) }
 {
     seizes(call, circuit) && place_of(plan, call) == place
 }
@@ -90,7 +91,8 @@ pub(crate) fn seized_from<A: Allocator>(
     circuit: &Circuit,
     place: ExchangeId,
 ) -> bool
-    ensures { result ≡ list_any (λ c. seizes (call_seen c) circuit.now && (place_of plan.now (call_seen c) == place)) calls.now }
+    ensures { result ≡ list_any (λ c. seizes (call_seen c) circuit.now
+        && (place_of plan.now (call_seen c) == place)) calls.now }
 {
     calls
         .iter()
@@ -105,7 +107,10 @@ pub(crate) fn rival_of<'c, A: Allocator>(
     circuit: &Circuit,
     place: ExchangeId,
 ) -> Option<&'c OpenCall<A>>
-    ensures { MatchOption result (find (λ d. not (d.number == number) && seizes_from plan.now d circuit.now place) (map call_seen calls.now) ≡ None) (λ c. find (λ d. not (d.number == number) && seizes_from plan.now d circuit.now place) (map call_seen calls.now) ≡ Some (call_seen c.now)) }
+    ensures { MatchOption result (find (λ d. not (d.number == number)
+        && seizes_from plan.now d circuit.now place) (map call_seen calls.now) ≡ None)
+        (λ c. find (λ d. not (d.number == number) && seizes_from plan.now d circuit.now place)
+        (map call_seen calls.now) ≡ Some (call_seen c.now)) }
 {
     let mut at = 0;
     while at < calls.len() {
@@ -125,14 +130,16 @@ fn is_rival<A: Allocator>(
     circuit: &Circuit,
     place: ExchangeId,
 ) -> bool
-    ensures { result ≡ (not (call.now.number == number) && seizes_from plan.now (call_seen call.now) circuit.now place) }
+    ensures { result ≡ (not (call.now.number == number)
+        && seizes_from plan.now (call_seen call.now) circuit.now place) }
 {
     call.number != number && seizes_from(plan, call, circuit, place)
 }
 
 /// The call with the number.
 pub(crate) fn call_of<A: Allocator>(calls: &[OpenCall<A>], number: u32) -> Option<&OpenCall<A>>
-    ensures { MatchOption result (call_of number (map call_seen calls.now) ≡ None) (λ c. call_of number (map call_seen calls.now) ≡ Some (call_seen c.now)) }
+    ensures { MatchOption result (call_of number (map call_seen calls.now) ≡ None)
+        (λ c. call_of number (map call_seen calls.now) ≡ Some (call_seen c.now)) }
 {
     let mut at = 0;
     while at < calls.len() {

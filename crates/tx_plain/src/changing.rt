@@ -29,7 +29,8 @@ pub(crate) fn reserve_hop<A: Allocator>(
 ) -> Result<(), NoMemory>
     ensures seen { map call_seen calls.new ≡ map call_seen calls.old }
     ensures len { length calls.new ≡ length calls.old }
-    ensures room { ((c : _) → Among c calls.old → HasRoom c) → (c : _) → Among c calls.new → HasRoom c }
+    ensures room { ((c : _) → Among c calls.old → HasRoom c)
+        → (c : _) → Among c calls.new → HasRoom c }
     ensures ready { OnOk result ((c : _) → Among c calls.new → IsReady number c) }
 {
     let mut at = 0;
@@ -65,9 +66,11 @@ fn change_one<A: Allocator>(call: &mut OpenCall<A>, number: u32, change: &Change
 /// Changes the calls with the number.
 pub(crate) fn change_numbered<A: Allocator>(calls: &mut [OpenCall<A>], number: u32, change: &Change)
     requires { (c : _) → Among c calls.old → CanChange change.now number c }
-    ensures seen { map call_seen calls.new ≡ set_call number (changed change.now) (map call_seen calls.old) }
+    ensures seen { map call_seen calls.new
+        ≡ set_call number (changed change.now) (map call_seen calls.old) }
     ensures len { length calls.new ≡ length calls.old }
-    ensures room { ((c : _) → Among c calls.old → HasRoom c) → (c : _) → Among c calls.new → HasRoom c }
+    ensures room { ((c : _) → Among c calls.old → HasRoom c)
+        → (c : _) → Among c calls.new → HasRoom c }
 {
     let mut at = 0;
     while at < calls.len() {

@@ -72,7 +72,8 @@ impl<A: Allocator> CircuitMarks<A> {
     /// Takes the marks of a group away.
     pub(crate) fn clear_group(&mut self, group: GroupId)
         requires { group < self.old.groups }
-        ensures { self.new ≡ record self.old { marked = set.retain self.old.marked (λ x. not (x.group == group)) } }
+        ensures { self.new ≡ record self.old
+            { marked = set.retain self.old.marked (λ x. not (x.group == group)) } }
     {
         clear_from(self.bits.as_mut_slice(), group.index());
     }

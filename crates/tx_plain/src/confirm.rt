@@ -27,7 +27,8 @@ impl<'p, A: Allocator + Copy> Plain<'p, A> {
     pub(crate) fn meeting_of(&self, number: u32) -> Meeting
         requires open { is_some (call_of number self.now.state.calls) ≡ true }
         requires calling { is_other is_calling (call_of number self.now.state.calls) ≡ false }
-        ensures done { accepted self.now.plan self.now.state (Confirm number) ≡ meeting_done self.now.plan self.now.state number result }
+        ensures done { accepted self.now.plan self.now.state (Confirm number)
+            ≡ meeting_done self.now.plan self.now.state number result }
         ensures met { IsMet self.now.plan self.now.state number result }
     {
         match call_of(self.calls.as_slice(), number) {
@@ -39,7 +40,8 @@ impl<'p, A: Allocator + Copy> Plain<'p, A> {
     /// What this call meets.
     pub(crate) fn meeting(&self, call: &OpenCall<A>) -> Meeting
         requires calling { is_calling call.now.phase ≡ true }
-        ensures done { confirmed self.now.plan self.now.state (call_seen call.now) call.now.phase ≡ meeting_done self.now.plan self.now.state call.now.number result }
+        ensures done { confirmed self.now.plan self.now.state (call_seen call.now) call.now.phase
+            ≡ meeting_done self.now.plan self.now.state call.now.number result }
         ensures on { IsOn call.now.phase result }
     {
         match &call.phase {
@@ -68,7 +70,8 @@ impl<'p, A: Allocator + Copy> Plain<'p, A> {
         requires events { self.old.state.events < 2 ^ 64 - 1 }
         requires open { is_some (call_of number self.old.state.calls) ≡ true }
         requires calling { is_other is_calling (call_of number self.old.state.calls) ≡ false }
-        ensures step { counted (accepted self.old.plan self.old.state (Confirm number)) ≡ (result, self.new.state) }
+        ensures step { counted (accepted self.old.plan self.old.state (Confirm number))
+            ≡ (result, self.new.state) }
         ensures plan { self.new.plan ≡ self.old.plan }
     {
         let meeting = self.meeting_of(number);
@@ -87,7 +90,8 @@ impl<'p, A: Allocator + Copy> Plain<'p, A> {
     pub(crate) fn carry(&mut self, number: u32, hop: &Hop) -> Reply
         requires events { self.old.state.events < 2 ^ 64 - 1 }
         requires met { IsMet self.old.plan self.old.state number (GoesOn hop.now) }
-        ensures step { counted (meeting_done self.old.plan self.old.state number (GoesOn hop.now)) ≡ (result, self.new.state) }
+        ensures step { counted (meeting_done self.old.plan self.old.state number (GoesOn hop.now))
+            ≡ (result, self.new.state) }
         ensures plan { self.new.plan ≡ self.old.plan }
     {
         change_numbered(self.calls.as_mut_slice(), number, &Change::Carry(*hop));
@@ -106,7 +110,8 @@ impl<'p, A: Allocator + Copy> Plain<'p, A> {
     ) -> Reply
         requires events { self.old.state.events < 2 ^ 64 - 1 }
         requires met { HasMark (length self.old.plan.groups) circuit.now }
-        ensures step { counted (meeting_done self.old.plan self.old.state number (Collides circuit.now collided other other_collided)) ≡ (result, self.new.state) }
+        ensures step { counted (meeting_done self.old.plan self.old.state number
+            (Collides circuit.now collided other other_collided)) ≡ (result, self.new.state) }
         ensures plan { self.new.plan ≡ self.old.plan }
     {
         self.collide(number, other, circuit);

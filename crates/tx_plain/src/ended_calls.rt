@@ -60,14 +60,16 @@ fn hops_use(hops: &[Hop], group: GroupId) -> bool
 
 /// Whether a call that goes on seizes the circuit.
 fn kept_by<A: Allocator>(call: &OpenCall<A>, ends: &Ends, circuit: &Circuit) -> bool
-    ensures { result ≡ (not (ends_by ends.now (call_seen call.now)) && seizes (call_seen call.now) circuit.now) }
+    ensures { result ≡ (not (ends_by ends.now (call_seen call.now))
+        && seizes (call_seen call.now) circuit.now) }
 {
     !is_ended(call, ends) && seizes(call, circuit)
 }
 
 /// Whether one of the calls that go on seizes the circuit.
 fn kept<A: Allocator>(calls: &[OpenCall<A>], ends: &Ends, circuit: &Circuit) -> bool
-    ensures { result ≡ list_any (λ c. not (ends_by ends.now (call_seen c)) && seizes (call_seen c) circuit.now) calls.now }
+    ensures { result ≡ list_any (λ c. not (ends_by ends.now (call_seen c))
+        && seizes (call_seen c) circuit.now) calls.now }
 {
     calls.iter().any(|call| kept_by(call, ends, circuit))
 }
@@ -80,7 +82,8 @@ fn give<A: Allocator>(
     releasing: &mut CircuitMarks<A>,
 )
     requires { HasMark releasing.old.groups circuit.now }
-    ensures { releasing.new ≡ with_more releasing.old (filter (is_given ends.now (map call_seen calls.now)) (circuit.now ∷ [])) }
+    ensures { releasing.new ≡ with_more releasing.old
+        (filter (is_given ends.now (map call_seen calls.now)) (circuit.now ∷ [])) }
 {
     let is_kept = kept(calls, ends, circuit);
     if is_kept {
@@ -97,7 +100,8 @@ fn give_hops<A: Allocator>(
     releasing: &mut CircuitMarks<A>,
 )
     requires { AreMarked releasing.old.groups (map (λ h. h.circuit) hops.now) }
-    ensures { releasing.new ≡ with_more releasing.old (filter (is_given ends.now (map call_seen calls.now)) (map (λ h. h.circuit) hops.now)) }
+    ensures { releasing.new ≡ with_more releasing.old
+        (filter (is_given ends.now (map call_seen calls.now)) (map (λ h. h.circuit) hops.now)) }
 {
     let mut at = 0;
     while at < hops.len() {
@@ -114,7 +118,8 @@ fn give_phase<A: Allocator>(
     releasing: &mut CircuitMarks<A>,
 )
     requires { AreMarked releasing.old.groups (circuit_called phase.now) }
-    ensures { releasing.new ≡ with_more releasing.old (filter (is_given ends.now (map call_seen calls.now)) (circuit_called phase.now)) }
+    ensures { releasing.new ≡ with_more releasing.old
+        (filter (is_given ends.now (map call_seen calls.now)) (circuit_called phase.now)) }
 {
     match phase {
         Phase::Calling(circuit) => give(calls, ends, circuit, releasing),
@@ -131,7 +136,9 @@ fn give_if<A: Allocator>(
     releasing: &mut CircuitMarks<A>,
 )
     requires { AreMarked releasing.old.groups (circuits_used (call_seen call.now)) }
-    ensures { releasing.new ≡ with_more releasing.old (filter (is_given ends.now (map call_seen calls.now)) (if ends_by ends.now (call_seen call.now) then circuits_used (call_seen call.now) else [])) }
+    ensures { releasing.new ≡ with_more releasing.old
+        (filter (is_given ends.now (map call_seen calls.now)) (if ends_by ends.now
+        (call_seen call.now) then circuits_used (call_seen call.now) else [])) }
 {
     let ended = is_ended(call, ends);
     if ended {
@@ -146,8 +153,11 @@ pub(crate) fn give_up<A: Allocator>(
     ends: &Ends,
     releasing: &mut CircuitMarks<A>,
 )
-    requires { (c : _) → Among c calls.now → AreMarked releasing.old.groups (circuits_used (call_seen c)) }
-    ensures { releasing.new ≡ with_more releasing.old (filter (is_given ends.now (map call_seen calls.now)) (flat_map circuits_used (filter (ends_by ends.now) (map call_seen calls.now)))) }
+    requires { (c : _) → Among c calls.now
+        → AreMarked releasing.old.groups (circuits_used (call_seen c)) }
+    ensures { releasing.new ≡ with_more releasing.old
+        (filter (is_given ends.now (map call_seen calls.now))
+        (flat_map circuits_used (filter (ends_by ends.now) (map call_seen calls.now)))) }
 {
     let mut at = 0;
     while at < calls.len() {
@@ -190,8 +200,10 @@ pub(crate) fn take_out<A: Allocator>(
     event: u64,
 )
     requires { vec_len tickets.old + vec_len calls.old ≤ vec_capacity tickets.old }
-    ensures calls { calls.new.items ≡ filter (λ c. not (ends_by ends.now (call_seen c))) calls.old.items }
-    ensures tickets { tickets.new.items ≡ tickets.old.items ++ map (ticket_of plan.now cause event) (filter (ends_by ends.now) (map call_seen calls.old.items)) }
+    ensures calls { calls.new.items
+        ≡ filter (λ c. not (ends_by ends.now (call_seen c))) calls.old.items }
+    ensures tickets { tickets.new.items ≡ tickets.old.items ++ map (ticket_of plan.now cause event)
+        (filter (ends_by ends.now) (map call_seen calls.old.items)) }
     ensures room { vec_len tickets.new + vec_len calls.new ≤ vec_capacity tickets.new }
 {
     let mut at = 0;

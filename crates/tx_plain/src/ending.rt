@@ -18,7 +18,8 @@ impl<'p, A: Allocator + Copy> Plain<'p, A> {
     /// A call is cleared.
     pub(crate) fn clear(&mut self, number: u32, party: Party) -> Reply
         requires { self.old.state.events < 2 ^ 64 - 1 }
-        ensures step { counted (accepted self.old.plan self.old.state (Clear number party)) ≡ (result, self.new.state) }
+        ensures step { counted (accepted self.old.plan self.old.state (Clear number party))
+            ≡ (result, self.new.state) }
         ensures plan { self.new.plan ≡ self.old.plan }
     {
         let cause = match party {
@@ -33,7 +34,8 @@ impl<'p, A: Allocator + Copy> Plain<'p, A> {
     pub(crate) fn fail(&mut self, group: GroupId) -> Reply
         requires events { self.old.state.events < 2 ^ 64 - 1 }
         requires group { group < length self.old.plan.groups }
-        ensures step { counted (accepted self.old.plan self.old.state (Fail group)) ≡ (result, self.new.state) }
+        ensures step { counted (accepted self.old.plan self.old.state (Fail group))
+            ≡ (result, self.new.state) }
         ensures plan { self.new.plan ≡ self.old.plan }
     {
         let lost = self.count_on(group);
@@ -52,7 +54,8 @@ impl<'p, A: Allocator + Copy> Plain<'p, A> {
     /// An event ends calls, with one cause.
     pub(crate) fn end(&mut self, ends: &Ends, cause: Cause)
         requires { self.old.state.events < 2 ^ 64 - 1 }
-        ensures { self.new ≡ record self.old { state = record (end_calls self.old.plan cause (ends_by ends.now) self.old.state) { events = self.old.state.events + 1 } } }
+        ensures { self.new ≡ record self.old { state = record (end_calls self.old.plan cause
+            (ends_by ends.now) self.old.state) { events = self.old.state.events + 1 } } }
     {
         self.events += 1;
         give_up(self.calls.as_slice(), ends, &mut self.marks.releasing);

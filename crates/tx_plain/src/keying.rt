@@ -15,7 +15,8 @@ impl<'p, A: Allocator + Copy> Plain<'p, A> {
         requires numbers { self.old.state.numbers < 2 ^ 32 - 1 }
         requires events { self.old.state.events < 2 ^ 64 - 1 }
         ensures plan { self.new.plan ≡ self.old.plan }
-        ensures ok { IfOk result (λ reply. counted (accepted self.old.plan self.old.state (Key line keyed)) ≡ (reply, self.new.state)) }
+        ensures ok { IfOk result (λ reply. counted
+            (accepted self.old.plan self.old.state (Key line keyed)) ≡ (reply, self.new.state)) }
         ensures err { OnErr result (self.new ≡ self.old) }
     {
         self.calls.reserve(1)?;

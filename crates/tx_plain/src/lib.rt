@@ -1,4 +1,5 @@
-//! The plain network: a network of exchanges as lists and marks, which replies as the definitions of tx_machine do.
+//! The plain network: a network of exchanges as lists and marks, which replies as the definitions
+//! of tx_machine do.
 #![tactic(auto)]
 
 mod bit;

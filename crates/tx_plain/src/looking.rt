@@ -31,7 +31,8 @@ impl<'p, A: Allocator + Copy> Plain<'p, A> {
     /// The free circuit of the least number.
     pub(crate) fn first_up(&self, place: ExchangeId, group: GroupId, count: u32) -> Option<Circuit>
         requires { count ≤ 240 }
-        ensures { result ≡ find (is_free_at self.now.plan self.now.state place) (map (λ n. record { group = group; number = n }) (upward count)) }
+        ensures { result ≡ find (is_free_at self.now.plan self.now.state place)
+            (map (λ n. record { group = group; number = n }) (upward count)) }
     {
         let mut n = 0;
         while n < count {
@@ -54,7 +55,8 @@ impl<'p, A: Allocator + Copy> Plain<'p, A> {
         group: GroupId,
         count: u32,
     ) -> Option<Circuit>
-        ensures { result ≡ find (is_free_at self.now.plan self.now.state place) (map (λ n. record { group = group; number = n }) (downward count)) }
+        ensures { result ≡ find (is_free_at self.now.plan self.now.state place)
+            (map (λ n. record { group = group; number = n }) (downward count)) }
     {
         let mut n = count;
         while n > 0 {

@@ -59,7 +59,9 @@ impl<A: Allocator> Marks<A> {
     pub(crate) fn fail(&mut self, group: GroupId)
         requires failed { group < self.old.failed.groups }
         requires releasing { group < self.old.releasing.groups }
-        ensures { self.new ≡ record self.old { failed = record self.old.failed { marked = set.insert self.old.failed.marked group }; releasing = record self.old.releasing { marked = set.retain self.old.releasing.marked (λ x. not (x.group == group)) } } }
+        ensures { self.new ≡ record self.old { failed = record self.old.failed { marked = set.insert
+            self.old.failed.marked group }; releasing = record self.old.releasing
+            { marked = set.retain self.old.releasing.marked (λ x. not (x.group == group)) } } }
     {
         self.failed.set(group);
         self.releasing.clear_group(group);

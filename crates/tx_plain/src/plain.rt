@@ -11,7 +11,8 @@ use tx_plan::{Line, Plan};
 use tx_machine::{Event, Network, OpenCall, Refusal, Reply, Ticket, refusal_of};
 use tx_text::NoMemory;
 
-/// The plain network: it keeps lists and marks, as the definitions do, and goes through them. The marks have their room from the start.
+/// The plain network: it keeps lists and marks, as the definitions do, and goes through them. The
+/// marks have their room from the start.
 #[derive(Drop)]
 pub struct Plain<'p, A: Allocator = Global> {
     pub(crate) plan: &'p Plan<A>,
@@ -35,11 +36,13 @@ impl<'p, A: Allocator> Model for Plain<'p, A> {
     ghost use Rattle.std.specs.Coded.{coded_ℕ, codes};
     ghost use Rattle.tx_plan.specs.Orders.{coded_circuit, coded_line, circuit_cmp, line_cmp};
 
-    ghost coded = { Prim.hlevel (codes, set.code {R = nat_cmp} coded_ℕ, set.code {R = circuit_cmp} coded_circuit, set.code {R = line_cmp} coded_line) };
+    ghost coded = { Prim.hlevel (codes, set.code {R = nat_cmp} coded_ℕ, set.code
+        {R = circuit_cmp} coded_circuit, set.code {R = line_cmp} coded_line) };
 
     ghost use Rattle.tx_plain.specs.inner.Whole.{net_of, IsWhole};
 
-    ghost view = { λ n. net_of n.plan.now n.calls.items n.marks n.faulty.items n.away.items n.numbers n.events n.tickets.items };
+    ghost view = { λ n. net_of n.plan.now n.calls.items
+        n.marks n.faulty.items n.away.items n.numbers n.events n.tickets.items };
 
     ghost invariant = { λ n. IsWhole n.plan.now n.calls n.tickets n.marks n.numbers };
 }
@@ -52,14 +55,16 @@ impl<'p, A: Allocator + Copy> Plain<'p, A> {
         Plain::starting_at(alloc, plan, 0, 0)
     }
 
-    /// The network in the opening state with so many call numbers given and so many events accepted.
+    /// The network in the opening state with so many call numbers given and so many events
+    /// accepted.
     pub fn starting_at(
         alloc: A,
         plan: &'p Plan<A>,
         numbers: u32,
         events: u64,
     ) -> Result<Self, NoMemory>
-        ensures { IfOk result (λ n. n ≡ record { plan = plan.now; state = opening numbers events }) }
+        ensures { IfOk result
+            (λ n. n ≡ record { plan = plan.now; state = opening numbers events }) }
     {
         let groups = plan.groups();
         let marks = Marks::new(alloc, groups)?;
@@ -80,7 +85,8 @@ impl<'p, A: Allocator + Copy> Plain<'p, A> {
     fn accept(&mut self, event: &Event) -> Result<Reply, NoMemory>
         requires open { refusal self.old.plan self.old.state event.now ≡ None }
         ensures plan { self.new.plan ≡ self.old.plan }
-        ensures ok { IfOk result (λ reply. counted (accepted self.old.plan self.old.state event.now) ≡ (reply, self.new.state)) }
+        ensures ok { IfOk result (λ reply. counted (accepted self.old.plan self.old.state event.now)
+            ≡ (reply, self.new.state)) }
         ensures err { OnErr result (self.new ≡ self.old) }
         ensures memory { OnErr result (takes_memory event.now ≡ true) }
     {

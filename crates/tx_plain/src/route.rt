@@ -27,7 +27,10 @@ use tx_text::NoMemory;
 impl<'p, A: Allocator + Copy> Plain<'p, A> {
     /// What the line decides at its home.
     pub(crate) fn ask_line(&self, code: CodeId, national: &[u8]) -> Routing
-        ensures done { (c : _) → at_line self.now.plan self.now.state c (record { code = code; national = national.now }) (line_answer self.now.plan self.now.state (record { code = code; national = national.now })) ≡ routing_done self.now.plan self.now.state c.number result }
+        ensures done { (c : _) → at_line self.now.plan self.now.state c
+            (record { code = code; national = national.now }) (line_answer
+            self.now.plan self.now.state (record { code = code; national = national.now }))
+            ≡ routing_done self.now.plan self.now.state c.number result }
         ensures planned { IsPlanned self.now.plan result }
     {
         let plan = self.plan;
@@ -49,7 +52,10 @@ impl<'p, A: Allocator + Copy> Plain<'p, A> {
 
     /// What the home of the code decides.
     pub(crate) fn ask_home(&self, code: CodeId, call: &OpenCall<A>) -> Routing
-        ensures done { (c : _) → at_line self.now.plan self.now.state c (line_of self.now.plan code call.now.keyed) (line_answer self.now.plan self.now.state (line_of self.now.plan code call.now.keyed)) ≡ routing_done self.now.plan self.now.state c.number result }
+        ensures done { (c : _)
+            → at_line self.now.plan self.now.state c (line_of self.now.plan code call.now.keyed)
+            (line_answer self.now.plan self.now.state (line_of self.now.plan code call.now.keyed))
+            ≡ routing_done self.now.plan self.now.state c.number result }
         ensures planned { IsPlanned self.now.plan result }
     {
         let plan = self.plan;
@@ -60,7 +66,8 @@ impl<'p, A: Allocator + Copy> Plain<'p, A> {
     /// What an exchange on the way decides.
     #[tactic(auto, using(crate::proofs::Choosing::chosen_circuit))]
     pub(crate) fn ask_trunk(&self, place: ExchangeId, code: CodeId) -> Routing
-        ensures done { (c : _) → at_trunk self.now.plan self.now.state c (choice self.now.plan self.now.state place code) ≡ routing_done self.now.plan self.now.state c.number result }
+        ensures done { (c : _) → at_trunk self.now.plan self.now.state c (choice self.now.plan
+            self.now.state place code) ≡ routing_done self.now.plan self.now.state c.number result }
         ensures planned { IsPlanned self.now.plan result }
     {
         match self.choice(place, code) {
@@ -71,7 +78,8 @@ impl<'p, A: Allocator + Copy> Plain<'p, A> {
 
     /// What is done with the call.
     pub(crate) fn decide(&self, call: &OpenCall<A>) -> Routing
-        ensures done { routed self.now.plan self.now.state (call_seen call.now) ≡ routing_done self.now.plan self.now.state call.now.number result }
+        ensures done { routed self.now.plan self.now.state (call_seen call.now)
+            ≡ routing_done self.now.plan self.now.state call.now.number result }
         ensures planned { IsPlanned self.now.plan result }
     {
         let plan = self.plan;
@@ -96,7 +104,8 @@ impl<'p, A: Allocator + Copy> Plain<'p, A> {
     /// What is done with the call of the number.
     pub(crate) fn routing_of(&self, number: u32) -> Routing
         requires { is_some (call_of number self.now.state.calls) ≡ true }
-        ensures done { accepted self.now.plan self.now.state (Route number) ≡ routing_done self.now.plan self.now.state number result }
+        ensures done { accepted self.now.plan self.now.state (Route number)
+            ≡ routing_done self.now.plan self.now.state number result }
         ensures planned { IsPlanned self.now.plan result }
     {
         match call_of(self.calls.as_slice(), number) {
@@ -110,7 +119,8 @@ impl<'p, A: Allocator + Copy> Plain<'p, A> {
         requires events { self.old.state.events < 2 ^ 64 - 1 }
         requires open { is_some (call_of number self.old.state.calls) ≡ true }
         ensures plan { self.new.plan ≡ self.old.plan }
-        ensures ok { IfOk result (λ reply. counted (accepted self.old.plan self.old.state (Route number)) ≡ (reply, self.new.state)) }
+        ensures ok { IfOk result (λ reply. counted
+            (accepted self.old.plan self.old.state (Route number)) ≡ (reply, self.new.state)) }
         ensures err { OnErr result (self.new ≡ self.old) }
     {
         let routing = self.routing_of(number);
@@ -128,7 +138,8 @@ impl<'p, A: Allocator + Copy> Plain<'p, A> {
     /// A call is answered, and ends.
     pub(crate) fn answer(&mut self, number: u32, service: Service) -> Reply
         requires { self.old.state.events < 2 ^ 64 - 1 }
-        ensures step { counted (routing_done self.old.plan self.old.state number (Answer service)) ≡ (result, self.new.state) }
+        ensures step { counted (routing_done self.old.plan self.old.state number (Answer service))
+            ≡ (result, self.new.state) }
         ensures plan { self.new.plan ≡ self.old.plan }
     {
         self.end(&Ends::Numbered(number), Cause::Service(service));
@@ -145,7 +156,8 @@ impl<'p, A: Allocator + Copy> Plain<'p, A> {
         requires events { self.old.state.events < 2 ^ 64 - 1 }
         requires circuit { (x : _) → phase ≡ Calling x → is_circuit self.old.plan x ≡ true }
         ensures plan { self.new.plan ≡ self.old.plan }
-        ensures ok { IfOk result (λ r. counted (reply, record self.old.state { calls = set_call number (in_phase phase) self.old.state.calls }) ≡ (r, self.new.state)) }
+        ensures ok { IfOk result (λ r. counted (reply, record self.old.state { calls = set_call
+            number (in_phase phase) self.old.state.calls }) ≡ (r, self.new.state)) }
         ensures err { OnErr result (self.new ≡ self.old) }
     {
         reserve_hop(self.calls.as_mut_slice(), number)?;

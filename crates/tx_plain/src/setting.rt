@@ -18,7 +18,8 @@ impl<'p, A: Allocator + Copy> Plain<'p, A> {
         requires open { refusal self.old.plan self.old.state event.now ≡ None }
         requires marks { is_mark event.now ≡ true }
         ensures plan { self.new.plan ≡ self.old.plan }
-        ensures ok { IfOk result (λ reply. counted (accepted self.old.plan self.old.state event.now) ≡ (reply, self.new.state)) }
+        ensures ok { IfOk result (λ reply. counted (accepted self.old.plan self.old.state event.now)
+            ≡ (reply, self.new.state)) }
         ensures err { OnErr result (self.new ≡ self.old) }
         ensures memory { OnErr result (takes_memory event.now ≡ true) }
     {
@@ -35,9 +36,12 @@ fn mark_line<A: Allocator>(
     away: &mut Vec<Line, A>,
     event: &Event,
 ) -> Result<(), NoMemory>
-    ensures faulty { OnOk result (set.from_list faulty.new.items ≡ faulty_after event.now (set.from_list faulty.old.items)) }
-    ensures away { OnOk result (set.from_list away.new.items ≡ away_after event.now (set.from_list away.old.items)) }
-    ensures err { OnErr result ((faulty.new.items ≡ faulty.old.items) × (away.new.items ≡ away.old.items)) }
+    ensures faulty { OnOk result (set.from_list faulty.new.items
+        ≡ faulty_after event.now (set.from_list faulty.old.items)) }
+    ensures away { OnOk result (set.from_list away.new.items
+        ≡ away_after event.now (set.from_list away.old.items)) }
+    ensures err { OnErr result ((faulty.new.items ≡ faulty.old.items)
+        × (away.new.items ≡ away.old.items)) }
     ensures memory { OnErr result (takes_memory event.now ≡ true) }
 {
     match event {

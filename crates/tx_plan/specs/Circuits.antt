@@ -32,13 +32,15 @@ direction_of p g = option_map_or (λ r. r.direction) (slice_get p.groups g) OneW
 abbrev pub count_of : Plan → ℕ → ℕ
 count_of p g = option_map_or (λ r. r.count) (slice_get p.groups g) 0
 
--- both ends of a group, the first one first; the first exchange twice for a place that the plan does not have
+-- both ends of a group, the first one first; the first exchange twice for a place that the plan
+-- does not have
 abbrev pub ends_of : Plan → ℕ → ℕ × ℕ
 ends_of p g = option_map_or (λ r. (r.a, r.b)) (slice_get p.groups g) (0, 0)
 
 -- a group of the plan, and a number from 1 to its count
 abbrev pub is_circuit : Plan → Circuit → Bool
-is_circuit p x = option_map_or (λ r. nat_le 1 x.number && nat_le x.number r.count) (slice_get p.groups x.group) false
+is_circuit p x = option_map_or (λ r. nat_le 1 x.number && nat_le x.number r.count)
+    (slice_get p.groups x.group) false
 
 -- from n down to 1
 abbrev pub downward : ℕ → List ℕ
@@ -50,9 +52,11 @@ abbrev pub upward : ℕ → List ℕ
 upward zero = []
 upward (suc n) = upward n ++ suc n ∷ []
 
--- the numbers of a group's circuits in the order in which an exchange looks at them: rising at the first end, falling at the other
+-- the numbers of a group's circuits in the order in which an exchange looks at them: rising at the
+-- first end, falling at the other
 abbrev pub order_at : Group → ℕ → List ℕ
 order_at r x = if r.a == x then upward r.count else downward r.count
 
 abbrev pub circuits_at : Plan → ℕ → ℕ → List Circuit
-circuits_at p g x = option_map_or (λ r. map (λ n. record { group = g; number = n }) (order_at r x)) (slice_get p.groups g) []
+circuits_at p g x = option_map_or (λ r. map (λ n. record { group = g; number = n }) (order_at r x))
+    (slice_get p.groups g) []

@@ -8,7 +8,8 @@ use Rattle.tx_entries.specs.declared.line.Line.{Line}
 
 -- a code and a text are a line where the text is figures, and lies in a range of the code
 abbrev pub is_line_at : Plan → ℕ → List ℕ → Bool
-is_line_at p code number = are_figures 1 9 number && list_any (λ r. (r.code == code) && in_range number r) p.ranges
+is_line_at p code number = are_figures 1 9 number
+    && list_any (λ r. (r.code == code) && in_range number r) p.ranges
 
 abbrev pub is_line : Plan → Line → Bool
 is_line p l = is_line_at p l.code l.national

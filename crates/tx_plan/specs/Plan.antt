@@ -6,8 +6,10 @@ pub use Rattle.tx_entries.specs.Entries.{Code, Group, Route}
 use Rattle.tx_entries.specs.declared.pair.Pair.{Pair}
 use Rattle.tx_entries.specs.declared.range.LineRange.{LineRange}
 
--- An exchange is its name. Exchanges, codes and groups are known by their places in these lists, from 0. A range is the national numbers of a code
--- from low to high. A bar is an exchange and a code: calls that start there for that code are not admitted.
+-- An exchange is its name. Exchanges, codes and groups are known by their places in these lists,
+-- from 0. A range is the national numbers of a code
+-- from low to high. A bar is an exchange and a code: calls that start there for that code are not
+-- admitted.
 pub record Plan : Type 0 where
   pub exchanges : List (List ℕ)
   pub codes : List Code

@@ -53,7 +53,8 @@ pub record IsBar (p : Plan) (b : Pair) : Type 0 where
 
 -- of one code and width, and yet no number lies in both
 abbrev pub AreSeparate : LineRange → LineRange → Type 0
-AreSeparate r q = r.code ≡ q.code → length r.low ≡ length q.low → (at_most q.low r.high ≡ false) ⊎ (at_most r.low q.high ≡ false)
+AreSeparate r q = r.code ≡ q.code → length r.low ≡ length q.low
+    → (at_most q.low r.high ≡ false) ⊎ (at_most r.low q.high ≡ false)
 
 -- THE RULES OF A PLAN
 pub record IsPlan (p : Plan) : Type 0 where

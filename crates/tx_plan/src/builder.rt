@@ -15,7 +15,8 @@ use tx_text::Words;
 
 /// A plan in the making. What it declared so far obeys the rules of a plan.
 ///
-/// Each declaration appends one entry to one list, or changes nothing and tells the first refusal in the order of `PlanRefusal`. Names are declared before use.
+/// Each declaration appends one entry to one list, or changes nothing and tells the first refusal
+/// in the order of `PlanRefusal`. Names are declared before use.
 #[derive(Drop)]
 pub struct PlanBuilder<A: Allocator = Global> {
     plan: Plan<A>,
@@ -48,9 +49,11 @@ impl<A: Allocator + Copy> PlanBuilder<A> {
 }
 
 impl<A: Allocator> PlanBuilder<A> {
-    /// Declares an exchange by its name. Refused: `BadName`, `Duplicate`, `TooMany` after 256 exchanges, `NoMemory`.
+    /// Declares an exchange by its name. Refused: `BadName`, `Duplicate`, `TooMany` after 256
+    /// exchanges, `NoMemory`.
     pub fn exchange(&mut self, name: &[u8]) -> Result<(), PlanRefusal>
-        ensures { Declares (first_true (exchange_refusals self.old name.now)) self.old (with_exchange self.old name.now) self.new result }
+        ensures { Declares (first_true (exchange_refusals self.old name.now)) self.old
+            (with_exchange self.old name.now) self.new result }
     {
         let plan = &mut self.plan;
         let entry = exchange_entry(plan, name)?;
@@ -61,10 +64,12 @@ impl<A: Allocator> PlanBuilder<A> {
         Ok(())
     }
 
-    /// Declares a destination code (ITU-T F.69) of two or three figures, with the exchange where it is at home. Refused: `BadName`, `BadCode`, `Duplicate`,
+    /// Declares a destination code (ITU-T F.69) of two or three figures, with the exchange where it
+    /// is at home. Refused: `BadName`, `BadCode`, `Duplicate`,
     /// `Unknown`, `NoMemory`.
     pub fn code(&mut self, code: &[u8], home: &[u8]) -> Result<(), PlanRefusal>
-        ensures { Declares (first_true (code_refusals self.old code.now home.now)) self.old (with_code self.old code.now home.now) self.new result }
+        ensures { Declares (first_true (code_refusals self.old code.now home.now)) self.old
+            (with_code self.old code.now home.now) self.new result }
     {
         let plan = &mut self.plan;
         let (figures, home) = code_entry(plan, code, home)?;
@@ -75,10 +80,12 @@ impl<A: Allocator> PlanBuilder<A> {
         Ok(())
     }
 
-    /// Declares subscribers' lines: the national numbers of a code from low to high, both in it. Refused: `BadCode`, `BadNumber`, `Unknown`, `RangeOrder`,
+    /// Declares subscribers' lines: the national numbers of a code from low to high, both in it.
+    /// Refused: `BadCode`, `BadNumber`, `Unknown`, `RangeOrder`,
     /// `Overlap`, `TooMany` after 4,096 ranges, `NoMemory`.
     pub fn lines(&mut self, code: &[u8], low: &[u8], high: &[u8]) -> Result<(), PlanRefusal>
-        ensures { Declares (first_true (lines_refusals self.old code.now low.now high.now)) self.old (with_lines self.old code.now low.now high.now) self.new result }
+        ensures { Declares (first_true (lines_refusals self.old code.now low.now high.now)) self.old
+            (with_lines self.old code.now low.now high.now) self.new result }
     {
         let plan = &mut self.plan;
         let range = match range_entry(plan, code, low, high) {
@@ -92,7 +99,8 @@ impl<A: Allocator> PlanBuilder<A> {
         Ok(())
     }
 
-    /// Declares a group of 1 to 240 circuits, with `a` as its first end and `b` as the other. Refused: `BadName`, `BadNumber`, `Duplicate`, `Unknown`,
+    /// Declares a group of 1 to 240 circuits, with `a` as its first end and `b` as the other.
+    /// Refused: `BadName`, `BadNumber`, `Duplicate`, `Unknown`,
     /// `SameEnds`, `TooMany` after 4,096 groups, `NoMemory`.
     pub fn group(
         &mut self,
@@ -102,7 +110,8 @@ impl<A: Allocator> PlanBuilder<A> {
         direction: Direction,
         count: u32,
     ) -> Result<(), PlanRefusal>
-        ensures { Declares (first_true (group_refusals self.old name.now a.now b.now count)) self.old (with_group self.old name.now a.now b.now direction count) self.new result }
+        ensures { Declares (first_true (group_refusals self.old name.now a.now b.now count))
+            self.old (with_group self.old name.now a.now b.now direction count) self.new result }
     {
         let plan = &mut self.plan;
         let (key, row) = group_entry(plan, name, a, b, direction, count)?;
@@ -113,15 +122,18 @@ impl<A: Allocator> PlanBuilder<A> {
         Ok(())
     }
 
-    /// Declares the list of an exchange for a code: 1 to 16 groups, in the order in which it tries them. Refused: `WrongCount`, `BadName`, `BadCode`,
-    /// `Duplicate`, `Unknown`, `NotOutgoing`, `RepeatedGroup`, `RouteAtHome`, `TooMany`, `NoMemory`.
+    /// Declares the list of an exchange for a code: 1 to 16 groups, in the order in which it tries
+    /// them. Refused: `WrongCount`, `BadName`, `BadCode`,
+    /// `Duplicate`, `Unknown`, `NotOutgoing`, `RepeatedGroup`, `RouteAtHome`, `TooMany`,
+    /// `NoMemory`.
     pub fn route(
         &mut self,
         exchange: &[u8],
         code: &[u8],
         groups: Words<'_>,
     ) -> Result<(), PlanRefusal>
-        ensures { Declares (first_true (route_refusals self.old exchange.now code.now groups.entry)) self.old (with_route self.old exchange.now code.now groups.entry) self.new result }
+        ensures { Declares (first_true (route_refusals self.old exchange.now code.now groups.entry))
+            self.old (with_route self.old exchange.now code.now groups.entry) self.new result }
     {
         let plan = &mut self.plan;
         let (pair, list) = match route_entry(plan, exchange, code, groups) {
@@ -135,9 +147,11 @@ impl<A: Allocator> PlanBuilder<A> {
         Ok(())
     }
 
-    /// Bars calls that start at an exchange for a code. Refused: `BadName`, `BadCode`, `Duplicate`, `Unknown`, `BarAtHome`, `NoMemory`.
+    /// Bars calls that start at an exchange for a code. Refused: `BadName`, `BadCode`, `Duplicate`,
+    /// `Unknown`, `BarAtHome`, `NoMemory`.
     pub fn bar(&mut self, exchange: &[u8], code: &[u8]) -> Result<(), PlanRefusal>
-        ensures { Declares (first_true (bar_refusals self.old exchange.now code.now)) self.old (with_bar self.old exchange.now code.now) self.new result }
+        ensures { Declares (first_true (bar_refusals self.old exchange.now code.now)) self.old
+            (with_bar self.old exchange.now code.now) self.new result }
     {
         let plan = &mut self.plan;
         let pair = match bar_entry(plan, exchange, code) {

@@ -80,7 +80,8 @@ pub(crate) fn code_entry<A: Allocator>(
     code: &[u8],
     home: &[u8],
 ) -> Result<(NameKey, ExchangeId), PlanRefusal>
-    ensures err { IfErr result (λ e. first_true (code_refusals plan.now code.now home.now) ≡ Some e) }
+    ensures err { IfErr result (λ e. first_true (code_refusals plan.now code.now home.now)
+        ≡ Some e) }
     ensures ok { OnOk result (first_true (code_refusals plan.now code.now home.now) ≡ None) }
     ensures entry { IfOk result (λ e. e ≡ (code.now, exchange_at plan.now home.now)) }
     ensures fresh { OnOk result (has_code plan.now code.now ≡ false) }
@@ -117,9 +118,12 @@ pub(crate) fn range_entry<A: Allocator>(
     low: &[u8],
     high: &[u8],
 ) -> Result<LineRange, PlanRefusal>
-    ensures err { IfErr result (λ e. first_true (lines_refusals plan.now code.now low.now high.now) ≡ Some e) }
-    ensures ok { OnOk result (first_true (lines_refusals plan.now code.now low.now high.now) ≡ None) }
-    ensures entry { IfOk result (λ e. e ≡ record { code = code_at plan.now code.now; low = low.now; high = high.now }) }
+    ensures err { IfErr result (λ e. first_true (lines_refusals plan.now code.now low.now high.now)
+        ≡ Some e) }
+    ensures ok { OnOk result (first_true (lines_refusals plan.now code.now low.now high.now)
+        ≡ None) }
+    ensures entry { IfOk result
+        (λ e. e ≡ record { code = code_at plan.now code.now; low = low.now; high = high.now }) }
 {
     if !are_figures(code, 2, 3) {
         return Err(PlanRefusal::BadCode);
@@ -151,7 +155,8 @@ pub(crate) fn range_entry<A: Allocator>(
 
 /// Whether each is a name.
 fn are_names(name: &[u8], a: &[u8], b: &[u8]) -> bool
-    ensures gives { not result ≡ (not (is_name name.now) || (not (is_name a.now) || not (is_name b.now))) }
+    ensures gives { not result
+        ≡ (not (is_name name.now) || (not (is_name a.now) || not (is_name b.now))) }
     ensures short { result ≡ true → length name.now ≤ 8 }
 {
     is_name(name) && is_name(a) && is_name(b)
@@ -166,8 +171,10 @@ fn is_count(count: u32) -> bool
 
 /// The exchanges of two names.
 fn ends_named<A: Allocator>(plan: &Plan<A>, a: &[u8], b: &[u8]) -> Option<(ExchangeId, ExchangeId)>
-    ensures found { is_some result ≡ not (not (has_exchange plan.now a.now) || not (has_exchange plan.now b.now)) }
-    ensures ends { IfSome result (λ e. e ≡ (exchange_at plan.now a.now, exchange_at plan.now b.now)) }
+    ensures found { is_some result
+        ≡ not (not (has_exchange plan.now a.now) || not (has_exchange plan.now b.now)) }
+    ensures ends { IfSome result
+        (λ e. e ≡ (exchange_at plan.now a.now, exchange_at plan.now b.now)) }
 {
     let Some(first) = exchange_of(plan, a) else {
         return None;
@@ -187,9 +194,12 @@ pub(crate) fn group_entry<A: Allocator>(
     direction: Direction,
     count: u32,
 ) -> Result<(NameKey, GroupRow), PlanRefusal>
-    ensures err { IfErr result (λ e. first_true (group_refusals plan.now name.now a.now b.now count) ≡ Some e) }
-    ensures ok { OnOk result (first_true (group_refusals plan.now name.now a.now b.now count) ≡ None) }
-    ensures entry { IfOk result (λ e. e ≡ (name.now, record { a = exchange_at plan.now a.now; b = exchange_at plan.now b.now; direction = direction; count = count })) }
+    ensures err { IfErr result (λ e. first_true (group_refusals plan.now name.now a.now b.now count)
+        ≡ Some e) }
+    ensures ok { OnOk result (first_true (group_refusals plan.now name.now a.now b.now count)
+        ≡ None) }
+    ensures entry { IfOk result (λ e. e ≡ (name.now, record { a = exchange_at plan.now a.now;
+        b = exchange_at plan.now b.now; direction = direction; count = count })) }
     ensures fresh { OnOk result (has_group plan.now name.now ≡ false) }
 {
     if !are_names(name, a, b) {
@@ -223,7 +233,8 @@ pub(crate) fn group_entry<A: Allocator>(
 /// The exchange and the code of two words.
 fn pair_of<A: Allocator>(plan: &Plan<A>, exchange: &[u8], code: &[u8]) -> Option<Pair>
     ensures pair { result ≡ pair_named plan.now exchange.now code.now }
-    ensures named { IfSome result (λ x. x ≡ record { exchange = exchange_at plan.now exchange.now; code = code_at plan.now code.now }) }
+    ensures named { IfSome result (λ x. x ≡ record { exchange = exchange_at plan.now exchange.now;
+        code = code_at plan.now code.now }) }
     ensures name { is_some result ≡ true → is_name exchange.now ≡ true }
     ensures figures { is_some result ≡ true → is_code code.now ≡ true }
 {
@@ -244,9 +255,11 @@ pub(crate) fn bar_entry<A: Allocator>(
     exchange: &[u8],
     code: &[u8],
 ) -> Result<Pair, PlanRefusal>
-    ensures err { IfErr result (λ e. first_true (bar_refusals plan.now exchange.now code.now) ≡ Some e) }
+    ensures err { IfErr result (λ e. first_true (bar_refusals plan.now exchange.now code.now)
+        ≡ Some e) }
     ensures ok { OnOk result (first_true (bar_refusals plan.now exchange.now code.now) ≡ None) }
-    ensures entry { IfOk result (λ e. e ≡ record { exchange = exchange_at plan.now exchange.now; code = code_at plan.now code.now }) }
+    ensures entry { IfOk result (λ e. e ≡ record { exchange = exchange_at plan.now exchange.now;
+        code = code_at plan.now code.now }) }
     ensures fresh { IfOk result (λ e. is_barred plan.now e.exchange e.code ≡ false) }
 {
     if !is_name(exchange) {
@@ -268,7 +281,8 @@ pub(crate) fn bar_entry<A: Allocator>(
     Ok(pair)
 }
 
-/// What the words of a route refuse by themselves. The exchange and the code are looked at only where they are not both declared, since what is declared is
+/// What the words of a route refuse by themselves. The exchange and the code are looked at only
+/// where they are not both declared, since what is declared is
 /// well formed, and the groups only where the list that was seen of them is empty.
 fn route_words(
     exchange: &[u8],
@@ -357,9 +371,12 @@ pub(crate) fn route_entry<A: Allocator>(
     code: &[u8],
     groups: Words<'_>,
 ) -> Result<(Pair, GroupList), PlanRefusal>
-    ensures err { IfErr result (λ e. first_true (route_refusals plan.now exchange.now code.now groups.entry) ≡ Some e) }
-    ensures ok { OnOk result (first_true (route_refusals plan.now exchange.now code.now groups.entry) ≡ None) }
-    ensures entry { IfOk result (λ e. e ≡ (record { exchange = exchange_at plan.now exchange.now; code = code_at plan.now code.now }, map (group_at plan.now) groups.entry)) }
+    ensures err { IfErr result
+        (λ e. first_true (route_refusals plan.now exchange.now code.now groups.entry) ≡ Some e) }
+    ensures ok { OnOk result
+        (first_true (route_refusals plan.now exchange.now code.now groups.entry) ≡ None) }
+    ensures entry { IfOk result (λ e. e ≡ (record { exchange = exchange_at plan.now exchange.now;
+        code = code_at plan.now code.now }, map (group_at plan.now) groups.entry)) }
     ensures fresh { IfOk result (λ e. has_route plan.now e.0.exchange e.0.code ≡ false) }
 {
     let pair = pair_of(plan, exchange, code);

@@ -44,7 +44,8 @@ fn begins(text: &[u8], keyed: &[u8]) -> bool
     }
 }
 
-/// The longest destination code that begins the figures (ITU-T F.69). It looks at each code; `tx_trie` answers the same by the figures.
+/// The longest destination code that begins the figures (ITU-T F.69). It looks at each code;
+/// `tx_trie` answers the same by the figures.
 pub fn code_of<A: Allocator>(plan: &Plan<A>, keyed: &[u8]) -> Option<CodeId>
     ensures { result ≡ code_of plan.now keyed.now }
 {

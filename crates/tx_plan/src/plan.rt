@@ -16,7 +16,8 @@ use tx_entries::{
     National, Pair, Ranges, Routes,
 };
 
-/// A route plan: exchanges, codes, ranges, groups, routes and bars, each in order of declaration. It obeys the rules of a plan.
+/// A route plan: exchanges, codes, ranges, groups, routes and bars, each in order of declaration.
+/// It obeys the rules of a plan.
 ///
 /// Readers by id answer a foreign id with a default, and none takes memory.
 #[derive(Drop)]
@@ -35,9 +36,11 @@ impl<A: Allocator> Model for Plan<A> {
 
     ghost Value = { Plan };
 
-    ghost view = { λ p. record { exchanges = p.exchanges; codes = p.codes; ranges = p.ranges; groups = p.groups; routes = p.routes; bars = p.bars } };
+    ghost view = { λ p. record { exchanges = p.exchanges;
+        codes = p.codes; ranges = p.ranges; groups = p.groups; routes = p.routes; bars = p.bars } };
 
-    ghost invariant = { λ p. IsPlan (record { exchanges = p.exchanges; codes = p.codes; ranges = p.ranges; groups = p.groups; routes = p.routes; bars = p.bars }) };
+    ghost invariant = { λ p. IsPlan (record { exchanges = p.exchanges; codes = p.codes;
+        ranges = p.ranges; groups = p.groups; routes = p.routes; bars = p.bars }) };
 }
 
 /// Counts, and entries by their places.
@@ -143,7 +146,8 @@ impl<A: Allocator> Plan<A> {
 
     /// The exchange and the code of the route at a place, from 0. `list` has its groups.
     pub fn route_at(&self, place: usize) -> Option<(ExchangeId, CodeId)>
-        ensures { result ≡ option_map (λ r. (r.exchange, r.code)) (slice_get self.now.routes place) }
+        ensures { result ≡ option_map (λ r. (r.exchange, r.code))
+            (slice_get self.now.routes place) }
     {
         match self.routes.pair_at(place) {
             Some(pair) => Some((pair.exchange, pair.code)),
@@ -187,7 +191,8 @@ impl<A: Allocator> Plan<A> {
 
     /// The line of a code and a national number, if that lies in a range of the code (ITU-T F.69).
     pub fn line_at(&self, code: CodeId, national: &[u8]) -> Option<Line>
-        ensures { result ≡ (if is_line_at self.now code national.now then Some (record { code = code; national = national.now }) else None) }
+        ensures { result ≡ (if is_line_at self.now code national.now
+            then Some (record { code = code; national = national.now }) else None) }
     {
         let national = National::read(national)?;
         if self.ranges.has(code, national.bytes()) {
@@ -235,7 +240,8 @@ impl<A: Allocator> Plan<A> {
             .any(|range| self.codes.home(range.code.index()) == exchange)
     }
 
-    /// Whether calls for the code may start at the exchange: it is an origin that is not barred for the code.
+    /// Whether calls for the code may start at the exchange: it is an origin that is not barred for
+    /// the code.
     pub fn is_origin_for(&self, exchange: ExchangeId, code: CodeId) -> bool
         ensures { result ≡ is_origin_for self.now exchange code }
     {
@@ -276,7 +282,8 @@ impl<A: Allocator> Plan<A> {
         }
     }
 
-    /// The exchange across the group, if the exchange is an end of it. Which of them it is cannot be foreseen: the sum of both ends less the one is the other.
+    /// The exchange across the group, if the exchange is an end of it. Which of them it is cannot
+    /// be foreseen: the sum of both ends less the one is the other.
     pub fn other_end(&self, group: GroupId, exchange: ExchangeId) -> Option<ExchangeId>
         ensures { result ≡ other_end self.now group exchange }
     {
@@ -289,7 +296,8 @@ impl<A: Allocator> Plan<A> {
         }
     }
 
-    /// Whether the exchange may seize the group: its first end may, and of a both-way group the other end too. Both are looked at, since which of them it is
+    /// Whether the exchange may seize the group: its first end may, and of a both-way group the
+    /// other end too. Both are looked at, since which of them it is
     /// cannot be foreseen.
     pub fn may_seize(&self, group: GroupId, exchange: ExchangeId) -> bool
         ensures { result ≡ may_seize self.now group exchange }

@@ -1,7 +1,8 @@
 // Why a declaration is refused.
 use thiserror::Error;
 
-/// Why a declaration of a plan is refused. Of several reasons the first in this order is given. The codes are those that a plan's text is refused with.
+/// Why a declaration of a plan is refused. Of several reasons the first in this order is given. The
+/// codes are those that a plan's text is refused with.
 #[derive(Clone, Copy, Debug, PartialEq, Eq, Error)]
 pub enum PlanRefusal {
     /// P4: a route without groups. The reader of a text also tells a wrong number of words by it.

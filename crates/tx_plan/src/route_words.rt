@@ -31,10 +31,13 @@ impl Seen {
     /// Takes in the next word.
     fn note<A: Allocator>(&mut self, plan: &Plan<A>, pair: &Option<Pair>, word: &[u8])
         ensures bad { self.new.bad ≡ (self.old.bad || not (is_name word.now)) }
-        ensures unknown { self.new.unknown ≡ (self.old.unknown || not (has_group plan.now word.now)) }
-        ensures not_outgoing { self.new.not_outgoing ≡ (self.old.not_outgoing || is_not_outgoing plan.now pair.now word.now) }
+        ensures unknown { self.new.unknown
+            ≡ (self.old.unknown || not (has_group plan.now word.now)) }
+        ensures not_outgoing { self.new.not_outgoing
+            ≡ (self.old.not_outgoing || is_not_outgoing plan.now pair.now word.now) }
         ensures many { self.new.many ≡ (self.old.many || nat_le 16 (length self.old.list)) }
-        ensures list { self.new.many ≡ false → self.new.list ≡ self.old.list ++ group_at plan.now word.now ∷ [] }
+        ensures list { self.new.many ≡ false
+            → self.new.list ≡ self.old.list ++ group_at plan.now word.now ∷ [] }
     {
         let group = group_of(plan, word);
         self.bad = self.bad || (group.is_none() && !is_name(word));
@@ -48,7 +51,8 @@ impl Seen {
 
 /// Whether the pair's exchange may not seize the group.
 fn is_closed<A: Allocator>(plan: &Plan<A>, pair: &Option<Pair>, group: Option<GroupId>) -> bool
-    ensures { result ≡ holds_at pair.now (λ x c. option_map_or (λ i. not (may_seize plan.now i x)) group false) }
+    ensures { result ≡ holds_at pair.now
+        (λ x c. option_map_or (λ i. not (may_seize plan.now i x)) group false) }
 {
     match pair {
         None => false,
@@ -59,10 +63,12 @@ fn is_closed<A: Allocator>(plan: &Plan<A>, pair: &Option<Pair>, group: Option<Gr
     }
 }
 
-/// The groups that the words name, where each names a group that the pair's exchange may seize, and no more than 16 stand there. It stops at the first word
+/// The groups that the words name, where each names a group that the pair's exchange may seize, and
+/// no more than 16 stand there. It stops at the first word
 /// where that fails, and tells nothing of the words then.
 fn outgoing<A: Allocator>(plan: &Plan<A>, pair: &Pair, words: Words<'_>) -> Option<GroupList>
-    ensures { IfSome result (λ list. IsSeen plan.now (Some pair.now) words.entry (record { bad = false; unknown = false; not_outgoing = false; many = false; list = list })) }
+    ensures { IfSome result (λ list. IsSeen plan.now (Some pair.now) words.entry (record
+        { bad = false; unknown = false; not_outgoing = false; many = false; list = list })) }
 {
     let mut rest = words;
     let mut list = GroupList::new();
@@ -79,7 +85,8 @@ fn outgoing<A: Allocator>(plan: &Plan<A>, pair: &Pair, words: Words<'_>) -> Opti
     }
 }
 
-/// What the words come to for a pair. A list as most are, of outgoing groups alone, is told by a shorter loop.
+/// What the words come to for a pair. A list as most are, of outgoing groups alone, is told by a
+/// shorter loop.
 pub(crate) fn see<A: Allocator>(plan: &Plan<A>, pair: &Option<Pair>, words: Words<'_>) -> Seen
     ensures { IsSeen plan.now pair.now words.entry result }
 {

@@ -42,7 +42,8 @@ exchange_line p (name ∷ w ∷ ws) = wrong_count
 abbrev pub code_line : Plan → List (List ℕ) → Said
 code_line p [] = wrong_count
 code_line p (code ∷ []) = wrong_count
-code_line p (code ∷ home ∷ []) = unless (first_true (code_refusals p code home)) (with_code p code home)
+code_line p (code ∷ home ∷ []) =
+    unless (first_true (code_refusals p code home)) (with_code p code home)
 code_line p (code ∷ home ∷ w ∷ ws) = wrong_count
 
 -- LINES code low high
@@ -50,11 +51,13 @@ abbrev pub lines_line : Plan → List (List ℕ) → Said
 lines_line p [] = wrong_count
 lines_line p (code ∷ []) = wrong_count
 lines_line p (code ∷ low ∷ []) = wrong_count
-lines_line p (code ∷ low ∷ high ∷ []) = unless (first_true (lines_refusals p code low high)) (with_lines p code low high)
+lines_line p (code ∷ low ∷ high ∷ []) =
+    unless (first_true (lines_refusals p code low high)) (with_lines p code low high)
 lines_line p (code ∷ low ∷ high ∷ w ∷ ws) = wrong_count
 
 abbrev pub direction_of : List ℕ → Option Direction
-direction_of w = if bytes_eq w (codes "ONEWAY") then Some OneWay else if bytes_eq w (codes "BOTHWAY") then Some BothWay else None
+direction_of w = if bytes_eq w (codes "ONEWAY")
+    then Some OneWay else if bytes_eq w (codes "BOTHWAY") then Some BothWay else None
 
 -- a word that is no number of at most 240 counts as 0, which is refused as such
 abbrev pub count_of : List ℕ → ℕ
@@ -62,7 +65,8 @@ count_of w = unwrap_or (number_of 240 w) 0
 
 abbrev pub group_by : Plan → List ℕ → List ℕ → List ℕ → Option Direction → ℕ → Said
 group_by p name a b None count = Err UnknownWord
-group_by p name a b (Some d) count = unless (first_true (group_refusals p name a b count)) (with_group p name a b d count)
+group_by p name a b (Some d) count =
+    unless (first_true (group_refusals p name a b count)) (with_group p name a b d count)
 
 -- GROUP name a b direction count
 abbrev pub group_line : Plan → List (List ℕ) → Said
@@ -71,23 +75,27 @@ group_line p (name ∷ []) = wrong_count
 group_line p (name ∷ a ∷ []) = wrong_count
 group_line p (name ∷ a ∷ b ∷ []) = wrong_count
 group_line p (name ∷ a ∷ b ∷ direction ∷ []) = wrong_count
-group_line p (name ∷ a ∷ b ∷ direction ∷ count ∷ []) = group_by p name a b (direction_of direction) (count_of count)
+group_line p (name ∷ a ∷ b ∷ direction ∷ count ∷ []) =
+    group_by p name a b (direction_of direction) (count_of count)
 group_line p (name ∷ a ∷ b ∷ direction ∷ count ∷ w ∷ ws) = wrong_count
 
 -- ROUTE exchange code group ..
 abbrev pub route_line : Plan → List (List ℕ) → Said
 route_line p [] = wrong_count
 route_line p (exchange ∷ []) = wrong_count
-route_line p (exchange ∷ code ∷ groups) = unless (first_true (route_refusals p exchange code groups)) (with_route p exchange code groups)
+route_line p (exchange ∷ code ∷ groups) =
+    unless (first_true (route_refusals p exchange code groups)) (with_route p exchange code groups)
 
 -- BAR exchange code
 abbrev pub bar_line : Plan → List (List ℕ) → Said
 bar_line p [] = wrong_count
 bar_line p (exchange ∷ []) = wrong_count
-bar_line p (exchange ∷ code ∷ []) = unless (first_true (bar_refusals p exchange code)) (with_bar p exchange code)
+bar_line p (exchange ∷ code ∷ []) =
+    unless (first_true (bar_refusals p exchange code)) (with_bar p exchange code)
 bar_line p (exchange ∷ code ∷ w ∷ ws) = wrong_count
 
--- What a line declares under a header of this version, after the lines before it. The line of the one word END is none of these.
+-- What a line declares under a header of this version, after the lines before it. The line of the
+-- one word END is none of these.
 unfoldable pub declare : ℕ → Plan → List (List ℕ) → Said
 declare v p [] = Err UnknownWord
 declare v p (w ∷ ws) =
@@ -125,9 +133,12 @@ is_memory w = false
 abbrev pub SaysPlan : (old new : Option (List ℕ)) → Plan → Type 0
 SaysPlan old new p = EndsAs old new plan_of AtEnd (Ok p) × IsAtEnd new
 
--- WHAT A READER OF PLAN TEXTS ANSWERS. Broken says that the source failed or met the bound on calls, unread that nothing was read.
-abbrev pub ReadsPlan : (old new : Option (List ℕ)) → (broken unread : Type 0) → Result Plan (ℕ × FaultKind PlanWord) → Type 0
-ReadsPlan old new broken unread result = Answered is_memory old new plan_of broken unread (WantingAt old new) result
+-- WHAT A READER OF PLAN TEXTS ANSWERS. Broken says that the source failed or met the bound on
+-- calls, unread that nothing was read.
+abbrev pub ReadsPlan : (old new : Option (List ℕ))
+    → (broken unread : Type 0) → Result Plan (ℕ × FaultKind PlanWord) → Type 0
+ReadsPlan old new broken unread result =
+    Answered is_memory old new plan_of broken unread (WantingAt old new) result
 
 -- a refusal of the builder as a fault of the line's words
 abbrev pub word_told : Result (Unit {0}) PlanRefusal → Result (Unit {0}) PlanWord

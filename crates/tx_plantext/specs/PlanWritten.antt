@@ -29,19 +29,29 @@ direction_word OneWay = codes "ONEWAY"
 direction_word BothWay = codes "BOTHWAY"
 
 abbrev pub group_words : Plan → Group → List (List ℕ)
-group_words p g = codes "GROUP" ∷ g.name ∷ exchange_name p g.a ∷ exchange_name p g.b ∷ direction_word g.direction ∷ decimal g.count ∷ []
+group_words p g =
+    codes "GROUP"
+    ∷ g.name
+    ∷ exchange_name p g.a
+    ∷ exchange_name p g.b
+    ∷ direction_word g.direction
+    ∷ decimal g.count ∷ []
 
 abbrev pub route_words : Plan → Route → List (List ℕ)
-route_words p r = codes "ROUTE" ∷ exchange_name p r.exchange ∷ figures_of p r.code ∷ map (group_name p) r.groups
+route_words p r =
+    codes "ROUTE"
+    ∷ exchange_name p r.exchange
+    ∷ figures_of p r.code
+    ∷ map (group_name p) r.groups
 
 abbrev pub bar_words : Plan → Pair → List (List ℕ)
 bar_words p b = codes "BAR" ∷ exchange_name p b.exchange ∷ figures_of p b.code ∷ []
 
 -- the six lists in turn, each in order of declaration
 abbrev pub plan_lines : Plan → List (List (List ℕ))
-plan_lines p =
-    map exchange_words p.exchanges ++ (map (code_words p) p.codes ++ (map (range_words p) p.ranges
-    ++ (map (group_words p) p.groups ++ (map (route_words p) p.routes ++ map (bar_words p) p.bars))))
+plan_lines p = map exchange_words p.exchanges
+    ++ (map (code_words p) p.codes ++ (map (range_words p) p.ranges ++ (map (group_words p) p.groups
+    ++ (map (route_words p) p.routes ++ map (bar_words p) p.bars))))
 
 -- THE LINES OF A LIST
 
@@ -51,7 +61,8 @@ lines_of_list words entries = flat_map (λ x. line_written (words x)) entries
 
 -- the line of the entry at a place, if there is one
 abbrev pub line_at : {A : Type 0} → (A → List (List ℕ)) → List A → ℕ → List ℕ
-line_at words entries place = option_map_or (λ x. line_written (words x)) (slice_get entries place) []
+line_at words entries place =
+    option_map_or (λ x. line_written (words x)) (slice_get entries place) []
 
 -- THE TEXT
 
@@ -69,7 +80,8 @@ version_of true = 2
 
 -- the header, the lines of the plan and END, each with an LF after it
 abbrev pub plan_written : Plan → List ℕ
-plan_written p = line_written (head_of (has_bars p)) ++ (flat_map line_written (plan_lines p) ++ codes "END\n")
+plan_written p = line_written (head_of (has_bars p))
+    ++ (flat_map line_written (plan_lines p) ++ codes "END\n")
 
 -- THE ROUND TRIP: what is written for a plan says that plan
 abbrev pub ReadsBack : Type 0

@@ -20,13 +20,16 @@ const KEY: &[u8] = b"PLAN";
 
 const VERSIONS: u8 = 2;
 
-/// Reads a plan text from a source, to its end, in pieces of any size and by at most 4,294,967,295 calls. `Err` is the first fault, with its line. A fault
+/// Reads a plan text from a source, to its end, in pieces of any size and by at most 4,294,967,295
+/// calls. `Err` is the first fault, with its line. A fault
 /// before the end stands whatever bytes follow.
 pub fn read_plan_from<R: Source, A: Allocator + Copy>(
     alloc: A,
     source: &mut R,
 ) -> Result<Plan<A>, PlanFault>
-    ensures answer { ReadsPlan (R.rest source.old) (R.rest source.new) (Broken R.called (R.failed source.new) source_calls source.old source.new) (source.new ≡ source.old) (told_fault result) }
+    ensures answer { ReadsPlan (R.rest source.old) (R.rest source.new)
+        (Broken R.called (R.failed source.new) source_calls source.old source.new)
+        (source.new ≡ source.old) (told_fault result) }
     ensures calls { CallsAtMost R.called source_calls source.old source.new }
 {
     match FrameReader::new(alloc, KEY, VERSIONS) {
@@ -37,7 +40,8 @@ pub fn read_plan_from<R: Source, A: Allocator + Copy>(
 
 /// Reads a plan text that is in memory. `Err` is the first fault, with its line.
 pub fn read_plan<A: Allocator + Copy>(alloc: A, text: &[u8]) -> Result<Plan<A>, PlanFault>
-    ensures { AnswersAs is_memory (plan_of AtEnd text.now) (λ n. declares_line n AtEnd text.now ≡ true) (told_fault result) }
+    ensures { AnswersAs is_memory (plan_of AtEnd text.now)
+        (λ n. declares_line n AtEnd text.now ≡ true) (told_fault result) }
 {
     slices_are_read_whole();
     let mut source = SliceSource::new(text);
@@ -70,7 +74,9 @@ fn read_lines<R: Source, A: Allocator>(
     requires reader { frame.reader ≡ reading_of_calls frame.reader.left }
     requires phase { frame.phase ≡ Start }
     requires number { frame.number ≡ 1 }
-    ensures answer { ReadsPlan (R.rest source.old) (R.rest source.new) (Broken R.called (R.failed source.new) frame.entry.reader.left source.old source.new) (source.new ≡ source.old) (told_fault result) }
+    ensures answer { ReadsPlan (R.rest source.old) (R.rest source.new)
+        (Broken R.called (R.failed source.new) frame.entry.reader.left source.old source.new)
+        (source.new ≡ source.old) (told_fault result) }
     ensures calls { CallsAtMost R.called frame.entry.reader.left source.old source.new }
 {
     let mut plan = plan;

@@ -14,9 +14,11 @@ use std::alloc::Allocator;
 use tx_plan::{CodeId, Direction, ExchangeId, GroupId, Plan};
 use tx_text::{Sink, WriteFault, write_text};
 
-/// Writes the text of a plan: the header, a line for each entry of the six lists in order of declaration, and END.
+/// Writes the text of a plan: the header, a line for each entry of the six lists in order of
+/// declaration, and END.
 ///
-/// The header is `PLAN 2` where the plan has a bar, and else `PLAN 1`. What went out before a failure is a front of the text.
+/// The header is `PLAN 2` where the plan has a bar, and else `PLAN 1`. What went out before a
+/// failure is a front of the text.
 pub fn write_plan<A: Allocator, W: Sink>(plan: &Plan<A>, sink: &mut W) -> Result<(), WriteFault>
     ensures { Wrote W.taken W.failed sink.old sink.new (plan_written plan.now) result }
 {
@@ -35,7 +37,9 @@ fn write_whole<A: Allocator, W: Sink>(plan: &Plan<A>, sink: &mut W) -> Result<()
 
 /// Writes the exchanges, the codes and the ranges of lines.
 fn write_numbering<A: Allocator, W: Sink>(plan: &Plan<A>, sink: &mut W) -> Result<(), WriteFault>
-    ensures { Wrote W.taken W.failed sink.old sink.new (lines_of_list exchange_words plan.now.exchanges ++ (lines_of_list (code_words plan.now) plan.now.codes ++ lines_of_list (range_words plan.now) plan.now.ranges)) result }
+    ensures { Wrote W.taken W.failed sink.old sink.new
+        (lines_of_list exchange_words plan.now.exchanges ++ (lines_of_list (code_words plan.now)
+        plan.now.codes ++ lines_of_list (range_words plan.now) plan.now.ranges)) result }
 {
     write_exchanges(plan, sink)?;
     write_codes(plan, sink)?;
@@ -44,7 +48,9 @@ fn write_numbering<A: Allocator, W: Sink>(plan: &Plan<A>, sink: &mut W) -> Resul
 
 /// Writes the groups, the routes and the bars.
 fn write_routing<A: Allocator, W: Sink>(plan: &Plan<A>, sink: &mut W) -> Result<(), WriteFault>
-    ensures { Wrote W.taken W.failed sink.old sink.new (lines_of_list (group_words plan.now) plan.now.groups ++ (lines_of_list (route_words plan.now) plan.now.routes ++ lines_of_list (bar_words plan.now) plan.now.bars)) result }
+    ensures { Wrote W.taken W.failed sink.old sink.new (lines_of_list (group_words plan.now)
+        plan.now.groups ++ (lines_of_list (route_words plan.now) plan.now.routes
+        ++ lines_of_list (bar_words plan.now) plan.now.bars)) result }
 {
     write_groups(plan, sink)?;
     write_routes(plan, sink)?;
@@ -64,7 +70,8 @@ fn write_head<W: Sink>(bars: bool, sink: &mut W) -> Result<(), WriteFault>
 // LISTS
 
 fn write_exchanges<A: Allocator, W: Sink>(plan: &Plan<A>, sink: &mut W) -> Result<(), WriteFault>
-    ensures { Wrote W.taken W.failed sink.old sink.new (lines_of_list exchange_words plan.now.exchanges) result }
+    ensures { Wrote W.taken W.failed sink.old sink.new
+        (lines_of_list exchange_words plan.now.exchanges) result }
 {
     for place in 0..plan.exchanges() {
         write_exchange(plan, place, sink)?;
@@ -73,7 +80,8 @@ fn write_exchanges<A: Allocator, W: Sink>(plan: &Plan<A>, sink: &mut W) -> Resul
 }
 
 fn write_codes<A: Allocator, W: Sink>(plan: &Plan<A>, sink: &mut W) -> Result<(), WriteFault>
-    ensures { Wrote W.taken W.failed sink.old sink.new (lines_of_list (code_words plan.now) plan.now.codes) result }
+    ensures { Wrote W.taken W.failed sink.old sink.new
+        (lines_of_list (code_words plan.now) plan.now.codes) result }
 {
     for place in 0..plan.codes() {
         write_code(plan, place, sink)?;
@@ -82,7 +90,8 @@ fn write_codes<A: Allocator, W: Sink>(plan: &Plan<A>, sink: &mut W) -> Result<()
 }
 
 fn write_ranges<A: Allocator, W: Sink>(plan: &Plan<A>, sink: &mut W) -> Result<(), WriteFault>
-    ensures { Wrote W.taken W.failed sink.old sink.new (lines_of_list (range_words plan.now) plan.now.ranges) result }
+    ensures { Wrote W.taken W.failed sink.old sink.new
+        (lines_of_list (range_words plan.now) plan.now.ranges) result }
 {
     for place in 0..plan.ranges() {
         write_range(plan, place, sink)?;
@@ -91,7 +100,8 @@ fn write_ranges<A: Allocator, W: Sink>(plan: &Plan<A>, sink: &mut W) -> Result<(
 }
 
 fn write_groups<A: Allocator, W: Sink>(plan: &Plan<A>, sink: &mut W) -> Result<(), WriteFault>
-    ensures { Wrote W.taken W.failed sink.old sink.new (lines_of_list (group_words plan.now) plan.now.groups) result }
+    ensures { Wrote W.taken W.failed sink.old sink.new
+        (lines_of_list (group_words plan.now) plan.now.groups) result }
 {
     for place in 0..plan.groups() {
         write_group(plan, place, sink)?;
@@ -100,7 +110,8 @@ fn write_groups<A: Allocator, W: Sink>(plan: &Plan<A>, sink: &mut W) -> Result<(
 }
 
 fn write_routes<A: Allocator, W: Sink>(plan: &Plan<A>, sink: &mut W) -> Result<(), WriteFault>
-    ensures { Wrote W.taken W.failed sink.old sink.new (lines_of_list (route_words plan.now) plan.now.routes) result }
+    ensures { Wrote W.taken W.failed sink.old sink.new
+        (lines_of_list (route_words plan.now) plan.now.routes) result }
 {
     for place in 0..plan.routes() {
         write_route_at(plan, place, sink)?;
@@ -109,7 +120,8 @@ fn write_routes<A: Allocator, W: Sink>(plan: &Plan<A>, sink: &mut W) -> Result<(
 }
 
 fn write_bars<A: Allocator, W: Sink>(plan: &Plan<A>, sink: &mut W) -> Result<(), WriteFault>
-    ensures { Wrote W.taken W.failed sink.old sink.new (lines_of_list (bar_words plan.now) plan.now.bars) result }
+    ensures { Wrote W.taken W.failed sink.old sink.new
+        (lines_of_list (bar_words plan.now) plan.now.bars) result }
 {
     for place in 0..plan.bars() {
         write_bar(plan, place, sink)?;
@@ -124,7 +136,8 @@ fn write_exchange<A: Allocator, W: Sink>(
     place: usize,
     sink: &mut W,
 ) -> Result<(), WriteFault>
-    ensures { Wrote W.taken W.failed sink.old sink.new (line_at exchange_words plan.now.exchanges place) result }
+    ensures { Wrote W.taken W.failed sink.old sink.new
+        (line_at exchange_words plan.now.exchanges place) result }
 {
     match plan.exchange_at(place) {
         Some(exchange) => write_text(&[b"EXCHANGE ", plan.exchange_name(exchange), b"\n"], sink),
@@ -137,7 +150,8 @@ fn write_code<A: Allocator, W: Sink>(
     place: usize,
     sink: &mut W,
 ) -> Result<(), WriteFault>
-    ensures { Wrote W.taken W.failed sink.old sink.new (line_at (code_words plan.now) plan.now.codes place) result }
+    ensures { Wrote W.taken W.failed sink.old sink.new
+        (line_at (code_words plan.now) plan.now.codes place) result }
 {
     match plan.code_at(place) {
         Some(code) => {
@@ -156,7 +170,8 @@ fn write_range<A: Allocator, W: Sink>(
     place: usize,
     sink: &mut W,
 ) -> Result<(), WriteFault>
-    ensures { Wrote W.taken W.failed sink.old sink.new (line_at (range_words plan.now) plan.now.ranges place) result }
+    ensures { Wrote W.taken W.failed sink.old sink.new
+        (line_at (range_words plan.now) plan.now.ranges place) result }
 {
     match plan.range_at(place) {
         Some(range) => {
@@ -183,7 +198,8 @@ fn write_group<A: Allocator, W: Sink>(
     place: usize,
     sink: &mut W,
 ) -> Result<(), WriteFault>
-    ensures { Wrote W.taken W.failed sink.old sink.new (line_at (group_words plan.now) plan.now.groups place) result }
+    ensures { Wrote W.taken W.failed sink.old sink.new
+        (line_at (group_words plan.now) plan.now.groups place) result }
 {
     match plan.group_at(place) {
         Some(group) => {
@@ -210,7 +226,8 @@ fn write_direction<W: Sink>(direction: Direction, sink: &mut W) -> Result<(), Wr
 
 /// Writes a space and a number, and the end of the line.
 fn write_count<W: Sink>(count: u32, sink: &mut W) -> Result<(), WriteFault>
-    ensures { Wrote W.taken W.failed sink.old sink.new (codes " " ++ decimal count ++ codes "\n") result }
+    ensures { Wrote W.taken W.failed sink.old sink.new
+        (codes " " ++ decimal count ++ codes "\n") result }
 {
     let mut buffer = Buffer::new();
     let figures = buffer.format(count).as_bytes();
@@ -264,7 +281,8 @@ fn write_names<A: Allocator, W: Sink>(
     groups: &[GroupId],
     sink: &mut W,
 ) -> Result<(), WriteFault>
-    ensures { Wrote W.taken W.failed sink.old sink.new (flat_map (λ g. codes " " ++ group_name plan.now g) groups.now ++ codes "\n") result }
+    ensures { Wrote W.taken W.failed sink.old sink.new
+        (flat_map (λ g. codes " " ++ group_name plan.now g) groups.now ++ codes "\n") result }
 {
     for i in 0..groups.len() {
         write_text(&[b" ", plan.group_name(groups[i])], sink)?;
@@ -277,7 +295,8 @@ fn write_bar<A: Allocator, W: Sink>(
     place: usize,
     sink: &mut W,
 ) -> Result<(), WriteFault>
-    ensures { Wrote W.taken W.failed sink.old sink.new (line_at (bar_words plan.now) plan.now.bars place) result }
+    ensures { Wrote W.taken W.failed sink.old sink.new
+        (line_at (bar_words plan.now) plan.now.bars place) result }
 {
     match plan.bar_at(place) {
         Some((exchange, code)) => {

@@ -18,7 +18,8 @@ pub record AskNothing (words : List (Bor (List ℕ))) : Type 0 where
   pub some : words ≢ []
   pub none : (command : Command) → AskFor words command → ⊥
 
--- the exit status of words that are refused: that of a reason to refuse them, or 3 where a request for help could not be written
+-- the exit status of words that are refused: that of a reason to refuse them, or 3 where a request
+-- for help could not be written
 pub record IsRefusedWith (words : List (Bor (List ℕ))) (status : ℕ) : Type 0 where
   pub fault : WordsFault
   pub told : IsRefusalOf words fault

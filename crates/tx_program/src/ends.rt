@@ -1,4 +1,5 @@
-// The ends of a command. Input and output are buffered, and the output goes out before the program waits for input.
+// The ends of a command. Input and output are buffered, and the output goes out before the program
+// waits for input.
 use std::alloc::Allocator;
 use std::cell::RefCell;
 use std::io;
@@ -9,7 +10,8 @@ use tx_text::{FromRead, Sink, WriteFault};
 /// How many bytes an output holds, and how many are read of an input at a time.
 const ROOM: usize = 65_536;
 
-/// A writer whose failure stays. One that takes nothing has failed; an interrupted call may be tried again.
+/// A writer whose failure stays. One that takes nothing has failed; an interrupted call may be
+/// tried again.
 #[derive(Drop)]
 struct Steady<W: Write + Drop> {
     writer: W,
@@ -81,7 +83,8 @@ impl<W: Write + Drop, A: Allocator> Output<W, A> {
         }
     }
 
-    /// A source over a reader, before each of whose reads the output goes out. An output that fails then is a failure of the source too: the program tells
+    /// A source over a reader, before each of whose reads the output goes out. An output that fails
+    /// then is a failure of the source too: the program tells
     /// it as the output's.
     pub(crate) fn source<R: Read + Drop>(
         &self,
@@ -98,7 +101,8 @@ impl<W: Write + Drop, A: Allocator> Output<W, A> {
     }
 }
 
-/// An output as a sink, which does not tell its bytes. A call takes all its bytes or fails, and a failure stays one.
+/// An output as a sink, which does not tell its bytes. A call takes all its bytes or fails, and a
+/// failure stays one.
 #[derive(Drop)]
 pub(crate) struct OutputSink<'a, W: Write + Drop, A: Allocator> {
     output: &'a Output<W, A>,
@@ -127,7 +131,8 @@ impl<'a, W: Write + Drop, A: Allocator> Sink for OutputSink<'a, W, A> {
     }
 }
 
-/// A reader before each of whose reads an output goes out. What it has read ahead it gives without one.
+/// A reader before each of whose reads an output goes out. What it has read ahead it gives without
+/// one.
 #[derive(Drop)]
 pub(crate) struct Flushing<'a, R: Read + Drop, W: Write + Drop, A: Allocator> {
     reader: BufReader<R, A>,

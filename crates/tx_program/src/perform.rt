@@ -21,7 +21,8 @@ use tx_jobs::{
 };
 use tx_text::Source;
 
-/// Opens the files of a command, does its job, and lets its output out. Answers the exit status. An output that fails is told before any other fault.
+/// Opens the files of a command, does its job, and lets its output out. Answers the exit status. An
+/// output that fails is told before any other fault.
 pub(crate) fn perform<A: Allocator + Copy, F: Folder, I: Read + Drop, O: Write + Drop>(
     alloc: A,
     command: &Command,
@@ -134,7 +135,8 @@ fn run_telling_files<A: Allocator + Copy, P: Read + Drop, R: Read + Drop, O: Wri
     tell_script(alloc, &mut plan, script, strict, echo, output)
 }
 
-/// Runs the script over the plan, and returns what is asked for. A function of its own, since each exit drops what is open there.
+/// Runs the script over the plan, and returns what is asked for. A function of its own, since each
+/// exit drops what is open there.
 fn tell_script<A: Allocator + Copy, P: Source, R: Read + Drop, O: Write + Drop>(
     alloc: A,
     plan: &mut P,
@@ -166,7 +168,8 @@ fn run_checked_files<A: Allocator + Copy, P: Read + Drop, R: Read + Drop, O: Wri
     run_after_yes(alloc, &mut plan, cert, bounds, script, output)
 }
 
-/// Runs the script over the plan after a Yes to the certificate. A function of its own, since each exit drops what is open there.
+/// Runs the script over the plan after a Yes to the certificate. A function of its own, since each
+/// exit drops what is open there.
 fn run_after_yes<A: Allocator + Copy, P: Source, C: Read + Drop, R: Read + Drop, O: Write + Drop>(
     alloc: A,
     plan: &mut P,

@@ -27,10 +27,14 @@ pub struct Ends<'a, F, I: Drop, O: Drop, E: Drop> {
 /// Does what the words after the program's name ask for, and answers the exit status: 0, or 1 after
 /// a No (of `codes`: where codes are ambiguous; of `grade` and `survive`: where there is no grade
 /// too; of `lint`: after warnings), 2 for a refused text (of `lint`: after faults), 3 for a failed
-/// read or write (of help too), 4 when memory runs out, 64 for refused words, and for a code to draw,
-/// or an exchange or a code to trace, that the plan does not have. Without words, on a terminal, it prints
-/// its help. A fault is told by one line on standard error, and refused words by what the library of
-/// command lines says. The words are read with `alloc`, and what they ask for is done with `memory`.
+/// read or write (of help too), 4 when memory runs out, 64 for refused words, and for a code to
+/// draw,
+/// or an exchange or a code to trace, that the plan does not have. Without words, on a terminal, it
+/// prints
+/// its help. A fault is told by one line on standard error, and refused words by what the library
+/// of
+/// command lines says. The words are read with `alloc`, and what they ask for is done with
+/// `memory`.
 pub fn run_words<
     A: Allocator + Copy,
     F: Folder,
@@ -69,7 +73,8 @@ fn do_words<A: Allocator + Copy, F: Folder, I: Read + Drop, O: Write + Drop, E: 
     }
 }
 
-/// Returns why words are refused, and answers the exit status: 3 where a request for help could not be written.
+/// Returns why words are refused, and answers the exit status: 3 where a request for help could not
+/// be written.
 fn refuse_words<F: Folder, I: Read + Drop, O: Write + Drop, E: Write + Drop>(
     fault: &WordsFault,
     ends: Ends<'_, F, I, O, E>,

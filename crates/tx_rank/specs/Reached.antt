@@ -1,5 +1,7 @@
--- Which exchanges calls for a code come to. Such a call starts at an exchange that is the home of a code with a range of lines, and that is not barred for
--- the code that is keyed (is_origin_for). It goes on by any group in the list of the exchange where it stands, and no further than the home of the code.
+-- Which exchanges calls for a code come to. Such a call starts at an exchange that is the home of a
+-- code with a range of lines, and that is not barred for
+-- the code that is keyed (is_origin_for). It goes on by any group in the list of the exchange where
+-- it stands, and no further than the home of the code.
 use Rattle.std.specs.Prelude.{◌≡◌, ℕ, Bool, true, false, List, length, slice_get}
 use Rattle.std.specs.Option.{option_map_or}
 use Rattle.tx_rank.specs.Walks.{Net}

@@ -21,7 +21,8 @@ pub enum Progress {
     Closed,
 }
 
-/// The walk in hand, what was tried of the lists of its exchanges before the last and of the last one's, and the marks of all exchanges.
+/// The walk in hand, what was tried of the lists of its exchanges before the last and of the last
+/// one's, and the marks of all exchanges.
 #[derive(Drop)]
 pub struct Search<'a, A: Allocator> {
     pub start: ExchangeId,
@@ -75,7 +76,8 @@ fn end(start: ExchangeId, steps: &[(GroupId, ExchangeId)]) -> ExchangeId
 fn is_open(marks: &[Mark], exchange: ExchangeId) -> bool
     requires { exchange < length marks.now }
     ensures open { result ≡ true → slice_get marks.now exchange ≡ Some (Mark.Open) }
-    ensures unseen { result ≡ false → rank_in marks.now exchange ≡ None → slice_get marks.now exchange ≡ Some (Mark.Unseen) }
+    ensures unseen { result ≡ false → rank_in marks.now exchange ≡ None
+        → slice_get marks.now exchange ≡ Some (Mark.Unseen) }
 {
     match marks[exchange.index()] {
         Mark::Open => true,
@@ -91,12 +93,18 @@ fn go_on<'a, A: Allocator, N: Routes>(
     to: ExchangeId,
 ) -> Result<Progress, NoMemory>
     requires marked { IsMarked (N.net net.now) search.old.marks.items }
-    requires hand { IsInHand (N.net net.now) search.old.marks.items search.old.start search.old.steps.items }
-    requires tried { IsTrail (N.net net.now) search.old.marks.items search.old.start search.old.steps.items search.old.before.items search.old.last }
-    requires onward { IsOnward (N.net net.now) search.old.marks.items (end_of search.old.start search.old.steps.items) (group, to) }
+    requires hand { IsInHand (N.net net.now) search.old.marks.items
+        search.old.start search.old.steps.items }
+    requires tried { IsTrail (N.net net.now) search.old.marks.items
+        search.old.start search.old.steps.items search.old.before.items search.old.last }
+    requires onward { IsOnward (N.net net.now) search.old.marks.items
+        (end_of search.old.start search.old.steps.items) (group, to) }
     ensures start { search.new.start ≡ search.old.start }
-    ensures ok { IfOk result (λ p. IsAdvanced (N.net net.now) search.old.start p search.old.marks.items search.new.marks.items search.new.steps.items) }
-    ensures tried { IfOk result (λ p. p ≡ Progress.More → IsTrail (N.net net.now) search.new.marks.items search.old.start search.new.steps.items search.new.before.items search.new.last) }
+    ensures ok { IfOk result (λ p. IsAdvanced (N.net net.now)
+        search.old.start p search.old.marks.items search.new.marks.items search.new.steps.items) }
+    ensures tried { IfOk result (λ p. p ≡ Progress.More
+        → IsTrail (N.net net.now) search.new.marks.items
+        search.old.start search.new.steps.items search.new.before.items search.new.last) }
 {
     search.steps.push((group, to))?;
     if is_open(&search.marks, to) {
@@ -110,8 +118,10 @@ fn go_on<'a, A: Allocator, N: Routes>(
 
 /// Takes the last one away, if there is one.
 fn take_last<'a, A: Allocator>(before: &mut Vec<Tried<'a>, A>, none: Tried<'a>) -> Tried<'a>
-    ensures others { (front : List Tried) (last : Tried) → before.old.items ≡ front ++ last ∷ [] → before.new.items ≡ front }
-    ensures last { (front : List Tried) (last : Tried) → before.old.items ≡ front ++ last ∷ [] → result ≡ last }
+    ensures others { (front : List Tried) (last : Tried)
+        → before.old.items ≡ front ++ last ∷ [] → before.new.items ≡ front }
+    ensures last { (front : List Tried) (last : Tried)
+        → before.old.items ≡ front ++ last ∷ [] → result ≡ last }
 {
     match before.pop() {
         Some(last) => last,
@@ -128,13 +138,18 @@ fn settle<'a, A: Allocator, N: Routes>(
 ) -> Progress
     requires net { IsNet (N.net net.now) }
     requires marked { IsMarked (N.net net.now) search.old.marks.items }
-    requires hand { IsInHand (N.net net.now) search.old.marks.items search.old.start search.old.steps.items }
-    requires tried { IsTrail (N.net net.now) search.old.marks.items search.old.start search.old.steps.items search.old.before.items search.old.last }
+    requires hand { IsInHand (N.net net.now) search.old.marks.items
+        search.old.start search.old.steps.items }
+    requires tried { IsTrail (N.net net.now) search.old.marks.items
+        search.old.start search.old.steps.items search.old.before.items search.old.last }
     requires end { exchange ≡ end_of search.old.start search.old.steps.items }
-    requires top { IsTop (N.net net.now) search.old.marks.items exchange ((N.net net.now).list exchange) top }
+    requires top { IsTop (N.net net.now) search.old.marks.items exchange
+        ((N.net net.now).list exchange) top }
     ensures start { search.new.start ≡ search.old.start }
-    ensures ok { IsAdvanced (N.net net.now) search.old.start result search.old.marks.items search.new.marks.items search.new.steps.items }
-    ensures tried { result ≡ Progress.More → IsTrail (N.net net.now) search.new.marks.items search.old.start search.new.steps.items search.new.before.items search.new.last }
+    ensures ok { IsAdvanced (N.net net.now) search.old.start
+        result search.old.marks.items search.new.marks.items search.new.steps.items }
+    ensures tried { result ≡ Progress.More → IsTrail (N.net net.now) search.new.marks.items
+        search.old.start search.new.steps.items search.new.before.items search.new.last }
 {
     search.marks[exchange.index()] = Mark::Ranked(top + 1);
     search.last = take_last(&mut search.before, search.last);
@@ -150,11 +165,16 @@ fn advance<'a, A: Allocator, N: Routes>(
     search: &mut Search<'a, A>,
 ) -> Result<Progress, NoMemory>
     requires marked { IsMarked (N.net net.now) search.old.marks.items }
-    requires hand { IsInHand (N.net net.now) search.old.marks.items search.old.start search.old.steps.items }
-    requires tried { IsTrail (N.net net.now) search.old.marks.items search.old.start search.old.steps.items search.old.before.items search.old.last }
+    requires hand { IsInHand (N.net net.now) search.old.marks.items
+        search.old.start search.old.steps.items }
+    requires tried { IsTrail (N.net net.now) search.old.marks.items
+        search.old.start search.old.steps.items search.old.before.items search.old.last }
     ensures start { search.new.start ≡ search.old.start }
-    ensures ok { IfOk result (λ p. IsAdvanced (N.net net.now) search.old.start p search.old.marks.items search.new.marks.items search.new.steps.items) }
-    ensures tried { IfOk result (λ p. p ≡ Progress.More → IsTrail (N.net net.now) search.new.marks.items search.old.start search.new.steps.items search.new.before.items search.new.last) }
+    ensures ok { IfOk result (λ p. IsAdvanced (N.net net.now)
+        search.old.start p search.old.marks.items search.new.marks.items search.new.steps.items) }
+    ensures tried { IfOk result (λ p. p ≡ Progress.More
+        → IsTrail (N.net net.now) search.new.marks.items
+        search.old.start search.new.steps.items search.new.before.items search.new.last) }
 {
     net.rules();
     let exchange = end(search.start, &search.steps);
@@ -164,17 +184,22 @@ fn advance<'a, A: Allocator, N: Routes>(
     }
 }
 
-/// Goes over all walks that go on from the walk in hand: true if one of them is a loop, which is then in hand.
+/// Goes over all walks that go on from the walk in hand: true if one of them is a loop, which is
+/// then in hand.
 fn explore<'a, A: Allocator, N: Routes>(
     net: &'a N,
     search: &mut Search<'a, A>,
 ) -> Result<bool, NoMemory>
     requires marked { IsMarked (N.net net.now) search.old.marks.items }
-    requires hand { IsInHand (N.net net.now) search.old.marks.items search.old.start search.old.steps.items }
-    requires tried { IsTrail (N.net net.now) search.old.marks.items search.old.start search.old.steps.items search.old.before.items search.old.last }
+    requires hand { IsInHand (N.net net.now) search.old.marks.items
+        search.old.start search.old.steps.items }
+    requires tried { IsTrail (N.net net.now) search.old.marks.items
+        search.old.start search.old.steps.items search.old.before.items search.old.last }
     ensures start { search.new.start ≡ search.old.start }
-    ensures closed { IfOk result (λ closed. closed ≡ true → IsLoop (N.net net.now) search.new.start search.new.steps.items) }
-    ensures done { IfOk result (λ closed. closed ≡ false → IsEnd (N.net net.now) search.new.start search.old.marks.items search.new.marks.items) }
+    ensures closed { IfOk result (λ closed. closed ≡ true
+        → IsLoop (N.net net.now) search.new.start search.new.steps.items) }
+    ensures done { IfOk result (λ closed. closed ≡ false
+        → IsEnd (N.net net.now) search.new.start search.old.marks.items search.new.marks.items) }
 {
     loop {
         match advance(net, search)? {
@@ -195,8 +220,10 @@ fn start_at<'a, A: Allocator, N: Routes>(
     requires marked { IsMarked (N.net net.now) search.old.marks.items }
     requires none { NoneOpen search.old.marks.items }
     requires unseen { rank_in search.old.marks.items origin ≡ None }
-    ensures closed { IfOk result (λ closed. closed ≡ true → IsLoop (N.net net.now) search.new.start search.new.steps.items) }
-    ensures done { IfOk result (λ closed. closed ≡ false → IsEnd (N.net net.now) origin search.old.marks.items search.new.marks.items) }
+    ensures closed { IfOk result (λ closed. closed ≡ true
+        → IsLoop (N.net net.now) search.new.start search.new.steps.items) }
+    ensures done { IfOk result (λ closed. closed ≡ false
+        → IsEnd (N.net net.now) origin search.old.marks.items search.new.marks.items) }
 {
     net.rules();
     search.start = origin;
@@ -215,8 +242,10 @@ fn start_from<'a, A: Allocator, N: Routes>(
 ) -> Result<bool, NoMemory>
     requires place { place < (N.net net.now).exchanges }
     requires passing { IsPassing (N.net net.now) search.old.marks.items place }
-    ensures closed { IfOk result (λ closed. closed ≡ true → IsLoop (N.net net.now) search.new.start search.new.steps.items) }
-    ensures done { IfOk result (λ closed. closed ≡ false → IsPassing (N.net net.now) search.new.marks.items (place + 1)) }
+    ensures closed { IfOk result (λ closed. closed ≡ true
+        → IsLoop (N.net net.now) search.new.start search.new.steps.items) }
+    ensures done { IfOk result (λ closed. closed ≡ false
+        → IsPassing (N.net net.now) search.new.marks.items (place + 1)) }
 {
     let origin = net.exchange(place);
     match rank_at(&search.marks, origin) {
@@ -231,15 +260,18 @@ fn start_from<'a, A: Allocator, N: Routes>(
     }
 }
 
-/// Goes over all walks: true if one is a loop, which is then in hand. Each exchange is opened once and ranked once, however many walks pass it.
+/// Goes over all walks: true if one is a loop, which is then in hand. Each exchange is opened once
+/// and ranked once, however many walks pass it.
 pub fn pass<'a, A: Allocator, N: Routes>(
     net: &'a N,
     search: &mut Search<'a, A>,
 ) -> Result<bool, NoMemory>
     requires marked { IsMarked (N.net net.now) search.old.marks.items }
     requires none { NoneOpen search.old.marks.items }
-    ensures closed { IfOk result (λ closed. closed ≡ true → IsLoop (N.net net.now) search.new.start search.new.steps.items) }
-    ensures done { IfOk result (λ closed. closed ≡ false → IsPassed (N.net net.now) search.new.marks.items) }
+    ensures closed { IfOk result (λ closed. closed ≡ true
+        → IsLoop (N.net net.now) search.new.start search.new.steps.items) }
+    ensures done { IfOk result (λ closed. closed ≡ false
+        → IsPassed (N.net net.now) search.new.marks.items) }
 {
     for place in 0..net.exchanges() {
         if start_from(net, search, place)? {

@@ -10,7 +10,8 @@ pub enum Finding<A: Allocator = Global> {
     Ambiguous(CodeId, CodeId),
     /// A walk for the code that comes back to an exchange which it passed.
     Loop(CodeId, Walk<A>),
-    /// A walk for the code to an exchange, not its home, whose list has no more groups than are to spare.
+    /// A walk for the code to an exchange, not its home, whose list has no more groups than are to
+    /// spare.
     Short(CodeId, Walk<A>),
     /// A walk for the code of one step more than the limit, which is not at the code's home yet.
     Long(CodeId, Walk<A>),

@@ -1,6 +1,8 @@
-//! The ranking of a plan: a certificate that it is safe for a transit limit and a spare number, or what is wrong with it.
+//! The ranking of a plan: a certificate that it is safe for a transit limit and a spare number, or
+//! what is wrong with it.
 //!
-//! `rank` finds a certificate wherever there is one. Else it answers the ambiguous pair of codes, and for each code a loop, or a walk to each short list and
+//! `rank` finds a certificate wherever there is one. Else it answers the ambiguous pair of codes,
+//! and for each code a loop, or a walk to each short list and
 //! one that is too long; the lists of the plan allow each walk.
 //!
 //! `grade` tells for which limits and spare numbers there is one.

@@ -32,7 +32,8 @@ fn lower<N: Routes>(
     rank: u16,
 ) -> Option<(GroupId, ExchangeId)>
     requires { length marks.now ≡ (N.net net.now).exchanges }
-    ensures { IsLower (N.net net.now) (rank_in marks.now) exchange ((N.net net.now).list exchange) rank result }
+    ensures { IsLower (N.net net.now) (rank_in marks.now) exchange
+        ((N.net net.now).list exchange) rank result }
 {
     let list = net.list(exchange);
     for i in 0..list.len() {

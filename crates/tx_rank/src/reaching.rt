@@ -58,8 +58,10 @@ fn is_waiting(seen: &[bool], opened: &[bool], exchange: ExchangeId) -> bool
 fn next(seen: &[bool], opened: &[bool]) -> Option<ExchangeId>
     requires few { length seen.now < 65536 }
     requires long { length seen.now ≡ length opened.now }
-    ensures some { IfSome result (λ x. (x < length seen.now) × (is_marked seen.now x ≡ true) × (is_marked opened.now x ≡ false)) }
-    ensures none { IfNone result ((x : ℕ) → is_marked seen.now x ≡ true → is_marked opened.now x ≡ true) }
+    ensures some { IfSome result (λ x. (x < length seen.now)
+        × (is_marked seen.now x ≡ true) × (is_marked opened.now x ≡ false)) }
+    ensures none { IfNone result ((x : ℕ) → is_marked seen.now x ≡ true
+        → is_marked opened.now x ≡ true) }
 {
     for place in 0..seen.len() {
         let exchange = ExchangeId::of(place);

@@ -26,7 +26,8 @@ pub enum Survival<A: Allocator = Global> {
     Ungraded(Grade<A>),
 }
 
-/// Returns what each group, each exchange and each named risk cuts off if it fails alone; or why the
+/// Returns what each group, each exchange and each named risk cuts off if it fails alone; or why
+/// the
 /// plan has no grade. `Err` means out of memory.
 pub fn survive<A: Allocator + Copy>(
     alloc: A,

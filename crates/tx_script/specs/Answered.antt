@@ -33,31 +33,36 @@ pub record IsUndone (p : Plan) (e : Event) (s t : State) (a b : Option (List ℕ
 -- In what follows s and a are the state and what was written before, t and b after.
 
 -- the event was done and counted, its lines were written, and its tickets were taken
-pub record IsAnswered (p : Plan) (e : Event) (s t : State) (a b : Option (List ℕ)) (count : Answered) : Type 0 where
+pub record IsAnswered (p : Plan) (e : Event) (s t : State)
+    (a b : Option (List ℕ)) (count : Answered) : Type 0 where
   pub counted : count ≡ count_of (moment p s e)
   pub wrote : b ≡ append_known a (moment_text p (moment p s e))
   pub network : t ≡ drained (moment p s e).after []
 
 -- why an event was not answered whole
-abbrev pub Halted : Plan → Event → State → State → Option (List ℕ) → Option (List ℕ) → RunCause → Type 0
+abbrev pub Halted : Plan → Event → State → State
+    → Option (List ℕ) → Option (List ℕ) → RunCause → Type 0
 Halted p e s t a b Read = ⊥
 Halted p e s t a b Write = IsUntold p (moment p s e) t a b
 Halted p e s t a b (OfScript f) = ⊥
 Halted p e s t a b NoMemory = IsUndone p e s t a b
 
 -- THE ANSWER TO AN EVENT
-abbrev pub EventAnswers : Plan → Event → State → State → Option (List ℕ) → Option (List ℕ) → Result Answered RunCause → Type 0
+abbrev pub EventAnswers : Plan → Event → State
+    → State → Option (List ℕ) → Option (List ℕ) → Result Answered RunCause → Type 0
 EventAnswers p e s t a b (Ok count) = IsAnswered p e s t a b count
 EventAnswers p e s t a b (Err cause) = Halted p e s t a b cause
 
 -- the line says no event, and nothing was done
-pub record IsNoEvent (n : ℕ) (k : ScriptWord) (s t : State) (a b : Option (List ℕ)) (cause : RunCause) : Type 0 where
+pub record IsNoEvent (n : ℕ) (k : ScriptWord)
+    (s t : State) (a b : Option (List ℕ)) (cause : RunCause) : Type 0 where
   pub fault : cause ≡ OfScript (record { line = n; kind = Word k })
   pub network : t ≡ s
   pub written : b ≡ a
 
 -- THE ANSWER TO A LINE of this number, whose words say an event or have a fault
-abbrev pub LineAnswers : Plan → ℕ → Said → State → State → Option (List ℕ) → Option (List ℕ) → Result Answered RunCause → Type 0
+abbrev pub LineAnswers : Plan → ℕ → Said → State
+    → State → Option (List ℕ) → Option (List ℕ) → Result Answered RunCause → Type 0
 LineAnswers p n (Ok e) s t a b r = EventAnswers p e s t a b r
 LineAnswers p n (Err k) s t a b (Ok count) = ⊥
 LineAnswers p n (Err k) s t a b (Err cause) = IsNoEvent n k s t a b cause

@@ -55,7 +55,8 @@ pub record Ran (p : Plan) (x : Moved) (script : Script) : Type 0 where
 -- the bytes that were read begin with these events, whatever follows
 pub record Begins (p : Plan) (x : Moved) (es : List Event) : Type 0 where
   pub to_come : Ending → List ℕ → Script
-  pub reads : ReadsOn x.rest_old x.rest_new (script_of p) (λ e more. after_events es (to_come e more))
+  pub reads : ReadsOn x.rest_old x.rest_new (script_of p)
+      (λ e more. after_events es (to_come e more))
 
 -- the reader is at its end, and the whole text is a script of these events
 abbrev pub IsWhole : Plan → Moved → List Event → Type 0
@@ -69,7 +70,8 @@ pub record RanWhole (p : Plan) (x : Moved) (summary : Summary) : Type 0 where
   pub counted : summary ≡ summary_of p x.state_old events
 
 -- The text is faulty after the events before this one.
-pub record RanToFault (p : Plan) (x : Moved) (event line : ℕ) (kind : FaultKind ScriptWord) : Type 0 where
+pub record RanToFault (p : Plan) (x : Moved) (event line : ℕ)
+    (kind : FaultKind ScriptWord) : Type 0 where
   pub events : List Event
   pub place : event ≡ length events + 1
   pub text : Stands x.rest_old x.rest_new (script_of p) (faulty events line kind)
@@ -80,11 +82,13 @@ pub record RanToCut (p : Plan) (x : Moved) (broken : Type 0) (event : ℕ) : Typ
   pub events : List Event
   pub line : ℕ
   pub place : event ≡ length events + 1
-  pub text : EndsAs x.rest_old x.rest_new (script_of p) Cut (faulty events line (Frame (of_line line_read)))
+  pub text : EndsAs x.rest_old x.rest_new (script_of p) Cut
+      (faulty events line (Frame (of_line line_read)))
   pub failed : broken
   pub ran : Ran p x (faulty events line (Frame (of_line line_read)))
 
--- Memory ran out in this event: the lines of those before it were written, and nothing of it was done. It takes memory, and would not be refused.
+-- Memory ran out in this event: the lines of those before it were written, and nothing of it was
+-- done. It takes memory, and would not be refused.
 pub record RanOutOfMemory (p : Plan) (x : Moved) (event : ℕ) : Type 0 where
   pub events : List Event
   pub hand : Event
@@ -95,23 +99,28 @@ pub record RanOutOfMemory (p : Plan) (x : Moved) (event : ℕ) : Type 0 where
   pub asks : takes_memory hand ≡ true
   pub unrefused : refusal p x.state_new hand ≡ None
 
--- A write failed in the lines of this event, which was done: those of the events before it were written, and of its own a front and not all.
+-- A write failed in the lines of this event, which was done: those of the events before it were
+-- written, and of its own a front and not all.
 pub record FailedInEvent (p : Plan) (x : Moved) (event : ℕ) : Type 0 where
   pub events : List Event
   pub hand : Event
   pub place : event ≡ length events + 1
   pub text : Begins p x (events ++ hand ∷ [])
-  pub untold : IsUntold p (next p x.state_old events hand) x.state_new (append_known x.taken_old (events_text p x.state_old events)) x.taken_new
+  pub untold : IsUntold p (next p x.state_old events hand) x.state_new
+      (append_known x.taken_old (events_text p x.state_old events)) x.taken_new
 
--- A write failed in the last line: the lines of all events were written, and of that line a front and not all.
+-- A write failed in the last line: the lines of all events were written, and of that line a front
+-- and not all.
 pub record FailedAtEnd (p : Plan) (x : Moved) (event : ℕ) : Type 0 where
   pub events : List Event
   pub place : event ≡ length events + 1
   pub text : IsWhole p x events
-  pub front : StopsIn (append_known x.taken_old (events_text p x.state_old events)) x.taken_new (end_text (state_after p x.state_old events))
+  pub front : StopsIn (append_known x.taken_old (events_text p x.state_old events)) x.taken_new
+      (end_text (state_after p x.state_old events))
   pub network : x.state_new ≡ settled p x.state_old events
 
--- Without memory for the reader of lines the first event and the first line are told, and nothing was touched.
+-- Without memory for the reader of lines the first event and the first line are told, and nothing
+-- was touched.
 abbrev pub FaultyBy : Plan → Moved → Type 0 → Bool → ℕ → ℕ → FaultKind ScriptWord → Type 0
 FaultyBy p x untouched true event line kind = (event ≡ 1) × (line ≡ 1) × untouched
 FaultyBy p x untouched false event line kind = RanToFault p x event line kind
@@ -123,11 +132,14 @@ is_reader_room (Word w) = false
 abbrev pub Stopped : Plan → Moved → (broken untouched : Type 0) → ℕ → RunCause → Type 0
 Stopped p x broken untouched event Read = RanToCut p x broken event
 Stopped p x broken untouched event Write = FailedInEvent p x event ⊎ FailedAtEnd p x event
-Stopped p x broken untouched event (OfScript f) = FaultyBy p x untouched (is_reader_room f.kind) event f.line f.kind
+Stopped p x broken untouched event (OfScript f) =
+    FaultyBy p x untouched (is_reader_room f.kind) event f.line f.kind
 Stopped p x broken untouched event NoMemory = RanOutOfMemory p x event
 
--- WHAT A RUN ANSWERS. Broken says that the source failed or met the bound on calls, untouched that nothing was read, written or done.
-abbrev pub RunAnswers : Plan → Moved → (broken untouched : Type 0) → Result Summary RunFault → Type 0
+-- WHAT A RUN ANSWERS. Broken says that the source failed or met the bound on calls, untouched that
+-- nothing was read, written or done.
+abbrev pub RunAnswers : Plan → Moved → (broken untouched : Type 0)
+    → Result Summary RunFault → Type 0
 RunAnswers p x broken untouched (Ok summary) = RanWhole p x summary
 RunAnswers p x broken untouched (Err f) = Stopped p x broken untouched f.event f.cause
 

@@ -24,7 +24,8 @@ use Rattle.tx_script.specs.declared.verb.Verb.TheVariants.{Key as KeyVerb, Route
 use Rattle.tx_script.specs.declared.script_word.ScriptWord.{ScriptWord}
 use Rattle.tx_script.specs.declared.script_word.ScriptWord.TheVariants.{UnknownWord, WrongCount, BadNumber, UnknownName}
 
--- An event, or what is wrong with the words of a line: of several faults the first of UnknownWord, WrongCount, BadNumber and UnknownName.
+-- An event, or what is wrong with the words of a line: of several faults the first of UnknownWord,
+-- WrongCount, BadNumber and UnknownName.
 abbrev pub Said : Type 0
 Said = Result Event ScriptWord
 
@@ -36,7 +37,8 @@ call_number w = number_of (2 ^ 32 - 1) w
 
 -- CALLER or CALLED
 abbrev pub party_of : List ℕ → Option Party
-party_of w = if bytes_eq w (codes "CALLER") then Some Caller else if bytes_eq w (codes "CALLED") then Some Called else None
+party_of w = if bytes_eq w (codes "CALLER") then Some Caller
+    else if bytes_eq w (codes "CALLED") then Some Called else None
 
 -- a national number: 1 to 9 figures
 abbrev pub national_of : List ℕ → Option (List ℕ)
@@ -78,11 +80,13 @@ said_of make (Err k) = Err k
 
 -- the line of a code and a national number
 abbrev pub line_of : Plan → List ℕ → List ℕ → Result Line ScriptWord
-line_of p code national = spelt (national_of national) (λ n. named (code_named p code) (λ c. Ok (record { code = c; national = n })))
+line_of p code national = spelt (national_of national)
+    (λ n. named (code_named p code) (λ c. Ok (record { code = c; national = n })))
 
 -- the circuit that a word names: a group, a dot and a number, as G1.1
 abbrev pub circuit_of : Plan → List ℕ → Result Circuit ScriptWord
-circuit_of p w = spelt (cut_at_dot w) (λ c. spelt (circuit_number c.1) (λ n. named (group_named p c.0) (λ g. Ok (record { group = g; number = n }))))
+circuit_of p w = spelt (cut_at_dot w) (λ c. spelt (circuit_number c.1)
+    (λ n. named (group_named p c.0) (λ g. Ok (record { group = g; number = n }))))
 
 -- WHAT FOLLOWS THE FIRST WORD
 
@@ -108,7 +112,8 @@ counted (Some a) say = say a
 
 -- a code, a national number and the figures that were keyed
 abbrev pub key_event : Plan → List (List ℕ) → Said
-key_event p ws = counted (three_words ws) (λ w. spelt (figures_of w.2) (λ k. said_of (λ l. Key l k) (line_of p w.0 w.1)))
+key_event p ws = counted (three_words ws)
+    (λ w. spelt (figures_of w.2) (λ k. said_of (λ l. Key l k) (line_of p w.0 w.1)))
 
 -- a call's number
 abbrev pub call_in : List (List ℕ) → Result ℕ ScriptWord
@@ -121,7 +126,8 @@ known (Some x) say = say x
 
 -- a call's number, and CALLER or CALLED
 abbrev pub clear_event : List (List ℕ) → Said
-clear_event ws = counted (two_words ws) (λ w. known (party_of w.1) (λ x. spelt (call_number w.0) (λ n. Ok (Clear n x))))
+clear_event ws = counted (two_words ws)
+    (λ w. known (party_of w.1) (λ x. spelt (call_number w.0) (λ n. Ok (Clear n x))))
 
 -- a circuit
 abbrev pub circuit_in : Plan → List (List ℕ) → Result Circuit ScriptWord
@@ -162,7 +168,23 @@ verb_word BackVerb = codes "BACK"
 verb_word EndVerb = codes "END"
 
 abbrev pub verbs : List Verb
-verbs = KeyVerb ∷ RouteVerb ∷ ConfirmVerb ∷ ClearVerb ∷ ReleasedVerb ∷ FailVerb ∷ RestoreVerb ∷ BlockVerb ∷ UnblockVerb ∷ OutVerb ∷ InVerb ∷ FaultVerb ∷ MendVerb ∷ AwayVerb ∷ BackVerb ∷ EndVerb ∷ []
+verbs =
+    KeyVerb
+    ∷ RouteVerb
+    ∷ ConfirmVerb
+    ∷ ClearVerb
+    ∷ ReleasedVerb
+    ∷ FailVerb
+    ∷ RestoreVerb
+    ∷ BlockVerb
+    ∷ UnblockVerb
+    ∷ OutVerb
+    ∷ InVerb
+    ∷ FaultVerb
+    ∷ MendVerb
+    ∷ AwayVerb
+    ∷ BackVerb
+    ∷ EndVerb ∷ []
 
 -- the verb whose word it is
 abbrev pub verb_of : List ℕ → Option Verb
@@ -268,7 +290,8 @@ IsWritable p (LineMend l) = l.code < length p.codes
 IsWritable p (LineAway l) = l.code < length p.codes
 IsWritable p (LineBack l) = l.code < length p.codes
 
--- what the type of an event keeps: a national number is 1 to 9 figures, what is keyed 1 to 12, and a call's number below 2^32
+-- what the type of an event keeps: a national number is 1 to 9 figures, what is keyed 1 to 12, and
+-- a call's number below 2^32
 abbrev pub IsEvent : Event → Type 0
 IsEvent (Key l keyed) = (is_national l.national ≡ true) × (are_figures 1 12 keyed ≡ true)
 IsEvent (Route n) = n < 2 ^ 32
@@ -288,4 +311,5 @@ IsEvent (LineBack l) = is_national l.national ≡ true
 
 -- THE ROUND TRIP: the line that is written for an event says that event
 abbrev pub EventsReadBack : Type 0
-EventsReadBack = (p : Plan) (e : Event) → IsPlan p → IsWritable p e → IsEvent e → event_in p (event_line p e) ≡ Ok e
+EventsReadBack = (p : Plan) (e : Event) → IsPlan p
+    → IsWritable p e → IsEvent e → event_in p (event_line p e) ≡ Ok e

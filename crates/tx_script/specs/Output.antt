@@ -27,7 +27,8 @@ events_text p s es = flat_map (moment_text p) (run p s es)
 
 -- END EVENTS, the accepted events, OPEN and the open calls
 abbrev pub end_line : ℕ → ℕ → List ℕ
-end_line events open_calls = codes "END EVENTS " ++ (decimal events ++ (codes " OPEN " ++ (decimal open_calls ++ codes "\n")))
+end_line events open_calls = codes "END EVENTS "
+    ++ (decimal events ++ (codes " OPEN " ++ (decimal open_calls ++ codes "\n")))
 
 abbrev pub end_text : State → List ℕ
 end_text s = end_line s.events (length s.calls)
@@ -39,7 +40,8 @@ last_text s (Some x) = []
 
 -- THE OUTPUT of a script from a state on
 abbrev pub output : Plan → State → Script → List ℕ
-output p s script = events_text p s script.events ++ last_text (state_after p s script.events) script.fault
+output p s script = events_text p s script.events
+    ++ last_text (state_after p s script.events) script.fault
 
 -- the accepted events, the events that were refused, the tickets, and the open calls
 abbrev pub summary_of : Plan → State → List Event → Summary

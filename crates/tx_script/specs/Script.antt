@@ -41,4 +41,5 @@ script_said p (Has n ws t) = line_said n (event_of p ws) (script_said p t)
 
 -- THE GRAMMAR: the script that a text says, whichever way the text ends
 abbrev pub script_of : Plan → Ending → List ℕ → Script
-script_of p e text = script_said p (framed (header_of (codes "SCRIPT") 1) Start 1 (told e (lines_of text)))
+script_of p e text =
+    script_said p (framed (header_of (codes "SCRIPT") 1) Start 1 (told e (lines_of text)))

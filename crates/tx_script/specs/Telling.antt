@@ -34,4 +34,5 @@ told_events p echo s es = told_moments p echo 1 (run p s es)
 
 -- THE OUTPUT of a script from a state on
 abbrev pub told_output : Plan → (echo : Bool) → State → Script → List ℕ
-told_output p echo s script = told_events p echo s script.events ++ last_text (state_after p s script.events) script.fault
+told_output p echo s script = told_events p echo s script.events
+    ++ last_text (state_after p s script.events) script.fault

@@ -34,32 +34,37 @@ use Rattle.tx_script.specs.Telling.{told_moment, told_events, told_output}
 -- In what follows s and a are the state and what was written before, t and b after.
 
 -- the event was done and counted, its lines were written, and its tickets were taken
-pub record IsTold (p : Plan) (echo : Bool) (n : ℕ) (e : Event) (s t : State) (a b : Option (List ℕ)) (count : Answered) : Type 0 where
+pub record IsTold (p : Plan) (echo : Bool) (n : ℕ)
+    (e : Event) (s t : State) (a b : Option (List ℕ)) (count : Answered) : Type 0 where
   pub counted : count ≡ count_of (moment p s e)
   pub wrote : b ≡ append_known a (told_moment p echo n (moment p s e))
   pub network : t ≡ drained (moment p s e).after []
 
 -- The event was done, and a write failed in its lines. Of its tickets the first ones were taken.
-pub record StopsInLines (p : Plan) (echo : Bool) (n : ℕ) (m : Moment) (t : State) (a b : Option (List ℕ)) : Type 0 where
+pub record StopsInLines (p : Plan) (echo : Bool)
+    (n : ℕ) (m : Moment) (t : State) (a b : Option (List ℕ)) : Type 0 where
   pub front : StopsIn a b (told_moment p echo n m)
   pub taken : List Ended
   pub left : List Ended
   pub made : tickets_made m ≡ taken ++ left
   pub network : t ≡ drained m.after left
 
-abbrev pub Untold : Plan → (echo : Bool) → ℕ → Event → State → State → Option (List ℕ) → Option (List ℕ) → RunCause → Type 0
+abbrev pub Untold : Plan → (echo : Bool) → ℕ → Event
+    → State → State → Option (List ℕ) → Option (List ℕ) → RunCause → Type 0
 Untold p echo n e s t a b Read = ⊥
 Untold p echo n e s t a b Write = StopsInLines p echo n (moment p s e) t a b
 Untold p echo n e s t a b (OfScript f) = ⊥
 Untold p echo n e s t a b NoMemory = IsUndone p e s t a b
 
 -- THE ANSWER TO AN EVENT of this number
-abbrev pub EventTold : Plan → (echo : Bool) → ℕ → Event → State → State → Option (List ℕ) → Option (List ℕ) → Result Answered RunCause → Type 0
+abbrev pub EventTold : Plan → (echo : Bool) → ℕ
+    → Event → State → State → Option (List ℕ) → Option (List ℕ) → Result Answered RunCause → Type 0
 EventTold p echo n e s t a b (Ok count) = IsTold p echo n e s t a b count
 EventTold p echo n e s t a b (Err cause) = Untold p echo n e s t a b cause
 
 -- THE ANSWER TO A LINE n, whose words say an event or have a fault; the next event has the number k
-abbrev pub LineTold : Plan → (echo : Bool) → (n k : ℕ) → Said → State → State → Option (List ℕ) → Option (List ℕ) → Result Answered RunCause → Type 0
+abbrev pub LineTold : Plan → (echo : Bool) → (n k : ℕ)
+    → Said → State → State → Option (List ℕ) → Option (List ℕ) → Result Answered RunCause → Type 0
 LineTold p echo n k (Ok e) s t a b r = EventTold p echo k e s t a b r
 LineTold p echo n k (Err word) s t a b (Ok count) = ⊥
 LineTold p echo n k (Err word) s t a b (Err cause) = IsNoEvent n word s t a b cause
@@ -79,22 +84,26 @@ pub record ToldWhole (p : Plan) (echo : Bool) (x : Moved) (summary : Summary) : 
   pub counted : summary ≡ summary_of p x.state_old events
 
 -- The text is faulty after the events before this one.
-pub record ToldToFault (p : Plan) (echo : Bool) (x : Moved) (event line : ℕ) (kind : FaultKind ScriptWord) : Type 0 where
+pub record ToldToFault (p : Plan) (echo : Bool)
+    (x : Moved) (event line : ℕ) (kind : FaultKind ScriptWord) : Type 0 where
   pub events : List Event
   pub place : event ≡ length events + 1
   pub text : Stands x.rest_old x.rest_new (script_of p) (faulty events line kind)
   pub ran : ToldRan p echo x (faulty events line kind)
 
 -- The source failed in a line, or met the bound on calls, after the events before this one.
-pub record ToldToCut (p : Plan) (echo : Bool) (x : Moved) (broken : Type 0) (event : ℕ) : Type 0 where
+pub record ToldToCut (p : Plan) (echo : Bool)
+    (x : Moved) (broken : Type 0) (event : ℕ) : Type 0 where
   pub events : List Event
   pub line : ℕ
   pub place : event ≡ length events + 1
-  pub text : EndsAs x.rest_old x.rest_new (script_of p) Cut (faulty events line (Frame (of_line line_read)))
+  pub text : EndsAs x.rest_old x.rest_new (script_of p) Cut
+      (faulty events line (Frame (of_line line_read)))
   pub failed : broken
   pub ran : ToldRan p echo x (faulty events line (Frame (of_line line_read)))
 
--- Memory ran out in this event: the lines of those before it were written, and nothing of it was done or written.
+-- Memory ran out in this event: the lines of those before it were written, and nothing of it was
+-- done or written.
 pub record ToldOutOfMemory (p : Plan) (echo : Bool) (x : Moved) (event : ℕ) : Type 0 where
   pub events : List Event
   pub hand : Event
@@ -105,34 +114,46 @@ pub record ToldOutOfMemory (p : Plan) (echo : Bool) (x : Moved) (event : ℕ) : 
   pub asks : takes_memory hand ≡ true
   pub unrefused : refusal p x.state_new hand ≡ None
 
--- A write failed in the lines of this event, which was done: those of the events before it were written, and of its own a front and not all.
+-- A write failed in the lines of this event, which was done: those of the events before it were
+-- written, and of its own a front and not all.
 pub record StoppedInEvent (p : Plan) (echo : Bool) (x : Moved) (event : ℕ) : Type 0 where
   pub events : List Event
   pub hand : Event
   pub place : event ≡ length events + 1
   pub text : Begins p x (events ++ hand ∷ [])
-  pub lines : StopsInLines p echo event (next p x.state_old events hand) x.state_new (append_known x.taken_old (told_events p echo x.state_old events)) x.taken_new
+  pub lines : StopsInLines p echo event (next p x.state_old events hand) x.state_new
+      (append_known x.taken_old (told_events p echo x.state_old events)) x.taken_new
 
--- A write failed in the last line: the lines of all events were written, and of that line a front and not all.
+-- A write failed in the last line: the lines of all events were written, and of that line a front
+-- and not all.
 pub record StoppedAtEnd (p : Plan) (echo : Bool) (x : Moved) (event : ℕ) : Type 0 where
   pub events : List Event
   pub place : event ≡ length events + 1
   pub text : IsWhole p x events
-  pub front : StopsIn (append_known x.taken_old (told_events p echo x.state_old events)) x.taken_new (end_text (state_after p x.state_old events))
+  pub front : StopsIn (append_known x.taken_old (told_events p echo x.state_old events)) x.taken_new
+      (end_text (state_after p x.state_old events))
   pub network : x.state_new ≡ settled p x.state_old events
 
--- Without memory for the reader of lines the first event and the first line are told, and nothing was touched.
-abbrev pub FaultyTold : Plan → (echo : Bool) → Moved → Type 0 → Bool → ℕ → ℕ → FaultKind ScriptWord → Type 0
+-- Without memory for the reader of lines the first event and the first line are told, and nothing
+-- was touched.
+abbrev pub FaultyTold : Plan → (echo : Bool) → Moved
+    → Type 0 → Bool → ℕ → ℕ → FaultKind ScriptWord → Type 0
 FaultyTold p echo x untouched true event line kind = (event ≡ 1) × (line ≡ 1) × untouched
 FaultyTold p echo x untouched false event line kind = ToldToFault p echo x event line kind
 
-abbrev pub StoppedTelling : Plan → (echo : Bool) → Moved → (broken untouched : Type 0) → ℕ → RunCause → Type 0
+abbrev pub StoppedTelling : Plan → (echo : Bool)
+    → Moved → (broken untouched : Type 0) → ℕ → RunCause → Type 0
 StoppedTelling p echo x broken untouched event Read = ToldToCut p echo x broken event
-StoppedTelling p echo x broken untouched event Write = StoppedInEvent p echo x event ⊎ StoppedAtEnd p echo x event
-StoppedTelling p echo x broken untouched event (OfScript f) = FaultyTold p echo x untouched (is_reader_room f.kind) event f.line f.kind
+StoppedTelling p echo x broken untouched event Write = StoppedInEvent p echo x event
+    ⊎ StoppedAtEnd p echo x event
+StoppedTelling p echo x broken untouched event (OfScript f) =
+    FaultyTold p echo x untouched (is_reader_room f.kind) event f.line f.kind
 StoppedTelling p echo x broken untouched event NoMemory = ToldOutOfMemory p echo x event
 
--- WHAT A RUN THAT TELLS MORE ANSWERS. Broken says that the source failed or met the bound on calls, untouched that nothing was read, written or done.
-abbrev pub TellingAnswers : Plan → (echo : Bool) → Moved → (broken untouched : Type 0) → Result Summary RunFault → Type 0
+-- WHAT A RUN THAT TELLS MORE ANSWERS. Broken says that the source failed or met the bound on calls,
+-- untouched that nothing was read, written or done.
+abbrev pub TellingAnswers : Plan → (echo : Bool)
+    → Moved → (broken untouched : Type 0) → Result Summary RunFault → Type 0
 TellingAnswers p echo x broken untouched (Ok summary) = ToldWhole p echo x summary
-TellingAnswers p echo x broken untouched (Err f) = StoppedTelling p echo x broken untouched f.event f.cause
+TellingAnswers p echo x broken untouched (Err f) =
+    StoppedTelling p echo x broken untouched f.event f.cause

@@ -33,7 +33,8 @@ pub(crate) fn answer<B: Allocator, N: Network, W: Sink>(
     requires taken { (N.state net.old).tickets ≡ [] }
     requires few { length (N.state net.old).calls < 2 ^ 63 }
     ensures plan { N.plan net.new ≡ plan.now }
-    ensures answers { EventAnswers plan.now event (N.state net.old) (N.state net.new) (W.taken sink.old) (W.taken sink.new) result }
+    ensures answers { EventAnswers plan.now event
+        (N.state net.old) (N.state net.new) (W.taken sink.old) (W.taken sink.new) result }
     ensures mark { W.failed sink.new ≡ mark_with (W.failed sink.old) result }
 {
     // By reference, so that the reply is not copied.
@@ -55,7 +56,8 @@ pub(crate) fn is_refused(reply: &Reply) -> bool
     matches!(reply, Reply::Refused(_))
 }
 
-/// Takes the tickets out of a network and writes them, the oldest first. Returns how many there were.
+/// Takes the tickets out of a network and writes them, the oldest first. Returns how many there
+/// were.
 pub(crate) fn write_tickets<B: Allocator, N: Network, W: Sink>(
     plan: &Plan<B>,
     net: &mut N,
@@ -64,9 +66,11 @@ pub(crate) fn write_tickets<B: Allocator, N: Network, W: Sink>(
     requires few { length (N.state net.old).tickets < 2 ^ 64 }
     ensures plan { N.plan net.new ≡ N.plan net.old }
     ensures count { IfOk result (λ n. n ≡ length (N.state net.old).tickets) }
-    ensures ok { OnOk result (W.taken sink.new ≡ append_known (W.taken sink.old) (flat_map (ticket_text plan.now) (N.state net.old).tickets)) }
+    ensures ok { OnOk result (W.taken sink.new ≡ append_known
+        (W.taken sink.old) (flat_map (ticket_text plan.now) (N.state net.old).tickets)) }
     ensures taken { OnOk result (N.state net.new ≡ drained (N.state net.old) []) }
-    ensures err { OnErr result (StopsAtTicket plan.now (N.state net.old).tickets (N.state net.old) (N.state net.new) (W.taken sink.old) (W.taken sink.new)) }
+    ensures err { OnErr result (StopsAtTicket plan.now (N.state net.old).tickets
+        (N.state net.old) (N.state net.new) (W.taken sink.old) (W.taken sink.new)) }
     ensures mark { OnErr result (W.failed sink.new ≡ true) }
     ensures unmarked { OnOk result (W.failed sink.new ≡ W.failed sink.old) }
 {

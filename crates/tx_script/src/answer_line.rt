@@ -10,7 +10,8 @@ use tx_plan::Plan;
 use tx_machine::{Event, Network};
 use tx_text::{FaultAt, FaultKind, Sink};
 
-/// Answers a line of this number, whose words say an event or have a fault, over a network whose tickets were taken.
+/// Answers a line of this number, whose words say an event or have a fault, over a network whose
+/// tickets were taken.
 pub(crate) fn answer_line<B: Allocator, N: Network, W: Sink>(
     line: u64,
     said: Result<Event, ScriptWord>,
@@ -22,7 +23,8 @@ pub(crate) fn answer_line<B: Allocator, N: Network, W: Sink>(
     requires taken { (N.state net.old).tickets ≡ [] }
     requires few { length (N.state net.old).calls < 2 ^ 63 }
     ensures plan { N.plan net.new ≡ plan.now }
-    ensures answers { LineAnswers plan.now line said (N.state net.old) (N.state net.new) (W.taken sink.old) (W.taken sink.new) result }
+    ensures answers { LineAnswers plan.now line said
+        (N.state net.old) (N.state net.new) (W.taken sink.old) (W.taken sink.new) result }
     ensures mark { W.failed sink.new ≡ mark_with (W.failed sink.old) result }
 {
     match said {

@@ -9,8 +9,10 @@ use tx_plan::Plan;
 use tx_machine::Event;
 use tx_text::{FaultKind, FrameFault, LineFault, bytes_fault, words};
 
-/// The event that one line of a script says, given without its LF and the CR before it. `Err` is the first fault: one of its bytes comes before those of its
-/// words. A line without words, one that begins with SCRIPT and the one word END are no events: they are S1.
+/// The event that one line of a script says, given without its LF and the CR before it. `Err` is
+/// the first fault: one of its bytes comes before those of its
+/// words. A line without words, one that begins with SCRIPT and the one word END are no events:
+/// they are S1.
 pub fn read_event<A: Allocator>(line: &[u8], plan: &Plan<A>) -> Result<Event, ScriptKind>
     ensures event { result ≡ event_in plan.now line.now }
     ensures writable { IfOk result (IsWritable plan.now) }
@@ -25,7 +27,8 @@ pub fn read_event<A: Allocator>(line: &[u8], plan: &Plan<A>) -> Result<Event, Sc
     }
 }
 
-/// The line that is written for an event of the plan says that event. Does nothing: its contract is a law.
+/// The line that is written for an event of the plan says that event. Does nothing: its contract is
+/// a law.
 pub fn event_lines_read_back()
     ensures { EventsReadBack }
 {}

@@ -16,7 +16,8 @@ use tx_machine::{Event, Party};
 use tx_text::{Figures, Sink, WriteFault, write_text};
 use tx_tickets::write_circuit;
 
-/// Writes the line of an event, as `KEY 41 10001 4110002`, with its LF. The plan has the event's ids, and its circuit has a number from 1 to 240. The line
+/// Writes the line of an event, as `KEY 41 10001 4110002`, with its LF. The plan has the event's
+/// ids, and its circuit has a number from 1 to 240. The line
 /// reads back as the event. Where the sink fails, a front of the line was taken.
 pub fn write_event<A: Allocator, W: Sink>(
     event: &Event,
@@ -25,7 +26,8 @@ pub fn write_event<A: Allocator, W: Sink>(
 ) -> Result<(), WriteFault>
     requires { IsWritable plan.now event.now }
     ensures says { event_in plan.now (event_line plan.now event.now) ≡ Ok event.now }
-    ensures wrote { Wrote W.taken W.failed sink.old sink.new (event_text plan.now event.now) result }
+    ensures wrote { Wrote W.taken W.failed sink.old sink.new
+        (event_text plan.now event.now) result }
 {
     plan.rules();
     write_said(event, plan, sink)
@@ -38,7 +40,8 @@ pub(crate) fn write_said<A: Allocator, W: Sink>(
     sink: &mut W,
 ) -> Result<(), WriteFault>
     ensures event { IsEvent event.now }
-    ensures wrote { Wrote W.taken W.failed sink.old sink.new (event_text plan.now event.now) result }
+    ensures wrote { Wrote W.taken W.failed sink.old sink.new
+        (event_text plan.now event.now) result }
 {
     let first = first_word(event);
     match event {
@@ -90,7 +93,8 @@ fn write_key<A: Allocator, W: Sink>(
 ) -> Result<(), WriteFault>
     ensures national { is_national line.now.national ≡ true }
     ensures keyed { are_figures 1 12 keyed.now ≡ true }
-    ensures wrote { Wrote W.taken W.failed sink.old sink.new (first.now ++ (line_text plan.now line.now ++ (codes " " ++ (keyed.now ++ codes "\n")))) result }
+    ensures wrote { Wrote W.taken W.failed sink.old sink.new (first.now
+        ++ (line_text plan.now line.now ++ (codes " " ++ (keyed.now ++ codes "\n")))) result }
 {
     write_text(
         &[
@@ -108,7 +112,8 @@ fn write_key<A: Allocator, W: Sink>(
 
 /// Writes a first word, given with its space, a call's number, and what ends the line.
 fn write_call<W: Sink>(first: &[u8], call: u32, end: &[u8], sink: &mut W) -> Result<(), WriteFault>
-    ensures { Wrote W.taken W.failed sink.old sink.new (first.now ++ (decimal call ++ end.now)) result }
+    ensures { Wrote W.taken W.failed sink.old sink.new
+        (first.now ++ (decimal call ++ end.now)) result }
 {
     let mut digits = Buffer::new();
     write_text(&[first, digits.format(call).as_bytes(), end, b""], sink)
@@ -131,7 +136,8 @@ fn write_group<A: Allocator, W: Sink>(
     plan: &Plan<A>,
     sink: &mut W,
 ) -> Result<(), WriteFault>
-    ensures { Wrote W.taken W.failed sink.old sink.new (first.now ++ (group_name plan.now group ++ codes "\n")) result }
+    ensures { Wrote W.taken W.failed sink.old sink.new
+        (first.now ++ (group_name plan.now group ++ codes "\n")) result }
 {
     write_text(&[first, plan.group_name(group), b"\n"], sink)
 }
@@ -144,7 +150,8 @@ fn write_line<A: Allocator, W: Sink>(
     sink: &mut W,
 ) -> Result<(), WriteFault>
     ensures national { is_national line.now.national ≡ true }
-    ensures wrote { Wrote W.taken W.failed sink.old sink.new (first.now ++ (line_text plan.now line.now ++ codes "\n")) result }
+    ensures wrote { Wrote W.taken W.failed sink.old sink.new
+        (first.now ++ (line_text plan.now line.now ++ codes "\n")) result }
 {
     write_text(
         &[

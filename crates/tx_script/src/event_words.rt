@@ -51,7 +51,8 @@ fn behind<'a, const N: usize>(text: &'a [u8], front: &[u8; N]) -> Option<&'a [u8
     Some(&text[N..])
 }
 
-/// The verb of an event of calls where it stands at the front with a space after it, and what is left of the line.
+/// The verb of an event of calls where it stands at the front with a space after it, and what is
+/// left of the line.
 fn verb_at(text: &[u8]) -> Option<(Verb, &[u8])>
     ensures { IfSome result (λ v. BeginsWith (words_of text.now) (Some v.0) (words_of v.1.now)) }
 {
@@ -214,7 +215,8 @@ fn circuit_number(word: &[u8]) -> Option<u32>
 
 /// What stands before the first dot, and what stands after it.
 fn cut_at_dot(word: &[u8]) -> Option<(&[u8], &[u8])>
-    ensures { MatchOption result (cut_at_dot word.now ≡ None) (λ c. cut_at_dot word.now ≡ Some (c.0.now, c.1.now)) }
+    ensures { MatchOption result (cut_at_dot word.now ≡ None)
+        (λ c. cut_at_dot word.now ≡ Some (c.0.now, c.1.now)) }
 {
     match first_dot(word) {
         Some(dot) => Some((&word[..dot], &word[dot + 1..])),
@@ -271,7 +273,8 @@ fn end_event(words: Words<'_>) -> Result<Event, ScriptWord>
 
 /// The word, where it is the only one.
 fn one_word(words: Words<'_>) -> Option<&[u8]>
-    ensures { MatchOption result (one_word words.entry ≡ None) (λ w. one_word words.entry ≡ Some w.now) }
+    ensures { MatchOption result (one_word words.entry ≡ None)
+        (λ w. one_word words.entry ≡ Some w.now) }
 {
     let mut words = words;
     let word = words.next()?;
@@ -283,7 +286,8 @@ fn one_word(words: Words<'_>) -> Option<&[u8]>
 
 /// The words, where they are two.
 fn two_words(words: Words<'_>) -> Option<(&[u8], &[u8])>
-    ensures { MatchOption result (two_words words.entry ≡ None) (λ w. two_words words.entry ≡ Some (w.0.now, w.1.now)) }
+    ensures { MatchOption result (two_words words.entry ≡ None)
+        (λ w. two_words words.entry ≡ Some (w.0.now, w.1.now)) }
 {
     let mut words = words;
     let first = words.next()?;
@@ -296,7 +300,8 @@ fn two_words(words: Words<'_>) -> Option<(&[u8], &[u8])>
 
 /// The words, where they are three.
 fn three_words(words: Words<'_>) -> Option<(&[u8], &[u8], &[u8])>
-    ensures { MatchOption result (three_words words.entry ≡ None) (λ w. three_words words.entry ≡ Some (w.0.now, w.1.now, w.2.now)) }
+    ensures { MatchOption result (three_words words.entry ≡ None)
+        (λ w. three_words words.entry ≡ Some (w.0.now, w.1.now, w.2.now)) }
 {
     let mut words = words;
     let first = words.next()?;

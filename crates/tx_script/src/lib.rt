@@ -1,6 +1,7 @@
 //! A script: events as lines of text, and the run that plays them over a network.
 //!
-//! `run` takes any `Network` that was made for the plan, and writes the reply to each event and then the tickets of the calls that it ended. `read_event` and
+//! `run` takes any `Network` that was made for the plan, and writes the reply to each event and
+//! then the tickets of the calls that it ended. `read_event` and
 //! `write_event` are one line, both ways.
 //!
 //! ```
@@ -15,7 +16,8 @@
 //! }
 //! ```
 //!
-//! Over an engine of the plan in tx_plan's example, the sink then has `KEYED 1`, `SEIZED NOSO1.1` and `END EVENTS 2 OPEN 1`.
+//! Over an engine of the plan in tx_plan's example, the sink then has `KEYED 1`, `SEIZED NOSO1.1`
+//! and `END EVENTS 2 OPEN 1`.
 #![tactic(auto)]
 
 mod answer;

@@ -30,10 +30,13 @@ use tx_text::{
 
 pub(crate) const KEY: &[u8] = b"SCRIPT";
 
-/// Runs the script that comes from a source over a network of the plan that has no open call and no ticket. Writes the reply and the tickets of each event,
-/// and at the script's end the line END EVENTS. `Err` tells at which event the run stopped, and why.
+/// Runs the script that comes from a source over a network of the plan that has no open call and no
+/// ticket. Writes the reply and the tickets of each event,
+/// and at the script's end the line END EVENTS. `Err` tells at which event the run stopped, and
+/// why.
 ///
-/// Each event is answered before the source is asked for a line that is not yet there: no clause says so, and the worked examples, which count the reads,
+/// Each event is answered before the source is asked for a line that is not yet there: no clause
+/// says so, and the worked examples, which count the reads,
 /// show it.
 pub fn run<A: Allocator, B: Allocator, N: Network, R: Source, W: Sink>(
     alloc: A,
@@ -45,8 +48,11 @@ pub fn run<A: Allocator, B: Allocator, N: Network, R: Source, W: Sink>(
     requires plan { N.plan net.old ≡ plan.now }
     requires fresh { IsFresh (N.state net.old) }
     ensures plan { N.plan net.new ≡ plan.now }
-    ensures answers { RunAnswers plan.now (record { rest_old = R.rest source.old; rest_new = R.rest source.new; taken_old = W.taken sink.old; taken_new = W.taken sink.new; state_old = N.state net.old; state_new = N.state net.new })
-        (Broken R.called (R.failed source.new) source_calls source.old source.new) ((source.new ≡ source.old) × (sink.new ≡ sink.old) × (net.new ≡ net.old)) result }
+    ensures answers { RunAnswers plan.now (record
+        { rest_old = R.rest source.old; rest_new = R.rest source.new; taken_old = W.taken sink.old;
+        taken_new = W.taken sink.new; state_old = N.state net.old; state_new = N.state net.new })
+        (Broken R.called (R.failed source.new) source_calls source.old source.new)
+        ((source.new ≡ source.old) × (sink.new ≡ sink.old) × (net.new ≡ net.old)) result }
     ensures mark { W.failed sink.new ≡ mark_after (W.failed sink.old) result }
     ensures calls { CallsAtMost R.called source_calls source.old source.new }
 {
@@ -62,7 +68,8 @@ pub fn run<A: Allocator, B: Allocator, N: Network, R: Source, W: Sink>(
     }
 }
 
-/// Answers the lines that the frame leaves to it, one after another. The event of a line is read here, since a function of its own would not be inlined.
+/// Answers the lines that the frame leaves to it, one after another. The event of a line is read
+/// here, since a function of its own would not be inlined.
 fn run_lines<A: Allocator, B: Allocator, N: Network, R: Source, W: Sink>(
     frame: FrameReader<'_, A>,
     plan: &Plan<B>,
@@ -78,8 +85,11 @@ fn run_lines<A: Allocator, B: Allocator, N: Network, R: Source, W: Sink>(
     requires plan { N.plan net.old ≡ plan.now }
     requires fresh { IsFresh (N.state net.old) }
     ensures plan { N.plan net.new ≡ plan.now }
-    ensures answers { RunAnswers plan.now (record { rest_old = R.rest source.old; rest_new = R.rest source.new; taken_old = W.taken sink.old; taken_new = W.taken sink.new; state_old = N.state net.old; state_new = N.state net.new })
-        (Broken R.called (R.failed source.new) source_calls source.old source.new) ((source.new ≡ source.old) × (sink.new ≡ sink.old) × (net.new ≡ net.old)) result }
+    ensures answers { RunAnswers plan.now (record
+        { rest_old = R.rest source.old; rest_new = R.rest source.new; taken_old = W.taken sink.old;
+        taken_new = W.taken sink.new; state_old = N.state net.old; state_new = N.state net.new })
+        (Broken R.called (R.failed source.new) source_calls source.old source.new)
+        ((source.new ≡ source.old) × (sink.new ≡ sink.old) × (net.new ≡ net.old)) result }
     ensures mark { W.failed sink.new ≡ mark_after (W.failed sink.old) result }
     ensures calls { CallsAtMost R.called source_calls source.old source.new }
 {
@@ -127,7 +137,8 @@ pub(crate) fn script_fault(line: u64, kind: ScriptKind) -> RunCause
 
 /// A failure to read is a cause of its own.
 pub(crate) fn frame_cause(stop: FrameStop) -> RunCause
-    ensures { result ≡ (if is_read stop.fault then RunCause.Read else RunCause.Script (record { line = stop.line; kind = FaultKind.Frame stop.fault })) }
+    ensures { result ≡ (if is_read stop.fault then RunCause.Read
+        else RunCause.Script (record { line = stop.line; kind = FaultKind.Frame stop.fault })) }
 {
     match stop.fault {
         FrameFault::Line(LineFault::Read) => RunCause::Read,
@@ -142,10 +153,15 @@ pub(crate) fn finish<N: Network, W: Sink>(
     sink: &mut W,
 ) -> Result<Summary, RunFault>
     requires { tally.now.answered < 2 ^ 63 }
-    ensures summary { IfOk result (λ s. s ≡ record { events = (N.state net.now).events; refused = tally.now.refused; tickets = tally.now.tickets; open_calls = length (N.state net.now).calls }) }
-    ensures ok { OnOk result (W.taken sink.new ≡ append_known (W.taken sink.old) (end_text (N.state net.now))) }
-    ensures fault { IfErr result (λ f. f ≡ record { event = tally.now.answered + 1; cause = RunCause.Write }) }
-    ensures err { OnErr result (StopsIn (W.taken sink.old) (W.taken sink.new) (end_text (N.state net.now))) }
+    ensures summary { IfOk result
+        (λ s. s ≡ record { events = (N.state net.now).events; refused = tally.now.refused;
+        tickets = tally.now.tickets; open_calls = length (N.state net.now).calls }) }
+    ensures ok { OnOk result (W.taken sink.new
+        ≡ append_known (W.taken sink.old) (end_text (N.state net.now))) }
+    ensures fault { IfErr result
+        (λ f. f ≡ record { event = tally.now.answered + 1; cause = RunCause.Write }) }
+    ensures err { OnErr result
+        (StopsIn (W.taken sink.old) (W.taken sink.new) (end_text (N.state net.now))) }
     ensures mark { W.failed sink.new ≡ mark_after (W.failed sink.old) result }
 {
     let events = net.events();
@@ -162,8 +178,10 @@ pub(crate) fn finish<N: Network, W: Sink>(
 }
 
 fn write_end<W: Sink>(events: u64, open_calls: u64, sink: &mut W) -> Result<(), WriteFault>
-    ensures ok { OnOk result (W.taken sink.new ≡ append_known (W.taken sink.old) (end_line events open_calls)) }
-    ensures err { OnErr result (StopsIn (W.taken sink.old) (W.taken sink.new) (end_line events open_calls)) }
+    ensures ok { OnOk result (W.taken sink.new
+        ≡ append_known (W.taken sink.old) (end_line events open_calls)) }
+    ensures err { OnErr result
+        (StopsIn (W.taken sink.old) (W.taken sink.new) (end_line events open_calls)) }
     ensures mark { OnErr result (W.failed sink.new ≡ true) }
     ensures unmarked { OnOk result (W.failed sink.new ≡ W.failed sink.old) }
 {

@@ -5,10 +5,12 @@ ghost use Rattle.tx_script.specs.ScriptFaults.{frame_row, word_row, fault_row};
 use thiserror::Error;
 use tx_text::{FaultAt, FaultKind, FormFault, FrameFault, LineFault};
 
-/// What is wrong with the words of a script's line. Of several faults the first in this order is given.
+/// What is wrong with the words of a script's line. Of several faults the first in this order is
+/// given.
 #[derive(Clone, Copy, Debug, PartialEq, Eq, Error)]
 pub enum ScriptWord {
-    /// S1: the first word is no event's, or the third of a CLEAR line of three words is neither CALLER nor CALLED.
+    /// S1: the first word is no event's, or the third of a CLEAR line of three words is neither
+    /// CALLER nor CALLED.
     #[error("the first word of the line is no event, or who clears is neither CALLER nor CALLED")]
     UnknownWord,
     /// S2: the wrong number of words.
@@ -28,7 +30,8 @@ pub type ScriptKind = FaultKind<ScriptWord>;
 /// A fault of a script, with its line, counted from 1.
 pub type ScriptFault = FaultAt<ScriptWord>;
 
-/// The code and the name of a fault, as `S1` and `UnknownWord`. A source that failed has no code in a script.
+/// The code and the name of a fault, as `S1` and `UnknownWord`. A source that failed has no code in
+/// a script.
 pub fn code_and_name(kind: ScriptKind) -> (&'static [u8], &'static [u8])
     ensures { (result.0.now, result.1.now) ≡ fault_row kind }
 {

@@ -17,7 +17,8 @@ use tx_plan::Plan;
 use tx_machine::Network;
 use tx_text::{FaultKind, FrameFault, FrameReader, FrameStep, LineFault, Sink, Source};
 
-/// Runs a script as `run` does. Where the lines of events are asked for, the line of each stands before its reply, with its number, as `EVENT 2 ROUTE 1`.
+/// Runs a script as `run` does. Where the lines of events are asked for, the line of each stands
+/// before its reply, with its number, as `EVENT 2 ROUTE 1`.
 /// Numbers begin at 1, and refused events have one too.
 pub fn run_telling<A: Allocator, B: Allocator, N: Network, R: Source, W: Sink>(
     alloc: A,
@@ -30,8 +31,11 @@ pub fn run_telling<A: Allocator, B: Allocator, N: Network, R: Source, W: Sink>(
     requires plan { N.plan net.old ≡ plan.now }
     requires fresh { IsFresh (N.state net.old) }
     ensures plan { N.plan net.new ≡ plan.now }
-    ensures answers { TellingAnswers plan.now echo (record { rest_old = R.rest source.old; rest_new = R.rest source.new; taken_old = W.taken sink.old; taken_new = W.taken sink.new; state_old = N.state net.old; state_new = N.state net.new })
-        (Broken R.called (R.failed source.new) source_calls source.old source.new) ((source.new ≡ source.old) × (sink.new ≡ sink.old) × (net.new ≡ net.old)) result }
+    ensures answers { TellingAnswers plan.now echo (record
+        { rest_old = R.rest source.old; rest_new = R.rest source.new; taken_old = W.taken sink.old;
+        taken_new = W.taken sink.new; state_old = N.state net.old; state_new = N.state net.new })
+        (Broken R.called (R.failed source.new) source_calls source.old source.new)
+        ((source.new ≡ source.old) × (sink.new ≡ sink.old) × (net.new ≡ net.old)) result }
     ensures mark { W.failed sink.new ≡ mark_after (W.failed sink.old) result }
     ensures calls { CallsAtMost R.called source_calls source.old source.new }
 {
@@ -64,8 +68,11 @@ fn tell_lines<A: Allocator, B: Allocator, N: Network, R: Source, W: Sink>(
     requires plan { N.plan net.old ≡ plan.now }
     requires fresh { IsFresh (N.state net.old) }
     ensures plan { N.plan net.new ≡ plan.now }
-    ensures answers { TellingAnswers plan.now echo (record { rest_old = R.rest source.old; rest_new = R.rest source.new; taken_old = W.taken sink.old; taken_new = W.taken sink.new; state_old = N.state net.old; state_new = N.state net.new })
-        (Broken R.called (R.failed source.new) source_calls source.old source.new) ((source.new ≡ source.old) × (sink.new ≡ sink.old) × (net.new ≡ net.old)) result }
+    ensures answers { TellingAnswers plan.now echo (record
+        { rest_old = R.rest source.old; rest_new = R.rest source.new; taken_old = W.taken sink.old;
+        taken_new = W.taken sink.new; state_old = N.state net.old; state_new = N.state net.new })
+        (Broken R.called (R.failed source.new) source_calls source.old source.new)
+        ((source.new ≡ source.old) × (sink.new ≡ sink.old) × (net.new ≡ net.old)) result }
     ensures mark { W.failed sink.new ≡ mark_after (W.failed sink.old) result }
     ensures calls { CallsAtMost R.called source_calls source.old source.new }
 {

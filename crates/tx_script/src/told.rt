@@ -13,7 +13,8 @@ use tx_machine::{Event, Network};
 use tx_text::{FaultAt, FaultKind, Sink};
 use tx_tickets::write_reply;
 
-/// Answers a line, whose words say an event or have a fault, over a network whose tickets were taken. The next event has this number.
+/// Answers a line, whose words say an event or have a fault, over a network whose tickets were
+/// taken. The next event has this number.
 pub(crate) fn tell_line<B: Allocator, N: Network, W: Sink>(
     line: u64,
     said: Result<Event, ScriptWord>,
@@ -27,7 +28,8 @@ pub(crate) fn tell_line<B: Allocator, N: Network, W: Sink>(
     requires taken { (N.state net.old).tickets ≡ [] }
     requires few { length (N.state net.old).calls < 2 ^ 63 }
     ensures plan { N.plan net.new ≡ plan.now }
-    ensures answers { LineTold plan.now echo line number said (N.state net.old) (N.state net.new) (W.taken sink.old) (W.taken sink.new) result }
+    ensures answers { LineTold plan.now echo line number said
+        (N.state net.old) (N.state net.new) (W.taken sink.old) (W.taken sink.new) result }
     ensures mark { W.failed sink.new ≡ mark_with (W.failed sink.old) result }
 {
     match said {
@@ -39,7 +41,8 @@ pub(crate) fn tell_line<B: Allocator, N: Network, W: Sink>(
     }
 }
 
-/// Applies the event of this number to a network whose tickets were taken. Then writes its line, if that is asked for, the reply and the tickets.
+/// Applies the event of this number to a network whose tickets were taken. Then writes its line, if
+/// that is asked for, the reply and the tickets.
 fn tell<B: Allocator, N: Network, W: Sink>(
     echo: bool,
     number: u64,
@@ -52,7 +55,8 @@ fn tell<B: Allocator, N: Network, W: Sink>(
     requires taken { (N.state net.old).tickets ≡ [] }
     requires few { length (N.state net.old).calls < 2 ^ 63 }
     ensures plan { N.plan net.new ≡ plan.now }
-    ensures answers { EventTold plan.now echo number event (N.state net.old) (N.state net.new) (W.taken sink.old) (W.taken sink.new) result }
+    ensures answers { EventTold plan.now echo number event
+        (N.state net.old) (N.state net.new) (W.taken sink.old) (W.taken sink.new) result }
     ensures mark { W.failed sink.new ≡ mark_with (W.failed sink.old) result }
 {
     let reply = net.apply(event)?;

@@ -19,7 +19,8 @@ module _ {S : Type 0} (called : ℕ → Result ℕ ReadFault → S → S → Typ
   abbrev pub Gives : S → S → Type 0
   Gives a b = (n : ℕ) × (0 < n) × called 4096 (Ok n) a b
 
-  -- So many calls lead from the first value to the second, each for 4,096 bytes, and each gave some.
+  -- So many calls lead from the first value to the second, each for 4,096 bytes, and each gave
+  -- some.
   unfoldable pub Gave : ℕ → S → S → Type 0
   Gave zero a c = a ≡ c
   Gave (suc n) a c = (b : S) × Gave n a b × Gives b c
@@ -32,9 +33,11 @@ module _ {S : Type 0} (called : ℕ → Result ℕ ReadFault → S → S → Typ
   abbrev pub Calls : S → S → Type 0
   Calls a b = (r : Result ℕ ReadFault) × called 4096 r a b
 
-  -- At most so many calls lead from the first value to the second, each for 4,096 bytes: those before the last gave some.
+  -- At most so many calls lead from the first value to the second, each for 4,096 bytes: those
+  -- before the last gave some.
   abbrev pub CallsAtMost : ℕ → S → S → Type 0
-  CallsAtMost most a c = ((left : ℕ) × Went most left a c) ⊎ ((left : ℕ) × (b : S) × Went most (suc left) a b × Calls b c)
+  CallsAtMost most a c = ((left : ℕ) × Went most left a c)
+      ⊎ ((left : ℕ) × (b : S) × Went most (suc left) a b × Calls b c)
 
   -- The source failed, or all calls that were allowed gave bytes.
   abbrev pub Broken : Bool → ℕ → S → S → Type 0

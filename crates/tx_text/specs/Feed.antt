@@ -24,7 +24,8 @@ ended f bytes = record f {
   number = f.number + 1;
   start = f.start + length f.begun + length bytes + 1;
   begun = [];
-  line = Some (record { number = f.number + 1; start = f.start; bytes = without_cr (f.begun ++ bytes); finished = true });
+  line = Some (record { number = f.number + 1;
+    start = f.start; bytes = without_cr (f.begun ++ bytes); finished = true });
 }
 
 -- a fault stands from now on
@@ -51,14 +52,16 @@ line_fault lf bytes = if lf then bytes_fault (without_cr bytes) else begun_fault
 abbrev pub piece_fault : Feed → List ℕ → Option TextFault
 piece_fault f piece = line_fault (has_lf piece) (f.begun ++ front_of piece)
 
--- what a call gives: by an earlier fault, the fault that the piece makes, whether an LF came, and how many bytes stand before it
+-- what a call gives: by an earlier fault, the fault that the piece makes, whether an LF came, and
+-- how many bytes stand before it
 abbrev pub gives_by : Option TextFault → Option TextFault → Bool → ℕ → Result Fed TextFault
 gives_by (Some x) p lf n = Err x
 gives_by None (Some x) lf n = Err x
 gives_by None None true n = Ok (record { taken = n + 1; line = true })
 gives_by None None false n = Ok (record { taken = n; line = false })
 
--- What a call leaves: nothing changes after a fault, and else the line goes on, or is complete, or faulty from now on.
+-- What a call leaves: nothing changes after a fault, and else the line goes on, or is complete, or
+-- faulty from now on.
 abbrev pub leaves_by : Feed → List ℕ → Option TextFault → Option TextFault → Bool → Feed
 leaves_by f front (Some x) p lf = f
 leaves_by f front None (Some x) lf = faulted f x
@@ -79,7 +82,8 @@ finished f = record f {
   number = f.number + 1;
   start = f.start + length f.begun;
   begun = [];
-  line = Some (record { number = f.number + 1; start = f.start; bytes = f.begun; finished = false });
+  line =
+    Some (record { number = f.number + 1; start = f.start; bytes = f.begun; finished = false });
 }
 
 -- by an earlier fault, whether a line has begun, and what is wrong with it
@@ -89,7 +93,8 @@ ends_giving None false p = Ok false
 ends_giving None true (Some x) = Err x
 ends_giving None true None = Ok true
 
--- What the end of the text leaves: nothing changes after a fault, and else the line that has begun is complete, or faulty from now on.
+-- What the end of the text leaves: nothing changes after a fault, and else the line that has begun
+-- is complete, or faulty from now on.
 abbrev pub ends_leaving : Feed → Option TextFault → Bool → Option TextFault → Feed
 ends_leaving f (Some x) b p = f
 ends_leaving f None false p = record f { line = None }

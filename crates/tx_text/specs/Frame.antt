@@ -14,7 +14,8 @@ use Rattle.tx_text.specs.declared.frame.LineForm.TheVariants.{Blank, Header, Pla
 use Rattle.tx_text.specs.Words.{words_of}
 use Rattle.tx_text.specs.Told.{Ending, AtEnd, Cut, Told, Closed, Faulty, Then, Moves}
 
--- what the frame leaves to the reader: which header it is, and the lines with their numbers and words, up to the end or the first fault of the frame
+-- what the frame leaves to the reader: which header it is, and the lines with their numbers and
+-- words, up to the end or the first fault of the frame
 pub data Framed : Type 0 where
   Done : Framed
   Stop : ℕ → FrameFault → Framed
@@ -29,7 +30,8 @@ is_end (w ∷ v ∷ ws) = false
 
 -- 1, or 2 where that is known
 abbrev pub version_of : ℕ → List ℕ → Option ℕ
-version_of most v = if bytes_eq v (codes "1") then Some 1 else if nat_le 2 most && bytes_eq v (codes "2") then Some 2 else None
+version_of most v = if bytes_eq v (codes "1")
+    then Some 1 else if nat_le 2 most && bytes_eq v (codes "2") then Some 2 else None
 
 -- the version that a header with this key tells
 abbrev pub header_of : List ℕ → ℕ → List (List ℕ) → Option ℕ
@@ -85,7 +87,8 @@ as_said End p n ws k = k Ended
 as_said (Bad x) p n ws k = Stop n (of_form x)
 
 -- A finished line is judged by its place in the frame. An unfinished one is the last.
-abbrev pub framed_line : (List (List ℕ) → Option ℕ) → FramePart → Bool → ℕ → List (List ℕ) → (FramePart → Framed) → Framed
+abbrev pub framed_line : (List (List ℕ) → Option ℕ)
+    → FramePart → Bool → ℕ → List (List ℕ) → (FramePart → Framed) → Framed
 framed_line header p true n ws k = as_said (looked header p ws) p n ws k
 framed_line header p false n ws k = ended_by n (last_fault p ws)
 
@@ -93,24 +96,28 @@ framed_line header p false n ws k = ended_by n (last_fault p ws)
 unfoldable pub framed : (List (List ℕ) → Option ℕ) → FramePart → ℕ → Told → Framed
 framed header p n Closed = ended_by n (closing p)
 framed header p n (Faulty f) = Stop n (of_line f)
-framed header p n (Then l t) = framed_line header p l.finished l.number (words_of l.bytes) (λ q. framed header q (l.number + 1) t)
+framed header p n (Then l t) = framed_line header p l.finished l.number
+    (words_of l.bytes) (λ q. framed header q (l.number + 1) t)
 
 -- ---- what a reader answers, by the bytes that were read
 
 -- Bytes were read, and F goes on as G, whatever follows.
-pub record ReadsOn {X : Type 0} (old new : Option (List ℕ)) (F G : Ending → List ℕ → X) : Type 0 where
+pub record ReadsOn {X : Type 0} (old new : Option (List ℕ)) (F G : Ending
+    → List ℕ → X) : Type 0 where
   pub read : List ℕ
   pub moves : Moves old new read
   pub gives : (e : Ending) (more : List ℕ) → F e (read ++ more) ≡ G e more
 
 -- Bytes were read, and F is x there, since the bytes end so.
-pub record EndsAs {X : Type 0} (old new : Option (List ℕ)) (F : Ending → List ℕ → X) (e : Ending) (x : X) : Type 0 where
+pub record EndsAs {X : Type 0} (old new : Option (List ℕ)) (F : Ending
+    → List ℕ → X) (e : Ending) (x : X) : Type 0 where
   pub read : List ℕ
   pub moves : Moves old new read
   pub gives : F e read ≡ x
 
 -- x stands whatever follows, or the bytes are at their end and it is x then
-abbrev pub Stands : {X : Type 0} → Option (List ℕ) → Option (List ℕ) → (Ending → List ℕ → X) → X → Type 0
+abbrev pub Stands : {X : Type 0} → Option (List ℕ)
+    → Option (List ℕ) → (Ending → List ℕ → X) → X → Type 0
 Stands old new F x = ReadsOn old new F (λ _ _. x) ⊎ (EndsAs old new F AtEnd x × IsAtEnd new)
 
 -- The fault is that the source failed, or met the bound on calls.
@@ -119,6 +126,7 @@ is_read (of_line line_read) = true
 is_read k = false
 
 -- what a fault says: a failure is one by the bytes that were read
-abbrev pub Stopped : {X : Type 0} → Option (List ℕ) → Option (List ℕ) → (Ending → List ℕ → X) → Type 0 → Bool → X → Type 0
+abbrev pub Stopped : {X : Type 0} → Option (List ℕ)
+    → Option (List ℕ) → (Ending → List ℕ → X) → Type 0 → Bool → X → Type 0
 Stopped old new F broken true x = EndsAs old new F Cut x × broken
 Stopped old new F broken false x = Stands old new F x

@@ -3,7 +3,8 @@ use Rattle.std.specs.Prelude.{ℕ, ◌-◌, ◌==◌, Bool, true, false, ◌||�
 use Rattle.tx_text.specs.declared.source.ReadFault.{ReadFault}
 use Rattle.tx_text.specs.declared.sink.WriteFault.{WriteFault}
 
--- A source over memory: the bytes to come, how many a call gives at most, at which call from now on it fails, and whether it has failed.
+-- A source over memory: the bytes to come, how many a call gives at most, at which call from now on
+-- it fails, and whether it has failed.
 pub record Supply : Type 0 where
   pub rest : List ℕ
   pub piece : ℕ
@@ -26,11 +27,14 @@ supplied s room = min (min room s.piece) (length s.rest)
 
 -- a call for so many bytes fails, or gives what the room, the piece and the rest allow
 abbrev pub supply_gives : Supply → ℕ → Result ℕ ReadFault
-supply_gives s room = if s.failed || is_due s.fails_in then Err (record {}) else Ok (supplied s room)
+supply_gives s room = if s.failed || is_due s.fails_in
+    then Err (record {}) else Ok (supplied s room)
 
 -- a call that fails moves nothing
 abbrev pub supply_leaves : Supply → ℕ → Supply
-supply_leaves s room = if s.failed || is_due s.fails_in then record s { fails_in = sooner s.fails_in; failed = true } else record s { rest = drop (supplied s room) s.rest; fails_in = sooner s.fails_in }
+supply_leaves s room = if s.failed || is_due s.fails_in
+    then record s { fails_in = sooner s.fails_in; failed = true }
+    else record s { rest = drop (supplied s room) s.rest; fails_in = sooner s.fails_in }
 
 -- A sink over memory: the bytes that it took, how many it takes in all, and whether it has failed.
 pub record Store : Type 0 where
@@ -52,4 +56,5 @@ store_gives s bytes = if is_full s then Err (record {}) else Ok (accepted s byte
 
 -- a call that fails takes nothing
 abbrev pub store_leaves : Store → List ℕ → Store
-store_leaves s bytes = if is_full s then record s { failed = true } else record s { bytes = s.bytes ++ take (accepted s bytes) bytes }
+store_leaves s bytes = if is_full s then record s { failed = true }
+    else record s { bytes = s.bytes ++ take (accepted s bytes) bytes }

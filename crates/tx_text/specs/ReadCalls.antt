@@ -8,6 +8,8 @@ use Rattle.tx_text.specs.declared.from_read.FromRead.{FromRead}
 abbrev pub counted : {R : Type 0} → ℕ → Result ℕ ReadFault → FromRead R → FromRead R → Type 0
 counted room answer old new = new.calls ≡ one_call_more old.calls
 
--- Where a text that is read from here on cannot be given to its end, the reader has failed, or was called 4,294,967,295 times.
+-- Where a text that is read from here on cannot be given to its end, the reader has failed, or was
+-- called 4,294,967,295 times.
 abbrev pub TellsWhy : {R : Type 0} → FromRead R → Type 0
-TellsWhy {R} begin = (later : FromRead R) → Broken counted later.failed source_calls begin later → (later.failed ≡ true) ⊎ (later.calls ≡ source_calls)
+TellsWhy {R} begin = (later : FromRead R) → Broken counted later.failed source_calls begin later
+    → (later.failed ≡ true) ⊎ (later.calls ≡ source_calls)

@@ -14,11 +14,13 @@ use Rattle.tx_text.specs.Frame.{Framed, Done, Stop, Headed, Has, EndsAs, Stands,
 
 module _ {S W : Type 0} (declare : ℕ → S → List (List ℕ) → Result S W) where
   -- A line declared what leads on, or is faulty.
-  abbrev pub step_on : ℕ → Result S W → (S → Result S (ℕ × FaultKind W)) → Result S (ℕ × FaultKind W)
+  abbrev pub step_on : ℕ → Result S W → (S → Result S (ℕ × FaultKind W))
+      → Result S (ℕ × FaultKind W)
   step_on n (Ok s) k = k s
   step_on n (Err x) k = Err (n, Word x)
 
-  -- what a text says from a state on, under a header of this version: each line declares what it does after those before it
+  -- what a text says from a state on, under a header of this version: each line declares what it
+  -- does after those before it
   unfoldable pub said : ℕ → S → Framed → Result S (ℕ × FaultKind W)
   said v s Done = Ok s
   said v s (Stop n x) = Err (n, Frame x)
@@ -47,10 +49,12 @@ abbrev pub Declared : {S W U : Type 0} → (W → Bool) → Result S W → S →
 Declared memory r new (Ok x) = r ≡ Ok new
 Declared memory r new (Err x) = DeclaredBy r (memory x) x
 
--- In what follows `wanted n` is what is so where memory ran out at line n, and `untouched` says that nothing was read.
+-- In what follows `wanted n` is what is so where memory ran out at line n, and `untouched` says
+-- that nothing was read.
 
 -- what the reader answers
-abbrev pub RefusedBy : {S W : Type 0} → Option (List ℕ) → Option (List ℕ) → (Ending → List ℕ → Result S (ℕ × FaultKind W)) → (ℕ → Type 0) → Bool → ℕ → W → Type 0
+abbrev pub RefusedBy : {S W : Type 0} → Option (List ℕ) → Option (List ℕ)
+    → (Ending → List ℕ → Result S (ℕ × FaultKind W)) → (ℕ → Type 0) → Bool → ℕ → W → Type 0
 RefusedBy old new F wanted true n x = wanted n
 RefusedBy old new F wanted false n x = Stands old new F (Err (n, Word x))
 
@@ -59,33 +63,48 @@ abbrev pub is_no_room : FrameFault → Bool
 is_no_room (Line (Text TextNoMemory)) = true
 is_no_room k = false
 
--- A fault of the frame is the one that the text has, unless the reader had no memory: then it is told of line 1, before anything is read.
-abbrev pub StoppedBy : {S W : Type 0} → Option (List ℕ) → Option (List ℕ) → (Ending → List ℕ → Result S (ℕ × FaultKind W)) → (broken untouched : Type 0) → Bool → ℕ → FrameFault → Type 0
+-- A fault of the frame is the one that the text has, unless the reader had no memory: then it is
+-- told of line 1, before anything is read.
+abbrev pub StoppedBy : {S W : Type 0} → Option (List ℕ) → Option (List ℕ) → (Ending → List ℕ
+    → Result S (ℕ × FaultKind W)) → (broken untouched : Type 0) → Bool → ℕ → FrameFault → Type 0
 StoppedBy old new F broken untouched true n k = (n ≡ 1) × untouched
-StoppedBy old new F broken untouched false n k = Stopped old new F broken (is_read k) (Err (n, Frame k))
+StoppedBy old new F broken untouched false n k =
+    Stopped old new F broken (is_read k) (Err (n, Frame k))
 
 -- A fault is the one that the text has, unless memory ran out.
-abbrev pub Refused : {S W : Type 0} → (W → Bool) → Option (List ℕ) → Option (List ℕ) → (Ending → List ℕ → Result S (ℕ × FaultKind W)) → (broken untouched : Type 0) → (ℕ → Type 0) → ℕ → FaultKind W → Type 0
-Refused memory old new F broken untouched wanted n (Frame k) = StoppedBy old new F broken untouched (is_no_room k) n k
-Refused memory old new F broken untouched wanted n (Word x) = RefusedBy old new F wanted (memory x) n x
+abbrev pub Refused : {S W : Type 0} → (W → Bool)
+    → Option (List ℕ) → Option (List ℕ) → (Ending → List ℕ → Result S (ℕ × FaultKind W))
+    → (broken untouched : Type 0) → (ℕ → Type 0) → ℕ → FaultKind W → Type 0
+Refused memory old new F broken untouched wanted n (Frame k) =
+    StoppedBy old new F broken untouched (is_no_room k) n k
+Refused memory old new F broken untouched wanted n (Word x) =
+    RefusedBy old new F wanted (memory x) n x
 
--- An Ok is what the whole text says, at the source's end; a fault is the one that the text has, unless memory ran out.
-abbrev pub Answered : {S W : Type 0} → (W → Bool) → Option (List ℕ) → Option (List ℕ) → (Ending → List ℕ → Result S (ℕ × FaultKind W)) → (broken untouched : Type 0) → (ℕ → Type 0) → Result S (ℕ × FaultKind W) → Type 0
-Answered memory old new F broken untouched wanted (Ok s) = EndsAs old new F AtEnd (Ok s) × IsAtEnd new
-Answered memory old new F broken untouched wanted (Err x) = Refused memory old new F broken untouched wanted x.0 x.1
+-- An Ok is what the whole text says, at the source's end; a fault is the one that the text has,
+-- unless memory ran out.
+abbrev pub Answered : {S W : Type 0} → (W → Bool)
+    → Option (List ℕ) → Option (List ℕ) → (Ending → List ℕ → Result S (ℕ × FaultKind W))
+    → (broken untouched : Type 0) → (ℕ → Type 0) → Result S (ℕ × FaultKind W) → Type 0
+Answered memory old new F broken untouched wanted (Ok s) = EndsAs old new F AtEnd (Ok s)
+    × IsAtEnd new
+Answered memory old new F broken untouched wanted (Err x) =
+    Refused memory old new F broken untouched wanted x.0 x.1
 
 -- A fault is the one that the text has, unless memory ran out.
-abbrev pub FaultsBy : {S W : Type 0} → Result S (ℕ × FaultKind W) → Type 0 → Bool → ℕ → FaultKind W → Type 0
+abbrev pub FaultsBy : {S W : Type 0} → Result S (ℕ × FaultKind W)
+    → Type 0 → Bool → ℕ → FaultKind W → Type 0
 FaultsBy x wanting true n k = wanting
 FaultsBy x wanting false n k = x ≡ Err (n, k)
 
 -- The same of a fault of the frame, and of one of the words of a line.
-abbrev pub FaultsAs : {S W : Type 0} → (W → Bool) → Result S (ℕ × FaultKind W) → (ℕ → Type 0) → ℕ → FaultKind W → Type 0
+abbrev pub FaultsAs : {S W : Type 0} → (W → Bool)
+    → Result S (ℕ × FaultKind W) → (ℕ → Type 0) → ℕ → FaultKind W → Type 0
 FaultsAs memory x wanted n (Frame k) = FaultsBy x (n ≡ 1) (is_no_room k) n (Frame k)
 FaultsAs memory x wanted n (Word w) = FaultsBy x (wanted n) (memory w) n (Word w)
 
 -- A reader answers what the whole text says, unless memory ran out.
-abbrev pub AnswersAs : {S W : Type 0} → (W → Bool) → Result S (ℕ × FaultKind W) → (ℕ → Type 0) → Result S (ℕ × FaultKind W) → Type 0
+abbrev pub AnswersAs : {S W : Type 0} → (W → Bool)
+    → Result S (ℕ × FaultKind W) → (ℕ → Type 0) → Result S (ℕ × FaultKind W) → Type 0
 AnswersAs memory x wanted (Ok s) = x ≡ Ok s
 AnswersAs memory x wanted (Err f) = FaultsAs memory x wanted f.0 f.1
 

@@ -1,4 +1,5 @@
--- The lines of a text, one after another, up to its end or its first fault, whichever way the text ends.
+-- The lines of a text, one after another, up to its end or its first fault, whichever way the text
+-- ends.
 use Rattle.std.specs.Prelude.{◌≡◌, ◌⊎◌, ℕ, ◌+◌, ◌*◌, length, Bool, true, false, List, [], ◌∷◌, ◌++◌, Option, None, Some, Result, Ok, Err, drop}
 use Rattle.std.specs.List.{All}
 use Rattle.std.specs.Io.KnownBytes.{prepend_known, IsAtEnd}
@@ -41,7 +42,8 @@ unfoldable pub told : Ending → List Line → Told
 told e [] = told_end e
 told e (l ∷ ls) = told_line e l.finished l (told e ls)
 
--- where a reader stands: how many lines it gave, where the next one starts, and the bytes of it and after it that were read
+-- where a reader stands: how many lines it gave, where the next one starts, and the bytes of it and
+-- after it that were read
 pub record Place : Type 0 where
   pub number : ℕ
   pub start : ℕ
@@ -78,11 +80,13 @@ Came old new p q None = ⊥
 Came old new p q (Some l) = LineCame old new p q l l.finished
 
 -- what a call that goes on to the next line says
-abbrev pub Advances : Option (List ℕ) → Option (List ℕ) → Place → Place → Option Line → Type 0 → Result Bool LineFault → Type 0
+abbrev pub Advances : Option (List ℕ) → Option (List ℕ)
+    → Place → Place → Option Line → Type 0 → Result Bool LineFault → Type 0
 Advances old new p q given broken (Ok true) = Came old new p q given
 Advances old new p q given broken (Ok false) = Ends old new p AtEnd Closed × IsAtEnd new
 Advances old new p q given broken (Err Read) = Ends old new p Cut (Faulty Read) × broken
-Advances old new p q given broken (Err (Text f)) = Reads old new p (λ _ _. Faulty (Text f)) ⊎ (Ends old new p AtEnd (Faulty (Text f)) × IsAtEnd new)
+Advances old new p q given broken (Err (Text f)) = Reads old new p (λ _ _. Faulty (Text f))
+    ⊎ (Ends old new p AtEnd (Faulty (Text f)) × IsAtEnd new)
 
 -- what is true of a line feeder: the line that has begun has no LF, and isn't too long yet
 pub record IsFeed (f : Feed) : Type 0 where
@@ -93,7 +97,8 @@ pub record IsFeed (f : Feed) : Type 0 where
 abbrev pub place_of : Feed → List ℕ → Place
 place_of f piece = record { number = f.number; start = f.start; ahead = f.begun ++ piece }
 
--- a reader of texts: its feeder, the bytes that it read and hasn't fed, and how often it may read yet
+-- a reader of texts: its feeder, the bytes that it read and hasn't fed, and how often it may read
+-- yet
 pub record Reading : Type 0 where
   pub feed : Feed
   pub piece : List ℕ
@@ -115,7 +120,8 @@ unfed (Err x) piece = piece
 
 -- the feeder took what it could of the piece
 abbrev pub fed_on : Reading → Reading
-fed_on r = record { feed = feed_leaves r.feed r.piece; piece = unfed (feed_gives r.feed r.piece) r.piece; left = r.left }
+fed_on r = record { feed = feed_leaves r.feed r.piece;
+    piece = unfed (feed_gives r.feed r.piece) r.piece; left = r.left }
 
 -- Whether an unfinished line stands, or the fault of its bytes.
 abbrev pub ended_as : Result Bool TextFault → Result Bool LineFault
@@ -124,7 +130,8 @@ ended_as (Err x) = Err (Text x)
 
 -- nothing was read yet, and so many calls are allowed
 abbrev pub reading_of_calls : ℕ → Reading
-reading_of_calls calls = record { feed = record { number = 0; start = 0; begun = []; line = None; fault = None }; piece = []; left = calls }
+reading_of_calls calls = record { feed = record { number = 0;
+    start = 0; begun = []; line = None; fault = None }; piece = []; left = calls }
 
 -- nothing was read yet of a source
 abbrev pub reading_start : Reading

@@ -40,11 +40,13 @@ is_letter b = nat_le 65 b && nat_le b 90
 -- 1 to 8 of A to Z and 0 to 9, a letter first
 abbrev pub is_name : List ℕ → Bool
 is_name [] = false
-is_name (b ∷ bs) = is_letter b && list_all (λ x. is_letter x || is_figure x) bs && nat_le (length bs) 7
+is_name (b ∷ bs) = is_letter b && list_all (λ x. is_letter x || is_figure x) bs
+    && nat_le (length bs) 7
 
 -- from least to most figures
 abbrev pub are_figures : ℕ → ℕ → List ℕ → Bool
-are_figures least most text = nat_le least (length text) && nat_le (length text) most && list_all is_figure text
+are_figures least most text = nat_le least (length text)
+    && nat_le (length text) most && list_all is_figure text
 
 -- one to ten figures with no sign, and no zero in front of others
 abbrev pub is_numeral : List ℕ → Bool
@@ -52,7 +54,8 @@ is_numeral text = are_figures 1 10 text && (length text == 1 || not (slice_index
 
 -- the number that a text is the decimal form of, if it is at most max
 abbrev pub number_of : ℕ → List ℕ → Option ℕ
-number_of max text = if is_numeral text && nat_le (digits_value 10 text) max then Some (digits_value 10 text) else None
+number_of max text = if is_numeral text && nat_le (digits_value 10 text) max
+    then Some (digits_value 10 text) else None
 
 -- a name, or nothing where the text is none
 abbrev pub name_of : List ℕ → Option (List ℕ)

@@ -36,6 +36,8 @@ abbrev pub line_written : List (List ℕ) → List ℕ
 line_written ws = joined ws ++ 10 ∷ []
 
 -- each line declares what leads from the state before it to the one after it
-abbrev pub LeadsTo : {S W : Type 0} → (ℕ → S → List (List ℕ) → Result S W) → ℕ → S → List (List (List ℕ)) → S → Type 0
+abbrev pub LeadsTo : {S W : Type 0} → (ℕ → S → List (List ℕ) → Result S W)
+    → ℕ → S → List (List (List ℕ)) → S → Type 0
 LeadsTo declare v s [] r = s ≡ r
-LeadsTo {S} declare v s (ws ∷ wss) r = (m : S) × (declare v s ws ≡ Ok m) × (is_end ws ≡ false) × (0 < length ws) × IsWrittenLine ws × LeadsTo declare v m wss r
+LeadsTo {S} declare v s (ws ∷ wss) r = (m : S) × (declare v s ws ≡ Ok m)
+    × (is_end ws ≡ false) × (0 < length ws) × IsWrittenLine ws × LeadsTo declare v m wss r

@@ -42,9 +42,11 @@ impl<A: Allocator> Model for LineFeeder<A> {
 }
 
 impl<A: Allocator> LineFeeder<A> {
-    /// Reserves the buffer of a line. No other call takes memory. `Err` means out of memory, and nothing else.
+    /// Reserves the buffer of a line. No other call takes memory. `Err` means out of memory, and
+    /// nothing else.
     pub fn new(alloc: A) -> Result<LineFeeder<A>, TextFault>
-        ensures ok { IfOk result (λ f. f ≡ record { number = 0; start = 0; begun = []; line = None; fault = None }) }
+        ensures ok { IfOk result
+            (λ f. f ≡ record { number = 0; start = 0; begun = []; line = None; fault = None }) }
         ensures err { IfErr result (λ e. e ≡ TextFault.NoMemory) }
     {
         let Ok(held) = Vec::with_capacity(alloc, 513) else {
@@ -61,14 +63,16 @@ impl<A: Allocator> LineFeeder<A> {
         })
     }
 
-    /// Counts a line that stands whole elsewhere, of so many bytes and an LF, and returns where it starts. Where a line has begun here or a fault stands, it does
+    /// Counts a line that stands whole elsewhere, of so many bytes and an LF, and returns where it
+    /// starts. Where a line has begun here or a fault stands, it does
     /// nothing.
     pub(crate) fn pass(&mut self, len: usize) -> Option<usize>
         requires { self.old.start + len + 1 < 2 ^ 64 - 1 }
         ensures start { IfSome result (λ start. start ≡ self.old.start) }
         ensures begun { IfSome result (λ start. self.old.begun ≡ []) }
         ensures fault { IfSome result (λ start. self.old.fault ≡ None) }
-        ensures leaves { IfSome result (λ start. self.new ≡ record self.old { number = self.old.number + 1; start = self.old.start + len + 1; line = None }) }
+        ensures leaves { IfSome result (λ start. self.new ≡ record self.old
+            { number = self.old.number + 1; start = self.old.start + len + 1; line = None }) }
         ensures same { IfNone result (self.new ≡ self.old) }
     {
         if self.fault.is_some() || !(self.complete || self.held.is_empty()) {
@@ -107,14 +111,16 @@ impl<A: Allocator> LineFeeder<A> {
         self.fault = Some(fault);
     }
 
-    /// Takes the bytes of a piece up to and with the first LF, or all of them. `Err` tells that the line is too long or has a bad byte.
+    /// Takes the bytes of a piece up to and with the first LF, or all of them. `Err` tells that the
+    /// line is too long or has a bad byte.
     pub fn feed(&mut self, piece: &[u8]) -> Result<Fed, TextFault>
         requires { self.old.start + length self.old.begun + length piece.now < 2 ^ 64 - 1 }
         ensures gives { result ≡ feed_gives self.old piece.now }
         ensures leaves { self.new ≡ feed_leaves self.old piece.now }
-        ensures counted { self.new.start + length self.new.begun ≤ self.old.start + length self.old.begun + length piece.now }
-        ensures fits { IfOk result (λ fed. (fed.taken ≤ length piece.now)
-            × (self.new.start + length self.new.begun ≤ self.old.start + length self.old.begun + fed.taken)) }
+        ensures counted { self.new.start + length self.new.begun
+            ≤ self.old.start + length self.old.begun + length piece.now }
+        ensures fits { IfOk result (λ fed. (fed.taken ≤ length piece.now) × (self.new.start + length
+            self.new.begun ≤ self.old.start + length self.old.begun + fed.taken)) }
     {
         if let Some(fault) = self.fault {
             return Err(fault);
@@ -159,7 +165,8 @@ impl<A: Allocator> LineFeeder<A> {
         None
     }
 
-    /// The text came to its end: returns whether an unfinished line stands, and completes it. `Err` tells that this line is too long or has a bad byte.
+    /// The text came to its end: returns whether an unfinished line stands, and completes it. `Err`
+    /// tells that this line is too long or has a bad byte.
     pub fn finish(&mut self) -> Result<bool, TextFault>
         ensures gives { result ≡ finish_gives self.old }
         ensures leaves { self.new ≡ finish_leaves self.old }
@@ -212,7 +219,8 @@ impl<A: Allocator> LineFeeder<A> {
     }
 }
 
-/// Adds bytes to a line that has begun, and returns whether there is room for them. Else it is too long, whatever bytes follow.
+/// Adds bytes to a line that has begun, and returns whether there is room for them. Else it is too
+/// long, whatever bytes follow.
 fn hold<A: Allocator>(held: &mut Vec<u8, A>, front: &[u8]) -> bool
     requires room { 513 ≤ vec_capacity held.old }
     requires short { vec_len held.old ≤ 513 }

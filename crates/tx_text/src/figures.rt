@@ -7,7 +7,8 @@ ghost use Rattle.tx_text.specs.Words.{figures_of, are_figures, is_figure};
 use crate::short::Short;
 use std::marker::Model;
 
-/// A text of 1 to 12 figures, as a caller keys it: a destination code (ITU-T F.69) and a national number.
+/// A text of 1 to 12 figures, as a caller keys it: a destination code (ITU-T F.69) and a national
+/// number.
 #[derive(Clone, Copy, PartialEq, Eq)]
 pub struct Figures {
     text: Short<12>,
@@ -74,7 +75,8 @@ fn are_all_figures(bytes: &[u8]) -> bool
     all
 }
 
-/// Whether a text is figures. Of 4 to 16 bytes the front and the end are looked at in blocks, which may overlap.
+/// Whether a text is figures. Of 4 to 16 bytes the front and the end are looked at in blocks, which
+/// may overlap.
 pub(crate) fn all_figures(text: &[u8]) -> bool
     ensures { result ≡ list_all is_figure text.now }
 {

@@ -18,7 +18,8 @@ pub enum FormFault {
     /// The first line with words is not the header, or no line has words.
     #[error("the header is missing")]
     NoHeader,
-    /// The text ends without END, or in the middle of a line with words that is not the one word END.
+    /// The text ends without END, or in the middle of a line with words that is not the one word
+    /// END.
     #[error("the text ends without END, or in the middle of a line")]
     NoEnd,
     /// A line after END has words.
@@ -130,9 +131,11 @@ fn header(key: &[u8], most: u8, words: Words<'_>) -> Option<u8>
     None
 }
 
-/// Whether the line begins with a word that is not END, by the first byte alone. Of such a line between the header and END nothing more is to be looked at.
+/// Whether the line begins with a word that is not END, by the first byte alone. Of such a line
+/// between the header and END nothing more is to be looked at.
 fn begins_plain(line: &[u8]) -> bool
-    ensures { result ≡ true → (h : List (List ℕ) → Option ℕ) → looked h Body (words_of line.now) ≡ Plain }
+    ensures { result ≡ true → (h : List (List ℕ) → Option ℕ)
+        → looked h Body (words_of line.now) ≡ Plain }
 {
     if line.is_empty() {
         return false;

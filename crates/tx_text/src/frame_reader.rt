@@ -25,9 +25,11 @@ pub struct FrameReader<'k, A: Allocator = Global> {
 }
 
 impl<'k, A: Allocator> FrameReader<'k, A> {
-    /// A reader of a text from a source. The header is the key and a version from 1 to `most`, as `PLAN 2`. `Err` means out of memory, and nothing else.
+    /// A reader of a text from a source. The header is the key and a version from 1 to `most`, as
+    /// `PLAN 2`. `Err` means out of memory, and nothing else.
     pub fn new(alloc: A, key: &'k [u8], most: u8) -> Result<FrameReader<'k, A>, TextFault>
-        ensures fields { IfOk result (λ r. (r.key.now ≡ key.now) × (r.most ≡ most) × (r.reader ≡ reading_start) × (r.phase ≡ FramePart.Start) × (r.number ≡ 1)) }
+        ensures fields { IfOk result (λ r. (r.key.now ≡ key.now) × (r.most ≡ most)
+            × (r.reader ≡ reading_start) × (r.phase ≡ FramePart.Start) × (r.number ≡ 1)) }
         ensures err { IfErr result (λ e. e ≡ TextFault.NoMemory) }
     {
         let reader = TextReader::new(alloc)?;
@@ -36,7 +38,8 @@ impl<'k, A: Allocator> FrameReader<'k, A> {
 
     /// The same for a text that is in memory: no such text meets the bound on calls.
     pub fn for_slice(alloc: A, key: &'k [u8], most: u8) -> Result<FrameReader<'k, A>, TextFault>
-        ensures fields { IfOk result (λ r. (r.key.now ≡ key.now) × (r.most ≡ most) × (r.reader ≡ slice_start) × (r.phase ≡ FramePart.Start) × (r.number ≡ 1)) }
+        ensures fields { IfOk result (λ r. (r.key.now ≡ key.now) × (r.most ≡ most)
+            × (r.reader ≡ slice_start) × (r.phase ≡ FramePart.Start) × (r.number ≡ 1)) }
         ensures err { IfErr result (λ e. e ≡ TextFault.NoMemory) }
     {
         let reader = TextReader::for_slice(alloc)?;
@@ -59,18 +62,23 @@ impl<'k, A: Allocator> FrameReader<'k, A> {
         }
     }
 
-    /// Goes on to the header, to the next line with words or to the end. `Err` is the first fault, with its line. A fault before the end of the source stands
-    /// whatever bytes follow; a read fault means that the source failed, or was not at its end after so many calls.
+    /// Goes on to the header, to the next line with words or to the end. `Err` is the first fault,
+    /// with its line. A fault before the end of the source stands
+    /// whatever bytes follow; a read fault means that the source failed, or was not at its end
+    /// after so many calls.
     pub fn advance<R: Source>(&mut self, source: &mut R) -> Result<FrameStep, FrameStop>
         requires { self.old.reader.feed.fault ≡ None }
         ensures fault { IfOk result (λ _. self.new.reader.feed.fault ≡ None) }
-        ensures gives { GoesOn (R.rest source.old) (R.rest source.new) (to_come self.old) (to_come self.new)
-            self.new.reader.feed.line (Broken R.called (R.failed source.new) self.old.reader.left source.old source.new) result }
+        ensures gives { GoesOn (R.rest source.old) (R.rest source.new)
+            (to_come self.old) (to_come self.new) self.new.reader.feed.line (Broken R.called
+            (R.failed source.new) self.old.reader.left source.old source.new) result }
         ensures line { result ≡ Ok FrameStep.Line → IsSome self.new.reader.feed.line }
-        ensures went { IfOk result (λ s. (s ≡ FrameStep.End) ⊎ Went R.called self.old.reader.left self.new.reader.left source.old source.new) }
+        ensures went { IfOk result (λ s. (s ≡ FrameStep.End)
+            ⊎ Went R.called self.old.reader.left self.new.reader.left source.old source.new) }
         ensures calls { CallsAtMost R.called self.old.reader.left source.old source.new }
         ensures unmarked { OnOk result (R.failed source.new ≡ R.failed source.old) }
-        ensures falls { IfOk result (λ s. (s ≡ FrameStep.End) ⊎ (reading_size self.new.reader < reading_size self.old.reader)) }
+        ensures falls { IfOk result (λ s. (s ≡ FrameStep.End)
+            ⊎ (reading_size self.new.reader < reading_size self.old.reader)) }
     {
         'lines: loop {
             match self.reader.advance(source) {

@@ -4,7 +4,8 @@ ghost use Rattle.std.specs.Prelude.{◌≡◌, false};
 use crate::source::{ReadFault, Source};
 use std::io::Read;
 
-/// A source over a reader of the standard library. Any error of the reader is a failure, and stays one. The calls are counted. It does not tell its bytes.
+/// A source over a reader of the standard library. Any error of the reader is a failure, and stays
+/// one. The calls are counted. It does not tell its bytes.
 #[derive(Drop)]
 pub struct FromRead<R> {
     reader: R,

@@ -14,7 +14,8 @@ pub(crate) fn is_blank(byte: u8) -> bool
     byte == b' ' || byte == b'\t'
 }
 
-/// How many blanks stand at the front: none before the first word of most lines, and one before the others.
+/// How many blanks stand at the front: none before the first word of most lines, and one before the
+/// others.
 fn count_blanks(text: &[u8]) -> usize
     ensures within { result ≤ length text.now }
     ensures count { result ≡ prefix_len is_blank text.now }
@@ -62,7 +63,8 @@ impl<'a> Words<'a> {
         self.rest
     }
 
-    /// The next word, as `next` gives it. It is found in fewer steps where one space stands before it and more words follow.
+    /// The next word, as `next` gives it. It is found in fewer steps where one space stands before
+    /// it and more words follow.
     pub fn next_of_many(&mut self) -> Option<&'a [u8]>
         ensures { YieldsFirstBy (λ x. x.now) (λ s. s) self.old result self.new }
     {
@@ -128,7 +130,8 @@ fn word_ends_of_eight(block: u8x8) -> u64
         | block.simd_eq(u8x8::splat(b'#'))).to_bitmask()
 }
 
-/// Whether four to eight bytes are all of a word, looked at as the first four and the last four at once.
+/// Whether four to eight bytes are all of a word, looked at as the first four and the last four at
+/// once.
 fn is_one_word(text: &[u8]) -> bool
     requires least { 4 ≤ length text.now }
     requires most { length text.now ≤ 8 }
@@ -139,7 +142,8 @@ fn is_one_word(text: &[u8]) -> bool
     word_ends_of_eight(first.shuffle(last, [0, 1, 2, 3, 4, 5, 6, 7])) == 0
 }
 
-/// How long the word at the front is. Where more than 8 bytes follow, its end is looked for in 16 or 8 of them at once; a line's last word mostly has 4 to 8.
+/// How long the word at the front is. Where more than 8 bytes follow, its end is looked for in 16
+/// or 8 of them at once; a line's last word mostly has 4 to 8.
 fn word_len(text: &[u8]) -> usize
     ensures within { result ≤ length text.now }
     ensures count { result ≡ prefix_len is_word_byte text.now }
@@ -161,7 +165,8 @@ fn word_len(text: &[u8]) -> usize
     count_word_bytes(text)
 }
 
-/// The word after one space, and what stands after it, where its end is found in the 16 bytes that follow the space.
+/// The word after one space, and what stands after it, where its end is found in the 16 bytes that
+/// follow the space.
 fn spaced_word(text: &[u8]) -> Option<(&[u8], &[u8])>
     ensures { IfSome result (λ x. words_of text.now ≡ x.0.now ∷ words_of x.1.now) }
 {

@@ -5,7 +5,8 @@ ghost use Rattle.tx_text.specs.Memory.{is_due, sooner};
 use crate::source::{ReadFault, Source};
 use std::marker::Model;
 
-/// A source for tests: the bytes of a slice, at most `piece` a call. The call `fails_at`, counted from 1, fails, and so does each after it.
+/// A source for tests: the bytes of a slice, at most `piece` a call. The call `fails_at`, counted
+/// from 1, fails, and so does each after it.
 #[derive(Drop)]
 pub struct MemorySource<'a> {
     rest: &'a [u8],
@@ -20,7 +21,8 @@ impl<'a> Model for MemorySource<'a> {
 
     ghost Value = { Supply };
 
-    ghost view = { λ s. record { rest = s.rest.now; piece = s.piece; fails_in = s.fails_in; failed = s.failed } };
+    ghost view = { λ s. record { rest = s.rest.now;
+        piece = s.piece; fails_in = s.fails_in; failed = s.failed } };
 
     ghost invariant = { λ s. 0 < s.piece };
 }
@@ -29,7 +31,8 @@ impl<'a> MemorySource<'a> {
     /// A source of these bytes that has not been called. A piece is at least one byte.
     pub fn new(text: &'a [u8], piece: usize, fails_at: Option<u64>) -> MemorySource<'a>
         requires { 0 < piece }
-        ensures { result ≡ record { rest = text.now; piece = piece; fails_in = fails_at; failed = false } }
+        ensures { result ≡ record { rest = text.now;
+            piece = piece; fails_in = fails_at; failed = false } }
     {
         MemorySource {
             rest: text,

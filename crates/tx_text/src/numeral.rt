@@ -5,7 +5,8 @@ ghost use Rattle.tx_text.specs.Words.{are_figures, number_of};
 
 use crate::figures::all_figures;
 
-/// The number that the text is the decimal form of, without a sign or leading zeros, if it is at most `max`.
+/// The number that the text is the decimal form of, without a sign or leading zeros, if it is at
+/// most `max`.
 pub fn number(text: &[u8], max: u32) -> Option<u32>
     ensures { result ≡ number_of max text.now }
 {
@@ -21,7 +22,8 @@ pub fn number(text: &[u8], max: u32) -> Option<u32>
 
 /// The value of one to ten figures. The first four are valued without a loop.
 fn value_of(text: &[u8]) -> Option<u64>
-    ensures { result ≡ (if are_figures 1 10 text.now then Some (digits_value 10 text.now) else None) }
+    ensures { result ≡ (if are_figures 1 10 text.now
+        then Some (digits_value 10 text.now) else None) }
 {
     if text.is_empty() || text.len() > 10 || !all_figures(text) {
         return None;

@@ -19,10 +19,12 @@ use std::marker::Model;
 /// How many calls a text may take that comes from a source.
 const SOURCE_CALLS: u64 = 4_294_967_295;
 
-/// How many calls a text may take that is in memory: it has fewer than 2^63 bytes, and each call takes 4,096 of them.
+/// How many calls a text may take that is in memory: it has fewer than 2^63 bytes, and each call
+/// takes 4,096 of them.
 const SLICE_CALLS: u64 = 2_251_799_813_685_249;
 
-/// Reads a text from a source, line by line. A line that stands whole in the bytes that were read is lent from there, and the feeder holds the others.
+/// Reads a text from a source, line by line. A line that stands whole in the bytes that were read
+/// is lent from there, and the feeder holds the others.
 #[derive(Drop)]
 pub struct TextReader<A: Allocator = Global> {
     feeder: LineFeeder<A>,
@@ -49,7 +51,8 @@ impl<A: Allocator> Model for TextReader<A> {
 }
 
 impl<A: Allocator> TextReader<A> {
-    /// A reader of a text from a source, by at most 4,294,967,295 calls of it, each for at most 4,096 bytes. `Err` means out of memory, and nothing else.
+    /// A reader of a text from a source, by at most 4,294,967,295 calls of it, each for at most
+    /// 4,096 bytes. `Err` means out of memory, and nothing else.
     pub fn new(alloc: A) -> Result<TextReader<A>, TextFault>
         ensures ok { IfOk result (λ r. r ≡ reading_start) }
         ensures err { IfErr result (λ e. e ≡ TextFault.NoMemory) }
@@ -57,7 +60,8 @@ impl<A: Allocator> TextReader<A> {
         TextReader::of_calls(alloc, SOURCE_CALLS)
     }
 
-    /// A reader of a text that is in memory: no such text meets the bound on calls. `Err` means out of memory, and nothing else.
+    /// A reader of a text that is in memory: no such text meets the bound on calls. `Err` means out
+    /// of memory, and nothing else.
     pub fn for_slice(alloc: A) -> Result<TextReader<A>, TextFault>
         ensures ok { IfOk result (λ r. r ≡ slice_start) }
         ensures err { IfErr result (λ e. e ≡ TextFault.NoMemory) }
@@ -105,7 +109,8 @@ impl<A: Allocator> TextReader<A> {
         }
     }
 
-    /// Lends the first line of the bytes that were read, and tells so, where it stands whole there and is right.
+    /// Lends the first line of the bytes that were read, and tells so, where it stands whole there
+    /// and is right.
     fn lend(&mut self) -> bool
         ensures known { IsFeed self.old.feed }
         ensures known_after { IsFeed self.new.feed }
@@ -129,17 +134,21 @@ impl<A: Allocator> TextReader<A> {
         }
     }
 
-    /// Goes on to the next line of the source's text, and returns whether there is one. `Err` is a line that is too long or has a bad byte, or that the source
+    /// Goes on to the next line of the source's text, and returns whether there is one. `Err` is a
+    /// line that is too long or has a bad byte, or that the source
     /// failed or was not at its end after so many calls.
     pub fn advance<R: Source>(&mut self, source: &mut R) -> Result<bool, LineFault>
         requires { self.old.feed.fault ≡ None }
         ensures fault { IfOk result (λ _. self.new.feed.fault ≡ None) }
-        ensures gives { Advances (R.rest source.old) (R.rest source.new) (reading_place self.old) (reading_place self.new)
-            self.new.feed.line (Broken R.called (R.failed source.new) self.old.left source.old source.new) result }
-        ensures went { result ≡ Ok true → IfSome self.new.feed.line (λ l. l.finished ≡ true → Went R.called self.old.left self.new.left source.old source.new) }
+        ensures gives { Advances (R.rest source.old)
+            (R.rest source.new) (reading_place self.old) (reading_place self.new) self.new.feed.line
+            (Broken R.called (R.failed source.new) self.old.left source.old source.new) result }
+        ensures went { result ≡ Ok true → IfSome self.new.feed.line (λ l. l.finished ≡ true
+            → Went R.called self.old.left self.new.left source.old source.new) }
         ensures calls { CallsAtMost R.called self.old.left source.old source.new }
         ensures unmarked { OnOk result (R.failed source.new ≡ R.failed source.old) }
-        ensures falls { IfOk result (λ b. b ≡ true → reading_size self.new < reading_size self.old) }
+        ensures falls { IfOk result (λ b. b ≡ true
+            → reading_size self.new < reading_size self.old) }
     {
         'pieces: loop {
             match self.feed() {
@@ -202,7 +211,8 @@ impl<A: Allocator> TextReader<A> {
         ensures gave { result ≡ Ok true → Gives R.called source.old source.new }
         ensures call { Calls R.called source.old source.new }
         ensures unmarked { OnOk result (R.failed source.new ≡ R.failed source.old) }
-        ensures err { IfErr result (λ e. (e ≡ LineFault.Read) × (self.new.piece ≡ []) × (R.failed source.new ≡ true)) }
+        ensures err { IfErr result (λ e. (e ≡ LineFault.Read)
+            × (self.new.piece ≡ []) × (R.failed source.new ≡ true)) }
     {
         self.left -= 1;
         self.from = 0;
@@ -226,7 +236,8 @@ fn part(piece: &[u8], from: usize, to: usize) -> &[u8]
     &piece[from..to]
 }
 
-/// How many bytes the first line of a piece has before its LF, and how many without the CR before it, where the line stands whole there and is right.
+/// How many bytes the first line of a piece has before its LF, and how many without the CR before
+/// it, where the line stands whole there and is right.
 fn whole_line(piece: &[u8]) -> Option<(usize, usize)>
     ensures lf { IfSome result (λ line. has_lf piece.now ≡ true) }
     ensures len { IfSome result (λ line. line.0 ≡ length (front_of piece.now)) }

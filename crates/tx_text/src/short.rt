@@ -3,7 +3,8 @@ ghost use Rattle.std.specs.Prelude.{◌≡◌, ◌≤◌, ◌-◌, ◌++◌, len
 
 use std::marker::Model;
 
-/// A text of at most N bytes, where N is at most 255. Behind the text stand zeros, so that all its bytes can be compared at once.
+/// A text of at most N bytes, where N is at most 255. Behind the text stand zeros, so that all its
+/// bytes can be compared at once.
 #[derive(Clone, Copy)]
 pub struct Short<const N: usize> {
     bytes: [u8; N],

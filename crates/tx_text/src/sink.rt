@@ -35,7 +35,8 @@ pub trait Sink {
         ensures stays { failed self.old ≡ true → IsErr result };
 }
 
-/// Writes all the bytes, or stops where the sink fails: then a front of them was taken, and not all.
+/// Writes all the bytes, or stops where the sink fails: then a front of them was taken, and not
+/// all.
 pub fn write_bytes<W: Sink>(bytes: &[u8], sink: &mut W) -> Result<(), WriteFault>
     ensures { Wrote W.taken W.failed sink.old sink.new bytes.now result }
 {
@@ -48,7 +49,8 @@ pub fn write_bytes<W: Sink>(bytes: &[u8], sink: &mut W) -> Result<(), WriteFault
     Ok(())
 }
 
-/// Writes the parts of a text, one after another, or stops where the sink fails: then a front of the text was taken, and not all.
+/// Writes the parts of a text, one after another, or stops where the sink fails: then a front of
+/// the text was taken, and not all.
 pub fn write_parts<W: Sink>(parts: &[&[u8]], sink: &mut W) -> Result<(), WriteFault>
     ensures { Wrote W.taken W.failed sink.old sink.new (flat_map (λ p. p.now) parts.now) result }
 {

@@ -4,7 +4,8 @@ ghost use Rattle.std.specs.Prelude.{◌≡◌, false};
 use crate::sink::{Sink, WriteFault};
 use std::io::Write;
 
-/// A sink over a writer of the standard library. Any error of the writer is a failure, and so is a call that takes nothing; a failure stays one. It does not
+/// A sink over a writer of the standard library. Any error of the writer is a failure, and so is a
+/// call that takes nothing; a failure stays one. It does not
 /// tell its bytes.
 #[derive(Drop)]
 pub struct ToWrite<W> {

@@ -44,7 +44,8 @@ hop_text p h = codes " " ++ (circuit_text p h.circuit ++ (codes " " ++ exchange_
 
 -- the call's number, its line and what was keyed
 abbrev pub caller_text : Plan → Ended → List ℕ
-caller_text p t = codes "T " ++ (decimal t.number ++ (codes " FROM " ++ (figures_of p t.line.code ++ (codes " " ++ (t.line.national ++ (codes " TO " ++ (t.keyed ++ codes " EV ")))))))
+caller_text p t = codes "T " ++ (decimal t.number ++ (codes " FROM " ++ (figures_of p t.line.code
+    ++ (codes " " ++ (t.line.national ++ (codes " TO " ++ (t.keyed ++ codes " EV ")))))))
 
 -- the events of its start and its end
 abbrev pub events_text : Ended → List ℕ
@@ -56,7 +57,8 @@ why_text p t = cause_text t.cause ++ (codes " VIA " ++ exchange_name p t.start)
 
 -- THE LINE OF A TICKET
 abbrev pub ticket_text : Plan → Ended → List ℕ
-ticket_text p t = caller_text p t ++ (events_text t ++ (why_text p t ++ (flat_map (hop_text p) t.path ++ codes "\n")))
+ticket_text p t = caller_text p t
+    ++ (events_text t ++ (why_text p t ++ (flat_map (hop_text p) t.path ++ codes "\n")))
 
 abbrev pub refusal_text : Refusal → List ℕ
 refusal_text UnknownCall = codes "M1"
@@ -84,7 +86,8 @@ reply_text p (Seized x) = codes "SEIZED " ++ (circuit_text p x ++ codes "\n")
 reply_text p (At x) = codes "AT " ++ (exchange_name p x ++ codes "\n")
 reply_text p (Connected l) = codes "CONNECTED " ++ (line_text p l ++ codes "\n")
 reply_text p (Answered s) = codes "ANSWERED " ++ (service_text s ++ codes "\n")
-reply_text p (HeadOn a b a_stands b_stands) = codes "HEADON " ++ (decimal a ++ (stands_text a_stands ++ (codes " " ++ (decimal b ++ (stands_text b_stands ++ codes "\n")))))
+reply_text p (HeadOn a b a_stands b_stands) = codes "HEADON " ++ (decimal a
+    ++ (stands_text a_stands ++ (codes " " ++ (decimal b ++ (stands_text b_stands ++ codes "\n")))))
 reply_text p Cleared = codes "CLEARED\n"
 reply_text p Done = codes "DONE\n"
 reply_text p (Lost n) = codes "LOST " ++ (decimal n ++ codes "\n")

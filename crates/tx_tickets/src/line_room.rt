@@ -7,7 +7,8 @@ use std::marker::Model;
 use std::simd::prelude::*;
 use tx_plan::{NameKey, National};
 
-/// The bytes of a line so far, in room of at most 255 bytes that is lent. The caller sees that they have room.
+/// The bytes of a line so far, in room of at most 255 bytes that is lent. The caller sees that they
+/// have room.
 #[derive(Drop)]
 pub(crate) struct LineRoom<'a, const N: usize> {
     room: &'a mut [u8; N],
@@ -67,7 +68,8 @@ impl<'a, const N: usize> LineRoom<'a, N> {
         self.len = to;
     }
 
-    /// Appends a text of a few bytes that is kept with zeros after it. All its room is copied, so that no step hangs on how long the text is.
+    /// Appends a text of a few bytes that is kept with zeros after it. All its room is copied, so
+    /// that no step hangs on how long the text is.
     pub(crate) fn put_padded<const M: usize>(&mut self, text: &[u8], padded: &[u8; M])
         requires short { length text.now ≤ M }
         requires padded { padded.now ≡ padded_to M text.now }
@@ -116,7 +118,8 @@ impl<'a, const N: usize> LineRoom<'a, N> {
         }
     }
 
-    /// The same for a number of at most four figures. Each count has a branch of its own, where it is known.
+    /// The same for a number of at most four figures. Each count has a branch of its own, where it
+    /// is known.
     #[tactic(auto, using(itoa::proofs::Decimal::length_one, itoa::proofs::Decimal::length_two, itoa::proofs::Decimal::length_pair))]
     fn put_four(&mut self, number: u64)
         requires number { number < 10 ^ 4 }
@@ -164,7 +167,8 @@ fn count_figures(number: u64) -> usize
     }
 }
 
-/// Copies bytes. Of 2 to 16 the front and the end are read at once, and then written: they may overlap.
+/// Copies bytes. Of 2 to 16 the front and the end are read at once, and then written: they may
+/// overlap.
 fn copy(to: &mut [u8], from: &[u8])
     requires { length to.old ≡ length from.now }
     ensures { to.new ≡ from.now }

@@ -18,7 +18,8 @@ use tx_text::{Sink, WriteFault, write_bytes, write_parts};
 /// How many bytes the line of a reply may have at most.
 const ROOM: usize = 64;
 
-/// Writes the line of a reply, as `CONNECTED 41 10002`, with its LF. Where the sink fails, a front of the line was taken.
+/// Writes the line of a reply, as `CONNECTED 41 10002`, with its LF. Where the sink fails, a front
+/// of the line was taken.
 pub fn write_reply<A: Allocator, W: Sink>(
     reply: &Reply,
     plan: &Plan<A>,
@@ -111,7 +112,8 @@ fn put_connected<A: Allocator>(called: Line, plan: &Plan<A>, line: &mut LineRoom
     line.put(b"\n");
 }
 
-/// Puts how many calls were lost. The reply comes by value, since the count of every reply would else be read before it is known which one it is.
+/// Puts how many calls were lost. The reply comes by value, since the count of every reply would
+/// else be read before it is known which one it is.
 fn put_lost(reply: Reply, line: &mut LineRoom<'_, ROOM>)
     requires { line.old ≡ [] }
     ensures { (n : ℕ) → reply ≡ Lost n → line.new ≡ codes "LOST " ++ (decimal n ++ codes "\n") }
@@ -124,7 +126,8 @@ fn put_lost(reply: Reply, line: &mut LineRoom<'_, ROOM>)
 /// Puts the two calls of a head-on collision.
 fn put_head_on(a: u32, a_stands: bool, b: u32, b_stands: bool, line: &mut LineRoom<'_, ROOM>)
     requires { line.old ≡ [] }
-    ensures { line.new ≡ codes "HEADON " ++ (decimal a ++ (stands_text a_stands ++ (codes " " ++ (decimal b ++ (stands_text b_stands ++ codes "\n"))))) }
+    ensures { line.new ≡ codes "HEADON " ++ (decimal a ++ (stands_text a_stands
+        ++ (codes " " ++ (decimal b ++ (stands_text b_stands ++ codes "\n"))))) }
 {
     line.put(b"HEADON ");
     line.put_number(u64::from(a));
@@ -142,7 +145,8 @@ pub fn write_circuit<A: Allocator, W: Sink>(
     plan: &Plan<A>,
     sink: &mut W,
 ) -> Result<(), WriteFault>
-    ensures { Wrote W.taken W.failed sink.old sink.new (first.now ++ (circuit_text plan.now circuit.now ++ codes "\n")) result }
+    ensures { Wrote W.taken W.failed sink.old sink.new
+        (first.now ++ (circuit_text plan.now circuit.now ++ codes "\n")) result }
 {
     let mut digits = Buffer::new();
     let number = digits.format(circuit.number).as_bytes();

@@ -19,7 +19,8 @@ const ROOM: usize = 192;
 /// A line of more bytes may have no room for one more hop and an LF.
 const FULL: usize = 152;
 
-/// Writes the line of a ticket, with its LF: the call's number, its line, what was keyed, the events by which it was keyed and ended, why it ended, and its
+/// Writes the line of a ticket, with its LF: the call's number, its line, what was keyed, the
+/// events by which it was keyed and ended, why it ended, and its
 /// way. Where the sink fails, a front of the line was taken.
 pub fn write_ticket<A: Allocator, B: Allocator, W: Sink>(
     ticket: &Ticket<A>,
@@ -84,7 +85,8 @@ fn put_why<A: Allocator, B: Allocator>(
     line.put_name(plan.exchange_key(ticket.start));
 }
 
-/// Writes a line that has begun, with each hop after it and an LF. Where the next hop may have no room, what stands there goes out before it.
+/// Writes a line that has begun, with each hop after it and an LF. Where the next hop may have no
+/// room, what stands there goes out before it.
 fn write_path<A: Allocator, W: Sink>(
     hops: &[Hop],
     plan: &Plan<A>,
@@ -92,7 +94,8 @@ fn write_path<A: Allocator, W: Sink>(
     sink: &mut W,
 ) -> Result<(), WriteFault>
     requires { length line ≤ 128 }
-    ensures { Wrote W.taken W.failed sink.old sink.new (line.entry ++ (flat_map (hop_text plan.now) hops.now ++ codes "\n")) result }
+    ensures { Wrote W.taken W.failed sink.old sink.new
+        (line.entry ++ (flat_map (hop_text plan.now) hops.now ++ codes "\n")) result }
 {
     let mut line = line;
     for hop in hops {

@@ -12,7 +12,8 @@ use std::alloc::Allocator;
 use tx_plan::{CodeId, Plan};
 use tx_text::{Sink, WriteFault, write_text};
 
-/// Writes a line for each code with its home, in order of declaration, and then the least pair of which one begins the other, or `DISTINCT`. The trie is that
+/// Writes a line for each code with its home, in order of declaration, and then the least pair of
+/// which one begins the other, or `DISTINCT`. The trie is that
 /// of the plan. Where the sink fails, a front of the text was taken.
 pub fn write_codes<A: Allocator, W: Sink>(
     plan: &Plan<A>,
@@ -35,7 +36,8 @@ fn write_code<A: Allocator, W: Sink>(
     code: CodeId,
     sink: &mut W,
 ) -> Result<(), WriteFault>
-    ensures { Wrote W.taken W.failed sink.old sink.new (line_written (codes "CODE" ∷ figures_of plan.now code ∷ exchange_name plan.now (home_of plan.now code) ∷ [])) result }
+    ensures { Wrote W.taken W.failed sink.old sink.new (line_written (codes "CODE"
+        ∷ figures_of plan.now code ∷ exchange_name plan.now (home_of plan.now code) ∷ [])) result }
 {
     let figures = plan.code_figures(code);
     let home = plan.exchange_name(plan.home(code));

@@ -67,7 +67,8 @@ impl<A: Allocator> CodeTrie<A> {
         requires form { is_code figures ≡ true }
         requires unused { (i : ℕ) (c : Code) → slice_get self.old i ≡ Some c → c.figures ≢ figures }
         requires few { length self.old < 1100 }
-        ensures ok { OnOk result (self.new ≡ self.old ++ record { figures = figures; home = home } ∷ []) }
+        ensures ok { OnOk result
+            (self.new ≡ self.old ++ record { figures = figures; home = home } ∷ []) }
         ensures err { OnErr result (self.new ≡ self.old) }
     {
         self.codes.reserve(1)?;
@@ -86,7 +87,8 @@ impl<A: Allocator> CodeTrie<A> {
         last_code(&self.nodes, &figures[..usize::min(3, figures.len())])
     }
 
-    /// The least pair of a code and a longer code that begins with it: by the shorter code's figures, and then the longer's.
+    /// The least pair of a code and a longer code that begins with it: by the shorter code's
+    /// figures, and then the longer's.
     pub fn ambiguous(&self) -> Option<(CodeId, CodeId)>
         ensures { result ≡ ambiguous_of self.now }
     {

@@ -1,4 +1,5 @@
-// Events that are driven through a network after a Yes of the checker. Its memory is of the type that can refuse a request, so that each network is built once.
+// Events that are driven through a network after a Yes of the checker. Its memory is of the type
+// that can refuse a request, so that each network is built once.
 use crate::cases::{
     Refusing, Told, next_line, says_no_event, tell, tell_broken, tell_count, two_texts,
 };
@@ -131,7 +132,8 @@ fn tell_and_close<A: Allocator + Copy>(engine: Engine<'_, A>, out: &mut Told) {
     engine.close();
 }
 
-/// Returns what events that were played on the engine came to, and drives them again where memory is refused.
+/// Returns what events that were played on the engine came to, and drives them again where memory
+/// is refused.
 fn tell_played<A: Allocator + Copy>(
     alloc: Global,
     plan: &Plan<A>,
@@ -225,7 +227,8 @@ fn drive_script<A: Allocator + Copy>(
     drop(events);
 }
 
-/// Returns whether the checker says Yes to the certificate, and drives the events of the script after a Yes.
+/// Returns whether the checker says Yes to the certificate, and drives the events of the script
+/// after a Yes.
 fn check_and_drive<A: Allocator + Copy>(
     alloc: Global,
     over: Over,
@@ -243,7 +246,8 @@ fn check_and_drive<A: Allocator + Copy>(
     }
 }
 
-/// Reads the plan, tells whether the checker says Yes to its certificate, and drives the events of the script after a Yes.
+/// Reads the plan, tells whether the checker says Yes to its certificate, and drives the events of
+/// the script after a Yes.
 fn read_and_drive<A: Allocator + Copy>(
     alloc: Global,
     over: Over,
@@ -261,7 +265,8 @@ fn read_and_drive<A: Allocator + Copy>(
     }
 }
 
-/// Checks a certificate of a plan, with a limit and a spare number, and after a Yes drives the events of the script after it.
+/// Checks a certificate of a plan, with a limit and a spare number, and after a Yes drives the
+/// events of the script after it.
 pub(crate) fn play_certified(
     alloc: Global,
     over: Over,

@@ -20,7 +20,8 @@ fn accepted(replies: &[Reply]) -> u64 {
     count
 }
 
-/// Drives the events, and where memory was wanted the rest of them again. Returns whether the replies were those of the events that were applied.
+/// Drives the events, and where memory was wanted the rest of them again. Returns whether the
+/// replies were those of the events that were applied.
 fn drive_on<A: Allocator, N: Network>(
     net: &mut N,
     events: &[Event],
@@ -36,7 +37,8 @@ fn drive_on<A: Allocator, N: Network>(
     drive(net, rest, replies).and(Ok(true))
 }
 
-/// Drives the events through a network, and returns whether the replies are those of a network that never wants memory.
+/// Drives the events through a network, and returns whether the replies are those of a network that
+/// never wants memory.
 fn drives_on<A: Allocator + Copy, N: Network>(
     alloc: A,
     net: &mut N,
@@ -108,7 +110,8 @@ fn reads_and_drives_on<A: Allocator + Copy>(
     }
 }
 
-/// Refuses each request for memory in turn: the replies pushed are those of the events applied, and the rest of the events given again have their
+/// Refuses each request for memory in turn: the replies pushed are those of the events applied, and
+/// the rest of the events given again have their
 /// replies.
 pub(crate) fn try_drives(
     alloc: Global,

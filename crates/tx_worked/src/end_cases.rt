@@ -1,4 +1,5 @@
-// Cases of the program: at its ends, and where its words or arguments are refused when memory runs out.
+// Cases of the program: at its ends, and where its words or arguments are refused when memory runs
+// out.
 use crate::cases::{EndCase, Log, Told, named, tell, tell_broken, tell_count};
 use crate::end_play::play;
 use std::alloc::Global;
@@ -38,7 +39,8 @@ fn refuse_words(alloc: Global, errors: &mut Vec<u8>) -> u8 {
     status
 }
 
-/// Returns what the program tells on standard error where something is wrong before there are words, and its exit status.
+/// Returns what the program tells on standard error where something is wrong before there are
+/// words, and its exit status.
 pub(crate) fn play_arguments(alloc: Global, wrong: &[u8], out: &mut Told) {
     let mut errors = Vec::new(alloc);
     match named(&WRONGS, wrong) {
@@ -60,7 +62,8 @@ fn tell_refused(errors: &[u8], status: u8, out: &mut Told) {
     tell_count(b"status ", u64::from(status), b"\n", out);
 }
 
-/// Plays the program at its ends over the files of the folder, and tells all that happens there in order: files opened and made, each read and what it gave,
+/// Plays the program at its ends over the files of the folder, and tells all that happens there in
+/// order: files opened and made, each read and what it gave,
 /// what each write took, each flush, and then the exit status.
 pub(crate) fn play_program(rt: &HostRuntime, head: &[u8], out: &mut Told) {
     let Ok(head) = str::from_utf8(head) else {

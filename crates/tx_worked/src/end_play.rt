@@ -26,7 +26,8 @@ pub(crate) fn play(rt: &HostRuntime, case: &EndCase<'_>, log: &Log) {
     }
 }
 
-/// Runs the words of a case. Returns whether its input could be opened. The memory is of the type that can refuse a request, so that the program is built once.
+/// Runs the words of a case. Returns whether its input could be opened. The memory is of the type
+/// that can refuse a request, so that the program is built once.
 fn run(rt: &HostRuntime, case: &EndCase<'_>, log: &Log) -> bool {
     let Ok(input) = Folder::open(rt, case.input) else {
         return false;
@@ -39,7 +40,8 @@ fn run(rt: &HostRuntime, case: &EndCase<'_>, log: &Log) -> bool {
     true
 }
 
-/// Runs the words of a case with each request for memory refused in turn. Returns whether there was a command, and its input could be opened.
+/// Runs the words of a case with each request for memory refused in turn. Returns whether there was
+/// a command, and its input could be opened.
 fn run_without(rt: &HostRuntime, case: &EndCase<'_>, log: &Log) -> bool {
     match read_command(rt.alloc(), case.words.as_slice()) {
         Ok(command) => {
@@ -51,7 +53,8 @@ fn run_without(rt: &HostRuntime, case: &EndCase<'_>, log: &Log) -> bool {
     }
 }
 
-/// Runs a command with each of its requests for memory refused in turn, and then with none refused. Returns whether its input could be opened.
+/// Runs a command with each of its requests for memory refused in turn, and then with none refused.
+/// Returns whether its input could be opened.
 fn refuse_each(rt: &HostRuntime, case: &EndCase<'_>, command: &Command, log: &Log) -> bool
     requires { IsInRange command.now }
 {
@@ -71,7 +74,8 @@ fn refuse_each(rt: &HostRuntime, case: &EndCase<'_>, command: &Command, log: &Lo
     played
 }
 
-/// Returns what happened, whether a request was refused or none, where the same did not happen last.
+/// Returns what happened, whether a request was refused or none, where the same did not happen
+/// last.
 fn tell_change(came: Option<bool>, now: &Log, last: &Log, log: &Log) {
     if let Some(refused) = came {
         if !now.is_as(last) {
@@ -86,7 +90,8 @@ fn tell_change(came: Option<bool>, now: &Log, last: &Log, log: &Log) {
     }
 }
 
-/// Runs a command with one request refused, and returns whether that request came, if the input could be opened.
+/// Runs a command with one request refused, and returns whether that request came, if the input
+/// could be opened.
 fn run_refused(
     rt: &HostRuntime,
     case: &EndCase<'_>,

@@ -1,4 +1,5 @@
-// Plays plans, certificates and scripts through the jobs, and tries what must hold of each: in pieces
+// Plays plans, certificates and scripts through the jobs, and tries what must hold of each: in
+// pieces
 // of any size, wherever an end fails, and whichever request for memory is refused.
 
 mod evidences;

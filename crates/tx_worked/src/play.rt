@@ -15,7 +15,8 @@ use memchr::memmem;
 use std::alloc::Global;
 use tx_text::MemorySink;
 
-/// Plays a case of texts by its kind: as a job, or by writing and reading back, or over both networks.
+/// Plays a case of texts by its kind: as a job, or by writing and reading back, or over both
+/// networks.
 pub(crate) fn play_texts(
     alloc: Global,
     kind: TextKind,
@@ -37,7 +38,8 @@ pub(crate) fn play_texts(
     }
 }
 
-/// Plays the kinds that drive events or run a script, over the plain network and then over the engine, which has to tell the same.
+/// Plays the kinds that drive events or run a script, over the plain network and then over the
+/// engine, which has to tell the same.
 fn play_over_both(
     alloc: Global,
     driven: Driven,
@@ -85,7 +87,8 @@ fn play_over(alloc: Global, driven: Driven, head: Head<'_>, text: Script<'_>, ou
     }
 }
 
-/// Tries that a script writes over the plain network what the job writes, which runs it over the engine.
+/// Tries that a script writes over the plain network what the job writes, which runs it over the
+/// engine.
 fn try_plain(alloc: Global, run: Task<'_>, job: &[u8], out: &mut Told) {
     let text = Script::opening(Over::Plain, run.first, run.second);
     let ran = run_beside(alloc, text, Ends::pieces(4096), job);

@@ -16,7 +16,8 @@ pub(crate) enum Over {
     Engine,
 }
 
-/// A plan, a script, how many numbers were given and events accepted before, and the network that runs it.
+/// A plan, a script, how many numbers were given and events accepted before, and the network that
+/// runs it.
 #[derive(Clone, Copy)]
 pub(crate) struct Script<'a> {
     pub plan: &'a [u8],
@@ -46,7 +47,8 @@ pub(crate) struct WholeRun<'a> {
     pub text: &'a [u8],
 }
 
-/// How a run ended, how many bytes it wrote, whether these are a front of what the whole run writes, and whether the request for memory came that was to be
+/// How a run ended, how many bytes it wrote, whether these are a front of what the whole run
+/// writes, and whether the request for memory came that was to be
 /// refused.
 #[derive(Clone, Copy)]
 pub(crate) struct Ran {

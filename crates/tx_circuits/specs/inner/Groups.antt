@@ -20,7 +20,8 @@ pub record GroupState : Type 0 where
 
 -- the end at which an exchange seizes, if it may
 abbrev pub seizing_end : GroupHead → ℕ → Option End
-seizing_end t x = if t.a == x then Some First else if is_both t.direction && (t.b == x) then Some Other else None
+seizing_end t x = if t.a == x then Some First
+    else if is_both t.direction && (t.b == x) then Some Other else None
 
 -- the entry of a number, counted from 1
 abbrev pub numbered : {A : Type 0} → List A → ℕ → Option A
@@ -66,7 +67,8 @@ first_place t end = find (free_in end t.states) (in_order (way_of end) (length t
 
 -- where no call holds a circuit, and it is in service
 abbrev pub idle : State
-idle = record { seized_first = false; seized_other = false; carried = false; releasing = false; out = false }
+idle = record { seized_first = false; seized_other = false;
+    carried = false; releasing = false; out = false }
 
 -- ALL CIRCUITS IN ONE VECTOR, GROUP BY GROUP
 
@@ -92,11 +94,13 @@ OthersStay old new r = (s : Row) → AreApart r s → group_slots new s ≡ grou
 -- end, the links followed from the head give the circuits that are free there, in that end's order.
 pub record AreKept (slots : List Slot) (rows : List Row) : Type 0 where
   pub within : (g : ℕ) (r : Row) → slice_get rows g ≡ Some r → r.start + r.count ≤ length slots
-  pub apart : (g h : ℕ) (r s : Row) → slice_get rows g ≡ Some r → slice_get rows h ≡ Some s → g < h → r.start + r.count ≤ s.start
+  pub apart : (g h : ℕ) (r s : Row) → slice_get rows g ≡ Some r
+      → slice_get rows h ≡ Some s → g < h → r.start + r.count ≤ s.start
   pub sound : (g : ℕ) (r : Row) → slice_get rows g ≡ Some r → IsSound (group_slots slots r) r.lists
 
 -- The slots of one group more, all idle, stand after those of the others.
-pub record IsAppended (old new : List Slot) (head : GroupHead) (count : ℕ) (row : Row) : Type 0 where
+pub record IsAppended (old new : List Slot) (head : GroupHead)
+    (count : ℕ) (row : Row) : Type 0 where
   pub head_is : row.head ≡ head
   pub start_is : row.start ≡ length old
   pub count_is : row.count ≡ count

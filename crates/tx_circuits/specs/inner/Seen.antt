@@ -17,7 +17,8 @@ abbrev pub those : {K : Type 0} {R : K → K → Ordering} → (K → Bool) → 
 those p xs = set.from_list (filter p xs)
 
 abbrev pub group_of : GroupState → Group
-group_of t = record { name = []; a = t.head.a; b = t.head.b; direction = t.head.direction; count = length t.states }
+group_of t = record { name = []; a = t.head.a;
+    b = t.head.b; direction = t.head.direction; count = length t.states }
 
 -- the circuits of a group
 abbrev pub circuits_of : ℕ → GroupState → List Circuit
@@ -25,7 +26,8 @@ circuits_of g t = map (λ n. record { group = g; number = n }) (upward (length t
 
 -- both ends of each
 abbrev pub seats_of : ℕ → GroupState → List Seat
-seats_of g t = map (λ c. (c, t.head.a)) (circuits_of g t) ++ map (λ c. (c, t.head.b)) (circuits_of g t)
+seats_of g t = map (λ c. (c, t.head.a)) (circuits_of g t)
+    ++ map (λ c. (c, t.head.b)) (circuits_of g t)
 
 -- what each group gives, with its place
 abbrev pub gathered : {K : Type 0} → (ℕ → GroupState → List K) → ℕ → List GroupState → List K

@@ -64,7 +64,8 @@ abbrev pub free_at : End → List Slot → ℕ → Bool
 free_at end slots place = free_in end (map state_of slots) place
 
 abbrev pub link_at : End → Way → List Slot → ℕ → Option ℕ
-link_at end way slots place = slice_index_or (map (λ s. ahead way (links_of end s)) slots) place None
+link_at end way slots place =
+    slice_index_or (map (λ s. ahead way (links_of end s)) slots) place None
 
 -- what follows a place in the list of an end, or begins the list
 abbrev pub chain : End → Way → List Slot → FreeList → Option ℕ → Option ℕ
@@ -77,7 +78,8 @@ IsListed free end slots list = (way : Way) → IsLinked free (rank_of way) (chai
 
 -- the neighbours that a place has, or would have, in a list
 abbrev pub AreNeighbours : (ℕ → Bool) → ℕ → Links → Type 0
-AreNeighbours free place links = (way : Way) → IsLast free (rank_of way) (rank_of way place) (ahead (back way) links)
+AreNeighbours free place links = (way : Way)
+    → IsLast free (rank_of way) (rank_of way place) (ahead (back way) links)
 
 abbrev pub AreLinked : List Slot → FreeLists → Type 0
 AreLinked slots lists = (end : End) → IsListed (free_at end slots) end slots (list_of end lists)
@@ -96,11 +98,13 @@ in_order Up n = rising n
 in_order Down n = falling n
 
 -- THE FREE LISTS OF A GROUP
--- For each end, the links followed from the list's head give exactly the circuits that are free at that end: upward from the least in rising order,
+-- For each end, the links followed from the list's head give exactly the circuits that are free at
+-- that end: upward from the least in rising order,
 -- and downward from the greatest in falling order.
 pub record IsSound (slots : List Slot) (lists : FreeLists) : Type 0 where
   pub short : length slots ≤ 240
-  pub followed : (end : End) (way : Way) → Follows (chain end way slots (list_of end lists)) None (filter (free_at end slots) (in_order way (length slots)))
+  pub followed : (end : End) (way : Way) → Follows (chain end way slots (list_of end lists)) None
+      (filter (free_at end slots) (in_order way (length slots)))
 
 -- the free places below n alone
 abbrev pub until : ℕ → (ℕ → Bool) → ℕ → Bool
@@ -108,4 +112,5 @@ until n free k = nat_lt k n && free k
 
 -- no call holds the circuit any more; it stays out of service if it was
 abbrev pub cleared : State → State
-cleared s = record { seized_first = false; seized_other = false; carried = false; releasing = false; out = s.out }
+cleared s = record { seized_first = false; seized_other = false;
+    carried = false; releasing = false; out = s.out }

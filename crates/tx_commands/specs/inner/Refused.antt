@@ -19,7 +19,8 @@ pub record IsCheckedTelling (name : List ℕ) (found : List Row) : Type 0 where
 pub record IsDrawInPart (name : List ℕ) (found : List Row) : Type 0 where
   pub draw : name ≡ codes "draw"
   pub some : (has found (codes "limit") || has found (codes "spare")) ≡ true
-  pub not_all : (has found (codes "code") && (has found (codes "limit") && has found (codes "spare"))) ≡ false
+  pub not_all : (has found (codes "code")
+      && (has found (codes "limit") && has found (codes "spare"))) ≡ false
 
 -- `explain` has a word that asks for no entry of the table
 pub record IsNoCode (name : List ℕ) (found : List Row) : Type 0 where
@@ -36,7 +37,8 @@ IsClash command other = ⊥
 abbrev pub AskForClash : Option (List ℕ × List Row) → Refusal → Type 0
 AskForClash found refusal = (command : Command) × IsFoundIn found command × IsClash command refusal
 
--- The words that were found are refused for this. That a word is missing, and lack of memory, are left open.
+-- The words that were found are refused for this. That a word is missing, and lack of memory, are
+-- left open.
 abbrev pub IsRefused : Option (List ℕ × List Row) → Refusal → Type 0
 IsRefused command Together = IsSomeAnd command (λ c. IsRunInPart c.0 c.1)
 IsRefused command CheckedTelling = IsSomeAnd command (λ c. IsCheckedTelling c.0 c.1)

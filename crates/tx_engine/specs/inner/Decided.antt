@@ -30,7 +30,8 @@ by_line true l = Reach l
 
 -- the service code of a line of the plan that is out of order, away or engaged, in this order
 abbrev pub service_of : Bool → Bool → Bool → Option Service
-service_of faulty away engaged = if faulty then Some Der else if away then Some Abs else if engaged then Some Occ else None
+service_of faulty away engaged = if faulty then Some Der
+    else if away then Some Abs else if engaged then Some Occ else None
 
 abbrev pub by_trunk : ℕ → Option Circuit → Decision
 by_trunk place None = Answer Nc
@@ -38,10 +39,10 @@ by_trunk place (Some x) = Seize x place
 
 abbrev pub decided_for : Plan → Book → Table → Call → Option ℕ → Decision
 decided_for p b t c None = Answer Np
-decided_for p b t c (Some code) =
-    if is_first c.hops && is_barred p (place_of p c) code then Answer Na
-    else if home_of p code == place_of p c then by_line (is_line_of b.ranges code (line_of p code c.keyed).national) (line_of p code c.keyed)
-    else by_trunk (place_of p c) (first_in (first_free t (place_of p c)) (route_list p (place_of p c) code))
+decided_for p b t c (Some code) = if is_first c.hops && is_barred p (place_of p c) code
+    then Answer Na else if home_of p code == place_of p c then by_line (is_line_of b.ranges code
+    (line_of p code c.keyed).national) (line_of p code c.keyed) else by_trunk
+    (place_of p c) (first_in (first_free t (place_of p c)) (route_list p (place_of p c) code))
 
 abbrev pub decided : Plan → Book → Table → Call → Decision
 decided p b t c = decided_for p b t c (code_of p c.keyed)
@@ -49,7 +50,8 @@ decided p b t c = decided_for p b t c (code_of p c.keyed)
 -- the step that a decision makes
 abbrev pub carry_out : Plan → State → Call → Decision → Reply × State
 carry_out p s c (Reach l) = at_line p s c l (line_answer p s l)
-carry_out p s c (Seize x place) = (Seized x, record s { calls = set_call c.number (in_phase (Calling x)) s.calls })
+carry_out p s c (Seize x place) =
+    (Seized x, record s { calls = set_call c.number (in_phase (Calling x)) s.calls })
 carry_out p s c (Answer service) = answered p c.number service s
 
 -- the call under a key stands, and this was decided for it

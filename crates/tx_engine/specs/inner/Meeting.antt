@@ -8,8 +8,10 @@ use Rattle.tx_engine.specs.declared.head_on.Met.{Met}
 use Rattle.tx_engine.specs.declared.parts.Parts.{Parts}
 use Rattle.tx_engine.specs.inner.Sound.{state_of}
 
--- the call under a key has seized a circuit that the call under another key has seized from its other end
-pub record AreMeeting {A : Type 0} (n : Parts A) (key other : ℕ) (x : Circuit) (k d : Kept) : Type 0 where
+-- the call under a key has seized a circuit that the call under another key has seized from its
+-- other end
+pub record AreMeeting {A : Type 0} (n : Parts A)
+    (key other : ℕ) (x : Circuit) (k d : Kept) : Type 0 where
   pub one : kept_at n.calls key ≡ Some k
   pub two : kept_at n.calls other ≡ Some d
   pub calls : k.call.phase ≡ Calling x

@@ -25,8 +25,10 @@ state_seen calls t b numbers events tickets =
       tickets = tickets;
     }
 
--- the parts go together: the machine's invariant holds of what they show, and circuits and lines are held as the calls hold them
-pub record AreTogether (p : Plan) (calls : List Call) (t : Table) (b : Book) (numbers : ℕ) : Type 0 where
+-- the parts go together: the machine's invariant holds of what they show, and circuits and lines
+-- are held as the calls hold them
+pub record AreTogether (p : Plan) (calls : List Call)
+    (t : Table) (b : Book) (numbers : ℕ) : Type 0 where
   pub inv : Inv p calls t.releasing numbers
   pub used : AreUsed p calls t
   pub engaged : AreEngaged calls b.engaged

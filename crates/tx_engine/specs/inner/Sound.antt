@@ -26,19 +26,25 @@ is_first_end p x place = (ends_of p x.group).0 == place
 -- the keys by circuit lead to the calls that seize or carry it
 pub record AreKeyed (p : Plan) (c : Calls) (ks : List (List EndKeys)) : Type 0 where
   pub all : (x : Circuit) → is_circuit p x ≡ true → HasKeys ks x
-  pub seizers : (key : ℕ) (e : Kept) → kept_at c key ≡ Some e → (x : Circuit) → e.call.phase ≡ Calling x → pick (is_first_end p x (place_of p e.call)) (keys_of ks x) ≡ key
-  pub carriers : (key : ℕ) (e : Kept) → kept_at c key ≡ Some e → (x : Circuit) → Among x (circuits_carried e.call) → (first : Bool) → pick first (keys_of ks x) ≡ key
+  pub seizers : (key : ℕ) (e : Kept) → kept_at c key ≡ Some e → (x : Circuit)
+      → e.call.phase ≡ Calling x → pick (is_first_end p x (place_of p e.call)) (keys_of ks x) ≡ key
+  pub carriers : (key : ℕ) (e : Kept) → kept_at c key ≡ Some e → (x : Circuit)
+      → Among x (circuits_carried e.call) → (first : Bool) → pick first (keys_of ks x) ≡ key
 
 -- a call that has seized a circuit has room for a hop
 abbrev pub HasHopRoom : Calls → Type 0
-HasHopRoom c = (key : ℕ) (e : Kept) → kept_at c key ≡ Some e → (x : Circuit) → e.call.phase ≡ Calling x → 0 < e.room
+HasHopRoom c = (key : ℕ) (e : Kept) → kept_at c key ≡ Some e
+    → (x : Circuit) → e.call.phase ≡ Calling x → 0 < e.room
 
--- The rules of the plan; its codes and lines; the circuits and lines that the calls hold, with what always holds of the calls; the keys by circuit;
+-- The rules of the plan; its codes and lines; the circuits and lines that the calls hold, with what
+-- always holds of the calls; the keys by circuit;
 -- room for the hop of a call that has seized a circuit; room for a ticket of each open call.
-pub record AreSound (p : Plan) (codes : List Code) (c : Calls) (ks : List (List EndKeys)) (b : Book) (t : Table) (numbers made room : ℕ) : Type 0 where
+pub record AreSound (p : Plan) (codes : List Code) (c : Calls)
+    (ks : List (List EndKeys)) (b : Book) (t : Table) (numbers made room : ℕ) : Type 0 where
   pub rules : IsPlan p
   pub codes_are : codes ≡ p.codes
-  pub lines : (code : ℕ) (number : List ℕ) → is_line_of b.ranges code number ≡ is_line_at p code number
+  pub lines : (code : ℕ) (number : List ℕ)
+      → is_line_of b.ranges code number ≡ is_line_at p code number
   pub together : AreTogether p (calls_in c) t b numbers
   pub keyed : AreKeyed p c ks
   pub hop_room : HasHopRoom c
@@ -47,13 +53,15 @@ pub record AreSound (p : Plan) (codes : List Code) (c : Calls) (ks : List (List 
 module _ {A : Type 0} where
   -- the parts are sound
   abbrev pub IsSound : Parts A → Type 0
-  IsSound n = AreSound n.plan.now n.codes n.calls n.keys n.lines n.circuits n.numbers (deque_len n.tickets) (deque_capacity n.tickets)
+  IsSound n = AreSound n.plan.now n.codes n.calls n.keys n.lines n.circuits n.numbers
+      (deque_len n.tickets) (deque_capacity n.tickets)
 
   -- there is room for the tickets of the open calls and of one more
   abbrev pub HasTicketRoom : Parts A → Type 0
   HasTicketRoom n = deque_len n.tickets + (length (calls_in n.calls) + 1) ≤ deque_capacity n.tickets
 
-  -- a call can be opened at once: neither numbers nor events are spent, and there is room for it and for its ticket
+  -- a call can be opened at once: neither numbers nor events are spent, and there is room for it
+  -- and for its ticket
   abbrev pub IsReady : Parts A → Type 0
   IsReady n = (n.numbers < 2 ^ 32 - 1) × (n.events < 2 ^ 64 - 1) × HasRoom n.calls × HasTicketRoom n
 

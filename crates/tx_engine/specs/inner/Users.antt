@@ -8,7 +8,8 @@ use Rattle.tx_plan.specs.Among.{Among}
 -- these are the numbers of the calls that pass the test, and of no others
 pub record AreNumbersOf (test : Call → Bool) (calls : List Call) (numbers : List ℕ) : Type 0 where
   pub all : (c : Call) → Among c calls → test c ≡ true → Among c.number numbers
-  pub only : (n : ℕ) → Among n numbers → (c : Call) × Among c calls × (test c ≡ true) × (c.number ≡ n)
+  pub only : (n : ℕ) → Among n numbers → (c : Call)
+      × Among c calls × (test c ≡ true) × (c.number ≡ n)
 
 -- a call uses one of the circuits of the group up to a number
 abbrev pub uses_up_to : ℕ → ℕ → Call → Bool

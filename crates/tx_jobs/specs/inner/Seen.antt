@@ -10,7 +10,8 @@ abbrev pub in_line : Seen → ℕ → Seen
 in_line Blanks b = if is_blank b then Blanks else if b == 69 then E else Other
 in_line E b = if b == 78 then En else Other
 in_line En b = if b == 68 then End else Other
-in_line End b = if is_blank b then End else if is_hash b then Comment else if b == 13 then Cr else Other
+in_line End b = if is_blank b then End else if is_hash b
+    then Comment else if b == 13 then Cr else Other
 in_line Comment b = Comment
 in_line Cr b = Other
 in_line Other b = Other

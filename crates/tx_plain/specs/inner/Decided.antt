@@ -26,8 +26,10 @@ use Rattle.tx_plain.specs.declared.meeting.Meeting.TheVariants.{GoesOn, Collides
 -- what a routing does with the call of a number
 abbrev pub routing_done : Plan → State → ℕ → Routing → Reply × State
 routing_done p s n (Answer service) = answered p n service s
-routing_done p s n (Connect l) = (ConnectedTo l, record s { calls = set_call n (in_phase (Connected l)) s.calls })
-routing_done p s n (Seize x) = (Seized x, record s { calls = set_call n (in_phase (Calling x)) s.calls })
+routing_done p s n (Connect l) =
+    (ConnectedTo l, record s { calls = set_call n (in_phase (Connected l)) s.calls })
+routing_done p s n (Seize x) =
+    (Seized x, record s { calls = set_call n (in_phase (Calling x)) s.calls })
 
 -- the circuit that it seizes is one of the plan's
 abbrev pub IsPlanned : Plan → Routing → Type 0
@@ -37,7 +39,8 @@ IsPlanned p (Seize x) = is_circuit p x ≡ true
 
 -- what a meeting does with the call of a number
 abbrev pub meeting_done : Plan → State → ℕ → Meeting → Reply × State
-meeting_done p s n (GoesOn h) = (At h.far, record s { calls = set_call n (changed (Carry h)) s.calls })
+meeting_done p s n (GoesOn h) =
+    (At h.far, record s { calls = set_call n (changed (Carry h)) s.calls })
 meeting_done p s n (Collides x collided m other) = (
   HeadOn n m (not collided) (not other),
   end_calls p (ByService Nc) (ends_by (Collided n collided m other)) (collide n m x s),

@@ -30,7 +30,8 @@ pub record Circuits : Type 0 where
   pub groups : ℕ
 
 abbrev pub circuits_code : Coded Circuits
-circuits_code = code_by (set.FinSet circuit_cmp × ℕ) (coded× (set.code coded_circuit) coded_ℕ) (λ c. (c.marked, c.groups)) (λ p. record { marked = p.0; groups = p.1 }) (λ _. refl)
+circuits_code = code_by (set.FinSet circuit_cmp × ℕ) (coded× (set.code coded_circuit) coded_ℕ)
+    (λ c. (c.marked, c.groups)) (λ p. record { marked = p.0; groups = p.1 }) (λ _. refl)
 
 -- the groups that are marked, among so many
 pub record Groups : Type 0 where
@@ -38,7 +39,8 @@ pub record Groups : Type 0 where
   pub groups : ℕ
 
 abbrev pub groups_code : Coded Groups
-groups_code = code_by (set.FinSet nat_cmp × ℕ) (coded× (set.code coded_ℕ) coded_ℕ) (λ c. (c.marked, c.groups)) (λ p. record { marked = p.0; groups = p.1 }) (λ _. refl)
+groups_code = code_by (set.FinSet nat_cmp × ℕ) (coded× (set.code coded_ℕ) coded_ℕ)
+    (λ c. (c.marked, c.groups)) (λ p. record { marked = p.0; groups = p.1 }) (λ _. refl)
 
 -- a circuit that has a mark
 pub record HasMark (groups : ℕ) (x : Circuit) : Type 0 where
@@ -49,4 +51,5 @@ pub record HasMark (groups : ℕ) (x : Circuit) : Type 0 where
 -- the bits of a group up to n are cleared, and no others
 pub record IsCleared (g n : ℕ) (old new : List Bool) : Type 0 where
   pub long : length new ≡ length old
-  pub bits : (j : ℕ) → get_or new j false ≡ (if nat_le (240 * g) j && nat_le (j + 1) (240 * g + n) then false else get_or old j false)
+  pub bits : (j : ℕ) → get_or new j false
+      ≡ (if nat_le (240 * g) j && nat_le (j + 1) (240 * g + n) then false else get_or old j false)

@@ -16,15 +16,18 @@ use Rattle.tx_plain.specs.inner.Seen.{HasRoom}
 use Rattle.tx_plain.specs.inner.GivenUp.{AreMarked}
 use Rattle.tx_machine.specs.declared.open_call.OpenCall.{OpenCall}
 
--- what holds of the calls: their circuits have marks, each has a number of its own, and its number was given
+-- what holds of the calls: their circuits have marks, each has a number of its own, and its number
+-- was given
 pub record AreHeld (groups numbers : ℕ) (calls : List Call) : Type 0 where
   pub marked : (c : Call) → Among c calls → AreMarked groups (circuits_used c)
   pub one : (c d : Call) → Among c calls → Among d calls → c.number ≡ d.number → c ≡ d
   pub given : (c : Call) → Among c calls → c.number ≤ numbers
 
--- What the fields keep: the rules of the plan; room for a ticket of each open call; what holds of the calls; room for the hop of a call that has
+-- What the fields keep: the rules of the plan; room for a ticket of each open call; what holds of
+-- the calls; room for the hop of a call that has
 -- seized a circuit; marks for all groups of the plan.
-pub record IsWhole {A : Type 0} (p : Plan) (calls : Vec (OpenCall A) A) (tickets : Vec Ended A) (marks : Marks A) (numbers : ℕ) : Type 0 where
+pub record IsWhole {A : Type 0} (p : Plan) (calls : Vec (OpenCall A) A)
+    (tickets : Vec Ended A) (marks : Marks A) (numbers : ℕ) : Type 0 where
   pub rules : IsPlan p
   pub room : vec_len tickets + vec_len calls ≤ vec_capacity tickets
   pub held : AreHeld (length p.groups) numbers (map call_seen calls.items)
@@ -32,7 +35,8 @@ pub record IsWhole {A : Type 0} (p : Plan) (calls : Vec (OpenCall A) A) (tickets
   pub marks_all : AreFor (length p.groups) marks
 
 -- the network that the fields stand for
-abbrev pub net_of : {A : Type 0} → Plan → List (OpenCall A) → Marks A → List Line → List Line → ℕ → ℕ → List Ended → Net
+abbrev pub net_of : {A : Type 0} → Plan → List (OpenCall A)
+    → Marks A → List Line → List Line → ℕ → ℕ → List Ended → Net
 net_of p calls marks faulty away numbers events tickets =
     record {
       plan = p;

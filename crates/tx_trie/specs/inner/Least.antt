@@ -10,7 +10,8 @@ pub record IsLeastPair (codes : List Code) (n a b : ℕ) : Type 0 where
   pub shorter : Code
   pub longer : Code
   pub pair : IsAmbiguousAt codes a b shorter longer
-  pub low : (i j : ℕ) (c d : Code) → j < n → IsAmbiguousAt codes i j c d → is_lt (slice_cmp nat_cmp d.figures longer.figures) ≡ false
+  pub low : (i j : ℕ) (c d : Code) → j < n → IsAmbiguousAt codes i j c d
+      → is_lt (slice_cmp nat_cmp d.figures longer.figures) ≡ false
 
 -- the least pair whose longer code stands before n, or none
 abbrev pub IsLeastBelow : List Code → ℕ → Option (ℕ × ℕ) → Type 0

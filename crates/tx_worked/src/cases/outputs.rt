@@ -2,7 +2,8 @@
 use crate::cases::case::next_line;
 use tx_text::words;
 
-/// How many bytes of the output are that of the first so many events: their replies, each with the tickets after it. The line END EVENTS counts as
+/// How many bytes of the output are that of the first so many events: their replies, each with the
+/// tickets after it. The line END EVENTS counts as
 /// one more.
 pub fn written_after(output: &[u8], events: u64) -> usize {
     let mut rest = output;
@@ -46,7 +47,8 @@ pub fn event_word(script: &[u8], event: u64) -> &[u8] {
     b""
 }
 
-/// Whether an event of this first word takes memory: a call that is keyed or routed, and a line that gets a status.
+/// Whether an event of this first word takes memory: a call that is keyed or routed, and a line
+/// that gets a status.
 pub fn takes_memory(word: &[u8]) -> bool {
     matches!(word, b"KEY" | b"ROUTE" | b"FAULT" | b"AWAY")
 }

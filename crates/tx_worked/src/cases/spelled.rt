@@ -13,7 +13,8 @@ fn cut(text: &[u8], byte: u8) -> Option<(&[u8], &[u8])> {
     }
 }
 
-/// The mark whose `{` stands before a text, and what stands after it. A mark is empty, or begins with a figure or with `lines`: any other `{` is one.
+/// The mark whose `{` stands before a text, and what stands after it. A mark is empty, or begins
+/// with a figure or with `lines`: any other `{` is one.
 fn mark_in(text: &[u8]) -> Option<(&[u8], &[u8])> {
     let (mark, behind) = cut(text, b'}')?;
     let is_mark = match mark.first() {
@@ -23,7 +24,8 @@ fn mark_in(text: &[u8]) -> Option<(&[u8], &[u8])> {
     if is_mark { Some((mark, behind)) } else { None }
 }
 
-/// Tells a text of the file, in which `{13}` stands for the byte of that number, `{35 512}` for 512 of them, `{}` for a line that goes on, and
+/// Tells a text of the file, in which `{13}` stands for the byte of that number, `{35 512}` for 512
+/// of them, `{}` for a line that goes on, and
 /// `{lines 1 9 CODE 4@ ALFA}` for nine lines.
 pub fn spell(text: &[u8], out: &mut Told) {
     let mut rest = text;
@@ -55,7 +57,8 @@ fn behind_mark<'a>(mark: &[u8], behind: &'a [u8]) -> &'a [u8] {
     }
 }
 
-/// Tells the bytes of a mark: none, a byte's number and how often it stands, or `lines`, two numbers, and a line that stands once for each number between
+/// Tells the bytes of a mark: none, a byte's number and how often it stands, or `lines`, two
+/// numbers, and a line that stands once for each number between
 /// them.
 fn tell_mark(mark: &[u8], out: &mut Told) {
     if mark.is_empty() {

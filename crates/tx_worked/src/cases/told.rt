@@ -5,7 +5,8 @@ use std::io;
 use std::io::Write;
 use tx_text::{Sink, WriteFault};
 
-/// A text that grows with all that is told. Where memory ran out for it, it ends there, and says so when it is let out.
+/// A text that grows with all that is told. Where memory ran out for it, it ends there, and says so
+/// when it is let out.
 #[derive(Drop)]
 pub struct Told {
     text: Vec<u8>,

@@ -12,14 +12,16 @@ use tx_jobs::{
 };
 use tx_text::{MemorySink, MemorySource};
 
-/// What a whole job does, beside which others are judged: its exit status or its fault, and what it writes.
+/// What a whole job does, beside which others are judged: its exit status or its fault, and what it
+/// writes.
 #[derive(Clone, Copy)]
 pub(crate) struct Whole<'a> {
     pub answer: Result<u8, Fault>,
     pub text: &'a [u8],
 }
 
-/// What a job did: its exit status or its fault, how many bytes it wrote, whether these are a front of what the whole job writes, and whether the request for
+/// What a job did: its exit status or its fault, how many bytes it wrote, whether these are a front
+/// of what the whole job writes, and whether the request for
 /// memory came that was to be refused.
 #[derive(Clone, Copy)]
 pub(crate) struct Did {
@@ -209,7 +211,8 @@ fn do_task<A: Allocator + Copy>(
     }
 }
 
-/// Does a task into a room, and returns what it did beside what is to be written. The allocator is the same for each task, so that each job is built once.
+/// Does a task into a room, and returns what it did beside what is to be written. The allocator is
+/// the same for each task, so that each job is built once.
 pub(crate) fn do_in_room(
     alloc: Global,
     task: Task<'_>,

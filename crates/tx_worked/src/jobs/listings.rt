@@ -72,7 +72,8 @@ pub(crate) fn list_calls(
     stretches.end(out);
 }
 
-/// Returns what a run writes, where it stops, and how many calls of the script's source it makes, at one byte a call, where the writer takes so many
+/// Returns what a run writes, where it stops, and how many calls of the script's source it makes,
+/// at one byte a call, where the writer takes so many
 /// bytes.
 pub(crate) fn count_calls(alloc: Global, text: Script<'_>, room: usize, out: &mut Told) {
     let mut source = MemorySource::new(text.script, 1, Some(1001));

@@ -4,7 +4,8 @@ use crate::jobs::job::tell_task;
 use std::alloc::Global;
 use tx_plan::{CodeId, Plan};
 use tx_plantext::read_plan;
-/// Draws a plan and each of its codes, with the walk of the code's first finding where the head says a limit and a spare number.
+/// Draws a plan and each of its codes, with the walk of the code's first finding where the head
+/// says a limit and a spare number.
 pub(crate) fn play_pictures(alloc: Global, head: Head<'_>, text: &[u8], out: &mut Told) {
     tell_task(alloc, task_of(Job::Draw, text, b""), 4096, out);
     match read_plan(alloc, text) {

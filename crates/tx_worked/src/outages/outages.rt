@@ -125,7 +125,8 @@ fn judge_outages(alloc: Global, lines: &[u8], work: &mut OutageWork) -> Result<O
     Ok(tally)
 }
 
-/// Judges the outages of all plans of a family, and returns what there was, or why it stopped and the
+/// Judges the outages of all plans of a family, and returns what there was, or why it stopped and
+/// the
 /// plan where it did.
 pub fn play_outages(alloc: Global, lines: &[u8], out: &mut Told) {
     let mut work = OutageWork::new(alloc);

@@ -67,7 +67,8 @@ fn note_dead(steps: usize, ways: &mut Ways) {
     ways.dead = Some(ways.dead.unwrap_or(steps).min(steps));
 }
 
-/// Takes in how the walk ends that has come to an exchange by so many steps, and how all end that go
+/// Takes in how the walk ends that has come to an exchange by so many steps, and how all end that
+/// go
 /// on from it by at most so many more.
 pub fn note_ways(left: &Left<'_>, at: ExchangeId, steps: usize, more: usize, ways: &mut Ways) {
     if left.is_home(at) {

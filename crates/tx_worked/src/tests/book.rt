@@ -26,7 +26,8 @@ static HAPPENS: [(&str, (Mark, bool)); 6] = [
     ("free", (Mark::Engaged, false)),
 ];
 
-/// Gives a line a mark, or takes it. Only a new mark takes room: returns whether there was room for it.
+/// Gives a line a mark, or takes it. Only a new mark takes room: returns whether there was room for
+/// it.
 fn set_mark(book: &mut LineBook, line: &Line, mark: Mark, to: bool) -> bool {
     if to && book.reserve_one().is_err() {
         return false;
@@ -70,7 +71,8 @@ fn tell_answer(book: &LineBook, code: CodeId, number: &[u8], out: &mut Told) {
     tell(text, out);
 }
 
-/// What a line of a case says: the place of a code, a number, and what happens to the line first, if anything does.
+/// What a line of a case says: the place of a code, a number, and what happens to the line first,
+/// if anything does.
 #[derive(Clone, Copy)]
 struct Asked<'a> {
     code: CodeId,
@@ -136,7 +138,8 @@ fn mark_away(book: &mut LineBook, number: u32) -> bool {
     }
 }
 
-/// Marks the lines of the first code from one number to another away, and returns how many of them are found so then.
+/// Marks the lines of the first code from one number to another away, and returns how many of them
+/// are found so then.
 pub(crate) fn mark_many(book: &mut LineBook, text: &[u8], out: &mut Told) {
     let (line, _) = next_line(text).unwrap_or((b"", b""));
     let mut numbers = words(line);

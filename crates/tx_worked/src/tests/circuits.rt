@@ -1,4 +1,5 @@
-// Calls on the circuits of one group, by cases, and all short sequences of them beside a plain model.
+// Calls on the circuits of one group, by cases, and all short sequences of them beside a plain
+// model.
 pub(crate) mod calls;
 mod model;
 
@@ -25,7 +26,8 @@ fn apply_line(table: &mut CircuitTable, line: &[u8]) -> bool {
     apply(table, call)
 }
 
-/// Whether the group is failed or blocked, or one of its circuits seized, carried, releasing or out.
+/// Whether the group is failed or blocked, or one of its circuits seized, carried, releasing or
+/// out.
 fn has_marks(table: &CircuitTable) -> bool {
     let group = GroupId::at(0);
     for number in 1..241u32 {
@@ -68,7 +70,8 @@ pub(crate) fn tell_circuits(table: &mut CircuitTable, lines: &[u8], out: &mut To
     }
 }
 
-/// Makes three of the 43 calls, as far as each may be made, on a table and on the model. Returns whether the two agree.
+/// Makes three of the 43 calls, as far as each may be made, on a table and on the model. Returns
+/// whether the two agree.
 fn agree_along(table: &mut CircuitTable, sequence: u32) -> bool {
     let mut model = Model::new();
     let mut rest = sequence;

@@ -33,7 +33,8 @@ pub(crate) fn tell_sources(text: &[u8], piece: usize, out: &mut Told) {
     }
 }
 
-/// Calls before and after the end of the plan of an input, of which that of a number fails, where it is not 0.
+/// Calls before and after the end of the plan of an input, of which that of a number fails, where
+/// it is not 0.
 pub(crate) fn tell_two_texts(text: &[u8], piece: usize, fails: u64, room: usize, out: &mut Told) {
     let fails_at = if fails > 0 { Some(fails) } else { None };
     let mut source = MemorySource::new(text, piece.max(1), fails_at);
@@ -108,7 +109,8 @@ fn tell_writes(takes: usize, why: ErrorKind, out: &mut Told) {
     tell(b"\n", out);
 }
 
-/// Calls of std's readers and writers that fail in one way: how many of a reader were counted, and those of a writer of one byte a call, and of one that takes
+/// Calls of std's readers and writers that fail in one way: how many of a reader were counted, and
+/// those of a writer of one byte a call, and of one that takes
 /// nothing.
 fn tell_failing(why: ErrorKind, out: &mut Told) {
     let mut source = FromRead::new(Flaky::new(1, why));
@@ -118,7 +120,8 @@ fn tell_failing(why: ErrorKind, out: &mut Told) {
     tell_writes(0, why, out);
 }
 
-/// Calls of std's readers and writers that fail, or that are interrupted where the head of the case says so.
+/// Calls of std's readers and writers that fail, or that are interrupted where the head of the case
+/// says so.
 pub(crate) fn tell_ends(how: &[u8], out: &mut Told) {
     if how == b"interrupted".as_slice() {
         tell_failing(ErrorKind::Interrupted, out);

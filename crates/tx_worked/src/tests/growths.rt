@@ -95,7 +95,8 @@ fn engage<A: Allocator + Copy>(book: &mut LineBook<A>, line: &Line) -> Came {
     }
 }
 
-/// Engages so many lines that their room is made more than once. Where memory runs out, a line is engaged at the second try.
+/// Engages so many lines that their room is made more than once. Where memory runs out, a line is
+/// engaged at the second try.
 fn engage_lines<A: Allocator + Copy>(book: &mut LineBook<A>) -> Came {
     let mut all = Came::Right;
     for count in 1..14u8 {
@@ -155,7 +156,8 @@ fn make<A: Allocator + Copy>(alloc: A, made: Made, plan: &[u8]) -> Came {
     }
 }
 
-/// Refuses each request for memory in turn, until none is refused, and returns how many are not the plan's.
+/// Refuses each request for memory in turn, until none is refused, and returns how many are not the
+/// plan's.
 pub(crate) fn play_growths(alloc: Global, made: Option<Made>, plan: &[u8], out: &mut Told) {
     let Some(made) = made else {
         return tell_broken(b"no such type", 0, out);

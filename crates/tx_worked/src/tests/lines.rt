@@ -79,7 +79,8 @@ fn feed_again(feeder: &mut LineFeeder, out: &mut Told)
     tell_fed(byte, out);
 }
 
-/// Feeds a text piece by piece, and tells the lines that come of it. Returns whether there was no fault.
+/// Feeds a text piece by piece, and tells the lines that come of it. Returns whether there was no
+/// fault.
 fn feed_pieces(feeder: &mut LineFeeder, text: &[u8], cuts: Cuts, out: &mut Told) -> bool
     requires { feeder.old.start + length feeder.old.begun + length text.now ≤ 1000 }
 {

@@ -18,7 +18,8 @@ fn declare<A: Allocator>(plan: &mut PlanBuilder<A>, step: usize) -> Result<(), P
     }
 }
 
-/// Declares the small plan, and again what found no memory. Marks that, and returns whether all was declared.
+/// Declares the small plan, and again what found no memory. Marks that, and returns whether all was
+/// declared.
 fn declare_all<A: Allocator>(plan: &mut PlanBuilder<A>, wanting: &mut [bool; 8]) -> bool {
     for step in 0..8usize {
         let mut answer = declare(plan, step);
@@ -174,7 +175,8 @@ pub(crate) fn tell_plan(alloc: Global, full: bool, out: &mut Told) {
     drop(plan);
 }
 
-/// Declares the small plan with one request for memory refused, marks what found none, and returns whether the request came.
+/// Declares the small plan with one request for memory refused, marks what found none, and returns
+/// whether the request came.
 fn declare_without(alloc: Global, request: u64, wanting: &mut [bool; 8], out: &mut Told) -> bool {
     let refusing = Refusing::new(alloc, request);
     let mut builder = PlanBuilder::new(&refusing);
@@ -185,7 +187,8 @@ fn declare_without(alloc: Global, request: u64, wanting: &mut [bool; 8], out: &m
     refusing.has_refused()
 }
 
-/// Refuses each request for memory in turn, until none is refused, and returns which declarations take memory: the first of each kind.
+/// Refuses each request for memory in turn, until none is refused, and returns which declarations
+/// take memory: the first of each kind.
 pub(crate) fn tell_growths(alloc: Global, out: &mut Told) {
     let mut wanting = [false; 8];
     for request in 1..100u64 {

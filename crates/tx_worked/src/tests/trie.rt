@@ -4,7 +4,8 @@ use std::alloc::Global;
 use tx_plan::Plan;
 use tx_trie::CodeTrie;
 
-/// Tells the least pair of codes of which one begins the other, and the code that is read of each line.
+/// Tells the least pair of codes of which one begins the other, and the code that is read of each
+/// line.
 pub(crate) fn tell_trie(plan: &Plan, trie: &CodeTrie, lines: &[u8], out: &mut Told) {
     match trie.ambiguous() {
         Some((shorter, longer)) => {

@@ -65,7 +65,8 @@ fn figures(plan: &Plan, line: &Line, chance: &mut Chance) -> Option<Figures> {
     Figures::read(text.as_slice())
 }
 
-/// The line of a subscriber who calls: mostly one that takes part in no call, but also one that does, or one that is out of order.
+/// The line of a subscriber who calls: mostly one that takes part in no call, but also one that
+/// does, or one that is out of order.
 fn calling_line(plan: &Plan, picture: &Picture, chance: &mut Chance) -> Option<Line> {
     if chance.one_in(40) {
         let call = chance.pick(picture.calls.as_slice())?;

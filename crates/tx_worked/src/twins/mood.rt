@@ -95,7 +95,8 @@ static EMPTY: [(usize, EventKind); 13] = [
     (111, EventKind::Stray),
 ];
 
-/// A kind of a mood, by a number below the last of its table: the first kind whose number is greater.
+/// A kind of a mood, by a number below the last of its table: the first kind whose number is
+/// greater.
 fn drawn(mood: &[(usize, EventKind)], chance: &mut Chance) -> EventKind {
     let numbers = match mood.last() {
         Some((numbers, _)) => *numbers,

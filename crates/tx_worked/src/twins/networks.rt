@@ -8,7 +8,8 @@ use tx_plain::Plain;
 use tx_plan::Plan;
 use tx_plantext::read_plan;
 
-/// Plays a script through a plain network and a new engine, whose plan says the same and whose memory is another's.
+/// Plays a script through a plain network and a new engine, whose plan says the same and whose
+/// memory is another's.
 fn play_engine<'m>(
     alloc: Global,
     plan: &Plan,
@@ -80,7 +81,8 @@ pub fn play_script(
     played
 }
 
-/// Plays a script with one request for memory refused to the engine: false where there are fewer requests.
+/// Plays a script with one request for memory refused to the engine: false where there are fewer
+/// requests.
 fn play_refusing(
     alloc: Global,
     plan: &Plan,

@@ -23,7 +23,8 @@ fn take_out<T: Copy + PartialEq>(list: &mut Vec<T>, item: &T) {
     list.retain(|other| other != item);
 }
 
-/// What the replies and the tickets tell of a network, so that most events can be such as it accepts.
+/// What the replies and the tickets tell of a network, so that most events can be such as it
+/// accepts.
 #[derive(Drop)]
 pub struct Picture {
     pub calls: Vec<KnownCall>,

@@ -82,7 +82,8 @@ fn read_and_play(
     }
 }
 
-/// Plays the scripts of a plan, whose head says how many calls are to be open at most, and the first seed. Returns how many events they have, and why they
+/// Plays the scripts of a plan, whose head says how many calls are to be open at most, and the
+/// first seed. Returns how many events they have, and why they
 /// stopped where they did.
 pub fn play_twins(
     alloc: Global,

@@ -65,7 +65,8 @@ fn play_event<P: Network, E: Network>(
     Ok(())
 }
 
-/// Compares two tickets, and takes in what the one of the plain network tells. Returns whether there are any.
+/// Compares two tickets, and takes in what the one of the plain network tells. Returns whether
+/// there are any.
 fn note_tickets<A: Allocator, B: Allocator>(
     wanted: Option<&Ticket<A>>,
     ticket: Option<&Ticket<B>>,
@@ -113,7 +114,8 @@ fn take_tickets<P: Network, E: Network>(
     Ok(())
 }
 
-/// Applies an event to both networks, and takes the tickets, if it is time for that: else more of them wait.
+/// Applies an event to both networks, and takes the tickets, if it is time for that: else more of
+/// them wait.
 fn go_on<P: Network, E: Network>(
     plain: &mut P,
     engine: &mut E,
@@ -131,7 +133,8 @@ fn go_on<P: Network, E: Network>(
     }
 }
 
-/// Why a script stops at the event of this place. Where the networks differ there, the tally takes it in.
+/// Why a script stops at the event of this place. Where the networks differ there, the tally takes
+/// it in.
 fn stop_at(halt: Halt, seed: u64, place: u32, tally: &mut EventTally) -> Stop {
     match halt {
         Halt::NoMemory => Stop::NoMemory,

@@ -38,7 +38,8 @@ static REFUSALS: [&str; 12] = [
 
 static CAUSES: [&str; 4] = ["answered", "cleared_by_caller", "cleared_by_called", "lost"];
 
-/// Which events met a request for memory that was refused. The last are those that have no need of memory.
+/// Which events met a request for memory that was refused. The last are those that have no need of
+/// memory.
 static WANTS: [&str; 5] = ["key", "route", "line_fault", "line_away", "other"];
 
 /// Counts of events and of tickets, each at the place of its name.
@@ -55,7 +56,8 @@ pub struct EventTally {
     pub differs: Option<Differs>,
 }
 
-/// Counts of the scripts that are played with all memory there, and of those that are played with memory refused.
+/// Counts of the scripts that are played with all memory there, and of those that are played with
+/// memory refused.
 #[derive(Clone, Copy)]
 pub struct Tallies {
     pub whole: EventTally,
@@ -73,7 +75,8 @@ fn count_at(counts: &mut [u64], place: usize) {
     }
 }
 
-/// The place of a reply in `REPLIES`, of which an answer and a refusal have none: these are counted by what they say.
+/// The place of a reply in `REPLIES`, of which an answer and a refusal have none: these are counted
+/// by what they say.
 fn reply_place(reply: &Reply) -> usize {
     match reply {
         Reply::Keyed(_) => 0,

@@ -40,7 +40,8 @@ pub struct Answer {
     pub was_refused: bool,
 }
 
-/// Applies an event to the engine, and again where memory was refused, which must have changed nothing.
+/// Applies an event to the engine, and again where memory was refused, which must have changed
+/// nothing.
 fn apply<E: Network>(engine: &mut E, event: &Event) -> Result<Answer, Mismatch> {
     let (open_calls, events) = (engine.open_calls(), engine.events());
     if let Ok(reply) = engine.apply(*event) {
@@ -59,7 +60,8 @@ fn apply<E: Network>(engine: &mut E, event: &Event) -> Result<Answer, Mismatch> 
     }
 }
 
-/// Applies an event to both networks, and compares their replies and counts. The answer is that of the engine, in which memory has to be wanting just where
+/// Applies an event to both networks, and compares their replies and counts. The answer is that of
+/// the engine, in which memory has to be wanting just where
 /// its memory refuses a request.
 pub fn apply_to_both<P: Network, E: Network>(
     plain: &mut P,

@@ -1,11 +1,15 @@
 // Families of plans, and the texts of their plans.
 //
 // The lines of a family are those of its plans, save for these:
-// - between `EITHER` and `END`, with an `OR` between each two, stand passages of which a plan has one;
-// - `ROUTES n EXCHANGE CODE GROUP ..` stands for no line, or a route by any list of 1 to n of the groups, in any order and none of them twice;
-// - `CODES n HOME FIGURES ..` stands for any list of 0 to n of the codes, in any order and none of them twice.
+// - between `EITHER` and `END`, with an `OR` between each two, stand passages of which a plan has
+// one;
+// - `ROUTES n EXCHANGE CODE GROUP ..` stands for no line, or a route by any list of 1 to n of the
+// groups, in any order and none of them twice;
+// - `CODES n HOME FIGURES ..` stands for any list of 0 to n of the codes, in any order and none of
+// them twice.
 //
-// The plans of a family are numbered from 0. Each line takes from the number, by division, which of its ways the plan goes.
+// The plans of a family are numbered from 0. Each line takes from the number, by division, which of
+// its ways the plan goes.
 use crate::cases::{count_words, named, next_line, next_number, next_word};
 use crate::walks::lists::{count_lists, put_list, put_words};
 use tx_text::{NoMemory, Words, words};

@@ -26,7 +26,8 @@ use tx_text::NoMemory;
 /// The limits 0 to 2 are tried, and the spare numbers 0 to 2.
 pub const NUMBERS: u8 = 3;
 
-/// What the walks of a plan show, and what a run of its events: one of each kind serves all plans of a family.
+/// What the walks of a plan show, and what a run of its events: one of each kind serves all plans
+/// of a family.
 #[derive(Drop)]
 struct Work {
     steps: Steps,
@@ -222,7 +223,8 @@ fn judge_family(alloc: Global, lines: &[u8], room: &mut Room) -> Result<PlanTall
     Ok(tally)
 }
 
-/// Judges all plans of a family, and returns what there was, or why it stopped and the plan where it did.
+/// Judges all plans of a family, and returns what there was, or why it stopped and the plan where
+/// it did.
 pub fn play_family(alloc: Global, lines: &[u8], out: &mut Told) {
     let mut room = Room::new(alloc);
     match judge_family(alloc, lines, &mut room) {

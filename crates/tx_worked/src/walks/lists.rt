@@ -22,7 +22,8 @@ pub fn put_words(words: &[&[u8]], text: &mut Vec<u8>) -> Result<(), NoMemory> {
     Ok(())
 }
 
-/// Takes the word at a place among those that are not taken yet: the first word has the mark 1, the next one 2, the next 4.
+/// Takes the word at a place among those that are not taken yet: the first word has the mark 1, the
+/// next one 2, the next 4.
 fn take_free<'a>(words: Words<'a>, taken: &mut u32, place: u64) -> Option<&'a [u8]> {
     let mut before = place;
     let mut mark = 1u32;
@@ -39,7 +40,8 @@ fn take_free<'a>(words: Words<'a>, taken: &mut u32, place: u64) -> Option<&'a [u
     None
 }
 
-/// Adds the words of a list to a text, each between two others. The lists are numbered from 0, the list of none.
+/// Adds the words of a list to a text, each between two others. The lists are numbered from 0, the
+/// list of none.
 pub fn put_list(
     words: &Words<'_>,
     number: u64,

@@ -89,7 +89,8 @@ fn try_text<A: Allocator + Copy>(
     }
 }
 
-/// Refuses each request for memory in turn, from the plan's first one on, where the events of the first finding that has some are made. Whether each
+/// Refuses each request for memory in turn, from the plan's first one on, where the events of the
+/// first finding that has some are made. Whether each
 /// that was refused is told, and the events' script is this one where none is.
 pub fn refusals_are_told(alloc: Global, text: &[u8], limit: u8, spare: u8, wanted: &[u8]) -> bool
     requires limit { limit ≤ 62 }

@@ -39,7 +39,8 @@ fn put_replies(
     }
 }
 
-/// Adds the exchange that the call passes by an event: where its line is at home, or to which it went on.
+/// Adds the exchange that the call passes by an event: where its line is at home, or to which it
+/// went on.
 fn put_passed_by(
     plan: &Plan,
     event: &Event,

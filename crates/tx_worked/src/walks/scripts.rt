@@ -83,7 +83,8 @@ fn comes_back(passed: &[ExchangeId]) -> bool {
     }
 }
 
-/// Whether the call was answered NC where it stood, away from the home, and no more than `spare` groups were listed there.
+/// Whether the call was answered NC where it stood, away from the home, and no more than `spare`
+/// groups were listed there.
 fn is_bare(
     plan: &Plan,
     code: CodeId,
@@ -205,7 +206,8 @@ pub struct Judged<'a> {
     pub spare: u8,
 }
 
-/// Whether the script of the events is one of these events, and lack of memory is told where they are made.
+/// Whether the script of the events is one of these events, and lack of memory is told where they
+/// are made.
 fn holds_as_sample(alloc: Global, plan: &Plan, judged: Judged<'_>, events: &[Event]) -> bool
     requires limit { judged.limit ≤ 62 }
     requires spare { judged.spare ≤ 15 }
@@ -219,7 +221,8 @@ fn holds_as_sample(alloc: Global, plan: &Plan, judged: Judged<'_>, events: &[Eve
     holds
 }
 
-/// Whether the events of the first finding that has some show the first that has to have some. Of a sample, their script has to be one of these events,
+/// Whether the events of the first finding that has some show the first that has to have some. Of a
+/// sample, their script has to be one of these events,
 /// and lack of memory has to be told where they are made.
 fn are_first(
     alloc: Global,

@@ -18,7 +18,8 @@ pub fn script_of(alloc: Global, plan: &Plan, events: &[Event]) -> Told
     script
 }
 
-/// Whether a run of the script over a new plain network of the plan accepts so many events, and refuses none.
+/// Whether a run of the script over a new plain network of the plan accepts so many events, and
+/// refuses none.
 pub fn reads_back(alloc: Global, plan: &[u8], script: &[u8], events: usize) -> bool {
     let text = Script::opening(Over::Plain, plan, script);
     match run_beside(alloc, text, Ends::pieces(4096), b"").end {

@@ -10,7 +10,8 @@ pub const BETA: u16 = 1;
 
 pub static ENDS: [(&str, u16); 2] = [("ALFA", ALFA), ("BETA", BETA)];
 
-/// What a call does: to a circuit, at an end where it asks for one and with a far end where it asks for that too, or to the group.
+/// What a call does: to a circuit, at an end where it asks for one and with a far end where it asks
+/// for that too, or to the group.
 #[derive(Clone, Copy)]
 pub enum Verb {
     Seize,
