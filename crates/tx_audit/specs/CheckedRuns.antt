@@ -24,9 +24,14 @@ pub record Bytes : Type 0 where
 pub record RanFromOpening (p : Plan) (x : Bytes)
     (broken untouched : Type 0) (answer : Result Summary RunFault) : Type 0 where
   pub state : State
-  pub ran : RunAnswers p (record { rest_old = x.rest_old; rest_new = x.rest_new;
-      taken_old = x.taken_old; taken_new = x.taken_new; state_old = opening 0 0;
-      state_new = state }) broken (untouched × (state ≡ opening 0 0)) answer
+  pub ran : RunAnswers p (record {
+    rest_old = x.rest_old;
+    rest_new = x.rest_new;
+    taken_old = x.taken_old;
+    taken_new = x.taken_new;
+    state_old = opening 0 0;
+    state_new = state;
+  }) broken (untouched × (state ≡ opening 0 0)) answer
 
 -- there was no memory for the network: the first event is told, and nothing was read or written
 abbrev pub HadNoRoom : (untouched : Type 0) → RunFault → Type 0

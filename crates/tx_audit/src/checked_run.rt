@@ -30,9 +30,12 @@ pub fn run_checked<A: Allocator + Copy, R: Source, W: Sink>(
 ) -> Result<Checked, RunFault>
     requires limit { limit ≤ 62 }
     requires spare { spare ≤ 15 }
-    ensures answers { CheckedAnswers plan.now cert.now limit spare (record
-        { rest_old = R.rest script.old; rest_new = R.rest script.new; taken_old = W.taken out.old;
-        taken_new = W.taken out.new }) (Broken R.called (R.failed script.new) source_calls
+    ensures answers { CheckedAnswers plan.now cert.now limit spare (record {
+      rest_old = R.rest script.old;
+      rest_new = R.rest script.new;
+      taken_old = W.taken out.old;
+      taken_new = W.taken out.new;
+    }) (Broken R.called (R.failed script.new) source_calls
         script.old script.new) ((script.new ≡ script.old) × (out.new ≡ out.old)) result }
     ensures mark { W.failed out.new ≡ mark_after (W.failed out.old) result }
     ensures calls { CallsAtMost R.called source_calls script.old script.new }
@@ -57,9 +60,12 @@ fn run_allowed<A: Allocator + Copy, R: Source, W: Sink>(
         ≡ Yes }
     requires sound { IsSound plan.now limit spare }
     requires few_routes { HasFewRoutes plan.now limit }
-    ensures answers { CheckedAnswers plan.now cert.now limit spare (record
-        { rest_old = R.rest script.old; rest_new = R.rest script.new; taken_old = W.taken out.old;
-        taken_new = W.taken out.new }) (Broken R.called (R.failed script.new) source_calls
+    ensures answers { CheckedAnswers plan.now cert.now limit spare (record {
+      rest_old = R.rest script.old;
+      rest_new = R.rest script.new;
+      taken_old = W.taken out.old;
+      taken_new = W.taken out.new;
+    }) (Broken R.called (R.failed script.new) source_calls
         script.old script.new) ((script.new ≡ script.old) × (out.new ≡ out.old)) result }
     ensures mark { W.failed out.new ≡ mark_after (W.failed out.old) result }
     ensures calls { CallsAtMost R.called source_calls script.old script.new }

@@ -13,9 +13,9 @@ use crate::free_line::first_line;
 use crate::steps::{push_shut, push_walk};
 use crate::turns::turns_on_one;
 use std::alloc::Allocator;
+use tx_machine::Event;
 use tx_plan::{CodeId, ExchangeId, Plan};
 use tx_rank::{Finding, Walk};
-use tx_machine::Event;
 use tx_text::{Figures, NoMemory};
 
 /// The exchange where a walk ends.

@@ -9,9 +9,9 @@ ghost use Rattle.tx_audit.specs.Breaks.{ShowsOne};
 
 use crate::counters::counter;
 use std::alloc::Allocator;
+use tx_machine::Event;
 use tx_plan::Plan;
 use tx_rank::Finding;
-use tx_machine::Event;
 use tx_text::NoMemory;
 
 /// The events that show the first of some true findings that has any, if one has. `Err` means out

@@ -9,9 +9,9 @@ ghost use Rattle.tx_audit.specs.Scripts.{script_written};
 
 use crate::event_rules::all_event_rules;
 use std::alloc::Allocator;
+use tx_machine::Event;
 use tx_plan::Plan;
 use tx_script::write_event;
-use tx_machine::Event;
 use tx_text::{Sink, WriteFault, write_bytes};
 
 /// Writes a script of the events: the header, a line for each event, and END. The plan has the

@@ -19,8 +19,12 @@ pub fn simulate<A: Allocator + Copy, R: Source, W: Sink>(
     script: &mut R,
     out: &mut W,
 ) -> Result<Summary, RunFault>
-    ensures answers { Simulated plan.now (record { rest_old = R.rest script.old;
-        rest_new = R.rest script.new; taken_old = W.taken out.old; taken_new = W.taken out.new })
+    ensures answers { Simulated plan.now (record {
+      rest_old = R.rest script.old;
+      rest_new = R.rest script.new;
+      taken_old = W.taken out.old;
+      taken_new = W.taken out.new;
+    })
         (Broken R.called (R.failed script.new) source_calls script.old script.new)
         ((script.new ≡ script.old) × (out.new ≡ out.old)) result }
     ensures mark { W.failed out.new ≡ mark_after (W.failed out.old) result }

@@ -4,8 +4,8 @@ ghost use Rattle.tx_machine.specs.declared.event.Event.TheVariants.{Block, Unblo
 ghost use Rattle.tx_audit.specs.Counter.{listed_before, step_events, walk_events, shut_events};
 
 use std::alloc::Allocator;
-use tx_plan::{CodeId, ExchangeId, GroupId, Plan};
 use tx_machine::Event;
+use tx_plan::{CodeId, ExchangeId, GroupId, Plan};
 use tx_text::NoMemory;
 
 /// The groups that a list has before one of them.

@@ -57,5 +57,8 @@ module _ {A : Type 0} where
   slots_of s = map (option_map kept_of) s.slots
 
   abbrev pub calls_of : {S : Type 0} → Slab (OpenCall A) → IndexMap ℕ ℕ S → Calls
-  calls_of s m = record { slots = slots_of s;
-      call_room = s.capacity - slab_len s; number_room = index.spare m }
+  calls_of s m = record {
+    slots = slots_of s;
+    call_room = s.capacity - slab_len s;
+    number_room = index.spare m;
+  }

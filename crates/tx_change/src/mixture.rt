@@ -9,9 +9,9 @@ ghost use Rattle.tx_change.specs.MixtureShown.{has_walk, first_walked, ShowsMixt
 use crate::showing::shown;
 use std::alloc::{Allocator, Global};
 use tx_audit::counter;
+use tx_machine::Event;
 use tx_plan::Plan;
 use tx_rank::Finding;
-use tx_machine::Event;
 use tx_text::NoMemory;
 
 /// A mixture, and the events that show what is wrong with it, if there are some.

@@ -15,9 +15,9 @@ use std::alloc::Allocator;
 use tx_audit::AuditFault;
 use tx_cert::Cert;
 use tx_check::{Verdict, check};
+use tx_machine::{common_ranks_certify, live_change_is_sound};
 use tx_plan::Plan;
 use tx_rank::{Finding, Ranking};
-use tx_machine::{common_ranks_certify, live_change_is_sound};
 use tx_text::{Sink, WriteFault};
 
 /// Writes the report on a change of a plan into another one of the same network, list by list, for

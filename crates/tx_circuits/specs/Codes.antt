@@ -13,6 +13,11 @@ both_is BothWay = refl
 abbrev pub group_code : Coded Group
 group_code = code_by (List ℕ × (ℕ × (ℕ × (Bool × ℕ)))) (coded×
     (coded_list coded_ℕ) (coded× coded_ℕ (coded× coded_ℕ (coded× coded_bool coded_ℕ)))) (λ g.
-    (g.name, (g.a, (g.b, (is_both g.direction, g.count))))) (λ p. record { name = p.0; a = p.1.0;
-    b = p.1.1.0; direction = if p.1.1.1.0 then BothWay else OneWay; count = p.1.1.1.1 }) (λ g i.
+    (g.name, (g.a, (g.b, (is_both g.direction, g.count))))) (λ p. record {
+      name = p.0;
+      a = p.1.0;
+      b = p.1.1.0;
+      direction = if p.1.1.1.0 then BothWay else OneWay;
+      count = p.1.1.1.1;
+    }) (λ g i.
     record { name = g.name; a = g.a; b = g.b; direction = both_is g.direction i; count = g.count })

@@ -40,8 +40,15 @@ plan_of t = record no_plan { groups = t.groups }
 
 -- all circuits are free, and all groups up
 abbrev pub all_free : Plan → Table
-all_free p = record { groups = map unnamed p.groups; failed = set.empty; blocked = set.empty;
-    releasing = set.empty; out = set.empty; carried = set.empty; seized = set.empty }
+all_free p = record {
+  groups = map unnamed p.groups;
+  failed = set.empty;
+  blocked = set.empty;
+  releasing = set.empty;
+  out = set.empty;
+  carried = set.empty;
+  seized = set.empty;
+}
 
 -- Free at an exchange: no call carries the circuit, it is not releasing, it is not out of service,
 -- and the exchange has not seized it. A seizure from
@@ -65,13 +72,17 @@ pub record IsSeizedBy (t : Table) (c : Circuit) (x : ℕ) : Type 0 where
 
 -- the circuit is carried, and no longer seized
 abbrev pub with_held : Table → Circuit → Table
-with_held t c = record t { seized = set.retain t.seized (λ s. not (same_circuit s.0 c));
-    carried = set.insert t.carried c }
+with_held t c = record t {
+  seized = set.retain t.seized (λ s. not (same_circuit s.0 c));
+  carried = set.insert t.carried c;
+}
 
 -- the circuit is releasing, and no longer carried
 abbrev pub with_released : Table → Circuit → Table
-with_released t c = record t { carried = set.remove t.carried c;
-    releasing = set.insert t.releasing c }
+with_released t c = record t {
+  carried = set.remove t.carried c;
+  releasing = set.insert t.releasing c;
+}
 
 -- an exchange gave its seizure of the circuit up
 abbrev pub withdrawn : Table → Circuit → ℕ → Table
@@ -100,5 +111,12 @@ table_code = code_by (List Group
     (coded× (set.code coded_ℕ) (coded× (set.code coded_ℕ) (coded× (set.code coded_circuit)
     (coded× (set.code coded_circuit) (coded× (set.code coded_circuit) (set.code seat_code)))))))
     (λ t. (t.groups, (t.failed, (t.blocked, (t.releasing, (t.out, (t.carried, t.seized)))))))
-    (λ p. record { groups = p.0; failed = p.1.0; blocked = p.1.1.0; releasing = p.1.1.1.0;
-    out = p.1.1.1.1.0; carried = p.1.1.1.1.1.0; seized = p.1.1.1.1.1.1 }) (λ _. refl)
+    (λ p. record {
+      groups = p.0;
+      failed = p.1.0;
+      blocked = p.1.1.0;
+      releasing = p.1.1.1.0;
+      out = p.1.1.1.1.0;
+      carried = p.1.1.1.1.1.0;
+      seized = p.1.1.1.1.1.1;
+    }) (λ _. refl)

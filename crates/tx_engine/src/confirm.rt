@@ -11,8 +11,8 @@ ghost use Rattle.tx_engine.specs.inner.Sound.{IsSound, IsUnder, state_of};
 
 use crate::parts::Parts;
 use std::alloc::Allocator;
-use tx_plan::{Circuit, ExchangeId};
 use tx_machine::{Hop, Reply, far_of};
+use tx_plan::{Circuit, ExchangeId};
 
 impl<'p, A: Allocator + Copy> Parts<'p, A> {
     /// A call is confirmed.

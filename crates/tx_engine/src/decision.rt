@@ -11,8 +11,8 @@ ghost use Rattle.tx_engine.specs.inner.Decided.{decided};
 use std::alloc::Allocator;
 use tx_circuits::CircuitTable;
 use tx_lines::LineBook;
-use tx_plan::{Circuit, CodeId, ExchangeId, Line, Plan};
 use tx_machine::{OpenCall, Service, place_of};
+use tx_plan::{Circuit, CodeId, ExchangeId, Line, Plan};
 use tx_trie::CodeTrie;
 
 /// What becomes of a call that is routed.

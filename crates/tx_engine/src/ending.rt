@@ -12,8 +12,8 @@ use crate::parts::Parts;
 use std::alloc::Allocator;
 use tx_circuits::CircuitTable;
 use tx_lines::LineBook;
-use tx_plan::{Circuit, Plan};
 use tx_machine::{Cause, Hop, OpenCall, Party, Path, Phase, Reply, Ticket, far_of, place_of};
+use tx_plan::{Circuit, Plan};
 
 impl<'p, A: Allocator + Copy> Parts<'p, A> {
     /// A call is cleared.
@@ -77,8 +77,10 @@ fn ticket_of<A: Allocator>(plan: &Plan<A>, call: OpenCall<A>, cause: Cause, even
 
 /// The lines of a call are free.
 fn free_lines<A: Allocator>(lines: &mut LineBook<A>, call: &OpenCall<A>)
-    ensures { lines.new ≡ record lines.old { engaged = freed (call_seen call.now) lines.old.engaged;
-        room = lines.new.room } }
+    ensures { lines.new ≡ record lines.old {
+      engaged = freed (call_seen call.now) lines.old.engaged;
+      room = lines.new.room;
+    } }
 {
     lines.free(&call.line);
     match &call.phase {

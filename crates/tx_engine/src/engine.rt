@@ -10,8 +10,8 @@ use crate::parts::Parts;
 use crate::tickets::take_oldest;
 use std::alloc::{Allocator, Global};
 use std::marker::Model;
-use tx_plan::{Line, Plan};
 use tx_machine::{Event, Network, Reply, Ticket, refusal_of};
+use tx_plan::{Line, Plan};
 use tx_text::{Figures, NoMemory};
 
 /// The indexed network. It finds lines and circuits by index, and a call by its number, at worst by
@@ -33,8 +33,13 @@ impl<'p, A: Allocator> Model for Engine<'p, A> {
     ghost use Rattle.std.specs.Coded.{coded_ℕ, codes};
     ghost use Rattle.tx_plan.specs.Orders.{coded_circuit, coded_line, circuit_cmp, line_cmp};
 
-    ghost coded = { Prim.hlevel (codes, set.code {R = nat_cmp} coded_ℕ, set.code
-        {R = circuit_cmp} coded_circuit, set.code {R = line_cmp} coded_line) };
+    ghost coded = { Prim.hlevel (
+      codes,
+      set.code {R = nat_cmp} coded_ℕ,
+      set.code
+          {R = circuit_cmp} coded_circuit,
+      set.code {R = line_cmp} coded_line,
+    ) };
 
     ghost use Rattle.tx_engine.specs.inner.Sound.{IsSound, state_of};
 

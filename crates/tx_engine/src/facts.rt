@@ -1,8 +1,8 @@
 // What the engine knows of a call, a line, a circuit and a group.
 use crate::engine::Engine;
 use std::alloc::Allocator;
-use tx_plan::{Circuit, GroupId, Line};
 use tx_machine::{Facts, Phase};
+use tx_plan::{Circuit, GroupId, Line};
 
 impl<'p, A: Allocator + Copy> Facts for Engine<'p, A> {
     ghost plan = { λ n. n.plan };

@@ -19,8 +19,8 @@ ghost use Rattle.tx_engine.specs.inner.Sound.{IsSound, state_of};
 use crate::parts::Parts;
 use arrayvec::ArrayVec;
 use std::alloc::Allocator;
-use tx_plan::{Circuit, ExchangeId, GroupId};
 use tx_machine::{Cause, Reply};
+use tx_plan::{Circuit, ExchangeId, GroupId};
 
 /// Numbers of calls on a group. Each of its 240 circuits has at most two.
 type Users = ArrayVec<u32, 480>;

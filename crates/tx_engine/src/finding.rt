@@ -8,8 +8,8 @@ ghost use Rattle.tx_engine.specs.inner.Sound.{IsSound, state_of, IsUnder};
 
 use crate::parts::Parts;
 use std::alloc::Allocator;
-use tx_plan::Circuit;
 use tx_machine::{Party, Phase, Refusal};
+use tx_plan::Circuit;
 
 impl<'p, A: Allocator + Copy> Parts<'p, A> {
     /// The key of the call that is routed.

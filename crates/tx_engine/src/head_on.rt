@@ -15,8 +15,8 @@ ghost use Rattle.tx_engine.specs.inner.Sound.{IsSound, IsUnder, state_of};
 use crate::ending::throw_off;
 use crate::parts::Parts;
 use std::alloc::Allocator;
-use tx_plan::{Circuit, ExchangeId};
 use tx_machine::{Cause, Reply, Service};
+use tx_plan::{Circuit, ExchangeId};
 
 /// One of two calls that meet, with whether it had collided before at the exchange where it stands.
 #[derive(Clone, Copy)]

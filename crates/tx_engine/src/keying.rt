@@ -9,8 +9,8 @@ ghost use Rattle.tx_engine.specs.inner.Sound.{IsSound, IsReady, HasTicketRoom, s
 use crate::parts::Parts;
 use crate::tickets::{has_ticket_room, reserve_tickets};
 use std::alloc::Allocator;
-use tx_plan::Line;
 use tx_machine::{OpenCall, Phase, Refusal, Reply};
+use tx_plan::Line;
 use tx_text::{Figures, NoMemory};
 
 impl<'p, A: Allocator + Copy> Parts<'p, A> {

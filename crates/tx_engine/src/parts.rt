@@ -8,8 +8,8 @@ use std::collections::VecDeque;
 use tx_calls::{CircuitKeys, OpenCalls};
 use tx_circuits::CircuitTable;
 use tx_lines::LineBook;
-use tx_plan::Plan;
 use tx_machine::Ticket;
+use tx_plan::Plan;
 use tx_text::NoMemory;
 use tx_trie::CodeTrie;
 

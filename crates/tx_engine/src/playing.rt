@@ -6,8 +6,8 @@ ghost use Rattle.tx_machine.specs.State.{opening};
 
 use crate::engine::Engine;
 use std::alloc::{Allocator, Global};
-use tx_plan::Plan;
 use tx_machine::{Event, Network, Reply, Ticket, drive};
+use tx_plan::Plan;
 use tx_text::NoMemory;
 
 /// What a list of events came to.
@@ -36,8 +36,10 @@ pub fn play<'p, A: Allocator + Copy>(
         ≡ replies_to plan.now (opening numbers accepted) events.now) }
     ensures tickets { IfOk result (λ played. played.tickets.items
         ≡ (state_after plan.now (opening numbers accepted) events.now).tickets) }
-    ensures network { IfOk result (λ played. played.network ≡ record { plan = plan.now;
-        state = drained (state_after plan.now (opening numbers accepted) events.now) [] }) }
+    ensures network { IfOk result (λ played. played.network ≡ record {
+      plan = plan.now;
+      state = drained (state_after plan.now (opening numbers accepted) events.now) [];
+    }) }
 {
     match Engine::starting_at(alloc, plan, numbers, accepted) {
         Ok(network) => play_on(alloc, network, events),

@@ -14,8 +14,8 @@ use crate::decision::{Decision, decide};
 use crate::parts::Parts;
 use std::alloc::Allocator;
 use tx_lines::Status;
-use tx_plan::{Circuit, ExchangeId, Line};
 use tx_machine::{Cause, Phase, Reply, Service};
+use tx_plan::{Circuit, ExchangeId, Line};
 use tx_text::NoMemory;
 
 impl<'p, A: Allocator + Copy> Parts<'p, A> {

@@ -10,8 +10,8 @@ use crate::engine::Engine;
 use std::alloc::Allocator;
 use tx_circuits::CircuitTable;
 use tx_lines::LineBook;
-use tx_plan::{Circuit, Line};
 use tx_machine::{Event, Facts, Refusal, Reply};
+use tx_plan::{Circuit, Line};
 use tx_text::NoMemory;
 
 impl<'p, A: Allocator + Copy> Engine<'p, A> {

@@ -50,8 +50,11 @@ pub same_line_equiv : IsEquivalence same_line
 same_line_equiv = record {
   refl = same_line-itself;
   symm = λ l m. same_from_decides {P = same_line m l ≡ true} (same_line l m)
-    (same_line m l) (λ h. ap (λ z. same_line m z) (same_line-is l m h) ∙ same_line-itself m, λ h.
-    ap (λ z. same_line l z) (same_line-is m l h) ∙ same_line-itself l) (λ h. h, λ h. h);
+      (same_line m l) (
+        λ h. ap (λ z. same_line m z) (same_line-is l m h) ∙ same_line-itself m,
+        λ h.
+            ap (λ z. same_line l z) (same_line-is m l h) ∙ same_line-itself l,
+      ) (λ h. h, λ h. h);
   congr = λ l m n h. ap (λ z. same_line z n) (same_line-is l m h);
 }
 

@@ -74,8 +74,13 @@ impl<A: Allocator> Groups<A> {
     /// Appends a group.
     pub fn add(&mut self, name: NameKey, row: GroupRow) -> Result<(), NoMemory>
         requires { list_any (λ g. bytes_eq name g.name) self.old ≡ false }
-        ensures ok { OnOk result (self.new ≡ self.old ++ record { name = name;
-            a = row.a; b = row.b; direction = row.direction; count = row.count } ∷ []) }
+        ensures ok { OnOk result (self.new ≡ self.old ++ record {
+          name = name;
+          a = row.a;
+          b = row.b;
+          direction = row.direction;
+          count = row.count;
+        } ∷ []) }
         ensures err { OnErr result (self.new ≡ self.old) }
     {
         self.rows.add(name, row)

@@ -22,8 +22,12 @@ pub record Output : Type 1 where
 -- the source of one text
 abbrev pub input : {S : Type 0} → (rest : S → Option (List ℕ)) → (failed : S → Bool)
     → (called : ℕ → Result ℕ ReadFault → S → S → Type 0) → (old new : S) → Input
-input rest failed called old new = record { old = rest old;
-    new = rest new; broken = Broken called (failed new) source_calls old new; unread = new ≡ old }
+input rest failed called old new = record {
+  old = rest old;
+  new = rest new;
+  broken = Broken called (failed new) source_calls old new;
+  unread = new ≡ old;
+}
 
 -- the sink
 abbrev pub output : {W : Type 0} → (taken : W → Option (List ℕ)) → (old new : W) → Output
@@ -31,5 +35,9 @@ output taken old new = record { old = taken old; new = taken new; silent = new �
 
 -- what a run of the script moved
 abbrev pub bytes_moved : Input → Output → Bytes
-bytes_moved script out = record { rest_old = script.old;
-    rest_new = script.new; taken_old = out.old; taken_new = out.new }
+bytes_moved script out = record {
+  rest_old = script.old;
+  rest_new = script.new;
+  taken_old = out.old;
+  taken_new = out.new;
+}

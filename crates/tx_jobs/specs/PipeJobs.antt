@@ -11,8 +11,12 @@ use Rattle.tx_jobs.specs.Jobs.{PlanRead, PlanRefused, ScriptRan}
 
 -- the plan of an input, as an input of its own
 abbrev pub plan_in : Input → Input
-plan_in whole = record { old = option_map plan_part whole.old;
-    new = left_of_plan whole.old whole.new; broken = whole.broken; unread = whole.unread }
+plan_in whole = record {
+  old = option_map plan_part whole.old;
+  new = left_of_plan whole.old whole.new;
+  broken = whole.broken;
+  unread = whole.unread;
+}
 
 -- How many calls of the input so many calls for its script are, where each gave bytes: one fewer
 -- where these bytes of the script were read with the plan.
@@ -25,9 +29,13 @@ module _ {R : Type 0} (rest : R → Option (List ℕ)) (failed : R
   -- Its script as an input of its own. The plan was read from old to mid, and these bytes of the
   -- script with it, of which these are left.
   abbrev pub script_in : (old mid new : R) → (read left : List ℕ) → Input
-  script_in old mid new read left = record { old = option_map script_part (rest old);
-      new = prepend_known left (rest new); broken = (failed new ≡ true)
-      ⊎ Gave called (calls_behind read source_calls) mid new; unread = new ≡ mid }
+  script_in old mid new read left = record {
+    old = option_map script_part (rest old);
+    new = prepend_known left (rest new);
+    broken = (failed new ≡ true)
+        ⊎ Gave called (calls_behind read source_calls) mid new;
+    unread = new ≡ mid;
+  }
 
   -- The plan was read from old to mid, and then the script, which is what was read with the plan
   -- and what the input had yet.

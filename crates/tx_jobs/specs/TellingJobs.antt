@@ -14,8 +14,14 @@ pub record ToldPlan (p : Plan) (echo : Bool) (script : Input)
     (out : Output) (result : Result Summary JobFault) : Type 0 where
   pub state : State
   pub answer : Result Summary RunFault
-  pub ran : TellingAnswers p echo (record { rest_old = script.old; rest_new = script.new;
-      taken_old = out.old; taken_new = out.new; state_old = opening 0 0; state_new = state })
+  pub ran : TellingAnswers p echo (record {
+    rest_old = script.old;
+    rest_new = script.new;
+    taken_old = out.old;
+    taken_new = out.new;
+    state_old = opening 0 0;
+    state_new = state;
+  })
       script.broken ((script.unread × out.silent) × (state ≡ opening 0 0)) answer
   pub told : result ≡ told_run answer
 

@@ -9,8 +9,11 @@ use Rattle.tx_machine.specs.declared.event.Event.TheVariants.{Key, Route, Confir
 use Rattle.tx_script.specs.Events.{IsWritable, IsWritableCircuit}
 
 IsWritableCircuit-prop : (p : Plan) (x : Circuit) → IsProp (IsWritableCircuit p x)
-IsWritableCircuit-prop p x a b = λ i. record { group = le_prop a.group b.group i;
-    some = le_prop a.some b.some i; few = le_prop a.few b.few i }
+IsWritableCircuit-prop p x a b = λ i. record {
+  group = le_prop a.group b.group i;
+  some = le_prop a.some b.some i;
+  few = le_prop a.few b.few i;
+}
 
 IsWritable-prop : (p : Plan) (e : Event) → IsProp (IsWritable p e)
 IsWritable-prop p (Key l keyed) = le_prop

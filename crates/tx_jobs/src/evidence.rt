@@ -3,8 +3,8 @@ ghost use Rattle.tx_jobs.specs.Writables.{AreWritable, AreWritable-prop};
 
 use std::alloc::{Allocator, Global};
 use tx_cert::Cert;
-use tx_plan::Plan;
 use tx_machine::Event;
+use tx_plan::Plan;
 
 /// A plan, and events that can be written as a script for it. `evidence_job` says that they show
 /// what is wrong with the plan.

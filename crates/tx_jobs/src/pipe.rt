@@ -11,8 +11,8 @@ ghost use Rattle.tx_jobs.specs.PipeJobs.{PipeJobAnswers};
 
 use crate::job_fault::JobFault;
 use crate::simulate::simulate;
-use std::alloc::Allocator;
 use crate::{Ahead, PlanPart, ScriptPart};
+use std::alloc::Allocator;
 use tx_plan::Plan;
 use tx_plantext::{PlanFault, read_plan_from};
 use tx_script::Summary;

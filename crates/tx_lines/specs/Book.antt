@@ -55,5 +55,10 @@ abbrev pub coded_book : Coded Book
 coded_book = code_by (List LineRange × (set.FinSet line_cmp
     × (set.FinSet line_cmp × (set.FinSet line_cmp × ℕ)))) (coded× (coded_list coded_range) (coded×
     (set.code coded_line) (coded× (set.code coded_line) (coded× (set.code coded_line) coded_ℕ))))
-    (λ b. (b.ranges, (b.faulty, (b.away, (b.engaged, b.room))))) (λ p. record { ranges = p.0;
-    faulty = p.1.0; away = p.1.1.0; engaged = p.1.1.1.0; room = p.1.1.1.1 }) (λ _. refl)
+    (λ b. (b.ranges, (b.faulty, (b.away, (b.engaged, b.room))))) (λ p. record {
+      ranges = p.0;
+      faulty = p.1.0;
+      away = p.1.1.0;
+      engaged = p.1.1.1.0;
+      room = p.1.1.1.1;
+    }) (λ _. refl)

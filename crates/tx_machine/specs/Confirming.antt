@@ -21,8 +21,11 @@ far_of p c x = unwrap_or (other_end p x.group (place_of p c)) 0
 
 -- the call goes on over the circuit, and stands at its far exchange without collisions there
 abbrev pub carried_on : Circuit → ℕ → Call → Call
-carried_on x far c = record c { hops = c.hops ++ record { circuit = x; far = far } ∷ [];
-    phase = Standing; collided = false }
+carried_on x far c = record c {
+  hops = c.hops ++ record { circuit = x; far = far } ∷ [];
+  phase = Standing;
+  collided = false;
+}
 
 -- the call loses its circuit by a collision, and stands where it stood
 abbrev pub thrown_back : Call → Call
@@ -44,8 +47,11 @@ second_time c d k = (is_numbered c.number k && c.collided) || (is_numbered d.num
 -- one for which it is the second collision at its
 -- exchange ends with NC, one for which it is the first stands again.
 abbrev pub confirmed_by : Plan → State → Call → Circuit → Option Call → Reply × State
-confirmed_by p s c x None = (At (far_of p c x), record s
-    { calls = set_call c.number (carried_on x (far_of p c x)) s.calls })
+confirmed_by p s c x None = (
+  At (far_of p c x),
+  record s
+      { calls = set_call c.number (carried_on x (far_of p c x)) s.calls },
+)
 confirmed_by p s c x (Some d) = (
   HeadOn c.number d.number (not c.collided) (not d.collided),
   end_calls p (ByService Nc) (second_time c d) (collide c.number d.number x s),

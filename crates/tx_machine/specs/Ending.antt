@@ -41,7 +41,7 @@ end_calls p cause ends s =
     record s {
       calls = filter (λ c. not (ends c)) s.calls;
       releasing = set.union s.releasing
-        (set.from_list (given_up (filter ends s.calls) (filter (λ c. not (ends c)) s.calls)));
+          (set.from_list (given_up (filter ends s.calls) (filter (λ c. not (ends c)) s.calls)));
       tickets = s.tickets ++ map (ticket_of p cause (s.events + 1)) (filter ends s.calls);
     }
 

@@ -37,8 +37,10 @@ at_trunk p s c (Some x) =
 
 -- the line of a code whose national number is what was keyed after the code
 abbrev pub line_of : Plan → ℕ → List ℕ → Line
-line_of p code keyed = record { code = code;
-    national = unwrap_or (after (figures_of p code) keyed) [] }
+line_of p code keyed = record {
+  code = code;
+  national = unwrap_or (after (figures_of p code) keyed) [];
+}
 
 -- Without a code of the plan the call is answered NP. A call that has gone over no circuit, at an
 -- exchange barred for the code, is answered NA.

@@ -23,13 +23,22 @@ use Rattle.tx_machine.specs.Confirming.{confirmed}
 
 -- a new call stands where its line is, and has not collided
 abbrev pub keyed_call : ℕ → Line → List ℕ → ℕ → Call
-keyed_call n line keyed event = record { number = n;
-    line = line; keyed = keyed; keyed_at = event; hops = []; phase = Standing; collided = false }
+keyed_call n line keyed event = record {
+  number = n;
+  line = line;
+  keyed = keyed;
+  keyed_at = event;
+  hops = [];
+  phase = Standing;
+  collided = false;
+}
 
 -- a line calls: the call gets the next number
 abbrev pub keyed_in : State → Line → List ℕ → State
-keyed_in s line keyed = record s { numbers = s.numbers + 1;
-    calls = s.calls ++ keyed_call (s.numbers + 1) line keyed (s.events + 1) ∷ [] }
+keyed_in s line keyed = record s {
+  numbers = s.numbers + 1;
+  calls = s.calls ++ keyed_call (s.numbers + 1) line keyed (s.events + 1) ∷ [];
+}
 
 -- a group fails: the calls on it are lost, it is failed, and none of its circuits is releasing
 abbrev pub failed_at : Plan → ℕ → State → State

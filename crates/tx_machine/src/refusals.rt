@@ -130,8 +130,11 @@ fn of_released<N: Facts>(network: &N, circuit: &Circuit) -> Option<Refusal>
 
 /// The refusal of an event that makes a fact of a circuit so, or no longer so, by whether it is.
 fn of_circuit<N: Facts>(network: &N, circuit: &Circuit, is: bool, will: bool) -> Option<Refusal>
-    ensures { result ≡ first_true ((is_circuit (N.plan network.now) circuit.now && is_idle
-        is will, idle will) ∷ (not (is_circuit (N.plan network.now) circuit.now), UnknownCircuit)
+    ensures { result ≡ first_true ((
+      is_circuit (N.plan network.now) circuit.now && is_idle
+          is will,
+      idle will,
+    ) ∷ (not (is_circuit (N.plan network.now) circuit.now), UnknownCircuit)
         ∷ (nat_le (2 ^ 64 - 1) (N.state network.now).events, Exhausted) ∷ []) }
 {
     if !network.has_circuit(circuit) {
@@ -143,8 +146,11 @@ fn of_circuit<N: Facts>(network: &N, circuit: &Circuit, is: bool, will: bool) ->
 
 /// The refusal of an event that makes a fact of a group so, or no longer so, by whether it is.
 fn of_group<N: Facts>(network: &N, group: GroupId, is: bool, will: bool) -> Option<Refusal>
-    ensures { result ≡ first_true ((is_group (N.plan network.now) group
-        && is_idle is will, idle will) ∷ (not (is_group (N.plan network.now) group), UnknownCircuit)
+    ensures { result ≡ first_true ((
+      is_group (N.plan network.now) group
+          && is_idle is will,
+      idle will,
+    ) ∷ (not (is_group (N.plan network.now) group), UnknownCircuit)
         ∷ (nat_le (2 ^ 64 - 1) (N.state network.now).events, Exhausted) ∷ []) }
 {
     if !network.has_group(group) {

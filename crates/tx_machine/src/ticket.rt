@@ -32,6 +32,14 @@ impl<A: Allocator> Model for Ticket<A> {
 
     ghost Value = { Ended };
 
-    ghost view = { λ t. record { number = t.number; line = t.line; start = t.start; keyed = t.keyed;
-        cause = t.cause; keyed_at = t.keyed_at; ended_at = t.ended_at; path = t.path } };
+    ghost view = { λ t. record {
+      number = t.number;
+      line = t.line;
+      start = t.start;
+      keyed = t.keyed;
+      cause = t.cause;
+      keyed_at = t.keyed_at;
+      ended_at = t.ended_at;
+      path = t.path;
+    } };
 }

@@ -8,8 +8,8 @@ ghost use Rattle.tx_machine.specs.Call.{place_of, call_of};
 ghost use Rattle.tx_machine.specs.Seen.{call_seen};
 
 use std::alloc::Allocator;
-use tx_plan::{Circuit, ExchangeId, Line, Plan};
 use tx_machine::{OpenCall, Phase, place_of};
+use tx_plan::{Circuit, ExchangeId, Line, Plan};
 
 /// Whether two lines are one.
 pub(crate) fn same_line(a: &Line, b: &Line) -> bool

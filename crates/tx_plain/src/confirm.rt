@@ -19,8 +19,8 @@ use crate::ends::Ends;
 use crate::meeting::Meeting;
 use crate::plain::Plain;
 use std::alloc::Allocator;
-use tx_plan::Circuit;
 use tx_machine::{Cause, Hop, OpenCall, Phase, Reply, Service, far_of};
+use tx_plan::Circuit;
 
 impl<'p, A: Allocator + Copy> Plain<'p, A> {
     /// What a call meets that confirms.

@@ -13,8 +13,8 @@ use crate::calls::seizes;
 use crate::circuit_marks::CircuitMarks;
 use crate::ends::Ends;
 use std::alloc::Allocator;
-use tx_plan::{Circuit, GroupId, Plan};
 use tx_machine::{Cause, Hop, OpenCall, Path, Phase, Ticket};
+use tx_plan::{Circuit, GroupId, Plan};
 
 /// Whether the call ends.
 fn is_ended<A: Allocator>(call: &OpenCall<A>, ends: &Ends) -> bool

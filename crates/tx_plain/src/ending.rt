@@ -11,8 +11,8 @@ use crate::ended_calls::{count_ending, give_up, take_out};
 use crate::ends::Ends;
 use crate::plain::Plain;
 use std::alloc::Allocator;
-use tx_plan::GroupId;
 use tx_machine::{Cause, Party, Reply};
+use tx_plan::GroupId;
 
 impl<'p, A: Allocator + Copy> Plain<'p, A> {
     /// A call is cleared.
@@ -54,8 +54,10 @@ impl<'p, A: Allocator + Copy> Plain<'p, A> {
     /// An event ends calls, with one cause.
     pub(crate) fn end(&mut self, ends: &Ends, cause: Cause)
         requires { self.old.state.events < 2 ^ 64 - 1 }
-        ensures { self.new ≡ record self.old { state = record (end_calls self.old.plan cause
-            (ends_by ends.now) self.old.state) { events = self.old.state.events + 1 } } }
+        ensures { self.new ≡ record self.old {
+          state = record (end_calls self.old.plan cause
+              (ends_by ends.now) self.old.state) { events = self.old.state.events + 1 };
+        } }
     {
         self.events += 1;
         give_up(self.calls.as_slice(), ends, &mut self.marks.releasing);

@@ -2,8 +2,8 @@
 use crate::calls::{call_of, engaged_in};
 use crate::plain::Plain;
 use std::alloc::Allocator;
-use tx_plan::{Circuit, GroupId, Line};
 use tx_machine::{Facts, Phase};
+use tx_plan::{Circuit, GroupId, Line};
 
 impl<'p, A: Allocator + Copy> Facts for Plain<'p, A> {
     ghost plan = { λ n. n.plan };

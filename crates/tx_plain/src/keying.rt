@@ -5,8 +5,8 @@ ghost use Rattle.tx_machine.specs.declared.event.Event.TheVariants.{Key};
 
 use crate::plain::Plain;
 use std::alloc::Allocator;
-use tx_plan::Line;
 use tx_machine::{OpenCall, Phase, Reply};
+use tx_plan::Line;
 use tx_text::{Figures, NoMemory};
 
 impl<'p, A: Allocator + Copy> Plain<'p, A> {

@@ -6,8 +6,8 @@ ghost use Rattle.tx_plain.specs.inner.Marked.{marked_after, CanMark, no_marks};
 use crate::circuit_marks::CircuitMarks;
 use crate::group_marks::GroupMarks;
 use std::alloc::{Allocator, Global};
-use tx_plan::GroupId;
 use tx_machine::Event;
+use tx_plan::GroupId;
 use tx_text::NoMemory;
 
 /// Which groups are failed or blocked, and which circuits are releasing or out of service.
@@ -59,9 +59,14 @@ impl<A: Allocator> Marks<A> {
     pub(crate) fn fail(&mut self, group: GroupId)
         requires failed { group < self.old.failed.groups }
         requires releasing { group < self.old.releasing.groups }
-        ensures { self.new ≡ record self.old { failed = record self.old.failed { marked = set.insert
-            self.old.failed.marked group }; releasing = record self.old.releasing
-            { marked = set.retain self.old.releasing.marked (λ x. not (x.group == group)) } } }
+        ensures { self.new ≡ record self.old {
+          failed = record self.old.failed {
+            marked = set.insert
+                self.old.failed.marked group;
+          };
+          releasing = record self.old.releasing
+              { marked = set.retain self.old.releasing.marked (λ x. not (x.group == group)) };
+        } }
     {
         self.failed.set(group);
         self.releasing.clear_group(group);

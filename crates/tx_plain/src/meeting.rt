@@ -1,6 +1,6 @@
 // What a call meets on the circuit that it has seized.
-use tx_plan::Circuit;
 use tx_machine::Hop;
+use tx_plan::Circuit;
 
 /// What a call meets on the circuit that it has seized.
 #[derive(Clone, Copy)]

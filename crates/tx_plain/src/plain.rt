@@ -7,8 +7,8 @@ ghost use Rattle.tx_machine.specs.Refusals.{refusal};
 use crate::marks::Marks;
 use std::alloc::{Allocator, Global};
 use std::marker::Model;
-use tx_plan::{Line, Plan};
 use tx_machine::{Event, Network, OpenCall, Refusal, Reply, Ticket, refusal_of};
+use tx_plan::{Line, Plan};
 use tx_text::NoMemory;
 
 /// The plain network: it keeps lists and marks, as the definitions do, and goes through them. The
@@ -36,8 +36,13 @@ impl<'p, A: Allocator> Model for Plain<'p, A> {
     ghost use Rattle.std.specs.Coded.{coded_ℕ, codes};
     ghost use Rattle.tx_plan.specs.Orders.{coded_circuit, coded_line, circuit_cmp, line_cmp};
 
-    ghost coded = { Prim.hlevel (codes, set.code {R = nat_cmp} coded_ℕ, set.code
-        {R = circuit_cmp} coded_circuit, set.code {R = line_cmp} coded_line) };
+    ghost coded = { Prim.hlevel (
+      codes,
+      set.code {R = nat_cmp} coded_ℕ,
+      set.code
+          {R = circuit_cmp} coded_circuit,
+      set.code {R = line_cmp} coded_line,
+    ) };
 
     ghost use Rattle.tx_plain.specs.inner.Whole.{net_of, IsWhole};
 

@@ -20,8 +20,8 @@ use crate::plain::Plain;
 use crate::routing::Routing;
 use crate::truth::both;
 use std::alloc::Allocator;
-use tx_plan::{Circuit, CodeId, ExchangeId, Line, code_of, rest_after};
 use tx_machine::{Cause, Facts, Hop, OpenCall, Phase, Reply, Service, place_of};
+use tx_plan::{Circuit, CodeId, ExchangeId, Line, code_of, rest_after};
 use tx_text::NoMemory;
 
 impl<'p, A: Allocator + Copy> Plain<'p, A> {
@@ -156,8 +156,13 @@ impl<'p, A: Allocator + Copy> Plain<'p, A> {
         requires events { self.old.state.events < 2 ^ 64 - 1 }
         requires circuit { (x : _) → phase ≡ Calling x → is_circuit self.old.plan x ≡ true }
         ensures plan { self.new.plan ≡ self.old.plan }
-        ensures ok { IfOk result (λ r. counted (reply, record self.old.state { calls = set_call
-            number (in_phase phase) self.old.state.calls }) ≡ (r, self.new.state)) }
+        ensures ok { IfOk result (λ r. counted (
+          reply,
+          record self.old.state {
+            calls = set_call
+                number (in_phase phase) self.old.state.calls;
+          },
+        ) ≡ (r, self.new.state)) }
         ensures err { OnErr result (self.new ≡ self.old) }
     {
         reserve_hop(self.calls.as_mut_slice(), number)?;

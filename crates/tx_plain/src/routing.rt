@@ -1,6 +1,6 @@
 // What is done with a call that is routed.
-use tx_plan::{Circuit, Line};
 use tx_machine::Service;
+use tx_plan::{Circuit, Line};
 
 /// What is done with a call that is routed.
 #[derive(Clone, Copy)]

@@ -8,8 +8,8 @@ ghost use Rattle.tx_plain.specs.inner.Marked.{is_mark, faulty_after, away_after}
 use crate::lines::take_line;
 use crate::plain::Plain;
 use std::alloc::Allocator;
-use tx_plan::Line;
 use tx_machine::{Event, Reply};
+use tx_plan::Line;
 use tx_text::NoMemory;
 
 impl<'p, A: Allocator + Copy> Plain<'p, A> {

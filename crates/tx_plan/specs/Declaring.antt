@@ -125,8 +125,11 @@ route_group_refusals p pair groups =
     ∷ (nat_lt 16 (length groups), TooMany) ∷ []
 
 abbrev pub route_plan_refusals : Plan → Option Pair → List (List ℕ) → List (Bool × PlanRefusal)
-route_plan_refusals p pair groups = (holds_at pair (has_route p), Duplicate) ∷ (is_none pair
-    || list_any (λ g. not (has_group p g)) groups, Unknown) ∷ route_group_refusals p pair groups
+route_plan_refusals p pair groups = (holds_at pair (has_route p), Duplicate) ∷ (
+  is_none pair
+      || list_any (λ g. not (has_group p g)) groups,
+  Unknown,
+) ∷ route_group_refusals p pair groups
 
 abbrev pub route_refusals : Plan → List ℕ → List ℕ → List (List ℕ) → List (Bool × PlanRefusal)
 route_refusals p exchange code groups = route_word_refusals exchange code groups
@@ -163,13 +166,28 @@ with_lines p code low high =
     record p { ranges = p.ranges ++ record { code = code_at p code; low = low; high = high } ∷ [] }
 
 abbrev pub with_group : Plan → List ℕ → List ℕ → List ℕ → Direction → ℕ → Plan
-with_group p name a b direction count = record p { groups = p.groups ++ record { name = name;
-    a = exchange_at p a; b = exchange_at p b; direction = direction; count = count } ∷ [] }
+with_group p name a b direction count = record p {
+  groups = p.groups ++ record {
+    name = name;
+    a = exchange_at p a;
+    b = exchange_at p b;
+    direction = direction;
+    count = count;
+  } ∷ [];
+}
 
 abbrev pub with_route : Plan → List ℕ → List ℕ → List (List ℕ) → Plan
-with_route p exchange code groups = record p { routes = p.routes ++ record { exchange = exchange_at
-    p exchange; code = code_at p code; groups = map (group_at p) groups } ∷ [] }
+with_route p exchange code groups = record p {
+  routes = p.routes ++ record {
+    exchange = exchange_at
+        p exchange;
+    code = code_at p code;
+    groups = map (group_at p) groups;
+  } ∷ [];
+}
 
 abbrev pub with_bar : Plan → List ℕ → List ℕ → Plan
-with_bar p exchange code = record p { bars =
-    p.bars ++ record { exchange = exchange_at p exchange; code = code_at p code } ∷ [] }
+with_bar p exchange code = record p {
+  bars =
+      p.bars ++ record { exchange = exchange_at p exchange; code = code_at p code } ∷ [];
+}

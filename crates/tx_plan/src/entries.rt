@@ -198,8 +198,15 @@ pub(crate) fn group_entry<A: Allocator>(
         ≡ Some e) }
     ensures ok { OnOk result (first_true (group_refusals plan.now name.now a.now b.now count)
         ≡ None) }
-    ensures entry { IfOk result (λ e. e ≡ (name.now, record { a = exchange_at plan.now a.now;
-        b = exchange_at plan.now b.now; direction = direction; count = count })) }
+    ensures entry { IfOk result (λ e. e ≡ (
+      name.now,
+      record {
+        a = exchange_at plan.now a.now;
+        b = exchange_at plan.now b.now;
+        direction = direction;
+        count = count;
+      },
+    )) }
     ensures fresh { OnOk result (has_group plan.now name.now ≡ false) }
 {
     if !are_names(name, a, b) {
@@ -233,8 +240,10 @@ pub(crate) fn group_entry<A: Allocator>(
 /// The exchange and the code of two words.
 fn pair_of<A: Allocator>(plan: &Plan<A>, exchange: &[u8], code: &[u8]) -> Option<Pair>
     ensures pair { result ≡ pair_named plan.now exchange.now code.now }
-    ensures named { IfSome result (λ x. x ≡ record { exchange = exchange_at plan.now exchange.now;
-        code = code_at plan.now code.now }) }
+    ensures named { IfSome result (λ x. x ≡ record {
+      exchange = exchange_at plan.now exchange.now;
+      code = code_at plan.now code.now;
+    }) }
     ensures name { is_some result ≡ true → is_name exchange.now ≡ true }
     ensures figures { is_some result ≡ true → is_code code.now ≡ true }
 {
@@ -258,8 +267,10 @@ pub(crate) fn bar_entry<A: Allocator>(
     ensures err { IfErr result (λ e. first_true (bar_refusals plan.now exchange.now code.now)
         ≡ Some e) }
     ensures ok { OnOk result (first_true (bar_refusals plan.now exchange.now code.now) ≡ None) }
-    ensures entry { IfOk result (λ e. e ≡ record { exchange = exchange_at plan.now exchange.now;
-        code = code_at plan.now code.now }) }
+    ensures entry { IfOk result (λ e. e ≡ record {
+      exchange = exchange_at plan.now exchange.now;
+      code = code_at plan.now code.now;
+    }) }
     ensures fresh { IfOk result (λ e. is_barred plan.now e.exchange e.code ≡ false) }
 {
     if !is_name(exchange) {
@@ -375,8 +386,13 @@ pub(crate) fn route_entry<A: Allocator>(
         (λ e. first_true (route_refusals plan.now exchange.now code.now groups.entry) ≡ Some e) }
     ensures ok { OnOk result
         (first_true (route_refusals plan.now exchange.now code.now groups.entry) ≡ None) }
-    ensures entry { IfOk result (λ e. e ≡ (record { exchange = exchange_at plan.now exchange.now;
-        code = code_at plan.now code.now }, map (group_at plan.now) groups.entry)) }
+    ensures entry { IfOk result (λ e. e ≡ (
+      record {
+        exchange = exchange_at plan.now exchange.now;
+        code = code_at plan.now code.now;
+      },
+      map (group_at plan.now) groups.entry,
+    )) }
     ensures fresh { IfOk result (λ e. has_route plan.now e.0.exchange e.0.code ≡ false) }
 {
     let pair = pair_of(plan, exchange, code);

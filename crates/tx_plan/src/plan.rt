@@ -36,11 +36,23 @@ impl<A: Allocator> Model for Plan<A> {
 
     ghost Value = { Plan };
 
-    ghost view = { λ p. record { exchanges = p.exchanges;
-        codes = p.codes; ranges = p.ranges; groups = p.groups; routes = p.routes; bars = p.bars } };
+    ghost view = { λ p. record {
+      exchanges = p.exchanges;
+      codes = p.codes;
+      ranges = p.ranges;
+      groups = p.groups;
+      routes = p.routes;
+      bars = p.bars;
+    } };
 
-    ghost invariant = { λ p. IsPlan (record { exchanges = p.exchanges; codes = p.codes;
-        ranges = p.ranges; groups = p.groups; routes = p.routes; bars = p.bars }) };
+    ghost invariant = { λ p. IsPlan (record {
+      exchanges = p.exchanges;
+      codes = p.codes;
+      ranges = p.ranges;
+      groups = p.groups;
+      routes = p.routes;
+      bars = p.bars;
+    }) };
 }
 
 /// Counts, and entries by their places.

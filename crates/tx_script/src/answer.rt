@@ -10,8 +10,8 @@ ghost use Rattle.tx_script.specs.Answered.{EventAnswers, mark_with};
 
 use crate::run_cause::RunCause;
 use std::alloc::Allocator;
-use tx_plan::Plan;
 use tx_machine::{Event, Network, Reply};
+use tx_plan::Plan;
 use tx_text::{Sink, WriteFault};
 use tx_tickets::{write_reply, write_ticket};
 

@@ -6,8 +6,8 @@ use crate::answer::{Answered, answer};
 use crate::run_cause::RunCause;
 use crate::script_word::ScriptWord;
 use std::alloc::Allocator;
-use tx_plan::Plan;
 use tx_machine::{Event, Network};
+use tx_plan::Plan;
 use tx_text::{FaultAt, FaultKind, Sink};
 
 /// Answers a line of this number, whose words say an event or have a fault, over a network whose

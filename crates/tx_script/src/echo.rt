@@ -5,8 +5,8 @@ ghost use Rattle.tx_script.specs.Telling.{echo_asked, echo_text, number_text};
 use crate::event_text::write_said;
 use itoa::Buffer;
 use std::alloc::Allocator;
-use tx_plan::Plan;
 use tx_machine::Event;
+use tx_plan::Plan;
 use tx_text::{Sink, WriteFault, write_text};
 
 /// Writes the number of an event and its line, as `EVENT 2 ROUTE 1`, where that is asked for.

@@ -5,8 +5,8 @@ ghost use Rattle.tx_script.specs.Events.{event_in, IsWritable, IsEvent, EventsRe
 use crate::event_words::event_of;
 use crate::script_word::ScriptKind;
 use std::alloc::Allocator;
-use tx_plan::Plan;
 use tx_machine::Event;
+use tx_plan::Plan;
 use tx_text::{FaultKind, FrameFault, LineFault, bytes_fault, words};
 
 /// The event that one line of a script says, given without its LF and the CR before it. `Err` is

@@ -11,8 +11,8 @@ ghost use Rattle.tx_script.specs.Events.{IsWritable, IsEvent, event_in, event_li
 
 use itoa::Buffer;
 use std::alloc::Allocator;
-use tx_plan::{GroupId, Line, Plan};
 use tx_machine::{Event, Party};
+use tx_plan::{GroupId, Line, Plan};
 use tx_text::{Figures, Sink, WriteFault, write_text};
 use tx_tickets::write_circuit;
 

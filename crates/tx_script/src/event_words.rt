@@ -8,8 +8,8 @@ ghost use Rattle.tx_script.specs.Events.{event_of, event_by, BeginsWith, said_of
 use crate::script_word::ScriptWord;
 use crate::verb::Verb;
 use std::alloc::Allocator;
-use tx_plan::{Circuit, GroupId, Line, National, Plan};
 use tx_machine::{Event, Party};
+use tx_plan::{Circuit, GroupId, Line, National, Plan};
 use tx_text::{Figures, Words, number};
 
 /// The event of a line's words.

@@ -21,8 +21,8 @@ use crate::tally::Tally;
 use crate::verb::Verb;
 use itoa::Buffer;
 use std::alloc::Allocator;
-use tx_plan::Plan;
 use tx_machine::Network;
+use tx_plan::Plan;
 use tx_text::{
     FaultAt, FaultKind, FrameFault, FrameReader, FrameStep, FrameStop, LineFault, Sink, Source,
     WriteFault, write_parts,
@@ -48,9 +48,14 @@ pub fn run<A: Allocator, B: Allocator, N: Network, R: Source, W: Sink>(
     requires plan { N.plan net.old ≡ plan.now }
     requires fresh { IsFresh (N.state net.old) }
     ensures plan { N.plan net.new ≡ plan.now }
-    ensures answers { RunAnswers plan.now (record
-        { rest_old = R.rest source.old; rest_new = R.rest source.new; taken_old = W.taken sink.old;
-        taken_new = W.taken sink.new; state_old = N.state net.old; state_new = N.state net.new })
+    ensures answers { RunAnswers plan.now (record {
+      rest_old = R.rest source.old;
+      rest_new = R.rest source.new;
+      taken_old = W.taken sink.old;
+      taken_new = W.taken sink.new;
+      state_old = N.state net.old;
+      state_new = N.state net.new;
+    })
         (Broken R.called (R.failed source.new) source_calls source.old source.new)
         ((source.new ≡ source.old) × (sink.new ≡ sink.old) × (net.new ≡ net.old)) result }
     ensures mark { W.failed sink.new ≡ mark_after (W.failed sink.old) result }
@@ -85,9 +90,14 @@ fn run_lines<A: Allocator, B: Allocator, N: Network, R: Source, W: Sink>(
     requires plan { N.plan net.old ≡ plan.now }
     requires fresh { IsFresh (N.state net.old) }
     ensures plan { N.plan net.new ≡ plan.now }
-    ensures answers { RunAnswers plan.now (record
-        { rest_old = R.rest source.old; rest_new = R.rest source.new; taken_old = W.taken sink.old;
-        taken_new = W.taken sink.new; state_old = N.state net.old; state_new = N.state net.new })
+    ensures answers { RunAnswers plan.now (record {
+      rest_old = R.rest source.old;
+      rest_new = R.rest source.new;
+      taken_old = W.taken sink.old;
+      taken_new = W.taken sink.new;
+      state_old = N.state net.old;
+      state_new = N.state net.new;
+    })
         (Broken R.called (R.failed source.new) source_calls source.old source.new)
         ((source.new ≡ source.old) × (sink.new ≡ sink.old) × (net.new ≡ net.old)) result }
     ensures mark { W.failed sink.new ≡ mark_after (W.failed sink.old) result }
@@ -154,8 +164,12 @@ pub(crate) fn finish<N: Network, W: Sink>(
 ) -> Result<Summary, RunFault>
     requires { tally.now.answered < 2 ^ 63 }
     ensures summary { IfOk result
-        (λ s. s ≡ record { events = (N.state net.now).events; refused = tally.now.refused;
-        tickets = tally.now.tickets; open_calls = length (N.state net.now).calls }) }
+        (λ s. s ≡ record {
+          events = (N.state net.now).events;
+          refused = tally.now.refused;
+          tickets = tally.now.tickets;
+          open_calls = length (N.state net.now).calls;
+        }) }
     ensures ok { OnOk result (W.taken sink.new
         ≡ append_known (W.taken sink.old) (end_text (N.state net.now))) }
     ensures fault { IfErr result

@@ -30,8 +30,12 @@ impl Tally {
         requires answered { self.old.answered < 2 ^ 63 }
         requires refused { self.old.refused ≤ self.old.answered }
         requires tickets { self.old.tickets + event.tickets < 2 ^ 64 }
-        ensures { self.new ≡ record { answered = self.old.answered + 1; refused = self.old.refused
-            + cond event.refused 1 0; tickets = self.old.tickets + event.tickets } }
+        ensures { self.new ≡ record {
+          answered = self.old.answered + 1;
+          refused = self.old.refused
+              + cond event.refused 1 0;
+          tickets = self.old.tickets + event.tickets;
+        } }
     {
         self.answered += 1;
         self.refused += u64::from(event.refused);

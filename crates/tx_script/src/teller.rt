@@ -13,8 +13,8 @@ use crate::summary::Summary;
 use crate::tally::Tally;
 use crate::told::tell_line;
 use std::alloc::Allocator;
-use tx_plan::Plan;
 use tx_machine::Network;
+use tx_plan::Plan;
 use tx_text::{FaultKind, FrameFault, FrameReader, FrameStep, LineFault, Sink, Source};
 
 /// Runs a script as `run` does. Where the lines of events are asked for, the line of each stands
@@ -31,9 +31,14 @@ pub fn run_telling<A: Allocator, B: Allocator, N: Network, R: Source, W: Sink>(
     requires plan { N.plan net.old ≡ plan.now }
     requires fresh { IsFresh (N.state net.old) }
     ensures plan { N.plan net.new ≡ plan.now }
-    ensures answers { TellingAnswers plan.now echo (record
-        { rest_old = R.rest source.old; rest_new = R.rest source.new; taken_old = W.taken sink.old;
-        taken_new = W.taken sink.new; state_old = N.state net.old; state_new = N.state net.new })
+    ensures answers { TellingAnswers plan.now echo (record {
+      rest_old = R.rest source.old;
+      rest_new = R.rest source.new;
+      taken_old = W.taken sink.old;
+      taken_new = W.taken sink.new;
+      state_old = N.state net.old;
+      state_new = N.state net.new;
+    })
         (Broken R.called (R.failed source.new) source_calls source.old source.new)
         ((source.new ≡ source.old) × (sink.new ≡ sink.old) × (net.new ≡ net.old)) result }
     ensures mark { W.failed sink.new ≡ mark_after (W.failed sink.old) result }
@@ -68,9 +73,14 @@ fn tell_lines<A: Allocator, B: Allocator, N: Network, R: Source, W: Sink>(
     requires plan { N.plan net.old ≡ plan.now }
     requires fresh { IsFresh (N.state net.old) }
     ensures plan { N.plan net.new ≡ plan.now }
-    ensures answers { TellingAnswers plan.now echo (record
-        { rest_old = R.rest source.old; rest_new = R.rest source.new; taken_old = W.taken sink.old;
-        taken_new = W.taken sink.new; state_old = N.state net.old; state_new = N.state net.new })
+    ensures answers { TellingAnswers plan.now echo (record {
+      rest_old = R.rest source.old;
+      rest_new = R.rest source.new;
+      taken_old = W.taken sink.old;
+      taken_new = W.taken sink.new;
+      state_old = N.state net.old;
+      state_new = N.state net.new;
+    })
         (Broken R.called (R.failed source.new) source_calls source.old source.new)
         ((source.new ≡ source.old) × (sink.new ≡ sink.old) × (net.new ≡ net.old)) result }
     ensures mark { W.failed sink.new ≡ mark_after (W.failed sink.old) result }

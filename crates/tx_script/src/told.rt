@@ -8,8 +8,8 @@ use crate::echo::write_asked_echo;
 use crate::run_cause::RunCause;
 use crate::script_word::ScriptWord;
 use std::alloc::Allocator;
-use tx_plan::Plan;
 use tx_machine::{Event, Network};
+use tx_plan::Plan;
 use tx_text::{FaultAt, FaultKind, Sink};
 use tx_tickets::write_reply;
 

@@ -24,8 +24,12 @@ ended f bytes = record f {
   number = f.number + 1;
   start = f.start + length f.begun + length bytes + 1;
   begun = [];
-  line = Some (record { number = f.number + 1;
-    start = f.start; bytes = without_cr (f.begun ++ bytes); finished = true });
+  line = Some (record {
+    number = f.number + 1;
+    start = f.start;
+    bytes = without_cr (f.begun ++ bytes);
+    finished = true;
+  });
 }
 
 -- a fault stands from now on
@@ -83,7 +87,7 @@ finished f = record f {
   start = f.start + length f.begun;
   begun = [];
   line =
-    Some (record { number = f.number + 1; start = f.start; bytes = f.begun; finished = false });
+      Some (record { number = f.number + 1; start = f.start; bytes = f.begun; finished = false });
 }
 
 -- by an earlier fault, whether a line has begun, and what is wrong with it

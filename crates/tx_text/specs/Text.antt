@@ -28,8 +28,12 @@ lines_of_parts number start ([] ∷ []) = []
 lines_of_parts number start ((b ∷ bs) ∷ []) =
     record { number = number; start = start; bytes = b ∷ bs; finished = false } ∷ []
 lines_of_parts number start (part ∷ next ∷ parts) =
-    record { number = number; start = start; bytes = without_cr part;
-    finished = true } ∷ lines_of_parts (number + 1) (start + length part + 1) (next ∷ parts)
+    record {
+      number = number;
+      start = start;
+      bytes = without_cr part;
+      finished = true;
+    } ∷ lines_of_parts (number + 1) (start + length part + 1) (next ∷ parts)
 
 -- the lines of a text that begins with this line at this place
 unfoldable pub lines_from : ℕ → ℕ → List ℕ → List Line

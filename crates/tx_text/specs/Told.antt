@@ -120,8 +120,11 @@ unfed (Err x) piece = piece
 
 -- the feeder took what it could of the piece
 abbrev pub fed_on : Reading → Reading
-fed_on r = record { feed = feed_leaves r.feed r.piece;
-    piece = unfed (feed_gives r.feed r.piece) r.piece; left = r.left }
+fed_on r = record {
+  feed = feed_leaves r.feed r.piece;
+  piece = unfed (feed_gives r.feed r.piece) r.piece;
+  left = r.left;
+}
 
 -- Whether an unfinished line stands, or the fault of its bytes.
 abbrev pub ended_as : Result Bool TextFault → Result Bool LineFault
@@ -130,8 +133,17 @@ ended_as (Err x) = Err (Text x)
 
 -- nothing was read yet, and so many calls are allowed
 abbrev pub reading_of_calls : ℕ → Reading
-reading_of_calls calls = record { feed = record { number = 0;
-    start = 0; begun = []; line = None; fault = None }; piece = []; left = calls }
+reading_of_calls calls = record {
+  feed = record {
+    number = 0;
+    start = 0;
+    begun = [];
+    line = None;
+    fault = None;
+  };
+  piece = [];
+  left = calls;
+}
 
 -- nothing was read yet of a source
 abbrev pub reading_start : Reading

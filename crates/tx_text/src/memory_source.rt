@@ -21,8 +21,12 @@ impl<'a> Model for MemorySource<'a> {
 
     ghost Value = { Supply };
 
-    ghost view = { λ s. record { rest = s.rest.now;
-        piece = s.piece; fails_in = s.fails_in; failed = s.failed } };
+    ghost view = { λ s. record {
+      rest = s.rest.now;
+      piece = s.piece;
+      fails_in = s.fails_in;
+      failed = s.failed;
+    } };
 
     ghost invariant = { λ s. 0 < s.piece };
 }
@@ -31,8 +35,12 @@ impl<'a> MemorySource<'a> {
     /// A source of these bytes that has not been called. A piece is at least one byte.
     pub fn new(text: &'a [u8], piece: usize, fails_at: Option<u64>) -> MemorySource<'a>
         requires { 0 < piece }
-        ensures { result ≡ record { rest = text.now;
-            piece = piece; fails_in = fails_at; failed = false } }
+        ensures { result ≡ record {
+          rest = text.now;
+          piece = piece;
+          fails_in = fails_at;
+          failed = false;
+        } }
     {
         MemorySource {
             rest: text,

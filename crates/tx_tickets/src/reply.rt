@@ -11,8 +11,8 @@ use crate::line_room::LineRoom;
 use crate::words::{refusal_word, service_word, stands_word};
 use itoa::Buffer;
 use std::alloc::Allocator;
-use tx_plan::{Circuit, ExchangeId, Line, Plan};
 use tx_machine::Reply;
+use tx_plan::{Circuit, ExchangeId, Line, Plan};
 use tx_text::{Sink, WriteFault, write_bytes, write_parts};
 
 /// How many bytes the line of a reply may have at most.

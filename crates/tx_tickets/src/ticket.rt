@@ -9,8 +9,8 @@ ghost use Rattle.tx_tickets.specs.Texts.{hop_text, caller_text, events_text, why
 use crate::line_room::LineRoom;
 use crate::words::cause_word;
 use std::alloc::Allocator;
-use tx_plan::Plan;
 use tx_machine::{Hop, Ticket};
+use tx_plan::Plan;
 use tx_text::{Sink, WriteFault, write_bytes};
 
 /// How many bytes of a ticket's line may are in its room.

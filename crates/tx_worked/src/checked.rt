@@ -9,11 +9,11 @@ use std::alloc::{Allocator, Global};
 use tx_cert::read_cert;
 use tx_check::{Verdict, check};
 use tx_engine::{Engine, Played, play};
+use tx_machine::{Event, Network, Reply, Ticket, drive};
 use tx_plain::Plain;
 use tx_plan::Plan;
 use tx_plantext::read_plan;
 use tx_script::read_event;
-use tx_machine::{Event, Network, Reply, Ticket, drive};
 use tx_tickets::{write_reply, write_ticket};
 
 /// Adds the event that a line of a script says, if it says one.

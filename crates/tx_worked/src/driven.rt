@@ -3,10 +3,10 @@ use crate::cases::{Refusing, Told, tell_broken};
 use crate::runs::Over;
 use std::alloc::{Allocator, Global};
 use tx_engine::Engine;
+use tx_machine::{Event, Network, Reply, drive};
 use tx_plain::Plain;
 use tx_plan::Plan;
 use tx_plantext::read_plan;
-use tx_machine::{Event, Network, Reply, drive};
 use tx_text::NoMemory;
 
 /// How many replies are to accepted events.

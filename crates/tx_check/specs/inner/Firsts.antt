@@ -15,5 +15,8 @@ or_later (Some fault) later = Some fault
 
 -- what was found first, or else later
 abbrev pub firsts_or : Firsts → Firsts → Firsts
-firsts_or a b = record { short = or_later a.short b.short;
-    unranked = or_later a.unranked b.unranked; not_lower = or_later a.not_lower b.not_lower }
+firsts_or a b = record {
+  short = or_later a.short b.short;
+  unranked = or_later a.unranked b.unranked;
+  not_lower = or_later a.not_lower b.not_lower;
+}

@@ -67,8 +67,13 @@ first_place t end = find (free_in end t.states) (in_order (way_of end) (length t
 
 -- where no call holds a circuit, and it is in service
 abbrev pub idle : State
-idle = record { seized_first = false; seized_other = false;
-    carried = false; releasing = false; out = false }
+idle = record {
+  seized_first = false;
+  seized_other = false;
+  carried = false;
+  releasing = false;
+  out = false;
+}
 
 -- ALL CIRCUITS IN ONE VECTOR, GROUP BY GROUP
 

@@ -17,8 +17,13 @@ abbrev pub those : {K : Type 0} {R : K → K → Ordering} → (K → Bool) → 
 those p xs = set.from_list (filter p xs)
 
 abbrev pub group_of : GroupState → Group
-group_of t = record { name = []; a = t.head.a;
-    b = t.head.b; direction = t.head.direction; count = length t.states }
+group_of t = record {
+  name = [];
+  a = t.head.a;
+  b = t.head.b;
+  direction = t.head.direction;
+  count = length t.states;
+}
 
 -- the circuits of a group
 abbrev pub circuits_of : ℕ → GroupState → List Circuit

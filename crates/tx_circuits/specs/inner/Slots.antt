@@ -112,5 +112,10 @@ until n free k = nat_lt k n && free k
 
 -- no call holds the circuit any more; it stays out of service if it was
 abbrev pub cleared : State → State
-cleared s = record { seized_first = false; seized_other = false;
-    carried = false; releasing = false; out = s.out }
+cleared s = record {
+  seized_first = false;
+  seized_other = false;
+  carried = false;
+  releasing = false;
+  out = s.out;
+}

@@ -18,8 +18,10 @@ multiplied n = (n * 0x9e37_79b9_7f4a_7c15) % 2 ^ 64
 
 -- what is written goes into the word of before
 unfoldable pub written : WordHasher → List ℕ → WordHasher
-written h bs = record { word =
-    bit_xor (bit_xor (multiplied h.word) (first_word bs)) ((slice_index bs 8 * 2 ^ 28) % 2 ^ 64) }
+written h bs = record {
+  word =
+      bit_xor (bit_xor (multiplied h.word) (first_word bs)) ((slice_index bs 8 * 2 ^ 28) % 2 ^ 64);
+}
 
 -- 32 bits of the product: the lowest above its lower half, and with the upper eight of them the
 -- uppermost of its lower half

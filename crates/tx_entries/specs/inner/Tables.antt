@@ -11,8 +11,13 @@ code_of_row e = record { figures = e.0; home = e.1 }
 
 -- a name, and the rest of its group
 abbrev pub group_of_row : List ℕ × GroupRow → Group
-group_of_row e = record { name = e.0; a = e.1.a;
-    b = e.1.b; direction = e.1.direction; count = e.1.count }
+group_of_row e = record {
+  name = e.0;
+  a = e.1.a;
+  b = e.1.b;
+  direction = e.1.direction;
+  count = e.1.count;
+}
 
 -- the rest of a group beside its name
 abbrev pub row_of : Group → GroupRow

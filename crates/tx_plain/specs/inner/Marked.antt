@@ -55,8 +55,10 @@ module _ {A : Type 0} where
       record {
         failed = record { marked = failed_after e m.failed.marked; groups = m.failed.groups };
         blocked = record { marked = blocked_after e m.blocked.marked; groups = m.blocked.groups };
-        releasing = record { marked = releasing_after e m.releasing.marked;
-          groups = m.releasing.groups };
+        releasing = record {
+          marked = releasing_after e m.releasing.marked;
+          groups = m.releasing.groups;
+        };
         out = record { marked = out_after e m.out.marked; groups = m.out.groups };
       }
 

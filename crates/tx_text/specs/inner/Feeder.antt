@@ -6,8 +6,12 @@ use Rattle.tx_text.specs.declared.feeder.LineFeeder.TheInside.{Inside}
 
 -- The completed line that the fields hold.
 abbrev pub held_line : {A : Type 0} → Inside A → Line
-held_line a = record { number = a.number; start = a.line_start;
-    bytes = a.held.items; finished = a.finished }
+held_line a = record {
+  number = a.number;
+  start = a.line_start;
+  bytes = a.held.items;
+  finished = a.finished;
+}
 
 -- The feeder that the fields stand for: they hold either a line that has begun or a completed one.
 abbrev pub feed_of : {A : Type 0} → Inside A → Feed

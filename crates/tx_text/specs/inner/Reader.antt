@@ -7,8 +7,12 @@ use Rattle.tx_text.specs.declared.reader.TextReader.TheInside.{Inside}
 
 -- The line that stands whole in the buffer, where one is lent.
 abbrev pub lent_line : {A : Type 0} → Inside A → Line
-lent_line a = record { number = a.feeder.number; start = a.lent_start;
-    bytes = take (a.lent_to - a.lent_from) (drop a.lent_from a.piece); finished = true }
+lent_line a = record {
+  number = a.feeder.number;
+  start = a.lent_start;
+  bytes = take (a.lent_to - a.lent_from) (drop a.lent_from a.piece);
+  finished = true;
+}
 
 -- The feeder, with the line that is lent where one is.
 abbrev pub lending : {A : Type 0} → Inside A → Feed
@@ -16,8 +20,11 @@ lending a = record a.feeder { line = (if a.lent then Some (lent_line a) else a.f
 
 -- The reader that the fields stand for: of its buffer only a part is still to be fed.
 abbrev pub reading_of : {A : Type 0} → Inside A → Reading
-reading_of a = record { feed = lending a; piece = take (a.to - a.from) (drop a.from a.piece);
-    left = a.left }
+reading_of a = record {
+  feed = lending a;
+  piece = take (a.to - a.from) (drop a.from a.piece);
+  left = a.left;
+}
 
 -- What is true of the fields: the part lies within the buffer, and so does a line that is lent, and
 -- no line can be too far on to count.

@@ -4,8 +4,8 @@ use crate::twins::mood::{EventKind, next_kind};
 use crate::twins::picture::{KnownCall, Picture};
 use crate::twins::stray::stray;
 use arrayvec::ArrayVec;
-use tx_plan::{Circuit, GroupId, Line, National, Plan};
 use tx_machine::{Event, Party};
+use tx_plan::{Circuit, GroupId, Line, National, Plan};
 use tx_text::Figures;
 
 /// A figure.

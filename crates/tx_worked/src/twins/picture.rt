@@ -1,7 +1,7 @@
 // What the replies and the tickets tell of a network.
 use std::alloc::{Allocator, Global};
-use tx_plan::{Circuit, GroupId, Line};
 use tx_machine::{Event, Phase, Reply, Ticket};
+use tx_plan::{Circuit, GroupId, Line};
 use tx_text::NoMemory;
 
 /// A call that is open, as far as its replies and the tickets tell.

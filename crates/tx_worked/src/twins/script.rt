@@ -7,8 +7,8 @@ use crate::twins::stop::Differs;
 use crate::twins::tally::EventTally;
 use crate::twins::twins::{Mismatch, apply_to_both, compare_tickets};
 use std::alloc::{Allocator, Global};
-use tx_plan::Plan;
 use tx_machine::{Event, Network, Ticket};
+use tx_plan::Plan;
 use tx_text::NoMemory;
 
 /// The mood changes with each so many events.

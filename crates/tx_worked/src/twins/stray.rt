@@ -1,8 +1,8 @@
 // Events of any kind, of any things.
 use crate::twins::chance::Chance;
 use crate::twins::picture::Picture;
-use tx_plan::{Circuit, CodeId, GroupId, Line, National, Plan};
 use tx_machine::{Event, Party};
+use tx_plan::{Circuit, CodeId, GroupId, Line, National, Plan};
 use tx_text::Figures;
 
 /// A place below a count, or one of the two after it.
