@@ -310,7 +310,7 @@ def codes_defined():
     rows.update((b, a) for a, b in re.findall(r'refusal_text (\w+) = codes "(M\d+)"', text("tx_tickets", "Texts")))
     names = dict(row[:2] for row in codes_explained())
     rows.update((it, names.get(it)) for it in re.findall(r'(?:service|cause)_text \w+ = codes "(\w+)"', text("tx_tickets", "Texts")))
-    rows.update((b, a) for a, b in re.findall(r'fault_words p \((\w+)[ \w]*\) = codes "(K\d)"', text("tx_check", "Verdicts")))
+    rows.update((b, a) for a, b in re.findall(r'fault_words p \((\w+)[ \w]*\) =\s+codes "(K\d)"', text("tx_check", "Verdicts")))
     rows.update(re.findall(r'finding_line p \(\w+[ \w]*\) = codes "(F\d) (\w+) ', text("tx_audit", "Report")))
     rows.update(re.findall(r'codes "(F\d) (\w+) ', text("tx_mend_report", "MendText")))
     return rows
