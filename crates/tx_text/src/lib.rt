@@ -53,7 +53,7 @@ pub use numeral::number;
 pub use pieces::pieces_give_the_lines;
 pub use reader::TextReader;
 pub use short::Short;
-pub use sink::{Sink, WriteFault, write_bytes, write_parts, write_text};
+pub use sink::{Sink, WriteFault, write_bytes, write_parts};
 pub use slice_source::{SliceSource, slices_are_read_whole};
 pub use source::{ReadFault, Source};
 pub use split::words;

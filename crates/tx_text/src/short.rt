@@ -36,7 +36,7 @@ impl<const N: usize> PartialEq for Short<N> {
     ghost laws = { partial_equiv_from_equiv nat_list_eq_equiv };
 
     fn eq(&self, other: &Short<N>) -> bool {
-        self.len == other.len && same_bytes(&self.bytes, &other.bytes)
+        self.bytes() == other.bytes()
     }
 }
 
@@ -55,17 +55,11 @@ impl<const N: usize> Short<N> {
         requires room { N ≤ 255 }
         ensures { result ≡ text.now }
     {
-        // As many steps as there are places, so that a short text is made in registers.
         let mut bytes = [0; N];
-        let len = text.len();
-        for i in 0..N {
-            if i < len {
-                bytes[i] = text[i];
-            }
-        }
+        bytes[..text.len()].copy_from_slice(text);
         Short {
             bytes,
-            len: len as u8,
+            len: text.len() as u8,
         }
     }
 
@@ -83,15 +77,4 @@ impl<const N: usize> Short<N> {
     {
         &self.bytes
     }
-}
-
-/// Whether two arrays are alike, looked at several bytes at a time where their number is fixed.
-fn same_bytes<const N: usize>(one: &[u8; N], other: &[u8; N]) -> bool
-    ensures { result ≡ bytes_eq one.now other.now }
-{
-    let mut same = true;
-    for i in 0..N {
-        same = same & (one[i] == other[i]);
-    }
-    same
 }
