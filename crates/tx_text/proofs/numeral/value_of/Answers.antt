@@ -8,8 +8,8 @@ use Rattle.tx_text.proofs.numeral.value_of.Goals as goal
 
 figure_at : (text : List ℕ) (i : ℕ) → are_figures 1 10 text ≡ true → i < length text → is_figure (get_or text i 0) ≡ true
 figure_at text i all lt =
-    let figures = and_parts (nat_le 1 (length text)) (nat_le (length text) 10 && list_all is_figure text) all in
-    AllPass-from_list_all is_figure text (and_parts (nat_le (length text) 10) (list_all is_figure text) figures.1).1 i 0 lt
+    let figures = and_parts (nat_le 1 (length text) && nat_le (length text) 10) (list_all is_figure text) all in
+    AllPass-from_list_all is_figure text figures.1 i 0 lt
 
 pub loop-figure-preserved : goal.loop-figure-preserved
 loop-figure-preserved c =
