@@ -4,14 +4,14 @@ ghost use Rattle.std.specs.List.{list_all};
 ghost use Rattle.tx_text.specs.Padded.{padded_to};
 ghost use Rattle.tx_text.specs.Words.{figures_of, are_figures, is_figure};
 
-use crate::short::Short;
+use crate::inline_bytes::InlineBytes;
 use std::marker::Model;
 
 /// A text of 1 to 12 figures, as a caller keys it: a destination code (ITU-T F.69) and a national
 /// number.
-#[derive(Clone, Copy, PartialEq, Eq)]
+#[derive(Clone, Copy, Debug, PartialEq, Eq)]
 pub struct Figures {
-    text: Short<12>,
+    text: InlineBytes<12>,
 }
 
 impl Model for Figures {
@@ -35,7 +35,7 @@ impl Figures {
         ensures { result ≡ figures_of text.now }
     {
         if are_figures(text, 1, 12) {
-            let text = Short::new(text);
+            let text = InlineBytes::new(text);
             Some(Figures { text })
         } else {
             None
