@@ -4,6 +4,7 @@ ghost use Rattle.std.specs.List.{prefix_len};
 ghost use Rattle.std.specs.Iterator.{YieldsFirstBy, item_count};
 ghost use Rattle.tx_text.specs.Words.{words_of, is_blank, is_word_byte};
 
+use memchr::memchr3;
 use std::marker::Model;
 
 pub(crate) fn is_blank(byte: u8) -> bool
@@ -80,6 +81,22 @@ impl<'a> Words<'a> {
         }
     }
 
+    /// The words, where there are five and no more.
+    pub fn five(mut self) -> Option<(&'a [u8], &'a [u8], &'a [u8], &'a [u8], &'a [u8])>
+        ensures { MatchOption result (length self.entry ≢ 5)
+            (λ w. self.entry ≡ w.0.now ∷ w.1.now ∷ w.2.now ∷ w.3.now ∷ w.4.now ∷ []) }
+    {
+        let first = self.next()?;
+        let second = self.next()?;
+        let third = self.next()?;
+        let fourth = self.next()?;
+        let fifth = self.next()?;
+        match self.next() {
+            None => Some((first, second, third, fourth, fifth)),
+            Some(_) => None,
+        }
+    }
+
     /// The words that are left, to be given once more.
     pub fn again(&self) -> Words<'a>
         ensures { result ≡ self.now }
@@ -116,10 +133,7 @@ fn word_len(text: &[u8]) -> usize
     ensures within { result ≤ length text.now }
     ensures count { result ≡ prefix_len is_word_byte text.now }
 {
-    let end = text
-        .iter()
-        .position(|byte| is_blank(*byte) || *byte == b'#');
-    end.unwrap_or(text.len())
+    memchr3(b' ', b'\t', b'#', text).unwrap_or(text.len())
 }
 
 /// The first word, and what stands after it.
