@@ -1,10 +1,8 @@
 //! The texts of the product: their bytes, lines and words.
 //!
 //! A text comes from a `Source` in pieces, or is in a slice. `LineFeeder` cuts pieces into lines,
-//! `TextReader`
-//! reads the lines of a source, and `FrameReader` keeps the header, END and the numbers of lines.
-//! Texts go to a
-//! `Sink` by `write_bytes` and `write_parts`.
+//! `TextReader` reads the lines of a source, and `FrameReader` keeps the header, END and the numbers
+//! of lines. Texts go to a `Sink` by `write_bytes` and `write_parts`.
 #![tactic(auto)]
 
 mod feeder;
