@@ -4,7 +4,8 @@ use Rattle.std.specs.List.{prefix_len}
 use Rattle.std.proofs.Math.Numerals.{one-add}
 use Rattle.tx_text.specs.declared.frame.FramePart.TheVariants.{Body}
 use Rattle.tx_text.specs.declared.frame.LineForm.TheVariants.{Plain}
-use Rattle.tx_text.specs.Words.{words_of, is_blank, is_hash, is_word_byte}
+use Rattle.tx_text.specs.Words.{words_of, is_blank, is_hash}
+use Rattle.tx_text.specs.inner.Words.{is_word_byte}
 use Rattle.tx_text.specs.Frame.{looked}
 use Rattle.tx_text.proofs.WordLists.{cuts_word}
 

@@ -1,3 +1,9 @@
 pub mod Feeder
+pub mod Lines
 pub mod LinesLeft
+pub mod Memory
+pub mod Padded
 pub mod Reader
+pub mod TextLine
+pub mod Words
+pub mod Written

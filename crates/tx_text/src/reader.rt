@@ -4,7 +4,7 @@ ghost use Rattle.std.specs.Io.KnownBytes.{prepend_known, IsAtEnd};
 ghost use Rattle.tx_text.specs.Calls.{slice_calls, Gives, Went, Calls, CallsAtMost, Broken};
 ghost use Rattle.tx_text.specs.Feed.{feed_gives, finish_gives, finish_leaves, front_of, has_lf};
 ghost use Rattle.tx_text.specs.Text.{without_cr, bytes_fault};
-ghost use Rattle.tx_text.specs.TextLine.{line_of};
+ghost use Rattle.tx_text.specs.inner.TextLine.{line_of};
 ghost use Rattle.tx_text.specs.Told.{Advances, IsFeed, reading_place, reading_start, slice_start, reading_of_calls, reading_size, fed_on, lined, ended_as};
 
 use crate::feeder::LineFeeder;

@@ -1,5 +1,5 @@
 use Rattle.std.proofs.Common.{Ok, refl, ap, ◌∙◌, inl, inr, arith}
-use Rattle.tx_text.specs.TextLine.{line_of}
+use Rattle.tx_text.specs.inner.TextLine.{line_of}
 use Rattle.tx_text.specs.Told.{reading_place}
 use Rattle.tx_text.specs.Frame.{header_of}
 use Rattle.tx_text.specs.Framing.{to_come}
