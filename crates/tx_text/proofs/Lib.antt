@@ -15,6 +15,7 @@ pub mod InPieces
 pub mod ReaderFields
 pub mod ReadingOn
 pub mod Framing
+pub mod Advancing
 pub mod NoRoom
 pub mod Checking
 pub mod Saying
@@ -22,9 +23,9 @@ pub mod Wanting
 pub mod Sizes
 pub mod CallCounts
 pub mod Frames
-pub mod PlainLines
 pub mod Numbers
 pub mod WrittenWords
 pub mod ReadBack
 pub mod SliceAnswers
+pub mod Beside
 mod ReadCalls

@@ -1,3 +1,10 @@
+pub mod Beside
+pub mod CallsLeft
+pub mod Feed
 pub mod Feeder
-pub mod LinesLeft
+pub mod Pieces
+pub mod Reading
 pub mod Reader
+pub mod Framing
+pub mod FrameFields
+pub mod LinesLeft

@@ -1,6 +1,6 @@
 // Lines that come in pieces.
 ghost use Rattle.std.specs.Prelude.{◌≡◌, ◌+◌, ◌-◌, ◌^◌, ◌<◌, ◌≤◌, ◌++◌, true, false, IfOk, IfErr, IfNone, IfSome, IsSome, [], length, vec_len, vec_capacity};
-ghost use Rattle.tx_text.specs.Feed.{feed_gives, feed_leaves, begun_more, ended, faulted, line_fault, finish_gives, finish_leaves, finished};
+ghost use Rattle.tx_text.specs.inner.Feed.{feed_gives, feed_leaves, begun_more, ended, faulted, line_fault, finish_gives, finish_leaves, finished};
 ghost use Rattle.tx_text.specs.Text.{without_cr};
 ghost use Rattle.tx_text.specs.TextLine.{line_of};
 
@@ -30,7 +30,7 @@ pub struct LineFeeder<A: Allocator = Global> {
 }
 
 impl<A: Allocator> Model for LineFeeder<A> {
-    ghost use Rattle.tx_text.specs.Feed.{Feed};
+    ghost use Rattle.tx_text.specs.inner.Feed.{Feed};
 
     ghost Value = { Feed };
 
@@ -144,7 +144,7 @@ impl<A: Allocator> LineFeeder<A> {
     }
 
     /// Adds bytes to the line that has begun, and returns what is wrong with it then.
-    #[tactic(auto, unfolding(crate::specs::Feed::begun_fault))]
+    #[tactic(auto, unfolding(crate::specs::Text::begun_fault))]
     fn add(&mut self, front: &[u8], line: bool) -> Option<TextFault>
         requires begun { self.old.line ≡ None }
         requires fed { self.old.start + length self.old.begun + length front.now < 2 ^ 64 - 1 }

@@ -1,12 +1,13 @@
 use Rattle.std.proofs.Common.{◌≡◌, suc, refl, Bool, ap, ◌∙◌, sym, Ok, inl, inr, true, false, None, arith}
-use Rattle.tx_text.specs.Told.{reading_place, reading_size, Reading, IsFeed}
+use Rattle.tx_text.specs.inner.Reading.{reading_place, reading_size, Reading, IsFeed}
 use Rattle.tx_text.proofs.Sizes.{if_ok, on_ok, if_some, fed_left, fed_smaller, emptied}
 use Rattle.tx_text.proofs.CallCounts.{went_none, went_same, went_more, calls_so_far, calls_more, gave_all}
-use Rattle.tx_text.proofs.ReadingOn.{reads_none, says_at, adv_err, adv_line, on_empty, adv_cut, adv_end, after_fill, after_empty_fill}
+use Rattle.tx_text.proofs.Advancing.{says_at, adv_err, adv_line, on_empty, adv_cut, adv_end, after_fill, after_empty_fill}
+use Rattle.tx_text.proofs.Framing.{on_none}
 use Rattle.tx_text.proofs.reader.TextReader.advance.Goals as goal
 
 pub pieces-init : goal.pieces-init
-pieces-init g c = (reads_none _ _, c.requires, omega arith, went_none g.R.Source.called _ _, refl)
+pieces-init g c = (on_none _ _, c.requires, omega arith, went_none g.R.Source.called _ _, refl)
 
 pub returns-in-Err-clause-gives : goal.returns-in-Err-clause-gives
 returns-in-Err-clause-gives g c =

@@ -3,11 +3,10 @@ use Rattle.std.specs.Prelude.{◌≡◌, ℕ, true, false, List, [], ◌∷◌, 
 use Rattle.std.specs.List.{flat_map}
 use Rattle.tx_text.specs.declared.text_fault.TextFault.{TextFault}
 use Rattle.tx_text.specs.Text.{Line, lines_of, checked}
-use Rattle.tx_text.specs.Feed.{Feed, feed_gives, feed_leaves, finish_gives, finish_leaves}
+use Rattle.tx_text.specs.inner.Feed.{Feed, feed_gives, feed_leaves, finish_gives, finish_leaves}
 
 -- What a caller is given who feeds pieces to a line feeder, one after another and each until it is
--- taken, and then finishes: the lines up to the first
--- fault, and that fault.
+-- taken, and then finishes: the lines up to the first fault, and that fault.
 pub data FeedingGives : Feed → List (List ℕ) → List (Result Line TextFault) → Type 0 where
   taken : (f : Feed) (piece : List ℕ) (pieces : List (List ℕ))
       (items : List (Result Line TextFault))

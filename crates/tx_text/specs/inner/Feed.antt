@@ -2,11 +2,10 @@
 use Rattle.std.specs.Prelude.{ℕ, ◌+◌, Bool, true, false, nat_lt, List, [], ◌++◌, Option, None, Some, Result, Ok, Err, length, take, if◌then◌else◌}
 use Rattle.std.specs.List.{position_or_len}
 use Rattle.tx_text.specs.declared.text_fault.TextFault.{TextFault}
-use Rattle.tx_text.specs.declared.text_fault.TextFault.TheVariants.{LineTooLong}
 use Rattle.tx_text.specs.declared.feeder.Fed.{Fed}
-use Rattle.tx_text.specs.Text.{Line, is_lf, without_cr, bytes_fault}
+use Rattle.tx_text.specs.Text.{Line, is_lf, without_cr, bytes_fault, begun_fault}
 
--- A line feeder, as its callers see it.
+-- a line feeder, as its callers see it
 pub record Feed : Type 0 where
   pub number : ℕ  -- of lines that are complete
   pub start : ℕ  -- where the begun line starts
@@ -36,15 +35,11 @@ ended f bytes = record f {
 abbrev pub faulted : Feed → TextFault → Feed
 faulted f x = record f { begun = []; line = None; fault = Some x }
 
--- what is wrong with the begun line, whatever bytes follow
-unfoldable pub begun_fault : List ℕ → Option TextFault
-begun_fault bytes = if nat_lt 512 (length (without_cr bytes)) then Some LineTooLong else None
-
--- what stands before the first LF of a piece, and whether there is one
+-- what is before the first LF of a piece
 abbrev pub front_of : List ℕ → List ℕ
 front_of piece = take (position_or_len is_lf piece) piece
 
--- An LF is in the piece.
+-- whether an LF is in the piece
 abbrev pub has_lf : List ℕ → Bool
 has_lf piece = nat_lt (position_or_len is_lf piece) (length piece)
 
@@ -57,7 +52,7 @@ abbrev pub piece_fault : Feed → List ℕ → Option TextFault
 piece_fault f piece = line_fault (has_lf piece) (f.begun ++ front_of piece)
 
 -- what a call gives: by an earlier fault, the fault that the piece makes, whether an LF came, and
--- how many bytes stand before it
+-- how many bytes are before it
 abbrev pub gives_by : Option TextFault → Option TextFault → Bool → ℕ → Result Fed TextFault
 gives_by (Some x) p lf n = Err x
 gives_by None (Some x) lf n = Err x
@@ -105,7 +100,7 @@ ends_leaving f None false p = record f { line = None }
 ends_leaving f None true (Some x) = faulted f x
 ends_leaving f None true None = finished f
 
--- What the end of the text gives: whether an unfinished line stands, or its fault.
+-- what the end of the text gives: whether there is an unfinished line, or its fault
 abbrev pub finish_gives : Feed → Result Bool TextFault
 finish_gives f = ends_giving f.fault (nat_lt 0 (length f.begun)) (bytes_fault f.begun)
 
