@@ -144,10 +144,7 @@ fn risk_by<A: Allocator + Copy>(
     if !is_none_twice(words.again()) {
         return Err(RiskWord::RepeatedGroup);
     }
-    match add_risk(alloc, plan, risks, own, words) {
-        Ok(()) => Ok(()),
-        Err(_) => Err(RiskWord::NoMemory),
-    }
+    Ok(add_risk(alloc, plan, risks, own, words)?)
 }
 
 /// The words after RISK: a name, and one or more groups.

@@ -27,5 +27,6 @@ pub mod Numbers
 pub mod WrittenWords
 pub mod ReadBack
 pub mod SliceAnswers
+pub mod Starting
 pub mod Beside
 mod ReadCalls

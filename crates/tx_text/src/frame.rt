@@ -5,11 +5,9 @@ ghost use Rattle.tx_text.specs.Told.{frame_fault};
 ghost use Rattle.tx_text.specs.Rows.{frame_row};
 ghost use Rattle.tx_text.specs.Frame.{is_end, header_of, looked, closing, last_fault};
 ghost use Rattle.tx_text.specs.inner.Framing.{end_as};
-ghost use Rattle.tx_text.specs.declared.frame.FrameFault.TheVariants.{Read};
 ghost use Rattle.tx_text.specs.declared.frame.FaultKind.TheVariants.{Frame};
 
 use crate::line_words::Words;
-use crate::source::ReadFault;
 use crate::split::words;
 use crate::text_fault::TextFault;
 use std::fmt::Display;
@@ -51,14 +49,6 @@ impl From<TextFault> for FrameFault {
             TextFault::BadByte => FrameFault::BadByte,
             TextFault::NoMemory => FrameFault::NoMemory,
         }
-    }
-}
-
-impl From<ReadFault> for FrameFault {
-    ghost from_gives = { λ _ frame. frame ≡ Read };
-
-    fn from(_: ReadFault) -> FrameFault {
-        FrameFault::Read
     }
 }
 

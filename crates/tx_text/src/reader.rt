@@ -183,9 +183,13 @@ impl<A: Allocator> TextReader<A> {
         self.left -= 1;
         self.from = 0;
         self.to = 0;
-        let n = source.read(&mut self.piece)?;
-        self.to = n;
-        Ok(n > 0)
+        match source.read(&mut self.piece) {
+            Ok(n) => {
+                self.to = n;
+                Ok(n > 0)
+            }
+            Err(_) => Err(FrameFault::Read),
+        }
     }
 }
 
