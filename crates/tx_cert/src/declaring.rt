@@ -44,6 +44,7 @@ fn add_rank<A: Allocator>(
 }
 
 /// The words after RANK: a code, an exchange and a rank.
+#[tactic(auto, using(crate::proofs::Counts::rank_count))]
 fn rank_line<A: Allocator>(
     plan: &Plan<A>,
     cert: &mut Cert<A>,
@@ -56,20 +57,10 @@ fn rank_line<A: Allocator>(
     ensures codes { cert.new.codes ≡ cert.old.codes }
     ensures exchanges { cert.new.exchanges ≡ cert.old.exchanges }
 {
-    let mut words = words;
-    let Some(code) = words.next() else {
-        return Err(CertWord::WrongCount);
-    };
-    let Some(exchange) = words.next() else {
-        return Err(CertWord::WrongCount);
-    };
-    let Some(rank) = words.next() else {
-        return Err(CertWord::WrongCount);
-    };
-    if words.next().is_some() {
-        return Err(CertWord::WrongCount);
+    match words.three() {
+        Some((code, exchange, rank)) => add_rank(plan, cert, code, exchange, rank),
+        None => Err(CertWord::WrongCount),
     }
-    add_rank(plan, cert, code, exchange, rank)
 }
 
 /// What the line declares after the lines before it.

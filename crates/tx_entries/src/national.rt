@@ -4,12 +4,12 @@ ghost use Rattle.tx_text.specs.Padded.{padded_to};
 ghost use Rattle.tx_entries.specs.Numbers.{is_national};
 
 use std::marker::Model;
-use tx_text::{Short, are_figures};
+use tx_text::{InlineBytes, are_figures};
 
 /// A national number: 1 to 9 figures. Leading zeros count.
 #[derive(Clone, Copy, PartialEq, Eq)]
 pub struct National {
-    figures: Short<9>,
+    figures: InlineBytes<9>,
 }
 
 impl Model for National {
@@ -35,7 +35,7 @@ impl National {
         if !are_figures(text, 1, 9) {
             return None;
         }
-        let figures = Short::new(text);
+        let figures = InlineBytes::new(text);
         Some(National { figures })
     }
 

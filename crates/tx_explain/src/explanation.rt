@@ -7,7 +7,7 @@ ghost use Rattle.tx_explain.specs.Written.{entry_line, entry_text, told_text, ex
 
 use crate::asked::is_asked;
 use crate::code_table::{Entry, tables};
-use tx_text::{Sink, WriteFault, write_text};
+use tx_text::{Sink, WriteFault, write_parts};
 
 /// Writes each entry that a word asks for: its code with its name, what it means and what to do
 /// about it; without a word, a line for each code with its meaning.
@@ -67,7 +67,7 @@ fn write_entry<W: Sink>(entry: &Entry, sink: &mut W) -> Result<(), WriteFault>
         (entry_text (texts entry.now)) result }
 {
     let [code, name, meaning, advice] = entry;
-    write_text(
+    write_parts(
         &[
             code.as_bytes(),
             b" ",
@@ -87,7 +87,7 @@ fn write_line<W: Sink>(entry: &Entry, sink: &mut W) -> Result<(), WriteFault>
         (entry_line (texts entry.now)) result }
 {
     let [code, name, meaning, _] = entry;
-    write_text(
+    write_parts(
         &[
             code.as_bytes(),
             b" ",

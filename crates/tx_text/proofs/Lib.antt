@@ -1,9 +1,8 @@
 pub mod WordLists
-pub mod WordEnds
 pub mod Writing
 pub mod Wrote
 pub mod Places
-pub mod AlikeBytes
+pub mod PaddedTexts
 pub mod Blocks
 pub mod LineFaults
 pub mod FeederFields

@@ -4,14 +4,14 @@ ghost use Rattle.std.specs.List.{list_all};
 ghost use Rattle.tx_text.specs.Padded.{padded_to};
 ghost use Rattle.tx_text.specs.Words.{figures_of, are_figures, is_figure};
 
-use crate::short::Short;
+use crate::inline_bytes::InlineBytes;
 use std::marker::Model;
 
 /// A text of 1 to 12 figures, as a caller keys it: a destination code (ITU-T F.69) and a national
 /// number.
-#[derive(Clone, Copy, PartialEq, Eq)]
+#[derive(Clone, Copy, Debug, PartialEq, Eq)]
 pub struct Figures {
-    text: Short<12>,
+    text: InlineBytes<12>,
 }
 
 impl Model for Figures {
@@ -34,8 +34,8 @@ impl Figures {
     pub fn read(text: &[u8]) -> Option<Figures>
         ensures { result ≡ figures_of text.now }
     {
-        if !text.is_empty() && text.len() <= 12 && all_figures(text) {
-            let text = Short::new(text);
+        if are_figures(text, 1, 12) {
+            let text = InlineBytes::new(text);
             Some(Figures { text })
         } else {
             None
@@ -64,30 +64,11 @@ pub(crate) fn is_figure(byte: u8) -> bool
     b'0' <= byte && byte <= b'9'
 }
 
-/// Whether all these bytes are figures, looked at several at a time where their number is fixed.
-fn are_all_figures(bytes: &[u8]) -> bool
-    ensures { result ≡ list_all is_figure bytes.now }
-{
-    let mut all = true;
-    for byte in bytes {
-        all = all & is_figure(*byte);
-    }
-    all
-}
-
-/// Whether a text is figures. Of 4 to 16 bytes the front and the end are looked at in blocks, which
-/// may overlap.
+/// Whether a text is figures.
 pub(crate) fn all_figures(text: &[u8]) -> bool
     ensures { result ≡ list_all is_figure text.now }
 {
-    let len = text.len();
-    if len < 4 || len > 16 {
-        text.iter().all(|byte| is_figure(*byte))
-    } else if len < 8 {
-        are_all_figures(&text[..4]) & are_all_figures(&text[len - 4..])
-    } else {
-        are_all_figures(&text[..8]) & are_all_figures(&text[len - 8..])
-    }
+    text.iter().all(|byte| is_figure(*byte))
 }
 
 /// Whether the text is at least `least` and at most `most` figures, and nothing else.

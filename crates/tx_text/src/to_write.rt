@@ -7,7 +7,7 @@ use std::io::Write;
 /// A sink over a writer of the standard library. Any error of the writer is a failure, and so is a
 /// call that takes nothing; a failure stays one. It does not
 /// tell its bytes.
-#[derive(Drop)]
+#[derive(Debug, Drop)]
 pub struct ToWrite<W> {
     writer: W,
     failed: bool,

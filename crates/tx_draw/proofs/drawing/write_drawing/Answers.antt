@@ -1,7 +1,7 @@
 use Rattle.std.proofs.Common.{length}
 use Rattle.tx_text.proofs.Wrote.{wrote_then, wrote_first}
 use Rattle.tx_draw.specs.Drawing.{each_before, head, exchange_line, group_line}
-use Rattle.tx_draw.proofs.drawing.write_whole.Goals as goal
+use Rattle.tx_draw.proofs.drawing.write_drawing.Goals as goal
 
 pub returns-in_err-write_head : goal.returns-in_err-write_head
 returns-in_err-write_head g c =
@@ -17,4 +17,4 @@ returns-in_err-write_groups g c =
 
 pub returns : goal.returns
 returns g c =
-    wrote_then _ _ _ _ _ _ (head) _ _ c.in_ok-write_head.ensures (wrote_then _ _ _ _ _ _ (each_before (length c.args.plan.now.exchanges) (exchange_line c.args.plan.now)) _ _ c.in_ok-write_exchanges.ensures (wrote_then _ _ _ _ _ _ (each_before (length c.args.plan.now.groups) (group_line c.args.plan.now)) _ _ c.in_ok-write_groups.ensures (c.write_text.ensures)))
+    wrote_then _ _ _ _ _ _ (head) _ _ c.in_ok-write_head.ensures (wrote_then _ _ _ _ _ _ (each_before (length c.args.plan.now.exchanges) (exchange_line c.args.plan.now)) _ _ c.in_ok-write_exchanges.ensures (wrote_then _ _ _ _ _ _ (each_before (length c.args.plan.now.groups) (group_line c.args.plan.now)) _ _ c.in_ok-write_groups.ensures (c.write_parts.ensures)))

@@ -1,17 +1,16 @@
-// Short texts that are kept in place.
+// InlineBytes texts that are kept in place.
 ghost use Rattle.std.specs.Prelude.{◌≡◌, ◌≤◌, ◌-◌, ◌++◌, length, replicate, bytes_eq};
 
 use std::marker::Model;
 
-/// A text of at most N bytes, where N is at most 255. Behind the text stand zeros, so that all its
-/// bytes can be compared at once.
-#[derive(Clone, Copy)]
-pub struct Short<const N: usize> {
+/// A text of at most N bytes, where N is at most 255. Zeros fill the room after it.
+#[derive(Clone, Copy, Debug)]
+pub struct InlineBytes<const N: usize> {
     bytes: [u8; N],
     len: u8,
 }
 
-impl<const N: usize> Model for Short<N> {
+impl<const N: usize> Model for InlineBytes<N> {
     ghost use Rattle.std.specs.Prelude.{ℕ, List, ◌-◌, ◌++◌, length, take, replicate, refl};
     ghost use Rattle.tx_text.specs.Padded.{IsPadded};
 
@@ -26,7 +25,7 @@ impl<const N: usize> Model for Short<N> {
     ghost inverse_ok = { λ a h. Prim.rw (h.short, ← h.padded) refl };
 }
 
-impl<const N: usize> PartialEq for Short<N> {
+impl<const N: usize> PartialEq for InlineBytes<N> {
     ghost use Rattle.std.specs.Prelude.{bytes_eq};
     ghost use Rattle.std.specs.Cmp.{partial_equiv_from_equiv};
     ghost use Rattle.std.specs.Cmp.Lexicographic.{nat_list_eq_equiv};
@@ -35,37 +34,31 @@ impl<const N: usize> PartialEq for Short<N> {
 
     ghost laws = { partial_equiv_from_equiv nat_list_eq_equiv };
 
-    fn eq(&self, other: &Short<N>) -> bool {
-        self.len == other.len && same_bytes(&self.bytes, &other.bytes)
+    fn eq(&self, other: &InlineBytes<N>) -> bool {
+        self.bytes() == other.bytes()
     }
 }
 
-impl<const N: usize> Eq for Short<N> {
+impl<const N: usize> Eq for InlineBytes<N> {
     ghost use Rattle.std.specs.Cmp.Lexicographic.{nat_list_eq_equiv};
 
     ghost laws = { nat_list_eq_equiv };
 }
 
-impl<const N: usize> Short<N> {
+impl<const N: usize> InlineBytes<N> {
     ghost use Rattle.tx_text.specs.Padded.{padded_to};
 
     /// The text, of at most N bytes.
-    pub fn new(text: &[u8]) -> Short<N>
+    pub fn new(text: &[u8]) -> InlineBytes<N>
         requires text { length text.now ≤ N }
         requires room { N ≤ 255 }
         ensures { result ≡ text.now }
     {
-        // As many steps as there are places, so that a short text is made in registers.
         let mut bytes = [0; N];
-        let len = text.len();
-        for i in 0..N {
-            if i < len {
-                bytes[i] = text[i];
-            }
-        }
-        Short {
+        bytes[..text.len()].copy_from_slice(text);
+        InlineBytes {
             bytes,
-            len: len as u8,
+            len: text.len() as u8,
         }
     }
 
@@ -83,15 +76,4 @@ impl<const N: usize> Short<N> {
     {
         &self.bytes
     }
-}
-
-/// Whether two arrays are alike, looked at several bytes at a time where their number is fixed.
-fn same_bytes<const N: usize>(one: &[u8; N], other: &[u8; N]) -> bool
-    ensures { result ≡ bytes_eq one.now other.now }
-{
-    let mut same = true;
-    for i in 0..N {
-        same = same & (one[i] == other[i]);
-    }
-    same
 }
