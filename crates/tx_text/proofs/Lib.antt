@@ -22,6 +22,7 @@ pub mod Wanting
 pub mod Sizes
 pub mod CallCounts
 pub mod Frames
+pub mod Headers
 pub mod Numbers
 pub mod WrittenWords
 pub mod ReadBack

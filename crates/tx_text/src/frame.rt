@@ -164,19 +164,19 @@ pub fn is_end(words: Words<'_>) -> bool
     }
 }
 
+/// The version of the header that the words are, if they are one.
+#[tactic(auto, using(crate::proofs::Headers::header_count))]
 fn header(key: &[u8], most: u8, words: Words<'_>) -> Option<u8>
     ensures { result ≡ header_of key.now most words.entry }
 {
-    let mut words = words;
-    let first = words.next()?;
-    let second = words.next()?;
-    if words.next().is_some() || first != key {
+    let (first, version) = words.two()?;
+    if first != key {
         return None;
     }
-    if second == b"1".as_slice() {
+    if version == b"1".as_slice() {
         return Some(1);
     }
-    if most >= 2 && second == b"2".as_slice() {
+    if most >= 2 && version == b"2".as_slice() {
         return Some(2);
     }
     None
