@@ -63,7 +63,7 @@ SaysCert p text t = EndsAs text.old text.new (cert_of p) AtEnd (Ok t) × IsAtEnd
 abbrev pub ReadsCert : Plan → Input → Result Certificate (ℕ × FaultKind CertWord) → Type 0
 ReadsCert p text result =
     Answered is_memory text.old text.new (cert_of p) text.broken text.unread
-        (λ n. (n ≡ 1) × text.unread) result
+    (λ n. (n ≡ 1) × text.unread) result
 
 -- the line of an exchange that is ranked for a code, and no line of one that isn't
 abbrev pub rank_lines : Plan → ℕ → ℕ → Option ℕ → List (List (List ℕ))
