@@ -28,5 +28,6 @@ pub mod WrittenWords
 pub mod ReadBack
 pub mod SliceAnswers
 pub mod Starting
+pub mod Exits
 pub mod Beside
 mod ReadCalls
