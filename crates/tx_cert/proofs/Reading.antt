@@ -1,5 +1,5 @@
 -- Reading a certificate text.
-use Rattle.std.proofs.Common.{◌≡◌, ℕ, List, [], ◌∷◌, Option, None, Some, Result, Ok, Err, Bool, true, false, codes, refl, sym, ◌∙◌, ap, inl, inr}
+use Rattle.std.proofs.Common.{◌≡◌, ℕ, List, [], ◌∷◌, Option, None, Some, Result, Ok, Err, IfOk, IfErr, Bool, true, false, codes, refl, sym, ◌∙◌, ap, inl, inr}
 use Rattle.std.specs.Prelude.{if◌then◌else◌}
 use Rattle.std.specs.Str.{bytes_eq}
 use Rattle.tx_text.specs.declared.frame.FaultKind.{FaultKind}
@@ -7,7 +7,7 @@ use Rattle.tx_text.specs.declared.frame.FaultKind.TheVariants.{Frame, Word}
 use Rattle.tx_text.specs.Ends.{Input}
 use Rattle.tx_text.specs.Told.{Ending, AtEnd}
 use Rattle.tx_text.specs.Frame.{Framed, Done, Stop, Headed, Has, Stands}
-use Rattle.tx_text.specs.Said.{said, step_on, text_said, lines_within, ReadsText, AnswersAs, RefusedBy, FaultsBy, line_declares}
+use Rattle.tx_text.specs.Said.{said, step_on, Declared, text_said, lines_within, ReadsText, AnswersAs, RefusedBy, FaultsBy, line_declares}
 use Rattle.tx_plan.specs.Plan.{Plan}
 use Rattle.tx_cert.specs.declared.fault.CertWord.{CertWord}
 use Rattle.tx_cert.specs.declared.fault.CertWord.TheVariants.{UnknownWord, WrongCount, UnknownName, BadNumber, Duplicate, NoMemory}
@@ -19,6 +19,11 @@ pub any_version : (p : Plan) (v w : ℕ) (t : Certificate) (ws : List (List ℕ)
 unfolding declare
 any_version p v w t [] = refl
 any_version p v w t (x ∷ ws) = refl
+
+-- what a line declares, by the clauses of the code
+pub line_declared : (p : Plan) (v : ℕ) (t new : Certificate) (ws : List (List ℕ)) (r : Result (Unit {0}) CertWord) → IfOk r (λ _. declare p 1 t ws ≡ Ok new) → IfErr r (λ x. declare p 1 t ws ≡ Err x) → Declared (λ (x : CertWord). false) (declare p v t ws) new r
+line_declared p v t new ws (Ok x) ok err = any_version p v 1 t ws ∙ ok
+line_declared p v t new ws (Err x) ok err = any_version p v 1 t ws ∙ err
 
 -- no line takes memory
 abbrev NotMemory : Result Certificate CertWord → Type 0

@@ -1,13 +1,13 @@
 -- A text whose lines speak of something that stays as it is.
 use Rattle.std.proofs.Common.{◌≡◌, ℕ, ◌==◌, ◌||◌, Bool, true, false, List, Option, Result, Ok, Err, refl, sym, ap, ◌∙◌}
-use Rattle.std.specs.Result.{result_map_both}
+use Rattle.std.specs.Result.{is_ok, result_map_both}
 use Rattle.tx_text.specs.declared.frame.FrameFault.{FrameFault}
 use Rattle.tx_text.specs.declared.frame.FaultKind.{FaultKind}
 use Rattle.tx_text.specs.declared.frame.FaultKind.TheVariants.{Frame, Word}
 use Rattle.tx_text.specs.Ends.{Input}
 use Rattle.tx_text.specs.Told.{Ending, AtEnd}
 use Rattle.tx_text.specs.Frame.{Framed, Done, Stop, Headed, Has, is_read}
-use Rattle.tx_text.specs.Said.{said, step_on, goes_on, declares_at, lines_within, text_said, line_declares, WantingAt, is_no_room, RefusedBy, StoppedBy, Refused, Answered, FaultsBy, FaultsAs, AnswersAs}
+use Rattle.tx_text.specs.Said.{said, step_on, goes_on, declares_at, lines_within, text_said, line_declares, WantingAt, is_no_room, DeclaredBy, Declared, RefusedBy, StoppedBy, Refused, Answered, FaultsBy, FaultsAs, AnswersAs}
 use Rattle.tx_text.specs.inner.Beside.{beside, without}
 use Rattle.tx_text.proofs.Framing.{on_says, on_then, end_then, map_end, stands_map, stopped_map}
 
@@ -41,6 +41,19 @@ module _ {C S W : Type 0} (declare : C → ℕ → S → List (List ℕ) → Res
   without_it : {E : Type 0} (r : Result S E) → without (with_it r) ≡ r
   without_it (Ok s) = refl
   without_it (Err x) = refl
+
+  is_ok_with_it : {E : Type 0} (r : Result S E) → is_ok r ≡ true → is_ok (with_it r) ≡ true
+  is_ok_with_it (Ok s) h = h
+  is_ok_with_it (Err x) h = cc
+
+  -- what declaring did, where the state has it beside it
+  pub declared_beside : {U : Type 0} (memory : W → Bool) (v : ℕ) (s new : S) (ws : List (List ℕ)) (r : Result U W) → Declared memory (declare c v s ws) new r → Declared memory (beside declare v (c, s) ws) (c, new) r
+  declared_beside memory v s new ws (Ok x) h = ap with_it h
+  declared_beside memory v s new ws (Err x) h = by (memory x) h
+    where
+      by : (b : Bool) → DeclaredBy (declare c v s ws) b x → DeclaredBy (beside declare v (c, s) ws) b x
+      by true h = is_ok_with_it (declare c v s ws) h
+      by false h = ap with_it h
 
   module _ (key : List ℕ) (most : ℕ) (start : S) where
     back : (e : Ending) (text : List ℕ) → text_said (declare c) key most start e text ≡ without (text_said (beside declare) key most (c, start) e text)
