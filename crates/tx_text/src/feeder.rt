@@ -11,14 +11,14 @@ use std::alloc::{Allocator, Global};
 use std::marker::Model;
 
 /// What a call of `feed` did: how many bytes of the piece it took, and whether it completed a line.
-#[derive(Clone, Copy, PartialEq, Eq)]
+#[derive(Clone, Copy, Debug, PartialEq, Eq)]
 pub struct Fed {
     pub taken: usize,
     pub line: bool,
 }
 
 /// Cuts a text that comes in pieces into lines.
-#[derive(Drop)]
+#[derive(Debug, Drop)]
 pub struct LineFeeder<A: Allocator = Global> {
     held: Vec<u8, A>,
     number: u64,
@@ -64,8 +64,7 @@ impl<A: Allocator> LineFeeder<A> {
     }
 
     /// Counts a line that stands whole elsewhere, of so many bytes and an LF, and returns where it
-    /// starts. Where a line has begun here or a fault stands, it does
-    /// nothing.
+    /// starts. Where a line has begun here, or one was faulty, it does nothing.
     pub(crate) fn pass(&mut self, len: usize) -> Option<usize>
         requires { self.old.start + len + 1 < 2 ^ 64 - 1 }
         ensures start { IfSome result (λ start. start ≡ self.old.start) }

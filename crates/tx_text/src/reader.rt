@@ -20,7 +20,7 @@ use std::marker::Model;
 /// Reads a text from a source, line by line. A line that stands whole in the bytes that were read
 /// is lent from there, and the feeder holds the others.
 #[derive(Drop)]
-pub struct TextReader<A: Allocator = Global> {
+pub(crate) struct TextReader<A: Allocator = Global> {
     feeder: LineFeeder<A>,
     piece: [u8; 4096],
     from: usize,
