@@ -8,7 +8,7 @@ use Rattle.std.proofs.lemmas.Grind.{or_after_shift}
 use Rattle.std.proofs.lemmas.List.{length-replicate}
 use Rattle.std.proofs.lemmas.Nat.{le_bytes_8}
 use Rattle.std.proofs.lemmas.Slice.Eq.{bytes_eq-Decides}
-use Rattle.tx_text.specs.Padded.{IsPadded, padded_to}
+use Rattle.tx_text.specs.inner.Padded.{IsPadded, padded_to}
 use Rattle.tx_entries.proofs.Lists.{opposed}
 
 -- the number of its first four bytes, and of the others

@@ -1,7 +1,7 @@
 // The names of exchanges and groups, and the figures of codes, as keys.
 ghost use Rattle.std.specs.Prelude.{◌≡◌, ◌≤◌, length};
 ghost use Rattle.std.specs.Int.{w32, w64, from_le_bytes, to_le_bytes};
-ghost use Rattle.tx_text.specs.Padded.{padded_to};
+ghost use Rattle.tx_text.specs.inner.Padded.{padded_to};
 
 use std::hash::{Hash, Hasher};
 use std::marker::Model;
@@ -16,7 +16,7 @@ pub struct NameKey {
 
 impl Model for NameKey {
     ghost use Rattle.std.specs.Prelude.{ℕ, List, ◌<◌, ◌-◌, ◌++◌, length, take, replicate, get_or, refl};
-    ghost use Rattle.tx_text.specs.Padded.{IsPadded};
+    ghost use Rattle.tx_text.specs.inner.Padded.{IsPadded};
 
     ghost Value = { List ℕ };
 
@@ -53,7 +53,7 @@ impl Hash for NameKey {
     ghost use Rattle.std.specs.Prelude.{[], ◌∷◌};
     ghost use Rattle.std.proofs.Common.{ap};
     ghost use Rattle.std.specs.Cmp.Lexicographic.{bytes_decides};
-    ghost use Rattle.tx_text.specs.Padded.{padded_to};
+    ghost use Rattle.tx_text.specs.inner.Padded.{padded_to};
 
     ghost hash_input = { λ n. padded_to 8 n ∷ [] };
 

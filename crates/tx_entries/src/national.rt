@@ -1,6 +1,6 @@
 // National numbers.
 ghost use Rattle.std.specs.Prelude.{◌≡◌, ◌≤◌, true, length, if◌then◌else◌, Some, None};
-ghost use Rattle.tx_text.specs.Padded.{padded_to};
+ghost use Rattle.tx_text.specs.inner.Padded.{padded_to};
 ghost use Rattle.tx_entries.specs.Numbers.{is_national};
 
 use std::marker::Model;

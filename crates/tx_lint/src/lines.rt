@@ -1,7 +1,7 @@
 // The lines of a plan's text, all of them.
 ghost use Rattle.std.specs.Prelude.{◌≡◌, ◌++◌, [], true, None, IfOk, OnOk};
 ghost use Rattle.std.specs.Option.{option_to_list};
-ghost use Rattle.tx_text.specs.TextLine.{line_of};
+ghost use Rattle.tx_text.specs.inner.TextLine.{line_of};
 ghost use Rattle.tx_text.specs.Text.{bytes_fault};
 ghost use Rattle.tx_text.specs.Words.{words_of};
 ghost use Rattle.tx_lint.specs.AllFaults.{no_progress, form_of, fault_of_end};

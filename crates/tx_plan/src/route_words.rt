@@ -73,7 +73,7 @@ fn outgoing<A: Allocator>(plan: &Plan<A>, pair: &Pair, words: Words<'_>) -> Opti
     let mut rest = words;
     let mut list = GroupList::new();
     'words: loop {
-        match rest.next_of_many() {
+        match rest.next() {
             None => return Some(list),
             Some(word) => {
                 let group = group_of(plan, word)?;

@@ -2,7 +2,7 @@
 use Rattle.std.proofs.Common.{ℕ, ◌≤◌, List, ◌++◌, length, drop, replicate, ap, ap₂, sym}
 use Rattle.std.proofs.Math.Seq.{take-append_seam}
 use Rattle.std.proofs.lemmas.List.{drop-replicate}
-use Rattle.tx_text.specs.Padded.{IsPadded}
+use Rattle.tx_text.specs.inner.Padded.{IsPadded}
 
 pub padded_text : (room : ℕ) (text : List ℕ) → length text ≤ room → IsPadded room (length text) (text ++ drop (length text) (replicate room 0))
 padded_text room text fits =

@@ -1,17 +1,13 @@
 pub mod Text
 pub mod Words
-pub mod Padded
 pub mod Calls
 pub mod Ends
 pub mod Wrote
 pub mod ReadCalls
 pub mod Slices
-pub mod Memory
-pub mod TextLine
 pub mod Told
 pub mod Rows
 pub mod Frame
 pub mod Said
 pub mod Written
-pub mod Lines
 pub mod inner

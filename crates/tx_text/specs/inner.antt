@@ -1,4 +1,10 @@
-pub mod Beside
+pub mod Words
+pub mod Padded
+pub mod TextLine
+pub mod Lines
+pub mod LinesLeft
+pub mod Memory
+pub mod Written
 pub mod CallsLeft
 pub mod Feed
 pub mod Feeder
@@ -7,4 +13,4 @@ pub mod Reading
 pub mod Reader
 pub mod Framing
 pub mod FrameFields
-pub mod LinesLeft
+pub mod Beside

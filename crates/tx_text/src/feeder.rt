@@ -2,7 +2,7 @@
 ghost use Rattle.std.specs.Prelude.{◌≡◌, ◌+◌, ◌-◌, ◌^◌, ◌<◌, ◌≤◌, ◌++◌, true, false, IfOk, IfErr, IfNone, IfSome, IsSome, [], length, vec_len, vec_capacity};
 ghost use Rattle.tx_text.specs.inner.Feed.{feed_gives, feed_leaves, begun_more, ended, faulted, line_fault, finish_gives, finish_leaves, finished};
 ghost use Rattle.tx_text.specs.Text.{without_cr};
-ghost use Rattle.tx_text.specs.TextLine.{line_of};
+ghost use Rattle.tx_text.specs.inner.TextLine.{line_of};
 
 use crate::line::TextLine;
 use crate::line_bytes::{bytes_fault, lf_or_len, without_cr};

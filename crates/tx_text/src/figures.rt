@@ -1,7 +1,7 @@
 // Texts of figures.
 ghost use Rattle.std.specs.Prelude.{◌≡◌, ◌≤◌, true, length};
 ghost use Rattle.std.specs.List.{list_all};
-ghost use Rattle.tx_text.specs.Padded.{padded_to};
+ghost use Rattle.tx_text.specs.inner.Padded.{padded_to};
 ghost use Rattle.tx_text.specs.Words.{figures_of, are_figures, is_figure};
 
 use crate::inline_bytes::InlineBytes;

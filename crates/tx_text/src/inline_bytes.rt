@@ -12,7 +12,7 @@ pub struct InlineBytes<const N: usize> {
 
 impl<const N: usize> Model for InlineBytes<N> {
     ghost use Rattle.std.specs.Prelude.{ℕ, List, ◌-◌, ◌++◌, length, take, replicate, refl};
-    ghost use Rattle.tx_text.specs.Padded.{IsPadded};
+    ghost use Rattle.tx_text.specs.inner.Padded.{IsPadded};
 
     ghost Value = { List ℕ };
 
@@ -46,7 +46,7 @@ impl<const N: usize> Eq for InlineBytes<N> {
 }
 
 impl<const N: usize> InlineBytes<N> {
-    ghost use Rattle.tx_text.specs.Padded.{padded_to};
+    ghost use Rattle.tx_text.specs.inner.Padded.{padded_to};
 
     /// The text, of at most N bytes.
     pub fn new(text: &[u8]) -> InlineBytes<N>

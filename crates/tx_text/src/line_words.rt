@@ -2,9 +2,9 @@
 ghost use Rattle.std.specs.Prelude.{◌≡◌, ◌≢◌, ◌≤◌, ◌∷◌, [], length, MatchOption};
 ghost use Rattle.std.specs.List.{prefix_len};
 ghost use Rattle.std.specs.Iterator.{YieldsFirstBy, item_count};
-ghost use Rattle.tx_text.specs.Words.{words_of, is_blank, is_word_byte};
+ghost use Rattle.tx_text.specs.Words.{words_of, is_blank};
+ghost use Rattle.tx_text.specs.inner.Words.{is_word_byte};
 
-use memchr::memchr3;
 use std::marker::Model;
 
 pub(crate) fn is_blank(byte: u8) -> bool
@@ -133,7 +133,10 @@ fn word_len(text: &[u8]) -> usize
     ensures within { result ≤ length text.now }
     ensures count { result ≡ prefix_len is_word_byte text.now }
 {
-    memchr3(b' ', b'\t', b'#', text).unwrap_or(text.len())
+    let end = text
+        .iter()
+        .position(|byte| is_blank(*byte) || *byte == b'#');
+    end.unwrap_or(text.len())
 }
 
 /// The first word, and what stands after it.

@@ -2,7 +2,7 @@
 ghost use Rattle.std.specs.Prelude.{◌≡◌, ◌+◌, ◌-◌, ◌^◌, ◌<◌, ◌≤◌, ◌∷◌, [], length, IfSome, MatchOption};
 ghost use Rattle.std.specs.Iterator.{YieldsFirstBy, item_count};
 ghost use Rattle.tx_text.specs.Text.{lines_from, checked};
-ghost use Rattle.tx_text.specs.TextLine.{line_of, item_of};
+ghost use Rattle.tx_text.specs.inner.TextLine.{line_of, item_of};
 ghost use Rattle.tx_text.specs.inner.LinesLeft.{items_of};
 
 use crate::line::TextLine;
@@ -25,7 +25,7 @@ impl<'a> Model for Lines<'a> {
 
     ghost Value = { List (Result Line TextFault) };
 
-    ghost use Rattle.tx_text.specs.Lines.{items_left, IsLines};
+    ghost use Rattle.tx_text.specs.inner.Lines.{items_left, IsLines};
 
     ghost view = { items_left };
 

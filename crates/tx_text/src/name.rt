@@ -1,7 +1,8 @@
 // Names of exchanges and groups.
 ghost use Rattle.std.specs.Prelude.{◌≡◌, ◌≤◌, ◌||◌, true, length};
 ghost use Rattle.std.specs.List.{list_all};
-ghost use Rattle.tx_text.specs.Words.{name_of, is_name, is_letter, is_figure};
+ghost use Rattle.tx_text.specs.Words.{is_name, is_letter, is_figure};
+ghost use Rattle.tx_text.specs.inner.Words.{name_of};
 
 use crate::figures::is_figure;
 use crate::inline_bytes::InlineBytes;

@@ -3,7 +3,7 @@ ghost use Rattle.std.specs.Prelude.{◌≡◌, ◌+◌, ◌-◌, ◌^◌, ◌<�
 ghost use Rattle.std.specs.Io.KnownBytes.{prepend_known, IsAtEnd};
 ghost use Rattle.tx_text.specs.Calls.{slice_calls, Gives, CallsAtMost, Broken};
 ghost use Rattle.tx_text.specs.Text.{without_cr, bytes_fault};
-ghost use Rattle.tx_text.specs.TextLine.{line_of};
+ghost use Rattle.tx_text.specs.inner.TextLine.{line_of};
 ghost use Rattle.tx_text.specs.inner.CallsLeft.{Went, Calls};
 ghost use Rattle.tx_text.specs.inner.Feed.{feed_gives, finish_gives, finish_leaves, front_of, has_lf};
 ghost use Rattle.tx_text.specs.inner.Reading.{Advances, IsFeed, reading_place, reading_of_calls, reading_size, fed_on, lined, ended_as};

@@ -1,6 +1,6 @@
 use Rattle.std.proofs.Common.{drop, take, ap, ◌∙◌, arith}
 use Rattle.std.specs.Int.{w32, from_le_bytes}
-use Rattle.tx_text.specs.Padded.{padded_to}
+use Rattle.tx_text.specs.inner.Padded.{padded_to}
 use Rattle.tx_entries.proofs.NameWords.{word_of}
 use Rattle.tx_entries.proofs.name_key.word_of.Goals as goal
 

@@ -1,5 +1,5 @@
 use Rattle.std.proofs.Common.{◌≡◌, ◌∙◌}
-use Rattle.tx_text.specs.Padded.{padded_to}
+use Rattle.tx_text.specs.inner.Padded.{padded_to}
 use Rattle.tx_entries.proofs.NameWords.{bytes_of, are_bytes, front_of, is_padded}
 use Rattle.tx_entries.proofs.name_key.NameKey.new.Goals as goal
 
