@@ -1,7 +1,7 @@
 use Rattle.std.proofs.Common.{◌≡◌, ◌≤◌, ◌∙◌, Ok, refl, sym, ap, inr, arith, subst}
 use Rattle.tx_text.specs.declared.frame.LineForm.TheVariants.{Blank, Header, End}
 use Rattle.tx_text.specs.Frame.{header_of, is_read, ReadsOn}
-use Rattle.tx_text.specs.TextLine.{line_of}
+use Rattle.tx_text.specs.inner.TextLine.{line_of}
 use Rattle.tx_text.specs.inner.CallsLeft.{Went}
 use Rattle.tx_text.specs.inner.FrameFields.{frame_of}
 use Rattle.tx_text.specs.inner.Framing.{FrameReading, IsSound, to_come}
