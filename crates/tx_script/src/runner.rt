@@ -1,10 +1,9 @@
 // The run of a script over a network.
 ghost use Rattle.std.specs.Prelude.{◌≡◌, ◌+◌, ◌<◌, ◌^◌, true, OnOk, OnErr, IfOk, IfErr, codes, length, if◌then◌else◌};
 ghost use Rattle.std.specs.Io.KnownBytes.{append_known};
-ghost use Rattle.tx_text.specs.declared.frame.FramePart.TheVariants.{Start};
 ghost use Rattle.tx_text.specs.Calls.{CallsAtMost, Broken, source_calls};
 ghost use Rattle.tx_text.specs.Ends.{StopsIn};
-ghost use Rattle.tx_text.specs.Told.{reading_start};
+ghost use Rattle.tx_text.specs.inner.Framing.{frame_start};
 ghost use Rattle.tx_text.specs.Frame.{is_read};
 ghost use Rattle.tx_script.specs.Answers.{RunAnswers, IsFresh, mark_after};
 ghost use Rattle.tx_script.specs.Output.{end_line, end_text};
@@ -24,8 +23,8 @@ use std::alloc::Allocator;
 use tx_machine::Network;
 use tx_plan::Plan;
 use tx_text::{
-    FaultAt, FaultKind, FrameFault, FrameReader, FrameStep, FrameStop, LineFault, Sink, Source,
-    WriteFault, write_parts,
+    FaultAt, FaultKind, FrameFault, FrameReader, FrameStep, FrameStop, Sink, Source, WriteFault,
+    write_parts,
 };
 
 pub(crate) const KEY: &[u8] = b"SCRIPT";
@@ -63,12 +62,9 @@ pub fn run<A: Allocator, B: Allocator, N: Network, R: Source, W: Sink>(
 {
     match FrameReader::new(alloc, KEY, 1) {
         Ok(frame) => run_lines(frame, plan, net, source, sink),
-        Err(fault) => Err(RunFault {
+        Err(stop) => Err(RunFault {
             event: 1,
-            cause: script_fault(
-                1,
-                FaultKind::Frame(FrameFault::Line(LineFault::Text(fault))),
-            ),
+            cause: frame_cause(stop),
         }),
     }
 }
@@ -82,11 +78,7 @@ fn run_lines<A: Allocator, B: Allocator, N: Network, R: Source, W: Sink>(
     source: &mut R,
     sink: &mut W,
 ) -> Result<Summary, RunFault>
-    requires key { frame.key.now ≡ codes "SCRIPT" }
-    requires versions { frame.most ≡ 1 }
-    requires reader { frame.reader ≡ reading_start }
-    requires phase { frame.phase ≡ Start }
-    requires number { frame.number ≡ 1 }
+    requires start { frame ≡ frame_start (codes "SCRIPT") 1 source_calls }
     requires plan { N.plan net.old ≡ plan.now }
     requires fresh { IsFresh (N.state net.old) }
     ensures plan { N.plan net.new ≡ plan.now }
@@ -151,7 +143,7 @@ pub(crate) fn frame_cause(stop: FrameStop) -> RunCause
         else RunCause.Script (record { line = stop.line; kind = FaultKind.Frame stop.fault })) }
 {
     match stop.fault {
-        FrameFault::Line(LineFault::Read) => RunCause::Read,
+        FrameFault::Read => RunCause::Read,
         fault => script_fault(stop.line, FaultKind::Frame(fault)),
     }
 }

@@ -1,21 +1,20 @@
 // The run of a script over a network that tells the lines of events too.
 ghost use Rattle.std.specs.Prelude.{◌≡◌, codes};
-ghost use Rattle.tx_text.specs.declared.frame.FramePart.TheVariants.{Start};
 ghost use Rattle.tx_text.specs.Calls.{CallsAtMost, Broken, source_calls};
-ghost use Rattle.tx_text.specs.Told.{reading_start};
+ghost use Rattle.tx_text.specs.inner.Framing.{frame_start};
 ghost use Rattle.tx_script.specs.Answers.{IsFresh, mark_after};
 ghost use Rattle.tx_script.specs.TellingAnswers.{TellingAnswers};
 
 use crate::event_words::event_of;
 use crate::run_fault::RunFault;
-use crate::runner::{KEY, finish, frame_cause, script_fault};
+use crate::runner::{KEY, finish, frame_cause};
 use crate::summary::Summary;
 use crate::tally::Tally;
 use crate::told::tell_line;
 use std::alloc::Allocator;
 use tx_machine::Network;
 use tx_plan::Plan;
-use tx_text::{FaultKind, FrameFault, FrameReader, FrameStep, LineFault, Sink, Source};
+use tx_text::{FrameReader, FrameStep, Sink, Source};
 
 /// Runs a script as `run` does. Where the lines of events are asked for, the line of each stands
 /// before its reply, with its number, as `EVENT 2 ROUTE 1`.
@@ -46,12 +45,9 @@ pub fn run_telling<A: Allocator, B: Allocator, N: Network, R: Source, W: Sink>(
 {
     match FrameReader::new(alloc, KEY, 1) {
         Ok(frame) => tell_lines(frame, echo, plan, net, source, sink),
-        Err(fault) => Err(RunFault {
+        Err(stop) => Err(RunFault {
             event: 1,
-            cause: script_fault(
-                1,
-                FaultKind::Frame(FrameFault::Line(LineFault::Text(fault))),
-            ),
+            cause: frame_cause(stop),
         }),
     }
 }
@@ -65,11 +61,7 @@ fn tell_lines<A: Allocator, B: Allocator, N: Network, R: Source, W: Sink>(
     source: &mut R,
     sink: &mut W,
 ) -> Result<Summary, RunFault>
-    requires key { frame.key.now ≡ codes "SCRIPT" }
-    requires versions { frame.most ≡ 1 }
-    requires reader { frame.reader ≡ reading_start }
-    requires phase { frame.phase ≡ Start }
-    requires number { frame.number ≡ 1 }
+    requires start { frame ≡ frame_start (codes "SCRIPT") 1 source_calls }
     requires plan { N.plan net.old ≡ plan.now }
     requires fresh { IsFresh (N.state net.old) }
     ensures plan { N.plan net.new ≡ plan.now }
