@@ -32,7 +32,7 @@ impl<A: Allocator> Model for PlanLines<A> {
     ghost view = { λ lines. lines.plan };
 }
 
-impl<A: Allocator> PlanLines<A> {
+impl<A: Allocator + Copy> PlanLines<A> {
     /// Nothing was declared yet.
     fn new(alloc: A) -> PlanLines<A>
         ensures { result ≡ no_plan }
