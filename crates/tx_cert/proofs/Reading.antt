@@ -1,5 +1,5 @@
 -- Reading a certificate text.
-use Rattle.std.proofs.Common.{◌≡◌, ℕ, List, [], ◌∷◌, Option, None, Some, Result, Ok, Err, IfOk, IfErr, Bool, true, false, codes, refl, sym, ◌∙◌, ap, inl, inr}
+use Rattle.std.proofs.Common.{◌≡◌, ℕ, List, [], ◌∷◌, Option, None, Some, Result, Ok, Err, IfOk, IfErr, Bool, true, false, codes, refl, sym, ◌∙◌, ap, subst, inl, inr}
 use Rattle.std.specs.Prelude.{if◌then◌else◌}
 use Rattle.std.specs.Str.{bytes_eq}
 use Rattle.tx_text.specs.declared.frame.FaultKind.{FaultKind}
@@ -34,54 +34,25 @@ ranked_by_none : (t : Certificate) (code exchange : ℕ) (o : Option ℕ) (rank 
 ranked_by_none t code exchange None rank = tt
 ranked_by_none t code exchange (Some r) rank = refl
 
-rank_said_none : (t : Certificate) (code exchange rank : Option ℕ) → NotMemory (rank_said t code exchange rank)
-rank_said_none t None exchange rank = refl
-rank_said_none t (Some code) None rank = refl
-rank_said_none t (Some code) (Some exchange) None = refl
-rank_said_none t (Some code) (Some exchange) (Some rank) = ranked_by_none t code exchange (rank_at t code exchange) rank
-
-rank_line_none : (p : Plan) (t : Certificate) (ws : List (List ℕ)) → NotMemory (rank_line p t ws)
-rank_line_none p t [] = refl
-rank_line_none p t (code ∷ []) = refl
-rank_line_none p t (code ∷ exchange ∷ []) = refl
-rank_line_none p t (code ∷ exchange ∷ rank ∷ []) = rank_said_none t _ _ _
-rank_line_none p t (code ∷ exchange ∷ rank ∷ w ∷ ws) = refl
-
-declare_none : (p : Plan) (v : ℕ) (t : Certificate) (ws : List (List ℕ)) → NotMemory (declare p v t ws)
-unfolding declare
-declare_none p v t [] = refl
-declare_none p v t (w ∷ ws) =
-    elim (bytes_eq w (codes "RANK")) as (λ b. NotMemory (if b then rank_line p t ws else if bytes_eq w (codes "END") then Err WrongCount else Err UnknownWord)) [
-      | true ↦ rank_line_none p t ws
-      | false ↦ elim (bytes_eq w (codes "END")) as (λ b. NotMemory (if b then Err WrongCount else Err UnknownWord)) [ true ↦ refl | false ↦ refl ]
-    ]
-
--- so no text says that memory ran out
-abbrev NotMemoryAt : Result Certificate (ℕ × FaultKind CertWord) → Type 0
-NotMemoryAt (Ok t) = Unit {0}
-NotMemoryAt (Err (n, Frame k)) = Unit {0}
-NotMemoryAt (Err (n, Word x)) = is_memory x ≡ false
+rank_step_none : (p : Plan) (v n : ℕ) (f : Framed) → ((r : Certificate) → NotMemoryAt (said (declare p) v r f)) → (o : Result Certificate CertWord) → NotMemory o → NotMemoryAt (step_on (declare p) n o (λ r. said (declare p) v r f))
+step_none p v n f h (Ok r) k = h r
+step_none p v n f h (Err x) k = k
 
 said_none : (p : Plan) (v : ℕ) (t : Certificate) (f : Framed) → NotMemoryAt (said (declare p) v t f)
 unfolding said
 said_none p v t Done = tt
 said_none p v t (Stop n k) = tt
 said_none p v t (Headed w f) = said_none p w t f
-said_none p v t (Has n ws f) = by (declare p v t ws) (declare_none p v t ws)
-  where
-    by : (o : Result Certificate CertWord) → NotMemory o → NotMemoryAt (step_on (declare p) n o (λ r. said (declare p) v r f))
-    by (Ok r) h = said_none p v r f
-    by (Err x) h = h
+said_none p v t (Has n ws f) = step_none p v n f (λ r. said_none p v r f) (declare p v t ws) (declare_none p v t ws)
 
 never_by : (b : Bool) → b ≡ true → b ≡ false → ⊥
 never_by true h k = cc
 never_by false h k = cc
 
 never : (p : Plan) (e : Ending) (text : List ℕ) (n : ℕ) (x : CertWord) → cert_of p e text ≡ Err (n, Word x) → is_memory x ≡ true → ⊥
-never p e text n x h m = never_by (is_memory x) m (by (said_none p 1 (no_ranks_for p) (lines_within (codes "CERT") 1 e text)))
-  where
-    by : NotMemoryAt (cert_of p e text) → is_memory x ≡ false
-    by k = rw h at k
+never p e text n x h m =
+    let k : NotMemoryAt (cert_of p e text) = said_none p 1 (no_ranks_for p) (lines_within (codes "CERT") 1 e text) in
+    never_by (is_memory x) m (subst NotMemoryAt h k)
 
 module _ (p : Plan) where
   refused : (text : Input) (b : Bool) (n : ℕ) (x : CertWord) → is_memory x ≡ b → Stands text.old text.new (cert_of p) (Err (n, Word x)) → RefusedBy text.old text.new (cert_of p) (λ m. (m ≡ 1) × text.unread) b n x

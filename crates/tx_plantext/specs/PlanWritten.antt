@@ -67,6 +67,7 @@ abbrev pub line_at : {A : Type 0} → (A → List (List ℕ)) → List A → ℕ
 line_at words entries place =
     option_map_or (λ x. line_written (words x)) (slice_get entries place) []
 
+-- whether a plan has bars
 abbrev pub has_bars : Plan → Bool
 has_bars p = nat_lt 0 (length p.bars)
 
@@ -75,6 +76,7 @@ abbrev pub head_of : Bool → List (List ℕ)
 head_of false = codes "PLAN" ∷ codes "1" ∷ []
 head_of true = codes "PLAN" ∷ codes "2" ∷ []
 
+-- the version of the header
 abbrev pub version_of : Bool → ℕ
 version_of false = 1
 version_of true = 2
