@@ -1,8 +1,9 @@
-// Texts of figures.
-ghost use Rattle.std.specs.Prelude.{◌≡◌, ◌≤◌, true, length};
+// Texts of figures, and numbers in decimal figures.
+ghost use Rattle.std.specs.Prelude.{◌≡◌, ◌≤◌, true, length, Some, None, if◌then◌else◌};
 ghost use Rattle.std.specs.List.{list_all};
+ghost use Rattle.std.specs.Str.Parse.{digits_value};
 ghost use Rattle.tx_text.specs.inner.Padded.{padded_to};
-ghost use Rattle.tx_text.specs.Words.{figures_of, are_figures, is_figure};
+ghost use Rattle.tx_text.specs.Words.{figures_of, are_figures, is_figure, number_of};
 
 use crate::inline_bytes::InlineBytes;
 use std::marker::Model;
@@ -65,7 +66,7 @@ pub(crate) fn is_figure(byte: u8) -> bool
 }
 
 /// Whether a text is figures.
-pub(crate) fn all_figures(text: &[u8]) -> bool
+fn all_figures(text: &[u8]) -> bool
     ensures { result ≡ list_all is_figure text.now }
 {
     text.iter().all(|byte| is_figure(*byte))
@@ -77,4 +78,34 @@ pub fn are_figures(text: &[u8], least: usize, most: usize) -> bool
     ensures short { result ≡ true → length text.now ≤ most }
 {
     text.len() >= least && text.len() <= most && all_figures(text)
+}
+
+/// The number that the text is the decimal form of, without a sign or leading zeros, if it is at
+/// most `max`.
+pub fn number(text: &[u8], max: u32) -> Option<u32>
+    ensures { result ≡ number_of max text.now }
+{
+    let value = value_of(text)?;
+    if text.len() > 1 && text[0] == b'0' {
+        return None;
+    }
+    if value > max as u64 {
+        return None;
+    }
+    Some(value as u32)
+}
+
+/// The value of one to ten figures.
+fn value_of(text: &[u8]) -> Option<u64>
+    ensures { result ≡ (if are_figures 1 10 text.now
+        then Some (digits_value 10 text.now) else None) }
+{
+    if !are_figures(text, 1, 10) {
+        return None;
+    }
+    let mut value: u64 = 0;
+    for figure in text {
+        value = value * 10 + u64::from(*figure - b'0');
+    }
+    Some(value)
 }

@@ -19,7 +19,6 @@ mod memory_sink;
 mod memory_source;
 mod name;
 mod no_memory;
-mod numeral;
 mod pieces;
 mod reader;
 mod reading;
@@ -31,7 +30,7 @@ mod text_fault;
 mod to_write;
 
 pub use feeder::{Fed, LineFeeder};
-pub use figures::{Figures, are_figures};
+pub use figures::{Figures, are_figures, number};
 pub use frame::{
     FaultAt, FaultKind, FrameFault, FramePart, FrameStep, FrameStop, LineForm, closing, is_end,
     last_fault, look,
@@ -47,7 +46,6 @@ pub use memory_sink::MemorySink;
 pub use memory_source::MemorySource;
 pub use name::{Name, is_name};
 pub use no_memory::NoMemory;
-pub use numeral::number;
 pub use pieces::pieces_give_the_lines;
 pub use reading::{Declares, read_slice, read_text};
 pub use sink::{Sink, WriteFault, write_bytes, write_parts};

@@ -4,7 +4,7 @@ use Rattle.std.proofs.lemmas.Bool.{and_parts}
 use Rattle.std.proofs.lemmas.List.Sums.{AllPass-from_list_all}
 use Rattle.tx_text.specs.Words.{are_figures, is_figure}
 use Rattle.tx_text.proofs.Numbers.{value_more}
-use Rattle.tx_text.proofs.numeral.value_of.Goals as goal
+use Rattle.tx_text.proofs.figures.value_of.Goals as goal
 
 figure_at : (text : List ℕ) (i : ℕ) → are_figures 1 10 text ≡ true → i < length text → is_figure (get_or text i 0) ≡ true
 figure_at text i all lt =
