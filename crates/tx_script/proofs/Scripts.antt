@@ -5,9 +5,10 @@ use Rattle.tx_text.specs.declared.frame.FaultKind.{FaultKind}
 use Rattle.tx_text.specs.declared.frame.FaultKind.TheVariants.{Frame, Word}
 use Rattle.tx_text.specs.declared.frame.FramePart.TheVariants.{Start}
 use Rattle.tx_text.specs.declared.frame_reader.FrameReader.{FrameReader}
-use Rattle.tx_text.specs.Told.{Ending, AtEnd, reading_start, told_at}
+use Rattle.tx_text.specs.Told.{Ending, AtEnd, reading_start}
+use Rattle.tx_text.specs.inner.Reading.{told_at}
 use Rattle.tx_text.specs.Frame.{Framed, Done, Stop, Headed, Has, ReadsOn, EndsAs, Stopped, is_read}
-use Rattle.tx_text.specs.Framing.{to_come}
+use Rattle.tx_text.specs.inner.Framing.{to_come}
 use Rattle.tx_text.proofs.ReadingOn.{moves-nil}
 use Rattle.tx_text.proofs.Framing.{on_then, end_then, map_on, map_end, stopped_map}
 use Rattle.tx_plan.specs.Plan.{Plan}

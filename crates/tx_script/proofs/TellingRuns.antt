@@ -3,22 +3,21 @@ use Rattle.std.proofs.Common.{◌≡◌, ℕ, ◌+◌, ◌*◌, ◌^◌, ◌<◌
 use Rattle.std.specs.Prelude.{if◌then◌else◌}
 use Rattle.std.specs.List.{count_by}
 use Rattle.std.specs.Io.KnownBytes.{append_known, IsAtEnd}
-use Rattle.tx_text.specs.declared.text_fault.TextFault.TheVariants.{LineTooLong, BadByte, NoMemory as TextNoMemory}
-use Rattle.tx_text.specs.declared.line_fault.LineFault.TheVariants.{Text, Read as line_read}
+use Rattle.tx_text.specs.declared.frame.FrameFault.TheVariants.{LineTooLong, BadByte, NoMemory as TextNoMemory, Read as line_read, NoHeader, NoEnd, AfterEnd}
 use Rattle.tx_text.specs.declared.frame.FrameFault.{FrameFault}
-use Rattle.tx_text.specs.declared.frame.FrameFault.TheVariants.{Line as of_line, Form as of_form}
 use Rattle.tx_text.specs.declared.frame.FaultKind.{FaultKind}
 use Rattle.tx_text.specs.declared.frame.FaultKind.TheVariants.{Frame, Word}
 use Rattle.tx_text.specs.Calls.{source_calls}
 use Rattle.tx_text.specs.Ends.{StopsIn}
-use Rattle.tx_text.specs.Told.{Ending, AtEnd, reading_start, reading_size}
+use Rattle.tx_text.specs.Told.{Ending, AtEnd, reading_start}
+use Rattle.tx_text.specs.inner.Reading.{reading_size}
 use Rattle.tx_text.specs.Frame.{Framed, Done, Stop, Headed, Has, ReadsOn, EndsAs, Stopped, is_read}
 use Rattle.tx_text.specs.Text.{Line}
 use Rattle.tx_text.specs.declared.frame.FramePart.TheVariants.{Start}
 use Rattle.tx_text.specs.declared.frame.FrameStep.{FrameStep}
 use Rattle.tx_text.specs.declared.frame.FrameStep.TheVariants.{Header, Line as LineStep, End}
 use Rattle.tx_text.specs.declared.frame_reader.FrameReader.{FrameReader}
-use Rattle.tx_text.specs.Framing.{to_come, number_of_line, words_of_line, GoesOn}
+use Rattle.tx_text.specs.inner.Framing.{to_come, number_of_line, words_of_line, GoesOn}
 use Rattle.tx_text.specs.Said.{is_no_room}
 use Rattle.tx_text.proofs.NoRoom.{IsSaid, none_stops}
 use Rattle.tx_text.proofs.Writing.{append_known-nil, append_known_twice}
@@ -117,11 +116,13 @@ module _ (p : Plan) (echo : Bool) (a b : Option (List ℕ)) (s t : State) (u v :
       -- the frame is faulty, or the source failed
       stop_by : (n : ℕ) (k : FrameFault) → (is_no_room k ≡ true → ⊥) → Stopped a c (script_of p) broken (is_read k) (faulty es n (Frame k))
           → TellingAnswers p echo there broken untouched (Err (record { event = tally.answered + 1; cause = if is_read k then Read else OfScript (record { line = n; kind = Frame k }) }))
-      stop_by n (of_line line_read) none q = record { events = es; line = n; place = place; text = q.0; failed = q.1; ran = ran n (Frame (of_line line_read)) }
-      stop_by n (of_line (Text LineTooLong)) none q = record { events = es; place = place; text = q; ran = ran n (Frame (of_line (Text LineTooLong))) }
-      stop_by n (of_line (Text BadByte)) none q = record { events = es; place = place; text = q; ran = ran n (Frame (of_line (Text BadByte))) }
-      stop_by n (of_line (Text TextNoMemory)) none q = absurd (none refl)
-      stop_by n (of_form x) none q = record { events = es; place = place; text = q; ran = ran n (Frame (of_form x)) }
+      stop_by n line_read none q = record { events = es; line = n; place = place; text = q.0; failed = q.1; ran = ran n (Frame line_read) }
+      stop_by n LineTooLong none q = record { events = es; place = place; text = q; ran = ran n (Frame LineTooLong) }
+      stop_by n BadByte none q = record { events = es; place = place; text = q; ran = ran n (Frame BadByte) }
+      stop_by n TextNoMemory none q = absurd (none refl)
+      stop_by n NoHeader none q = record { events = es; place = place; text = q; ran = ran n (Frame NoHeader) }
+      stop_by n NoEnd none q = record { events = es; place = place; text = q; ran = ran n (Frame NoEnd) }
+      stop_by n AfterEnd none q = record { events = es; place = place; text = q; ran = ran n (Frame AfterEnd) }
 
       pub stop_ends : (n : ℕ) (k : FrameFault) → ((e : Ending) (more : List ℕ) → IsSaid (T e more)) → Stopped b c T broken (is_read k) (Stop n k)
           → f ≡ record { event = tally.answered + 1; cause = if is_read k then Read else OfScript (record { line = n; kind = Frame k }) } → TellingAnswers p echo there broken untouched (Err f)

@@ -3,8 +3,7 @@ use Rattle.std.specs.Prelude.{◌≡◌, ◌⊎◌, ℕ, ◌+◌, Bool, true, fa
 use Rattle.std.specs.Io.KnownBytes.{append_known}
 use Rattle.tx_text.specs.declared.frame.FaultKind.{FaultKind}
 use Rattle.tx_text.specs.declared.frame.FaultKind.TheVariants.{Frame}
-use Rattle.tx_text.specs.declared.frame.FrameFault.TheVariants.{Line as of_line}
-use Rattle.tx_text.specs.declared.line_fault.LineFault.TheVariants.{Read as line_read}
+use Rattle.tx_text.specs.declared.frame.FrameFault.TheVariants.{Read as line_read}
 use Rattle.tx_text.specs.Ends.{StopsIn}
 use Rattle.tx_text.specs.Told.{Cut}
 use Rattle.tx_text.specs.Frame.{EndsAs, Stands}
@@ -98,9 +97,9 @@ pub record ToldToCut (p : Plan) (echo : Bool)
   pub line : ℕ
   pub place : event ≡ length events + 1
   pub text : EndsAs x.rest_old x.rest_new (script_of p) Cut
-      (faulty events line (Frame (of_line line_read)))
+      (faulty events line (Frame line_read))
   pub failed : broken
-  pub ran : ToldRan p echo x (faulty events line (Frame (of_line line_read)))
+  pub ran : ToldRan p echo x (faulty events line (Frame line_read))
 
 -- Memory ran out in this event: the lines of those before it were written, and nothing of it was
 -- done or written.

@@ -1,8 +1,8 @@
 use Rattle.std.proofs.Common.{◌≡◌, ◌∙◌, ◌+◌, Ok, ap, sym, refl}
 use Rattle.tx_text.specs.Calls.{source_calls}
 use Rattle.tx_text.specs.Frame.{is_read}
-use Rattle.tx_text.specs.Framing.{to_come, words_of_line}
-use Rattle.tx_text.specs.Told.{Reading}
+use Rattle.tx_text.specs.inner.Framing.{to_come, words_of_line}
+use Rattle.tx_text.specs.inner.Reading.{Reading}
 use Rattle.tx_text.proofs.NoRoom.{come_said}
 use Rattle.tx_text.proofs.CallCounts.{went_none, went_on, went_same, calls_on, broken_on, stopped_with}
 use Rattle.tx_script.specs.declared.run_cause.RunCause.{RunCause}
