@@ -11,15 +11,14 @@ use Rattle.tx_text.specs.declared.frame.FaultKind.{FaultKind}
 use Rattle.tx_text.specs.declared.frame.FaultKind.TheVariants.{Frame, Word}
 use Rattle.tx_text.specs.Calls.{source_calls}
 use Rattle.tx_text.specs.Ends.{StopsIn}
-use Rattle.tx_text.specs.Told.{Ending, AtEnd, reading_start}
+use Rattle.tx_text.specs.Told.{Ending, AtEnd}
 use Rattle.tx_text.specs.inner.Reading.{reading_size}
 use Rattle.tx_text.specs.Frame.{Framed, Done, Stop, Headed, Has, ReadsOn, EndsAs, Stopped, is_read}
 use Rattle.tx_text.specs.Text.{Line}
 use Rattle.tx_text.specs.declared.frame.FramePart.TheVariants.{Start}
 use Rattle.tx_text.specs.declared.frame.FrameStep.{FrameStep}
 use Rattle.tx_text.specs.declared.frame.FrameStep.TheVariants.{Header, Line as LineStep, End}
-use Rattle.tx_text.specs.declared.frame_reader.FrameReader.{FrameReader}
-use Rattle.tx_text.specs.inner.Framing.{to_come, number_of_line, words_of_line, GoesOn}
+use Rattle.tx_text.specs.inner.Framing.{FrameReading, frame_start, to_come, number_of_line, words_of_line, GoesOn}
 use Rattle.tx_text.specs.Said.{is_no_room}
 use Rattle.tx_text.proofs.CallCounts.{went_past}
 use Rattle.tx_text.proofs.NoRoom.{IsSaid, none_stops}
@@ -64,13 +63,13 @@ pub past_line : {W : Type 0} (step : FrameStep) → step ≡ LineStep → (step 
 past_line step is w = went_past w (λ e. let bad : LineStep ≡ End = sym is ∙ e in let worse : ⊥ = cc in worse)
 
 -- nothing was read yet
-pub start_runs : {A : Type 0} (p : Plan) (a : Option (List ℕ)) (s : State) (u : Option (List ℕ)) (v : FrameReader A) (tally : Tally) → v.key.now ≡ codes "SCRIPT" → v.most ≡ 1 → v.reader ≡ reading_start → v.phase ≡ Start → v.number ≡ 1
+pub start_runs : (p : Plan) (a : Option (List ℕ)) (s : State) (u : Option (List ℕ)) (v : FrameReading) (tally : Tally) → v ≡ frame_start (codes "SCRIPT") 1 source_calls
     → IsFresh s → tally ≡ record { answered = 0; refused = 0; tickets = 0 } → IsRunning p a a s s u u (to_come v) tally (reading_size v.reader)
-start_runs p a s u v tally key most reader phase number fresh i = record {
+start_runs p a s u v tally start fresh i = record {
   events = [];
-  said = at_start p a v key most reader phase number;
+  said = at_start p a v start;
   far = none_so_far p s u tally fresh i;
-  bounded = (let n = ap (λ (z : Tally). z.answered) i in let m = ap reading_size reader in omega arith);
+  bounded = (let n = ap (λ (z : Tally). z.answered) i in let m = ap (λ (z : FrameReading). reading_size z.reader) start in omega arith);
 }
 
 module _ (p : Plan) (a b : Option (List ℕ)) (s t : State) (u v : Option (List ℕ)) (T : Ending → List ℕ → Framed) (tally : Tally) (size : ℕ) (on : IsRunning p a b s t u v T tally size) where

@@ -6,6 +6,8 @@ use Rattle.tx_text.specs.declared.frame.FrameFault.{FrameFault}
 use Rattle.tx_text.specs.declared.frame.FaultKind.{FaultKind}
 use Rattle.tx_text.specs.Calls.{Gives, Gave, CallsAtMost, Broken}
 use Rattle.tx_text.specs.inner.CallsLeft.{Went, Calls}
+use Rattle.tx_text.specs.inner.Reading.{Reading, reading_size}
+use Rattle.tx_text.specs.inner.Framing.{WentOn}
 use Rattle.tx_text.specs.Slices.{slice_called, SlicesAreReadWhole}
 use Rattle.tx_text.specs.Told.{Ending}
 use Rattle.tx_text.specs.Frame.{Stopped, is_read}
@@ -82,6 +84,11 @@ more_than n a c (b, g, (m, lt, (e, d))) =
 pub slices_whole : SlicesAreReadWhole
 slices_whole text rest short (inl f) = cc
 slices_whole text rest short (inr g) = let l = more_than 2251799813685248 text rest g in omega (arith, l, short)
+
+-- a step that is not the end leaves less to read
+pub less_left : {S E : Type 0} {called : ℕ → Result ℕ ReadFault → S → S → Type 0} {old new : Reading} {a c : S} → E ⊎ WentOn called old new a c → E ⊎ (reading_size new < reading_size old)
+less_left (inl e) = inl e
+less_left (inr w) = inr w.falls
 
 -- a step that is not the end
 pub went_past : {E W : Type 0} → E ⊎ W → (E → ⊥) → W

@@ -1,10 +1,9 @@
 use Rattle.std.proofs.Common.{◌≡◌, ◌∙◌, ◌+◌, Ok, ap, sym, refl}
 use Rattle.tx_text.specs.Calls.{source_calls}
 use Rattle.tx_text.specs.Frame.{is_read}
-use Rattle.tx_text.specs.inner.Framing.{to_come, words_of_line}
-use Rattle.tx_text.specs.inner.Reading.{Reading}
+use Rattle.tx_text.specs.inner.Framing.{FrameReading, to_come, words_of_line}
 use Rattle.tx_text.proofs.NoRoom.{come_said}
-use Rattle.tx_text.proofs.CallCounts.{went_none, went_on, went_same, calls_on, broken_on, stopped_with}
+use Rattle.tx_text.proofs.CallCounts.{less_left, went_none, went_on, went_same, calls_on, broken_on, stopped_with}
 use Rattle.tx_script.specs.declared.run_cause.RunCause.{RunCause}
 use Rattle.tx_script.specs.Answers.{mark_after}
 use Rattle.tx_script.specs.Events.{event_of}
@@ -32,17 +31,17 @@ lines-init g c =
     let r = c.requires in
     record {
       plan = r.plan;
-      runs = start_runs c.args.plan.now (g.R.Source.rest c.args.source.now) (g.N.Network.state c.args.net.now) (g.W.Sink.taken c.args.sink.now) c.args.frame _ r.key r.versions r.reader r.phase r.number r.fresh c.new-tally.ensures;
+      runs = start_runs c.args.plan.now (g.R.Source.rest c.args.source.now) (g.N.Network.state c.args.net.now) (g.W.Sink.taken c.args.sink.now) c.args.frame _ r.start r.fresh c.new-tally.ensures;
       mark = refl;
-      sound = ap (λ (v : Reading). v.feed.fault) r.reader;
-      went = went_same g.R.Source.called _ _ _ _ _ (ap (λ (v : Reading). v.left) r.reader) (went_none g.R.Source.called source_calls c.args.source.now);
+      sound = ap (λ (v : FrameReading). v.reader.feed.fault) r.start;
+      went = went_same g.R.Source.called _ _ _ _ _ (ap (λ (v : FrameReading). v.reader.left) r.start) (went_none g.R.Source.called source_calls c.args.source.now);
     }
 
 pub advance-requires : goal.advance-requires
 advance-requires g c = c.lines.invariant.sound
 
 pub lines-smaller-in-Ok-Header : goal.lines-smaller-in-Ok-Header
-lines-smaller-in-Ok-Header g c = past_header _ _ c.in-Ok-Header.field-0-is c.in-Ok-Header.ensures.falls
+lines-smaller-in-Ok-Header g c = past_header _ _ c.in-Ok-Header.field-0-is (less_left c.in-Ok-Header.ensures.went)
 
 pub lines-preserved-in-Ok-Header : goal.lines-preserved-in-Ok-Header
 lines-preserved-in-Ok-Header g c =
@@ -50,10 +49,10 @@ lines-preserved-in-Ok-Header g c =
     let k = c.in-Ok-Header in
     record {
       plan = v.plan;
-      runs = header_came _ _ _ _ _ _ _ _ _ _ v.runs _ _ (to_come c.advance.new.self) c.advance.new.self.reader.feed.line k.ensures.gives _ _ k.field-0-is k.ensures.falls;
+      runs = header_came _ _ _ _ _ _ _ _ _ _ v.runs _ _ (to_come c.advance.new.self) c.advance.new.self.reader.feed.line k.ensures.gives _ _ k.field-0-is (less_left k.ensures.went);
       mark = v.mark;
-      sound = k.ensures.fault;
-      went = went_on g.R.Source.called _ _ _ _ _ _ v.went (past_header _ _ k.field-0-is k.ensures.went);
+      sound = k.ensures.sound;
+      went = went_on g.R.Source.called _ _ _ _ _ _ v.went (past_header _ _ k.field-0-is k.ensures.went).went;
     }
 
 pub words-words-requires : goal.words-words-requires
@@ -77,7 +76,7 @@ count-requires g c =
     }
 
 pub lines-smaller : goal.lines-smaller
-lines-smaller g c = past_line _ c.in-Ok-Line.field-0-is c.in-Ok-Line.ensures.falls
+lines-smaller g c = past_line _ c.in-Ok-Line.field-0-is (less_left c.in-Ok-Line.ensures.went)
 
 pub lines-preserved : goal.lines-preserved
 lines-preserved g c =
@@ -87,10 +86,10 @@ lines-preserved g c =
     let a = c.in-Ok.ensures in
     record {
       plan = a.plan;
-      runs = line_came _ _ _ _ _ _ _ _ _ _ v.runs _ _ (to_come frame) frame.reader.feed.line k.ensures.gives k.field-0-is _ c.number.ensures _ _ _ (said g (goal.at.lines-preserved g c).After-answer_line) c.count.new.self _ _ k.ensures.falls a.answers c.count.ensures;
+      runs = line_came _ _ _ _ _ _ _ _ _ _ v.runs _ _ (to_come frame) frame.reader.feed.line k.ensures.gives k.field-0-is _ c.number.ensures _ _ _ (said g (goal.at.lines-preserved g c).After-answer_line) c.count.new.self _ _ (less_left k.ensures.went) a.answers c.count.ensures;
       mark = a.mark ∙ v.mark;
-      sound = k.ensures.fault;
-      went = went_on g.R.Source.called _ _ _ _ _ _ v.went (past_line _ k.field-0-is k.ensures.went);
+      sound = k.ensures.sound;
+      went = went_on g.R.Source.called _ _ _ _ _ _ v.went (past_line _ k.field-0-is k.ensures.went).went;
     }
 
 pub finish-requires : goal.finish-requires
