@@ -68,8 +68,8 @@ impl JobFault {
     {
         match fault.kind {
             FaultKind::Frame(FrameFault::Read) => JobFault::Read,
-            FaultKind::Frame(FrameFault::NoMemory)
-            | FaultKind::Word(CertWord::NoMemory) => JobFault::NoMemory,
+            FaultKind::Frame(FrameFault::NoMemory) | FaultKind::Word(CertWord::NoMemory) =>
+                JobFault::NoMemory,
             _ => JobFault::Cert(fault),
         }
     }
@@ -117,9 +117,7 @@ impl JobFault {
         ensures { result ≡ script_fault fault }
     {
         match fault.kind {
-            FaultKind::Frame(FrameFault::NoMemory) => {
-                JobFault::NoMemory
-            }
+            FaultKind::Frame(FrameFault::NoMemory) => { JobFault::NoMemory }
             _ => JobFault::Script(fault),
         }
     }

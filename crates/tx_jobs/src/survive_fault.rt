@@ -34,11 +34,9 @@ impl SurviveFault {
         ensures { result ≡ risks_fault fault }
     {
         match fault.kind {
-            FaultKind::Frame(FrameFault::Read) => {
-                SurviveFault::Job(JobFault::Read)
-            }
-            FaultKind::Frame(FrameFault::NoMemory)
-            | FaultKind::Word(RiskWord::NoMemory) => SurviveFault::Job(JobFault::NoMemory),
+            FaultKind::Frame(FrameFault::Read) => { SurviveFault::Job(JobFault::Read) }
+            FaultKind::Frame(FrameFault::NoMemory) | FaultKind::Word(RiskWord::NoMemory) =>
+                SurviveFault::Job(JobFault::NoMemory),
             _ => SurviveFault::Risks(fault),
         }
     }

@@ -14,7 +14,8 @@ use std::alloc::Allocator;
 use tx_plan::{PlanBuilder, PlanRefusal};
 use tx_plantext::{PlanWord, declare};
 use tx_text::{
-    FaultKind, FrameFault, FramePart, LineForm, NoMemory, TextLine, bytes_fault, closing, first_line, last_fault, look, words,
+    FaultKind, FrameFault, FramePart, LineForm, NoMemory, TextLine, bytes_fault, closing,
+    first_line, last_fault, look, words,
 };
 
 const KEY: &[u8] = b"PLAN";

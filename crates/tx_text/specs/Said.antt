@@ -139,4 +139,4 @@ abbrev pub ReadsText : {S W : Type 0} → (declare : ℕ → S → List (List �
     → Input → Result S (ℕ × FaultKind W) → Type 0
 ReadsText declare memory key most start text result =
     Answered memory text.old text.new (text_said declare key most start) text.broken text.unread
-        (WantingAt declare key most start text.old text.new) result
+    (WantingAt declare key most start text.old text.new) result

@@ -78,7 +78,7 @@ fn read_lines<D: Declares + Drop, R: Source, A: Allocator>(
         (Broken R.called (R.failed source.new) frame.entry.reader.left source.old source.new)
         (source.new ≡ source.old)
         (WantingAt D.declares frame.entry.key frame.entry.most start
-            (R.rest source.old) (R.rest source.new))
+        (R.rest source.old) (R.rest source.new))
         (told_fault result) }
     ensures calls { CallsAtMost R.called frame.entry.reader.left source.old source.new }
 {

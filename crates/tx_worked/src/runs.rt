@@ -181,9 +181,7 @@ pub(crate) fn told_cause(cause: RunCause) -> JobFault {
         RunCause::Write => JobFault::Write,
         RunCause::NoMemory => JobFault::NoMemory,
         RunCause::Script(fault) => match fault.kind {
-            FaultKind::Frame(FrameFault::NoMemory) => {
-                JobFault::NoMemory
-            }
+            FaultKind::Frame(FrameFault::NoMemory) => { JobFault::NoMemory }
             _ => JobFault::Script(fault),
         },
     }

@@ -6,9 +6,7 @@ use tx_circuits::CircuitTable;
 use tx_lines::{LineAnswer, LineBook};
 use tx_plan::{CodeId, Line, Plan, PlanRefusal};
 use tx_plantext::{PlanFault, PlanWord, read_plan};
-use tx_text::{
-    FaultKind, FrameFault, LineFeeder, MemorySink, Sink, TextFault, write_bytes,
-};
+use tx_text::{FaultKind, FrameFault, LineFeeder, MemorySink, Sink, TextFault, write_bytes};
 use tx_trie::CodeTrie;
 
 /// What is made: the last three of them over a plan.
