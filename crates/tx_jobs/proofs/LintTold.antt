@@ -4,7 +4,7 @@ use Rattle.tx_lint.specs.declared.fault.LintFault.{LintFault}
 use Rattle.tx_lint.specs.declared.fault.LintFault.TheVariants.{Read, NoMemory}
 use Rattle.tx_jobs.specs.declared.job_fault.JobFault.{JobFault}
 use Rattle.tx_jobs.specs.JobFaults.{mark_by}
-use Rattle.tx_jobs.specs.JobEnds.{Input, Output}
+use Rattle.tx_text.specs.Ends.{Input, Output}
 use Rattle.tx_jobs.specs.LintJobs.{lint_fault, NotRead}
 
 module _ (plan : Input) (out : Output) where

@@ -9,7 +9,7 @@ use Rattle.tx_script.specs.declared.telling.Telling.{Telling}
 use Rattle.tx_script.specs.Answers.{Moved}
 use Rattle.tx_script.specs.TellingAnswers.{TellingAnswers}
 use Rattle.tx_jobs.specs.declared.job_fault.JobFault.{JobFault}
-use Rattle.tx_jobs.specs.JobEnds.{Input, Output}
+use Rattle.tx_text.specs.Ends.{Input, Output}
 use Rattle.tx_jobs.specs.Jobs.{PlanRead, PlanRefused, HadNoRoom, told_run}
 
 -- what a run of the script moved, from the opening state to this one

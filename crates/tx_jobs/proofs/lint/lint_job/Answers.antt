@@ -1,5 +1,5 @@
 use Rattle.std.proofs.Common.{Err, ap, inl, inr, refl}
-use Rattle.tx_jobs.specs.JobEnds.{input, output}
+use Rattle.tx_text.specs.Ends.{input, output}
 use Rattle.tx_jobs.proofs.LintTold.{not_read, lint_marked}
 use Rattle.tx_jobs.proofs.lint.lint_job.Goals as goal
 
