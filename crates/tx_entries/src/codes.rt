@@ -69,7 +69,7 @@ impl<A: Allocator> Codes<A> {
     {
         match self.rows.value_at(place) {
             Some(home) => *home,
-            None => ExchangeId::at(0),
+            None => ExchangeId::of(0),
         }
     }
 

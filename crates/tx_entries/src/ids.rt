@@ -20,27 +20,13 @@ impl Model for ExchangeId {
 }
 
 impl ExchangeId {
-    /// Its place.
-    pub(crate) fn place(self) -> u16
-        ensures { result ≡ self }
-    {
-        self.place
-    }
-
     /// The exchange at a place.
-    pub fn at(place: u16) -> ExchangeId
+    pub fn of(place: usize) -> ExchangeId
+        requires { place < 65536 }
         ensures { result ≡ place }
     {
-        ExchangeId { place }
-    }
-
-    /// The exchange of an index.
-    pub fn of(index: usize) -> ExchangeId
-        requires { index < 65536 }
-        ensures { result ≡ index }
-    {
         ExchangeId {
-            place: index as u16,
+            place: place as u16,
         }
     }
 
@@ -69,27 +55,13 @@ impl Model for CodeId {
 }
 
 impl CodeId {
-    /// Its place.
-    pub(crate) fn place(self) -> u16
-        ensures { result ≡ self }
-    {
-        self.place
-    }
-
     /// The code at a place.
-    pub fn at(place: u16) -> CodeId
+    pub fn of(place: usize) -> CodeId
+        requires { place < 65536 }
         ensures { result ≡ place }
     {
-        CodeId { place }
-    }
-
-    /// The code of an index.
-    pub fn of(index: usize) -> CodeId
-        requires { index < 65536 }
-        ensures { result ≡ index }
-    {
         CodeId {
-            place: index as u16,
+            place: place as u16,
         }
     }
 
@@ -119,19 +91,12 @@ impl Model for GroupId {
 
 impl GroupId {
     /// The group at a place.
-    pub fn at(place: u16) -> GroupId
+    pub fn of(place: usize) -> GroupId
+        requires { place < 65536 }
         ensures { result ≡ place }
     {
-        GroupId { place }
-    }
-
-    /// The group of an index.
-    pub fn of(index: usize) -> GroupId
-        requires { index < 65536 }
-        ensures { result ≡ index }
-    {
         GroupId {
-            place: index as u16,
+            place: place as u16,
         }
     }
 

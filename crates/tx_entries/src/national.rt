@@ -1,8 +1,9 @@
 // National numbers.
 ghost use Rattle.std.specs.Prelude.{◌≡◌, ◌≤◌, true, length, if◌then◌else◌, Some, None};
 ghost use Rattle.tx_text.specs.Padded.{padded_to};
-ghost use Rattle.tx_entries.specs.Numbers.{is_national};
+ghost use Rattle.tx_entries.specs.Numbers.{is_national, at_most};
 
+use std::hash::{Hash, Hasher};
 use std::marker::Model;
 use tx_text::{Short, are_figures};
 
@@ -25,6 +26,20 @@ impl Model for National {
     ghost invariant = { λ n. is_national n.figures ≡ true };
 
     ghost inverse = { λ t. record { figures = t } };
+}
+
+impl Hash for National {
+    ghost use Rattle.std.specs.Prelude.{[], ◌∷◌};
+    ghost use Rattle.std.proofs.Common.{ap};
+    ghost use Rattle.std.specs.Cmp.Lexicographic.{bytes_decides};
+
+    ghost hash_input = { λ n. padded_to 9 n ∷ [] };
+
+    ghost respects_eq = { λ x y h. ap (λ n. padded_to 9 n ∷ []) ((bytes_decides x y).0 h) };
+
+    fn hash<H: Hasher>(&self, state: &mut H) {
+        state.write(self.figures.padded());
+    }
 }
 
 impl National {
@@ -54,4 +69,11 @@ impl National {
     {
         self.figures.padded()
     }
+}
+
+/// Whether the one text of figures is not above the other, figure by figure.
+pub fn at_most(low: &[u8], high: &[u8]) -> bool
+    ensures { result ≡ at_most low.now high.now }
+{
+    low.cmp(high).is_le()
 }

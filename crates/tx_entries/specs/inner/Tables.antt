@@ -1,8 +1,7 @@
 -- A plan's entries as keys and values.
-use Rattle.std.specs.Prelude.{ℕ, List, map}
+use Rattle.std.specs.Prelude.{ℕ, List}
 use Rattle.tx_entries.specs.Entries.{Code, Group, Route}
 use Rattle.tx_entries.specs.declared.pair.Pair.{Pair}
-use Rattle.tx_entries.specs.declared.range.LineRange.{LineRange}
 use Rattle.tx_entries.specs.declared.group_row.GroupRow.{GroupRow}
 
 -- figures, and the home of their code
@@ -26,7 +25,3 @@ row_of g = record { a = g.a; b = g.b; direction = g.direction; count = g.count }
 -- a pair, and the groups of its route
 abbrev pub route_of_row : Pair × List ℕ → Route
 route_of_row e = record { exchange = e.0.exchange; code = e.0.code; groups = e.1 }
-
--- the code of each range
-abbrev pub codes_of_ranges : List LineRange → List ℕ
-codes_of_ranges ranges = map (λ r. r.code) ranges

@@ -5,10 +5,10 @@ use Rattle.tx_text.specs.Words.{is_name}
 use Rattle.tx_plan.specs.Plan.{Plan}
 use Rattle.tx_plan.specs.Declaring.{has_group, is_not_outgoing, group_at}
 use Rattle.tx_entries.specs.declared.pair.Pair.{Pair}
-use Rattle.tx_plan.specs.declared.route_words.Seen.{Seen}
+use Rattle.tx_plan.specs.declared.route_words.RouteScan.{RouteScan}
 
--- what is seen of these words for a pair
-pub record IsSeen (p : Plan) (pair : Option Pair) (words : List (List ℕ)) (s : Seen) : Type 0 where
+-- what a scan of these words finds for a pair
+pub record IsScanOf (p : Plan) (pair : Option Pair) (words : List (List ℕ)) (s : RouteScan) : Type 0 where
   pub bad : s.bad ≡ list_any (λ g. not (is_name g)) words
   pub unknown : s.unknown ≡ list_any (λ g. not (has_group p g)) words
   pub not_outgoing : s.not_outgoing ≡ list_any (is_not_outgoing p pair) words
