@@ -1,6 +1,6 @@
 // The mixture that a finding shows.
 ghost use Rattle.std.specs.Prelude.{◌≡◌, ◌≤◌, ◌++◌, true, false, length, slice_get, Some, IfOk, filter};
-ghost use Rattle.tx_entries.specs.declared.pair.Pair.{Pair as Bar};
+ghost use Rattle.tx_plan.specs.declared.pair.Pair.{Pair as Bar};
 ghost use Rattle.tx_plan.specs.Plan.{Route};
 ghost use Rattle.tx_plan.specs.Among.{Among};
 ghost use Rattle.tx_plan.specs.Mixtures.{SameNetwork};

@@ -3,9 +3,9 @@ use Rattle.std.proofs.Common.{ℕ, List, subst}
 use Rattle.tx_plan.specs.Plan.{Plan, Route}
 use Rattle.tx_plan.specs.Rerouted.{rerouted}
 use Rattle.tx_plan.specs.Certified.{Ranks}
-use Rattle.tx_entries.specs.declared.pair.Pair.{Pair}
-use Rattle.tx_entries.specs.declared.line.Line.{Line}
-use Rattle.tx_entries.proofs.Lists.{all_map}
+use Rattle.tx_plan.specs.declared.pair.Pair.{Pair}
+use Rattle.tx_plan.specs.declared.line.Line.{Line}
+use Rattle.tx_plan.proofs.Lists.{all_map}
 use Rattle.tx_machine.specs.declared.phase.Phase.{Phase}
 use Rattle.tx_machine.specs.declared.phase.Phase.TheVariants.{Standing, Calling, Connected}
 use Rattle.tx_machine.specs.Call.{Call}

@@ -11,7 +11,7 @@ use crate::basis::Basis;
 use crate::code_ranks::least_at;
 use crate::outgoing::groups_at;
 use std::alloc::Allocator;
-use tx_entries::GroupList;
+use tx_plan::GroupList;
 use tx_plan::{CodeId, ExchangeId, GroupId, Plan};
 
 /// Whether the group is in the list.

@@ -7,7 +7,7 @@ use Rattle.std.proofs.lemmas.Slice.Eq.{bytes_eq-Decides}
 use Rattle.std.proofs.lemmas.Bool.{leb-true, and_parts}
 use Rattle.tx_text.specs.Words.{is_name, is_letter, is_figure}
 use Rattle.tx_plan.specs.Rules.{is_code}
-use Rattle.tx_entries.proofs.Lists.{no_place}
+use Rattle.tx_plan.proofs.Lists.{no_place}
 
 same_not : (b : Bool) → (b ≡ true → true ≡ false) → b ≡ false
 same_not true k = k refl

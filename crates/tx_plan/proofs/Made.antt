@@ -1,12 +1,12 @@
 -- What a call of the builder leaves is a plan.
 use Rattle.std.proofs.Common.{◌≡◌, ℕ, List, [], ◌∷◌, ◌++◌, map, None, Result, Ok, Err, OnOk, OnErr, sym, subst}
-use Rattle.tx_entries.specs.declared.direction.Direction.{Direction}
-use Rattle.tx_entries.specs.declared.group_row.GroupRow.{GroupRow}
-use Rattle.tx_entries.specs.declared.pair.Pair.{Pair}
-use Rattle.tx_entries.specs.declared.range.LineRange.{LineRange}
+use Rattle.tx_plan.specs.declared.direction.Direction.{Direction}
+use Rattle.tx_plan.specs.declared.group_row.GroupRow.{GroupRow}
+use Rattle.tx_plan.specs.declared.pair.Pair.{Pair}
+use Rattle.tx_plan.specs.declared.range.LineRange.{LineRange}
 use Rattle.tx_plan.specs.Plan.{Plan}
 use Rattle.tx_plan.specs.Rules.{IsPlan}
-use Rattle.tx_entries.specs.inner.Tables.{code_of_row, group_of_row}
+use Rattle.tx_plan.specs.inner.Tables.{code_of_row, group_of_row}
 use Rattle.tx_plan.specs.Declaring.{first_true, exchange_refusals, code_refusals, lines_refusals, group_refusals, route_refusals, bar_refusals, exchange_at, code_at, group_at}
 use Rattle.tx_plan.proofs.Growing.{kept_exchange, kept_code, kept_lines, kept_group, kept_route, kept_bar}
 

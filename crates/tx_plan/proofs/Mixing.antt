@@ -3,8 +3,8 @@ use Rattle.std.proofs.Common.{◌≡◌, ◌≢◌, ℕ, ◌==◌, Bool, true, f
 use Rattle.std.proofs.lemmas.Bool.{true≢false, and_parts, not-true}
 use Rattle.std.specs.Prelude.{filter}
 use Rattle.std.specs.Option.{option_map_or}
-use Rattle.tx_entries.specs.declared.pair.Pair.{Pair}
-use Rattle.tx_entries.proofs.Lists.{all_map}
+use Rattle.tx_plan.specs.declared.pair.Pair.{Pair}
+use Rattle.tx_plan.proofs.Lists.{all_map}
 use Rattle.tx_plan.specs.Plan.{Plan, Route}
 use Rattle.tx_plan.specs.Rules.{IsRoute, IsBar, IsPlan}
 use Rattle.tx_plan.specs.Routes.{route_list, is_barred}

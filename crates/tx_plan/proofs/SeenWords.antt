@@ -9,10 +9,10 @@ use Rattle.tx_text.specs.Words.{is_name}
 use Rattle.tx_plan.specs.Plan.{Plan, Group, exchange_named, code_named, group_named}
 use Rattle.tx_plan.specs.Rules.{IsPlan, IsCode, IsGroup, is_code}
 use Rattle.tx_plan.specs.Declaring.{has_group, group_at, none_twice}
-use Rattle.tx_entries.specs.inner.Distinct.{differ}
-use Rattle.tx_entries.specs.declared.direction.Direction.TheVariants.{OneWay}
+use Rattle.tx_plan.specs.inner.Distinct.{differ}
+use Rattle.tx_plan.specs.declared.direction.Direction.TheVariants.{OneWay}
 use Rattle.tx_plan.proofs.Absent.{unnamed}
-use Rattle.tx_entries.proofs.Lists.{opposed, one_word, below, same_tests}
+use Rattle.tx_plan.proofs.Lists.{opposed, one_word, below, same_tests}
 
 -- a declared group's name is a name
 pub named_is_name : (p : Plan) (w : List ℕ) → IsPlan p → is_some (group_named p w) ≡ true → is_name w ≡ true

@@ -11,5 +11,7 @@ pub mod Certified
 pub mod Rerouted
 pub mod Mixtures
 pub mod Mixed
-pub use Rattle.tx_entries.specs.Orders
 pub mod inner
+pub mod Entries
+pub mod Numbers
+pub mod Orders

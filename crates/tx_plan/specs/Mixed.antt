@@ -1,7 +1,7 @@
 -- The mixture that takes some lists and some bars of one code from the new plan, and all else from
 -- the old one.
 use Rattle.std.specs.Prelude.{ℕ, Bool, not, ◌&&◌, ◌==◌, List, ◌++◌, filter}
-use Rattle.tx_entries.specs.declared.pair.Pair.{Pair}
+use Rattle.tx_plan.specs.declared.pair.Pair.{Pair}
 use Rattle.tx_plan.specs.Plan.{Plan, Route}
 use Rattle.tx_plan.specs.Rerouted.{rerouted}
 

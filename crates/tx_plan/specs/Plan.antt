@@ -2,9 +2,9 @@
 use Rattle.std.specs.Prelude.{ℕ, List, [], Option, slice_get, position}
 use Rattle.std.specs.Option.{option_map_or}
 use Rattle.std.specs.Str.{bytes_eq}
-pub use Rattle.tx_entries.specs.Entries.{Code, Group, Route}
-use Rattle.tx_entries.specs.declared.pair.Pair.{Pair}
-use Rattle.tx_entries.specs.declared.range.LineRange.{LineRange}
+pub use Rattle.tx_plan.specs.Entries.{Code, Group, Route}
+use Rattle.tx_plan.specs.declared.pair.Pair.{Pair}
+use Rattle.tx_plan.specs.declared.range.LineRange.{LineRange}
 
 -- An exchange is its name. Exchanges, codes and groups are known by their places in these lists,
 -- from 0. A range is the national numbers of a code

@@ -2,12 +2,12 @@
 use Rattle.std.specs.Prelude.{◌≡◌, ◌≢◌, ◌<◌, ◌≤◌, true, false, ◌⊎◌, List, [], ◌∷◌, length}
 use Rattle.std.specs.List.{AllByRecursion}
 use Rattle.tx_text.specs.Words.{is_name}
-pub use Rattle.tx_entries.specs.Numbers.{is_code, is_national}
+pub use Rattle.tx_plan.specs.Numbers.{is_code, is_national}
 use Rattle.tx_plan.specs.Plan.{Plan, Code, Group, Route, home_of}
 use Rattle.tx_plan.specs.Lines.{at_most}
 use Rattle.tx_plan.specs.Circuits.{may_seize}
-use Rattle.tx_entries.specs.declared.pair.Pair.{Pair}
-use Rattle.tx_entries.specs.declared.range.LineRange.{LineRange}
+use Rattle.tx_plan.specs.declared.pair.Pair.{Pair}
+use Rattle.tx_plan.specs.declared.range.LineRange.{LineRange}
 
 -- each member of a list stands so to each later one
 abbrev pub EachPair : {A : Type 0} → (A → A → Type 0) → List A → Type 0

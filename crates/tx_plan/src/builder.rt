@@ -10,7 +10,7 @@ use crate::plan::Plan;
 use crate::refusal::PlanRefusal;
 use std::alloc::{Allocator, Global};
 use std::marker::Model;
-use tx_entries::{Bars, Codes, Direction, Exchanges, Groups, Ranges, Routes};
+use crate::{Bars, Codes, Direction, Exchanges, Groups, Ranges, Routes};
 use tx_text::Words;
 
 /// A plan in the making. What it declared so far obeys the rules of a plan.

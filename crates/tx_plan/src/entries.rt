@@ -13,14 +13,14 @@ use crate::plan::Plan;
 use crate::refusal::PlanRefusal;
 use crate::route_words::{RouteScan, scan};
 use std::alloc::Allocator;
-use tx_entries::{
+use crate::{
     CodeId, Direction, ExchangeId, GroupId, GroupList, GroupRow, LineRange, NameKey, National,
     Pair, at_most,
 };
 use tx_text::{Words, are_figures, is_name};
 
 /// The name of a new exchange, or why it is refused.
-#[tactic(auto, using(tx_entries::proofs::Lists::found_any))]
+#[tactic(auto, using(crate::proofs::Lists::found_any))]
 pub(crate) fn exchange_entry<A: Allocator>(
     plan: &Plan<A>,
     name: &[u8],
@@ -43,7 +43,7 @@ pub(crate) fn exchange_entry<A: Allocator>(
 }
 
 /// The figures and the home of a new code, or why it is refused.
-#[tactic(auto, using(tx_entries::proofs::Lists::found_any))]
+#[tactic(auto, using(crate::proofs::Lists::found_any))]
 pub(crate) fn code_entry<A: Allocator>(
     plan: &Plan<A>,
     code: &[u8],
@@ -81,7 +81,7 @@ fn is_ordered(low: &[u8], high: &[u8]) -> bool
 }
 
 /// A new range, or why it is refused.
-#[tactic(auto, using(tx_entries::proofs::Lists::found_any))]
+#[tactic(auto, using(crate::proofs::Lists::found_any))]
 pub(crate) fn range_entry<A: Allocator>(
     plan: &Plan<A>,
     code: &[u8],
@@ -124,7 +124,7 @@ pub(crate) fn range_entry<A: Allocator>(
 }
 
 /// The exchanges of two names.
-#[tactic(auto, using(tx_entries::proofs::Lists::found_any))]
+#[tactic(auto, using(crate::proofs::Lists::found_any))]
 fn ends_named<A: Allocator>(plan: &Plan<A>, a: &[u8], b: &[u8]) -> Option<(ExchangeId, ExchangeId)>
     ensures found { is_some result
         ≡ not (not (has_exchange plan.now a.now) || not (has_exchange plan.now b.now)) }
@@ -137,7 +137,7 @@ fn ends_named<A: Allocator>(plan: &Plan<A>, a: &[u8], b: &[u8]) -> Option<(Excha
 }
 
 /// The name of a new group and its row, or why it is refused.
-#[tactic(auto, using(tx_entries::proofs::Lists::found_any))]
+#[tactic(auto, using(crate::proofs::Lists::found_any))]
 pub(crate) fn group_entry<A: Allocator>(
     plan: &Plan<A>,
     name: &[u8],

@@ -5,7 +5,7 @@ ghost use Rattle.tx_plan.specs.Codes.{code_of, after, is_prefix};
 
 use crate::plan::Plan;
 use std::alloc::Allocator;
-use tx_entries::CodeId;
+use crate::CodeId;
 
 /// What is left of the text after the front, if it begins with it.
 fn after<'t>(front: &[u8], text: &'t [u8]) -> Option<&'t [u8]>

@@ -23,20 +23,51 @@
 //! ```
 #![tactic(auto)]
 
+mod bars;
 mod builder;
+mod circuit;
+mod codes;
+mod direction;
 mod entries;
+mod exchanges;
+mod group_list;
+mod group_row;
 mod group_words;
+mod groups;
+mod ids;
 mod keyed;
+mod line;
+mod name_key;
 mod names;
+mod national;
+mod pair;
 mod plan;
+mod range;
+mod ranges;
 mod refusal;
 mod route_words;
+mod routes;
+mod rows;
+mod word_hasher;
 
+pub use bars::Bars;
 pub use builder::PlanBuilder;
+pub use circuit::Circuit;
+pub use codes::Codes;
+pub use direction::Direction;
+pub use exchanges::Exchanges;
+pub use group_list::GroupList;
+pub use group_row::GroupRow;
+pub use groups::Groups;
+pub use ids::{CodeId, ExchangeId, GroupId};
 pub use keyed::{code_of, rest_after};
+pub use line::Line;
+pub use name_key::NameKey;
+pub use national::{National, at_most};
+pub use pair::Pair;
 pub use plan::Plan;
+pub use range::LineRange;
+pub use ranges::Ranges;
 pub use refusal::PlanRefusal;
-pub use tx_entries::{
-    Bars, Circuit, CodeId, Direction, ExchangeId, GroupId, GroupList, Line, LineRange, NameKey,
-    National, Pair, Routes,
-};
+pub use routes::Routes;
+pub use word_hasher::ByWord;

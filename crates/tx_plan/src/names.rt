@@ -4,7 +4,7 @@ ghost use Rattle.tx_plan.specs.Plan.{exchange_named, code_named, group_named, ex
 
 use crate::plan::Plan;
 use std::alloc::Allocator;
-use tx_entries::{CodeId, ExchangeId, GroupId, NameKey};
+use crate::{CodeId, ExchangeId, GroupId, NameKey};
 
 /// Names, and what they name.
 impl<A: Allocator> Plan<A> {

@@ -11,7 +11,7 @@ ghost use Rattle.tx_plan.specs.Declaring.{has_route, overlaps};
 
 use std::alloc::{Allocator, Global};
 use std::marker::Model;
-use tx_entries::{
+use crate::{
     Bars, CodeId, Codes, Direction, ExchangeId, Exchanges, GroupId, Groups, Line, LineRange,
     National, Pair, Ranges, Routes,
 };

@@ -6,7 +6,7 @@ ghost use Rattle.tx_plan.specs.inner.RouteScan.{IsScanOf};
 
 use crate::plan::Plan;
 use std::alloc::Allocator;
-use tx_entries::{GroupId, GroupList, Pair};
+use crate::{GroupId, GroupList, Pair};
 use tx_text::{Words, is_name};
 
 /// What a route's words come to.
@@ -26,7 +26,7 @@ pub(crate) struct RouteScan {
 
 impl RouteScan {
     /// Takes in the next word.
-    #[tactic(auto, using(tx_entries::proofs::Lists::found_any))]
+    #[tactic(auto, using(crate::proofs::Lists::found_any))]
     fn note<A: Allocator>(&mut self, plan: &Plan<A>, pair: &Option<Pair>, word: &[u8])
         ensures bad { self.new.bad ≡ (self.old.bad || not (is_name word.now)) }
         ensures unknown { self.new.unknown

@@ -1,6 +1,6 @@
 use Rattle.std.proofs.Common.{List, [], ◌∷◌, ◌++◌}
 use Rattle.tx_plan.specs.Plan.{Plan, Code}
-use Rattle.tx_entries.specs.inner.Tables.{code_of_row}
+use Rattle.tx_plan.specs.inner.Tables.{code_of_row}
 use Rattle.tx_plan.specs.Rules.{IsPlan}
 use Rattle.tx_plan.proofs.Made.{either, made_code}
 use Rattle.tx_plan.proofs.builder.PlanBuilder.code.Goals as goal

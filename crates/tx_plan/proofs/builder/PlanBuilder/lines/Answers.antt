@@ -1,6 +1,6 @@
 use Rattle.std.proofs.Common.{List, [], ◌∷◌, ◌++◌}
 use Rattle.tx_plan.specs.Plan.{Plan}
-use Rattle.tx_entries.specs.declared.range.LineRange.{LineRange}
+use Rattle.tx_plan.specs.declared.range.LineRange.{LineRange}
 use Rattle.tx_plan.specs.Rules.{IsPlan}
 use Rattle.tx_plan.proofs.Made.{either, made_lines}
 use Rattle.tx_plan.proofs.builder.PlanBuilder.lines.Goals as goal
