@@ -10,7 +10,7 @@ use Rattle.tx_plan.proofs.Named.{same_circuit-is}
 use Rattle.tx_plan.specs.Plan.{Plan}
 use Rattle.tx_plan.specs.Circuits.{other_end}
 use Rattle.tx_plan.specs.Among.{Among}
-use Rattle.tx_plan.specs.declared.circuit.Circuit.{Circuit}
+use Rattle.tx_plan.specs.declared.group.Circuit.{Circuit}
 use Rattle.tx_plan.proofs.Among.{among_cases}
 use Rattle.tx_machine.specs.declared.hop.Hop.{Hop}
 use Rattle.tx_machine.specs.declared.phase.Phase.TheVariants.{Calling}

@@ -11,7 +11,7 @@ use Rattle.tx_plan.specs.Lines.{is_line_at}
 use Rattle.tx_plan.specs.Routes.{route_list, is_barred}
 use Rattle.tx_plan.specs.Circuits.{may_seize, other_end, circuits_at, is_circuit}
 use Rattle.tx_plan.specs.Among.{Among}
-use Rattle.tx_plan.specs.declared.circuit.Circuit.{Circuit}
+use Rattle.tx_plan.specs.declared.group.Circuit.{Circuit}
 use Rattle.tx_plan.specs.declared.line.Line.{Line}
 use Rattle.tx_machine.specs.declared.phase.Phase.TheVariants.{Calling, Connected}
 use Rattle.tx_machine.specs.declared.service.Service.TheVariants.{Na}

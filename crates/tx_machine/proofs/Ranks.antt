@@ -14,7 +14,7 @@ use Rattle.tx_plan.specs.Lines.{in_range, is_line}
 use Rattle.tx_plan.specs.Codes.{is_prefix, codes_before, longest, code_of}
 use Rattle.tx_plan.specs.Routes.{route_list, is_barred, is_origin}
 use Rattle.tx_plan.specs.Among.{Among}
-use Rattle.tx_plan.specs.declared.circuit.Circuit.{Circuit}
+use Rattle.tx_plan.specs.declared.group.Circuit.{Circuit}
 use Rattle.tx_plan.specs.declared.line.Line.{Line}
 use Rattle.tx_plan.proofs.Among.{filter_among}
 use Rattle.tx_machine.specs.declared.event.Event.{Event}

@@ -4,8 +4,8 @@ use Rattle.std.proofs.lemmas.Bool.{and_parts, false_from_ne_true}
 use Rattle.std.specs.Prelude.{if◌then◌else◌, slice_get, is_some}
 use Rattle.std.specs.List.{flat_map}
 use Rattle.std.specs.Option.{option_map_or}
-use Rattle.tx_plan.specs.Orders.{same_circuit, same_line, same_line-is}
-use Rattle.tx_plan.proofs.Named.{same_circuit-is}
+use Rattle.tx_plan.specs.Orders.{same_circuit, same_line}
+use Rattle.tx_plan.proofs.Named.{same_circuit-is, same_line-is}
 use Rattle.tx_plan.specs.Plan.{Plan, Code, figures_of}
 use Rattle.tx_plan.specs.Rules.{IsPlan, IsRange, is_national}
 use Rattle.tx_plan.specs.declared.range.LineRange.{LineRange}

@@ -1,8 +1,8 @@
 -- What a call of the builder leaves is a plan.
 use Rattle.std.proofs.Common.{◌≡◌, ℕ, List, [], ◌∷◌, ◌++◌, map, None, Result, Ok, Err, OnOk, OnErr, sym, subst}
-use Rattle.tx_plan.specs.declared.direction.Direction.{Direction}
-use Rattle.tx_plan.specs.declared.group_row.GroupRow.{GroupRow}
-use Rattle.tx_plan.specs.declared.pair.Pair.{Pair}
+use Rattle.tx_plan.specs.declared.group.Direction.{Direction}
+use Rattle.tx_plan.specs.declared.group.GroupRow.{GroupRow}
+use Rattle.tx_plan.specs.declared.ids.Pair.{Pair}
 use Rattle.tx_plan.specs.declared.range.LineRange.{LineRange}
 use Rattle.tx_plan.specs.Plan.{Plan}
 use Rattle.tx_plan.specs.Rules.{IsPlan}

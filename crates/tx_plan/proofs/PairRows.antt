@@ -4,8 +4,8 @@ use Rattle.std.specs.Prelude.{find}
 use Rattle.std.specs.List.{list_any}
 use Rattle.std.specs.Map.{lookup, keys_of}
 use Rattle.std.specs.Option.{option_map_or}
-use Rattle.tx_plan.specs.Entries.{Route}
-use Rattle.tx_plan.specs.declared.pair.Pair.{Pair}
+use Rattle.tx_plan.specs.Plan.{Route}
+use Rattle.tx_plan.specs.declared.ids.Pair.{Pair}
 use Rattle.tx_plan.specs.inner.Tables.{route_of_row}
 use Rattle.tx_plan.proofs.Lists.{same_tests}
 use Rattle.tx_plan.proofs.Tables.{list_any-map}

@@ -8,10 +8,8 @@ pub mod Circuits
 pub mod Rules
 pub mod Declaring
 pub mod Certified
-pub mod Rerouted
 pub mod Mixtures
 pub mod Mixed
 pub mod inner
-pub mod Entries
 pub mod Numbers
 pub mod Orders

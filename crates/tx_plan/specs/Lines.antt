@@ -11,6 +11,7 @@ abbrev pub is_line_at : Plan → ℕ → List ℕ → Bool
 is_line_at p code number = are_figures 1 9 number
     && list_any (λ r. (r.code == code) && in_range number r) p.ranges
 
+-- it is a line of the plan
 abbrev pub is_line : Plan → Line → Bool
 is_line p l = is_line_at p l.code l.national
 

@@ -2,7 +2,7 @@
 ghost use Rattle.std.specs.Prelude.{◌≡◌, ◌++◌, ◌∷◌, ◌&&◌, ◌==◌, [], false, OnOk, OnErr, length, slice_get};
 ghost use Rattle.std.specs.List.{list_any};
 
-use crate::pair::Pair;
+use crate::ids::Pair;
 use crate::word_hasher::ByWord;
 use indexmap::IndexSet;
 use std::alloc::{Allocator, Global};
@@ -17,7 +17,7 @@ pub struct Bars<A: Allocator = Global> {
 
 impl<A: Allocator> Model for Bars<A> {
     ghost use Rattle.std.specs.Prelude.{List};
-    ghost use Rattle.tx_plan.specs.declared.pair.Pair.{Pair};
+    ghost use Rattle.tx_plan.specs.declared.ids.Pair.{Pair};
 
     ghost Value = { List Pair };
 

@@ -8,15 +8,17 @@ ghost use Rattle.tx_plan.specs.Rules.{is_code};
 ghost use Rattle.tx_plan.specs.inner.RouteScan.{IsScanOf};
 ghost use Rattle.tx_plan.specs.Declaring.{first_true, exchange_refusals, code_refusals, lines_refusals, group_refusals, route_refusals, route_plan_refusals, route_group_refusals, bar_refusals, route_word_refusals, has_exchange, has_code, has_group, has_route, pair_named, is_ordered, exchange_at, code_at, group_at};
 
+use crate::group::{Direction, GroupRow};
+use crate::group_list::GroupList;
 use crate::group_words::none_twice;
+use crate::ids::{ExchangeId, Pair};
+use crate::line::{National, at_most};
+use crate::name_key::NameKey;
 use crate::plan::Plan;
+use crate::range::LineRange;
 use crate::refusal::PlanRefusal;
 use crate::route_words::{RouteScan, scan};
 use std::alloc::Allocator;
-use crate::{
-    CodeId, Direction, ExchangeId, GroupId, GroupList, GroupRow, LineRange, NameKey, National,
-    Pair, at_most,
-};
 use tx_text::{Words, are_figures, is_name};
 
 /// The name of a new exchange, or why it is refused.
@@ -235,7 +237,12 @@ pub(crate) fn bar_entry<A: Allocator>(
 }
 
 /// What the words of a route refuse by themselves.
-fn route_words(exchange: &[u8], code: &[u8], groups: &Words<'_>, bad: bool) -> Result<(), PlanRefusal>
+fn route_words(
+    exchange: &[u8],
+    code: &[u8],
+    groups: &Words<'_>,
+    bad: bool,
+) -> Result<(), PlanRefusal>
     requires bad { bad ≡ list_any (λ g. not (is_name g)) groups.now }
     ensures err { IfErr result
         (λ e. first_true (route_word_refusals exchange.now code.now groups.now) ≡ Some e) }

@@ -6,7 +6,7 @@ use crate::ids::GroupId;
 use std::marker::Model;
 
 /// At most 16 groups, in order.
-#[derive(Drop)]
+#[derive(Debug, Drop)]
 pub struct GroupList {
     groups: [GroupId; 16],
     len: u8,

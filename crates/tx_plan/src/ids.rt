@@ -1,4 +1,4 @@
-// The places of a plan's entries.
+// The places of a plan's entries, and pairs of them.
 ghost use Rattle.std.specs.Prelude.{◌≡◌, ◌<◌};
 
 use std::marker::Model;
@@ -74,7 +74,7 @@ impl CodeId {
 }
 
 /// A group of circuits of a plan, by its place. An id is foreign to a plan that has no such place.
-#[derive(Clone, Copy, Debug, PartialEq, Eq)]
+#[derive(Clone, Copy, Debug, PartialEq, Eq, Hash)]
 pub struct GroupId {
     place: u16,
 }
@@ -106,4 +106,11 @@ impl GroupId {
     {
         usize::from(self.place)
     }
+}
+
+/// An exchange and a code: what routes and bars are declared for.
+#[derive(Clone, Copy, Debug, PartialEq, Eq, Hash)]
+pub struct Pair {
+    pub exchange: ExchangeId,
+    pub code: CodeId,
 }

@@ -2,7 +2,7 @@
 ghost use Rattle.std.specs.Prelude.{◌≡◌};
 
 use crate::ids::CodeId;
-use crate::national::{National, at_most};
+use crate::line::{National, at_most};
 
 /// The national numbers of a code from low to high, both in it. They have as many figures as its
 /// ends, and are in order figure by figure.

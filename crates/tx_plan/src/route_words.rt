@@ -4,9 +4,10 @@ ghost use Rattle.tx_text.specs.Words.{is_name};
 ghost use Rattle.tx_plan.specs.Declaring.{has_group, is_not_outgoing, group_at};
 ghost use Rattle.tx_plan.specs.inner.RouteScan.{IsScanOf};
 
+use crate::group_list::GroupList;
+use crate::ids::{GroupId, Pair};
 use crate::plan::Plan;
 use std::alloc::Allocator;
-use crate::{GroupId, GroupList, Pair};
 use tx_text::{Words, is_name};
 
 /// What a route's words come to.

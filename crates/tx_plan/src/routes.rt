@@ -4,8 +4,7 @@ ghost use Rattle.std.specs.List.{list_any};
 ghost use Rattle.std.specs.Option.{option_map, option_map_or};
 
 use crate::group_list::GroupList;
-use crate::ids::GroupId;
-use crate::pair::Pair;
+use crate::ids::{GroupId, Pair};
 use crate::word_hasher::ByWord;
 use indexmap::IndexMap;
 use std::alloc::{Allocator, Global};
@@ -20,7 +19,7 @@ pub struct Routes<A: Allocator = Global> {
 
 impl<A: Allocator> Model for Routes<A> {
     ghost use Rattle.std.specs.Prelude.{List, map};
-    ghost use Rattle.tx_plan.specs.Entries.{Route};
+    ghost use Rattle.tx_plan.specs.Plan.{Route};
     ghost use Rattle.tx_plan.specs.inner.Tables.{route_of_row};
 
     ghost Value = { List Route };

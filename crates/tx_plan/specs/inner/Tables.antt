@@ -1,8 +1,9 @@
 -- A plan's entries as keys and values.
-use Rattle.std.specs.Prelude.{ℕ, List}
-use Rattle.tx_plan.specs.Entries.{Code, Group, Route}
-use Rattle.tx_plan.specs.declared.pair.Pair.{Pair}
-use Rattle.tx_plan.specs.declared.group_row.GroupRow.{GroupRow}
+use Rattle.std.specs.Prelude.{ℕ, List, map}
+use Rattle.tx_plan.specs.Plan.{Plan, Code, Group, Route}
+use Rattle.tx_plan.specs.declared.ids.Pair.{Pair}
+use Rattle.tx_plan.specs.declared.range.LineRange.{LineRange}
+use Rattle.tx_plan.specs.declared.group.GroupRow.{GroupRow}
 
 -- figures, and the home of their code
 abbrev pub code_of_row : List ℕ × ℕ → Code
@@ -25,3 +26,15 @@ row_of g = record { a = g.a; b = g.b; direction = g.direction; count = g.count }
 -- a pair, and the groups of its route
 abbrev pub route_of_row : Pair × List ℕ → Route
 route_of_row e = record { exchange = e.0.exchange; code = e.0.code; groups = e.1 }
+
+-- a plan whose lists are these: codes, groups and routes with what they are found by
+abbrev pub plan_of : List (List ℕ) → List (List ℕ × ℕ) → List LineRange
+    → List (List ℕ × GroupRow) → List Route → List Pair → Plan
+plan_of exchanges codes ranges groups routes bars = record {
+  exchanges = exchanges;
+  codes = map code_of_row codes;
+  ranges = ranges;
+  groups = map group_of_row groups;
+  routes = routes;
+  bars = bars;
+}

@@ -1,5 +1,5 @@
 use Rattle.std.proofs.Common.{◌≡◌, ◌∙◌, sym, ap, subst, List, map, ℕ, Option, IfSome}
-use Rattle.tx_plan.specs.declared.pair.Pair.{Pair}
+use Rattle.tx_plan.specs.declared.ids.Pair.{Pair}
 use Rattle.tx_plan.specs.Declaring.{first_true, route_word_refusals, route_plan_refusals, pair_named, exchange_at, code_at, group_at}
 use Rattle.tx_plan.specs.inner.Seen.{IsSeen}
 use Rattle.tx_plan.proofs.Refusing.{goes_on, stops}

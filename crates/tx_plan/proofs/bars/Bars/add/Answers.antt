@@ -1,6 +1,6 @@
 use Rattle.std.proofs.Common.{◌≡◌, ◌∙◌, ap, ◌++◌, ◌∷◌, [], if◌then◌else◌, false}
 use Rattle.std.specs.List.{list_any}
-use Rattle.tx_plan.specs.declared.pair.Pair.{Pair}
+use Rattle.tx_plan.specs.declared.ids.Pair.{Pair}
 use Rattle.tx_plan.proofs.PairRows.{same_pair, turned}
 use Rattle.tx_plan.proofs.bars.Bars.add.Goals as goal
 

@@ -1,6 +1,6 @@
 use Rattle.std.proofs.Common.{List, [], ◌∷◌, ◌++◌}
 use Rattle.tx_plan.specs.Plan.{Plan}
-use Rattle.tx_plan.specs.declared.pair.Pair.{Pair}
+use Rattle.tx_plan.specs.declared.ids.Pair.{Pair}
 use Rattle.tx_plan.specs.Rules.{IsPlan}
 use Rattle.tx_plan.proofs.Made.{either, made_bar}
 use Rattle.tx_plan.proofs.builder.PlanBuilder.bar.Goals as goal
