@@ -1,10 +1,10 @@
 // What a declaration adds to a plan, or why it is refused.
-ghost use Rattle.std.specs.Prelude.{◌≡◌, ◌≤◌, ◌<◌, Some, None, is_some, true, false, not, map, ◌||◌, ◌&&◌, nat_le, IfNone, IfSome, IfOk, IfErr, OnOk, length};
+ghost use Rattle.std.specs.Prelude.{◌≡◌, ◌≤◌, ◌<◌, Some, None, is_some, true, false, not, map, ◌||◌, ◌&&◌, nat_le, IfSome, IfOk, IfErr, OnOk, length};
 ghost use Rattle.std.specs.List.{list_any};
+ghost use Rattle.std.specs.Result.{result_err};
 ghost use Rattle.tx_text.specs.Words.{is_name};
 ghost use Rattle.tx_plan.specs.Plan.{exchange_named, code_named, group_named};
 ghost use Rattle.tx_plan.specs.Routes.{is_barred};
-ghost use Rattle.tx_plan.specs.Rules.{is_code};
 ghost use Rattle.tx_plan.specs.inner.RouteScan.{IsScanOf};
 ghost use Rattle.tx_plan.specs.Declaring.{first_true, exchange_refusals, code_refusals, lines_refusals, group_refusals, route_refusals, route_plan_refusals, route_group_refusals, bar_refusals, route_word_refusals, has_exchange, has_code, has_group, has_route, pair_named, is_ordered, exchange_at, code_at, group_at};
 
@@ -22,7 +22,6 @@ use std::alloc::Allocator;
 use tx_text::{Words, are_figures, is_name};
 
 /// The name of a new exchange, or why it is refused.
-#[tactic(auto, using(crate::proofs::Lists::found_any))]
 pub(crate) fn exchange_entry<A: Allocator>(
     plan: &Plan<A>,
     name: &[u8],
@@ -45,7 +44,6 @@ pub(crate) fn exchange_entry<A: Allocator>(
 }
 
 /// The figures and the home of a new code, or why it is refused.
-#[tactic(auto, using(crate::proofs::Lists::found_any))]
 pub(crate) fn code_entry<A: Allocator>(
     plan: &Plan<A>,
     code: &[u8],
@@ -83,7 +81,6 @@ fn is_ordered(low: &[u8], high: &[u8]) -> bool
 }
 
 /// A new range, or why it is refused.
-#[tactic(auto, using(crate::proofs::Lists::found_any))]
 pub(crate) fn range_entry<A: Allocator>(
     plan: &Plan<A>,
     code: &[u8],
@@ -125,21 +122,23 @@ pub(crate) fn range_entry<A: Allocator>(
     })
 }
 
-/// The exchanges of two names.
-#[tactic(auto, using(crate::proofs::Lists::found_any))]
-fn ends_named<A: Allocator>(plan: &Plan<A>, a: &[u8], b: &[u8]) -> Option<(ExchangeId, ExchangeId)>
-    ensures found { is_some result
-        ≡ not (not (has_exchange plan.now a.now) || not (has_exchange plan.now b.now)) }
-    ensures ends { IfSome result
-        (λ e. e ≡ (exchange_at plan.now a.now, exchange_at plan.now b.now)) }
+/// Whether each is a name.
+fn are_names(name: &[u8], a: &[u8], b: &[u8]) -> bool
+    ensures gives { not result
+        ≡ (not (is_name name.now) || (not (is_name a.now) || not (is_name b.now))) }
+    ensures short { result ≡ true → length name.now ≤ 8 }
 {
-    let first = plan.exchange_named(a)?;
-    let second = plan.exchange_named(b)?;
-    Some((first, second))
+    is_name(name) && is_name(a) && is_name(b)
+}
+
+/// Whether a group may have so many circuits.
+fn is_count(count: u32) -> bool
+    ensures { result ≡ (nat_le 1 count && nat_le count 240) }
+{
+    count >= 1 && count <= 240
 }
 
 /// The name of a new group and its row, or why it is refused.
-#[tactic(auto, using(crate::proofs::Lists::found_any))]
 pub(crate) fn group_entry<A: Allocator>(
     plan: &Plan<A>,
     name: &[u8],
@@ -163,16 +162,19 @@ pub(crate) fn group_entry<A: Allocator>(
     )) }
     ensures fresh { OnOk result (has_group plan.now name.now ≡ false) }
 {
-    if !(is_name(name) && is_name(a) && is_name(b)) {
+    if !are_names(name, a, b) {
         return Err(PlanRefusal::BadName);
     }
-    if count < 1 || count > 240 {
+    if !is_count(count) {
         return Err(PlanRefusal::BadNumber);
     }
     if plan.group_named(name).is_some() {
         return Err(PlanRefusal::Duplicate);
     }
-    let Some((first, second)) = ends_named(plan, a, b) else {
+    let Some(first) = plan.exchange_named(a) else {
+        return Err(PlanRefusal::Unknown);
+    };
+    let Some(second) = plan.exchange_named(b) else {
         return Err(PlanRefusal::Unknown);
     };
     if a == b {
@@ -244,10 +246,8 @@ fn route_words(
     bad: bool,
 ) -> Result<(), PlanRefusal>
     requires bad { bad ≡ list_any (λ g. not (is_name g)) groups.now }
-    ensures err { IfErr result
-        (λ e. first_true (route_word_refusals exchange.now code.now groups.now) ≡ Some e) }
-    ensures ok { OnOk result
-        (first_true (route_word_refusals exchange.now code.now groups.now) ≡ None) }
+    ensures { result_err result
+        ≡ first_true (route_word_refusals exchange.now code.now groups.now) }
 {
     if groups.again().next().is_none() {
         return Err(PlanRefusal::WrongCount);
@@ -271,10 +271,8 @@ fn route_groups<A: Allocator>(
 ) -> Result<(), PlanRefusal>
     requires scan { IsScanOf plan.now (Some pair.now) groups.now scan.now }
     requires known { scan.now.unknown ≡ false }
-    ensures err { IfErr result
-        (λ e. first_true (route_group_refusals plan.now (Some pair.now) groups.now) ≡ Some e) }
-    ensures ok { OnOk result
-        (first_true (route_group_refusals plan.now (Some pair.now) groups.now) ≡ None) }
+    ensures gives { result_err result
+        ≡ first_true (route_group_refusals plan.now (Some pair.now) groups.now) }
     ensures few { OnOk result (scan.now.many ≡ false) }
 {
     if scan.not_outgoing {
@@ -305,10 +303,8 @@ fn route_row<A: Allocator>(
     scan: &RouteScan,
 ) -> Result<(), PlanRefusal>
     requires scan { IsScanOf plan.now (Some pair.now) groups.now scan.now }
-    ensures err { IfErr result
-        (λ e. first_true (route_plan_refusals plan.now (Some pair.now) groups.now) ≡ Some e) }
-    ensures ok { OnOk result
-        (first_true (route_plan_refusals plan.now (Some pair.now) groups.now) ≡ None) }
+    ensures gives { result_err result
+        ≡ first_true (route_plan_refusals plan.now (Some pair.now) groups.now) }
     ensures few { OnOk result (scan.now.many ≡ false) }
     ensures fresh { OnOk result (has_route plan.now pair.now.exchange pair.now.code ≡ false) }
 {

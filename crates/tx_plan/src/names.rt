@@ -13,10 +13,11 @@ impl<A: Allocator> Plan<A> {
     pub fn exchange_named(&self, name: &[u8]) -> Option<ExchangeId>
         ensures { result ≡ exchange_named self.now name.now }
     {
+        let exchanges = &self.exchanges;
         if name.len() > 8 {
             return None;
         }
-        let place = self.exchanges.get_index_of(&NameKey::new(name))?;
+        let place = exchanges.get_index_of(&NameKey::new(name))?;
         Some(ExchangeId::of(place))
     }
 
@@ -24,10 +25,11 @@ impl<A: Allocator> Plan<A> {
     pub fn code_named(&self, figures: &[u8]) -> Option<CodeId>
         ensures { result ≡ code_named self.now figures.now }
     {
+        let codes = &self.codes;
         if figures.len() > 3 {
             return None;
         }
-        let place = self.codes.get_index_of(&NameKey::new(figures))?;
+        let place = codes.get_index_of(&NameKey::new(figures))?;
         Some(CodeId::of(place))
     }
 
@@ -35,10 +37,11 @@ impl<A: Allocator> Plan<A> {
     pub fn group_named(&self, name: &[u8]) -> Option<GroupId>
         ensures { result ≡ group_named self.now name.now }
     {
+        let groups = &self.groups;
         if name.len() > 8 {
             return None;
         }
-        let place = self.groups.get_index_of(&NameKey::new(name))?;
+        let place = groups.get_index_of(&NameKey::new(name))?;
         Some(GroupId::of(place))
     }
 

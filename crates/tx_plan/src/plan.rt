@@ -1,8 +1,9 @@
 // A route plan and its readers.
-ghost use Rattle.std.specs.Prelude.{◌≡◌, ◌≤◌, if◌then◌else◌, nat_lt, Some, None, length, slice_get};
+ghost use Rattle.std.specs.Prelude.{◌≡◌, ◌≤◌, ◌&&◌, ◌==◌, if◌then◌else◌, nat_lt, Some, None, length, slice_get};
+ghost use Rattle.std.specs.List.{list_any};
 ghost use Rattle.std.specs.Option.{option_map, option_copied};
 ghost use Rattle.tx_plan.specs.Plan.{home_of};
-ghost use Rattle.tx_plan.specs.Lines.{is_line_at};
+ghost use Rattle.tx_plan.specs.Lines.{is_line_at, in_range};
 ghost use Rattle.tx_plan.specs.Routes.{route_list, is_barred, is_origin, is_origin_for};
 ghost use Rattle.tx_plan.specs.Circuits.{direction_of, count_of, ends_of, other_end, may_seize};
 ghost use Rattle.tx_plan.specs.Rules.{IsPlan};
@@ -205,11 +206,21 @@ impl<A: Allocator> Plan<A> {
             code,
             national: National::read(national)?,
         };
-        let is_line = self
-            .ranges
+        if self.is_in_range(code, national) {
+            Some(line)
+        } else {
+            None
+        }
+    }
+
+    /// Whether a national number lies in a range of the code.
+    fn is_in_range(&self, code: CodeId, number: &[u8]) -> bool
+        ensures { result ≡ list_any (λ r. (r.code == code) && in_range number.now r)
+            self.now.ranges }
+    {
+        self.ranges
             .iter()
-            .any(|range| range.code == code && range.has(national));
-        if is_line { Some(line) } else { None }
+            .any(|range| range.code == code && range.has(number))
     }
 
     /// The groups that the exchange tries for the code, in order; none where no route is declared.
@@ -265,7 +276,8 @@ impl<A: Allocator> Plan<A> {
 impl<A: Allocator> Plan<A> {
     /// What is declared of the group beside its name.
     fn row(&self, group: GroupId) -> Option<&GroupRow>
-        ensures { option_copied result ≡ option_map row_of (slice_get self.now.groups group) }
+        ensures value { option_copied result ≡ option_map row_of (slice_get self.now.groups group) }
+        ensures rules { IsPlan self.now }
     {
         let (_, row) = self.groups.get_index(group.index())?;
         Some(row)

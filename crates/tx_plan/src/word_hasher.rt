@@ -10,12 +10,12 @@ const MULTIPLIER: u64 = 0x9E37_79B9_7F4A_7C15;
 /// above the lower half of a product: each bit of a key reaches
 /// them, and numbers that follow one another come to places that do. The upper eight of 32, by
 /// which it tells keys of one place apart, are of the lower half too.
-#[derive(Clone, Copy)]
+#[derive(Clone, Copy, Debug)]
 pub struct ByWord;
 
 /// Joins the bytes of a name, of a pair, of a line or of a number to one number, a word at a time:
 /// such a text has nine bytes at most.
-#[derive(Clone, Copy)]
+#[derive(Clone, Copy, Debug)]
 pub struct WordHasher {
     word: u64,
 }

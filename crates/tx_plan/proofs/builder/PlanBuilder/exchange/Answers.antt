@@ -1,11 +1,20 @@
-use Rattle.std.proofs.Common.{ℕ, List, [], ◌∷◌, ◌++◌}
+use Rattle.std.proofs.Common.{ℕ, List, ap, ◌∙◌}
+use Rattle.std.specs.List.{list_any}
+use Rattle.std.specs.Str.{bytes_eq}
 use Rattle.tx_plan.specs.Plan.{Plan}
 use Rattle.tx_plan.specs.Rules.{IsPlan}
-use Rattle.tx_plan.proofs.Made.{either, made_exchange}
+use Rattle.tx_plan.specs.Declaring.{has_exchange}
+use Rattle.tx_plan.specs.inner.Tables.{plan_of}
+use Rattle.tx_plan.proofs.Made.{inserted_key, made_exchange}
 use Rattle.tx_plan.proofs.builder.PlanBuilder.exchange.Goals as goal
 
 pub invariant_of-plan : goal.invariant_of-plan
 invariant_of-plan g c =
-    let p : Plan = record { exchanges = c.plan.inside.exchanges; codes = c.plan.inside.codes; ranges = c.plan.inside.ranges; groups = c.plan.inside.groups; routes = c.plan.inside.routes; bars = c.plan.inside.bars } in
-    either (λ (l : List (List ℕ)). IsPlan (record p { exchanges = l })) c.add.result _ p.exchanges (p.exchanges ++ c.in_ok-entry.entry ∷ []) c.add.ensures.ok c.add.ensures.err c.plan.invariant
-    (made_exchange p _ c.plan.view_is c.plan.invariant c.args.name.now c.in_ok-entry.entry c.in_ok-entry.ensures.ok c.in_ok-entry.ensures.entry)
+    let p : Plan = plan_of c.plan.inside.exchanges.keys c.plan.inside.codes.entries c.plan.inside.ranges.items c.plan.inside.groups.entries c.plan.inside.routes c.plan.inside.bars in
+    let e : List ℕ = c.in_ok-entry.entry in
+    let absent = ap (λ (q : Plan). has_exchange q e) c.plan.view_is ∙ ap (has_exchange c.args.self.now) c.in_ok-entry.ensures.entry ∙ c.in_ok-entry.ensures.fresh in
+    inserted_key c.insert.result (λ (l : List (List ℕ)). IsPlan (record p { exchanges = l })) p.exchanges c.insert.new.self.keys e c.insert.ensures.keys c.insert.ensures.err absent c.plan.invariant
+    (made_exchange p _ c.plan.view_is c.plan.invariant c.args.name.now e c.in_ok-entry.ensures.ok c.in_ok-entry.ensures.entry)
+
+pub returns : goal.returns
+returns g c = let a = c.in_ok-insert.ensures in ?
