@@ -1,8 +1,10 @@
-use Rattle.std.proofs.Common.{List, [], ◌∷◌, ◌++◌}
+use Rattle.std.proofs.Common.{List, [], ◌∷◌, ◌++◌, ap, sym, ◌∙◌}
 use Rattle.tx_plan.specs.Plan.{Plan, Route}
 use Rattle.tx_plan.specs.Rules.{IsPlan}
+use Rattle.tx_plan.specs.Declaring.{first_true, route_refusals, with_route}
 use Rattle.tx_plan.specs.inner.Tables.{plan_of}
 use Rattle.tx_plan.proofs.Made.{either, made_route}
+use Rattle.tx_plan.proofs.Refusing.{declares-refused, declares-no_memory}
 use Rattle.tx_plan.proofs.builder.PlanBuilder.route.Goals as goal
 
 pub invariant_of-plan : goal.invariant_of-plan
@@ -12,7 +14,13 @@ invariant_of-plan g c =
     (made_route p _ c.plan.view_is c.plan.invariant c.args.exchange.now c.args.code.now c.args.groups (c.in_ok-pair.pair, c.in_ok-pair.list) c.in_ok-pair.ensures.ok c.in_ok-pair.ensures.entry)
 
 pub returns-in_err-pair : goal.returns-in_err-pair
-returns-in_err-pair g c = ?
+returns-in_err-pair g c =
+    declares-refused (first_true (route_refusals c.args.self.now c.args.exchange.now c.args.code.now c.args.groups)) c.args.self.now (with_route c.args.self.now c.args.exchange.now c.args.code.now c.args.groups) c.self.inside.plan c.from_residual.result c.in_err-pair.field-0.0 c.from_residual.ensures.1
+    (ap (λ (q : Plan). first_true (route_refusals q c.args.exchange.now c.args.code.now c.args.groups)) (sym c.self.view_is) ∙ c.in_err-pair.ensures.err) c.self.view_is
 
 pub returns-in_err-add : goal.returns-in_err-add
-returns-in_err-add g c = ?
+returns-in_err-add g c =
+    let p : Plan = plan_of c.plan.inside.exchanges.keys c.plan.inside.codes.entries c.plan.inside.ranges.items c.plan.inside.groups.entries c.plan.inside.routes c.plan.inside.bars in
+    declares-no_memory (first_true (route_refusals c.args.self.now c.args.exchange.now c.args.code.now c.args.groups)) c.args.self.now (with_route c.args.self.now c.args.exchange.now c.args.code.now c.args.groups) _ c.from_residual-in_err-add.result c.from_residual-in_err-add.ensures.1
+    (ap (λ (q : Plan). first_true (route_refusals q c.args.exchange.now c.args.code.now c.args.groups)) (sym c.self.view_is) ∙ c.in_ok-pair.ensures.ok)
+    (ap (λ (l : List Route). record p { routes = l }) c.in_err-add.ensures.err ∙ c.plan.view_is ∙ c.self.view_is)

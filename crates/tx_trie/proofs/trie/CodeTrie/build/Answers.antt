@@ -8,8 +8,8 @@ use Rattle.tx_trie.proofs.trie.CodeTrie.build.Goals as goal
 pub loop-place-init : goal.loop-place-init
 loop-place-init g c = c.in_ok-trie.ensures
 
-pub overflow_cast-place : goal.overflow_cast-place
-overflow_cast-place g c =
+pub of-code-requires : goal.of-code-requires
+of-code-requires g c =
     let few = c.codes-place-end.ensures.rules.few_codes in
     omega arith
 

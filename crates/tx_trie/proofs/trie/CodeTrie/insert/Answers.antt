@@ -37,8 +37,8 @@ invariant_of-self-2 g c =
     (λ i e at. c.requires.unused i e (ap (λ l. slice_get l i) (sym codes_are) ∙ at))
     (c.of.ensures ∙ (let z : c.len.result ≡ length (map code_of_row rows) = (let e = c.len.ensures in simp length-map (omega arith)) in z)) few (omega (arith, r.len))
 
-pub overflow_cast-len : goal.overflow_cast-len
-overflow_cast-len g c =
+pub of-requires : goal.of-requires
+of-requires g c =
     let rows = c.self.inside.codes.items in
     let codes_are : map code_of_row rows ≡ c.args.self.now = c.self.view_is in
     let k = c.reserve.new.self.ok.0 in
