@@ -14,7 +14,7 @@ use indexmap::IndexMap;
 use slab::Slab;
 use std::alloc::{Allocator, Global};
 use std::marker::Model;
-use tx_entries::ByWord;
+use tx_plan::ByWord;
 use tx_machine::{Hop, OpenCall, Phase};
 use tx_text::NoMemory;
 

@@ -6,7 +6,7 @@ use Rattle.std.specs.FinSet as set
 use Rattle.tx_plan.specs.Declaring.{first_true}
 use Rattle.tx_plan.specs.Plan.{Plan}
 use Rattle.tx_plan.specs.Lines.{is_line}
-use Rattle.tx_entries.specs.declared.line.Line.{Line}
+use Rattle.tx_plan.specs.declared.line.Line.{Line}
 use Rattle.tx_machine.specs.Lines.{is_engaged}
 use Rattle.tx_machine.specs.Call.{Call, call_of, is_connected}
 use Rattle.tx_machine.specs.declared.party.Party.{Party}

@@ -9,7 +9,7 @@ use Rattle.std.specs.Str.{bytes_eq}
 use Rattle.tx_text.specs.declared.frame.FaultKind.{FaultKind}
 use Rattle.tx_text.specs.declared.frame.FaultKind.TheVariants.{Frame, Word}
 use Rattle.tx_text.specs.Words.{is_name}
-use Rattle.tx_entries.specs.Numbers.{is_national}
+use Rattle.tx_plan.specs.Numbers.{is_national}
 use Rattle.tx_plan.specs.declared.refusal.PlanRefusal.{PlanRefusal}
 use Rattle.tx_plan.specs.declared.refusal.PlanRefusal.TheVariants.{BadName, BadCode, BadNumber, Duplicate, Unknown, SameEnds, NotOutgoing, RepeatedGroup}
 use Rattle.tx_plan.specs.Plan.{Plan}

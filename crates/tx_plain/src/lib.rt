@@ -13,6 +13,7 @@ mod ending;
 mod ends;
 mod facts;
 mod group_marks;
+mod keyed;
 mod keying;
 mod lines;
 mod looking;

@@ -16,12 +16,13 @@ use crate::calls::call_of;
 use crate::change::Change;
 use crate::changing::{change_numbered, reserve_hop};
 use crate::ends::Ends;
+use crate::keyed::{code_of, rest_after};
 use crate::plain::Plain;
 use crate::routing::Routing;
 use crate::truth::both;
 use std::alloc::Allocator;
 use tx_machine::{Cause, Facts, Hop, OpenCall, Phase, Reply, Service, place_of};
-use tx_plan::{Circuit, CodeId, ExchangeId, Line, code_of, rest_after};
+use tx_plan::{Circuit, CodeId, ExchangeId, Line};
 use tx_text::NoMemory;
 
 impl<'p, A: Allocator + Copy> Plain<'p, A> {

@@ -6,8 +6,8 @@ use Rattle.std.specs.Prelude.{if◌then◌else◌}
 use Rattle.std.specs.List.{list_any}
 use Rattle.std.specs.Str.{bytes_eq}
 use Rattle.tx_text.specs.Words.{is_name}
-use Rattle.tx_entries.specs.inner.Distinct.{differ}
-use Rattle.tx_entries.proofs.Lists.{placed_within}
+use Rattle.tx_plan.specs.inner.Distinct.{differ}
+use Rattle.tx_plan.proofs.Lists.{placed_within}
 use Rattle.tx_plan.specs.Plan.{Plan}
 use Rattle.tx_plan.specs.Rules.{EachPair}
 use Rattle.tx_plan.specs.Among.{Among}

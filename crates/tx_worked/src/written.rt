@@ -8,11 +8,10 @@ use tx_text::{FaultKind, FrameFault, MemorySource};
 
 /// Whether two certificates of the plan give the same ranks.
 fn same_ranks(plan: &Plan, one: &Cert, other: &Cert) -> bool {
-    plan.rules();
     for code in 0..plan.codes() {
         for exchange in 0..plan.exchanges() {
-            let code = CodeId::at(code as u16);
-            let exchange = ExchangeId::at(exchange as u16);
+            let code = CodeId::of(code);
+            let exchange = ExchangeId::of(exchange);
             if one.rank(code, exchange) != other.rank(code, exchange) {
                 return false;
             }

@@ -99,7 +99,7 @@ fn engage_lines<A: Allocator + Copy>(book: &mut LineBook<A>) -> Came {
     let mut all = Came::Right;
     for count in 1..14u8 {
         let number = [b'1', b'0', b'0', b'0' + count / 10, b'0' + count % 10];
-        let Some(line) = book.find(CodeId::at(0), &number) else {
+        let Some(line) = book.find(CodeId::of(0), &number) else {
             return Came::Wrong;
         };
         let mut came = engage(book, &line);

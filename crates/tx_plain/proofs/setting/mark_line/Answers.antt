@@ -1,7 +1,7 @@
 use Rattle.std.proofs.Common.{ap, ◌∙◌, sym}
 use Rattle.std.specs.FinSet as set
 use Rattle.tx_plan.specs.Orders.{line_cmp}
-use Rattle.tx_entries.proofs.Named.{line_put}
+use Rattle.tx_plan.proofs.Named.{line_put}
 use Rattle.tx_plain.specs.inner.Marked.{faulty_after, away_after}
 use Rattle.tx_plain.proofs.LineSets.{lines_without}
 use Rattle.tx_plain.proofs.setting.mark_line.Goals as goal
