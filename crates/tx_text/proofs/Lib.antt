@@ -1,7 +1,7 @@
 pub mod WordLists
 pub mod WordEnds
 pub mod Writing
-pub mod WroteBy
+pub mod Wrote
 pub mod Places
 pub mod AlikeBytes
 pub mod Blocks

@@ -2,7 +2,7 @@ pub mod Text
 pub mod Words
 pub mod Padded
 pub mod Ends
-pub mod WroteBy
+pub mod Wrote
 pub mod Calls
 pub mod ReadCalls
 pub mod Slices
