@@ -16,14 +16,14 @@ use Rattle.tx_machine.specs.Call.{Call, place_of}
 use Rattle.tx_machine.specs.InUse.{circuits_carried}
 use Rattle.tx_machine.specs.Routing.{set_call}
 use Rattle.tx_machine.specs.Step.{keyed_call}
-use Rattle.tx_machine.specs.Invariant.{Inv}
+use Rattle.tx_machine.specs.inner.Invariant.{Inv}
 use Rattle.tx_machine.proofs.Invariant.{inv_opening}
 use Rattle.tx_machine.proofs.Changes.{not_standing}
 use Rattle.tx_lines.specs.Book.{Book, is_line_of}
 use Rattle.tx_circuits.specs.Table.{Table, all_free, seat_cmp}
 use Rattle.tx_calls.specs.Calls.{Kept, Calls, kept_at, Changes, calls_in, sorted_calls}
 use Rattle.tx_calls.specs.inner.Keys.{HasKeys, keys_of, pick}
-use Rattle.tx_calls.specs.declared.end_keys.EndKeys.{EndKeys}
+use Rattle.tx_calls.specs.declared.circuit_keys.EndKeys.{EndKeys}
 use Rattle.tx_calls.proofs.Sorted.{sorted_mem}
 use Rattle.tx_engine.specs.inner.Seen.{AreTogether}
 use Rattle.tx_engine.proofs.Going.{keyed_together}

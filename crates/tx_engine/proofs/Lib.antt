@@ -1,7 +1,6 @@
 pub mod Keyed
 pub mod Opening
 pub mod Changing
-pub mod Refused
 pub mod Deciding
 pub mod Routing
 pub mod Leading

@@ -12,7 +12,7 @@ use Rattle.tx_machine.specs.Step.{step}
 use Rattle.tx_machine.specs.Safe.{IsSafe}
 use Rattle.tx_machine.specs.Excused.{IsExcused, FewDown, OthersFree, IsNcByCollision}
 use Rattle.tx_machine.specs.Sound.{routes_of}
-use Rattle.tx_machine.specs.Invariant.{Holds, IsRanked}
+use Rattle.tx_machine.specs.inner.Invariant.{Holds, IsRanked}
 use Rattle.tx_machine.proofs.Invariant.{inv_opening}
 use Rattle.tx_machine.proofs.Steps.{step_keeps}
 use Rattle.tx_machine.proofs.Ranks.{step_ranked}

@@ -24,18 +24,12 @@ use Rattle.tx_machine.specs.State.{State}
 use Rattle.tx_machine.specs.Step.{accepted, counted}
 use Rattle.tx_machine.specs.Refusals.{refusals, refusal, is_group, is_other}
 use Rattle.tx_machine.proofs.Steps.{tests_false}
+use Rattle.tx_machine.proofs.Unrefused.{group_within}
 use Rattle.tx_plain.specs.inner.Marks.{HasMark}
 use Rattle.tx_plain.specs.inner.Marked.{is_mark, failed_after, blocked_after, releasing_after, out_after, faulty_after, away_after, marked_after, CanMark, AreFor}
 use Rattle.tx_plain.specs.inner.Whole.{net_of}
 use Rattle.tx_plain.specs.declared.marks.Marks.{Marks}
 use Rattle.tx_plain.proofs.Whole.{circuit_marked}
-
-group_within : (p : Plan) (g : ℕ) → not (is_group p g) ≡ false → g < length p.groups
-group_within p g h = at (slice_get p.groups g) refl h
-  where
-    at : (o : Option Group) → slice_get p.groups g ≡ o → not (is_some o) ≡ false → g < length p.groups
-    at None e h = absurd (false≢true (sym h))
-    at (Some r) e h = slice_get_within p.groups g r e
 
 -- an event that is not refused marks a circuit or a group of the plan
 pub can_mark : {A : Type 0} (p : Plan) (s : State) (m : Marks A) → IsPlan p → AreFor (length p.groups) m → (e : Event) → refusal p s e ≡ None → CanMark e m
@@ -67,33 +61,6 @@ can_mark p s m ok all e h = at e (tests_false (refusals p s e ++ (nat_le (2 ^ 64
 -- its marks are for as many groups
 pub marked_for : {A : Type 0} (n : ℕ) (m m' : Marks A) (e : Event) → m' ≡ marked_after e m → AreFor n m → AreFor n m'
 marked_for n m m' e is all = subst (AreFor n) (sym is) (record { failed = all.failed; blocked = all.blocked; releasing = all.releasing; out = all.out })
-
--- an event that is not refused can be counted
-pub can_count : (p : Plan) (s : State) (e : Event) → refusal p s e ≡ None → s.events < 2 ^ 64 - 1
-can_count p s e h = let t = last (refusals p s e) (nat_le (2 ^ 64 - 1) s.events) h in grind (arith, nat_tests)
-  where
-    last : (ts : List (Bool × Refusal)) (b : Bool) → first_true (ts ++ (b, Exhausted) ∷ []) ≡ None → b ≡ false
-    last [] true h = let bad : ⊥ = cc in absurd bad
-    last [] false h = refl
-    last ((true, r) ∷ ts) b h = let bad : ⊥ = cc in absurd bad
-    last ((false, r) ∷ ts) b h = last ts b h
-
-pub can_key : (p : Plan) (s : State) (line : Line) (keyed : List ℕ) → refusal p s (Key line keyed) ≡ None → s.numbers < 2 ^ 32 - 1
-can_key p s line keyed h = let t = (tests_false (refusals p s (Key line keyed) ++ (nat_le (2 ^ 64 - 1) s.events, Exhausted) ∷ []) h).1.1.1.0 in grind (arith, nat_tests)
-
--- the call of a Route or of a Confirm is open
-is_open : (o : Option Call) → is_none o ≡ false → is_some o ≡ true
-is_open None h = absurd (false≢true (sym h))
-is_open (Some c) h = refl
-
-pub can_route : (p : Plan) (s : State) (n : ℕ) → refusal p s (Route n) ≡ None → is_some (call_of n s.calls) ≡ true
-can_route p s n h = is_open (call_of n s.calls) (tests_false (refusals p s (Route n) ++ (nat_le (2 ^ 64 - 1) s.events, Exhausted) ∷ []) h).0
-
-pub can_confirm : (p : Plan) (s : State) (n : ℕ) → refusal p s (Confirm n) ≡ None → (is_some (call_of n s.calls) ≡ true) × (is_other is_calling (call_of n s.calls) ≡ false)
-can_confirm p s n h = let t = tests_false (refusals p s (Confirm n) ++ (nat_le (2 ^ 64 - 1) s.events, Exhausted) ∷ []) h in (is_open (call_of n s.calls) t.0, t.1.0)
-
-pub can_fail : (p : Plan) (s : State) (g : ℕ) → refusal p s (Fail g) ≡ None → g < length p.groups
-can_fail p s g h = group_within p g (tests_false (refusals p s (Fail g) ++ (nat_le (2 ^ 64 - 1) s.events, Exhausted) ∷ []) h).1.0
 
 -- the reply and the state after an event that marks
 pub marked_step : {A : Type 0} (p : Plan) (calls : List (OpenCall A)) (m m' : Marks A) (faulty away faulty' away' : List Line) (numbers events : ℕ) (tickets : List Ended) (e : Event) → is_mark e ≡ true → m' ≡ marked_after e m → set.from_list faulty' ≡ faulty_after e (set.from_list faulty) → set.from_list away' ≡ away_after e (set.from_list away)

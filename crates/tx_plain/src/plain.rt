@@ -4,10 +4,11 @@ ghost use Rattle.tx_machine.specs.Step.{takes_memory, accepted, counted};
 ghost use Rattle.tx_machine.specs.State.{opening};
 ghost use Rattle.tx_machine.specs.Refusals.{refusal};
 
+use crate::lines::take_line;
 use crate::marks::Marks;
 use std::alloc::{Allocator, Global};
 use std::marker::Model;
-use tx_machine::{Event, Network, OpenCall, Refusal, Reply, Ticket, refusal_of};
+use tx_machine::{Event, Network, OpenCall, Reply, Ticket, refusal_of};
 use tx_plan::{Line, Plan};
 use tx_text::NoMemory;
 
@@ -86,7 +87,7 @@ impl<'p, A: Allocator + Copy> Plain<'p, A> {
         })
     }
 
-    /// One event that no refusal meets.
+    /// One event that is not refused.
     fn accept(&mut self, event: &Event) -> Result<Reply, NoMemory>
         requires open { refusal self.old.plan self.old.state event.now ≡ None }
         ensures plan { self.new.plan ≡ self.old.plan }
@@ -96,13 +97,24 @@ impl<'p, A: Allocator + Copy> Plain<'p, A> {
         ensures memory { OnErr result (takes_memory event.now ≡ true) }
     {
         match event {
-            Event::Key { line, keyed } => self.key(*line, *keyed),
-            Event::Route(number) => self.route(*number),
-            Event::Confirm(number) => Ok(self.confirm(*number)),
-            Event::Clear { call, party } => Ok(self.clear(*call, *party)),
-            Event::Fail(group) => Ok(self.fail(*group)),
-            _ => self.mark(event),
+            Event::Key { line, keyed } => return self.key(*line, *keyed),
+            Event::Route(number) => return self.route(*number),
+            Event::Confirm(number) => return Ok(self.confirm(*number)),
+            Event::Clear { call, party } => return Ok(self.clear(*call, *party)),
+            Event::Fail(group) => return Ok(self.fail(*group)),
+            Event::Released(circuit) => self.marks.releasing.clear(circuit),
+            Event::Restore(group) => self.marks.failed.clear(*group),
+            Event::Block(group) => self.marks.blocked.set(*group),
+            Event::Unblock(group) => self.marks.blocked.clear(*group),
+            Event::CircuitOut(circuit) => self.marks.out.set(circuit),
+            Event::CircuitIn(circuit) => self.marks.out.clear(circuit),
+            Event::LineFault(line) => self.faulty.push(*line)?,
+            Event::LineMend(line) => take_line(&mut self.faulty, line),
+            Event::LineAway(line) => self.away.push(*line)?,
+            Event::LineBack(line) => take_line(&mut self.away, line),
         }
+        self.events += 1;
+        Ok(Reply::Done)
     }
 }
 
@@ -114,8 +126,7 @@ impl<'p, A: Allocator + Copy> Network for Plain<'p, A> {
     ghost state = { λ n. n.state };
 
     fn apply(&mut self, event: Event) -> Result<Reply, NoMemory> {
-        let refusal = refusal_of(self, &event);
-        match refusal {
+        match refusal_of(self, &event) {
             Some(refusal) => Ok(Reply::Refused(refusal)),
             None => self.accept(&event),
         }

@@ -31,7 +31,7 @@ use Rattle.tx_machine.specs.Confirming.{confirmed_by, rival, confirmed}
 use Rattle.tx_machine.specs.Step.{with_call, accepted, counted, unless_refused, step}
 use Rattle.tx_machine.specs.Runs.{run, InEveryState}
 use Rattle.tx_machine.specs.State.{opening}
-use Rattle.tx_machine.specs.Invariant.{Holds}
+use Rattle.tx_machine.specs.inner.Invariant.{Holds}
 use Rattle.tx_machine.proofs.Invariant.{inv_opening}
 use Rattle.tx_machine.proofs.Steps.{step_keeps}
 use Rattle.tx_machine.proofs.Playing.{shut_out}

@@ -1,6 +1,6 @@
 use Rattle.std.proofs.Common.{◌≡◌, subst, None}
 use Rattle.tx_machine.specs.Refusals.{refusal}
-use Rattle.tx_plain.proofs.Marked.{can_count, can_key, can_route, can_confirm, can_fail}
+use Rattle.tx_machine.proofs.Unrefused.{can_count, can_key, can_route, can_confirm, can_fail}
 use Rattle.tx_plain.proofs.plain.Plain.accept.Goals as goal
 
 pub key-requires-clause-numbers : goal.key-requires-clause-numbers
@@ -33,5 +33,11 @@ fail-requires-clause-events g c = can_count c.args.self.now.plan c.args.self.now
 pub fail-requires-clause-group : goal.fail-requires-clause-group
 fail-requires-clause-group g c = can_fail c.args.self.now.plan c.args.self.now.state c.in-Fail.group (subst (λ e. refusal c.args.self.now.plan c.args.self.now.state e ≡ None) c.in-Fail.is c.requires.open)
 
-pub mark-requires-clause-open : goal.mark-requires-clause-open
-mark-requires-clause-open g c = c.requires.open
+pub overflow_add-self : goal.overflow_add-self
+overflow_add-self g c = ?
+
+pub returns-clause-plan : goal.returns-clause-plan
+returns-clause-plan g c = ?
+
+pub returns-clause-ok : goal.returns-clause-ok
+returns-clause-ok g c = ?
