@@ -9,7 +9,7 @@ pub mod Confirming
 pub mod HeadOn
 pub mod Lost
 pub mod Taken
-pub mod Behind
+pub mod AfterCode
 pub mod Found
 pub mod Choosing
 pub mod Filters

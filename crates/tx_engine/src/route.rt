@@ -25,6 +25,17 @@ use tx_plan::{Circuit, CodeId, ExchangeId, Line, Plan};
 use tx_text::NoMemory;
 use tx_trie::CodeTrie;
 
+/// What becomes of a call that is routed.
+#[derive(Clone, Copy)]
+pub(crate) enum Decision {
+    /// It has come to the line, which answers it.
+    Reach(Line),
+    /// It seizes the circuit from the exchange where it stands.
+    Seize(Circuit, ExchangeId),
+    /// It is answered with a service code, and ends.
+    Answer(Service),
+}
+
 impl<'p, A: Allocator + Copy> EngineState<'p, A> {
     /// A call is routed from where it stands.
     pub(crate) fn route(&mut self, number: u32) -> Result<Reply, NoMemory>
@@ -140,17 +151,6 @@ fn service_of(status: Status) -> Option<Service>
     }
 }
 
-/// What becomes of a call that is routed.
-#[derive(Clone, Copy)]
-pub(crate) enum Decision {
-    /// It has come to the line, which answers it.
-    Reach(Line),
-    /// It seizes the circuit from the exchange where it stands.
-    Seize(Circuit, ExchangeId),
-    /// It is answered with a service code, and ends.
-    Answer(Service),
-}
-
 /// The first circuit that the exchange finds in its groups for the code.
 fn choice<A: Allocator>(
     plan: &Plan<A>,
@@ -173,7 +173,7 @@ fn choice<A: Allocator>(
 }
 
 /// What is keyed after the code that it begins with.
-fn behind<'k, A: Allocator>(plan: &Plan<A>, code: CodeId, keyed: &'k [u8]) -> &'k [u8]
+fn after_code<'k, A: Allocator>(plan: &Plan<A>, code: CodeId, keyed: &'k [u8]) -> &'k [u8]
     requires { Some code ≡ code_of plan.now keyed.now }
     ensures { result.now ≡ unwrap_or (after (figures_of plan.now code) keyed.now) [] }
 {
@@ -201,7 +201,7 @@ pub(crate) fn decide<A: Allocator>(
         return Decision::Answer(Service::Na);
     }
     if plan.home(code) == here {
-        let rest = behind(plan, code, keyed);
+        let rest = after_code(plan, code, keyed);
         return match lines.find(code, rest) {
             Some(line) => Decision::Reach(line),
             None => Decision::Answer(Service::Np),

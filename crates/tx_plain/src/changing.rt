@@ -9,6 +9,17 @@ use std::alloc::Allocator;
 use tx_machine::{Hop, OpenCall, Phase};
 use tx_text::NoMemory;
 
+/// What may become of a call that stays open.
+#[derive(Clone, Copy)]
+pub(crate) enum Change {
+    /// It goes to another phase.
+    To(Phase),
+    /// It goes on over the circuit that it has seized.
+    Carry(Hop),
+    /// It loses its circuit by a collision.
+    ThrowBack,
+}
+
 /// Makes room for a hop of a call with the number.
 fn reserve_one<A: Allocator>(call: &mut OpenCall<A>, number: u32) -> Result<(), NoMemory>
     ensures seen { call_seen call.new ≡ call_seen call.old }
@@ -76,15 +87,4 @@ pub(crate) fn change_numbered<A: Allocator>(calls: &mut [OpenCall<A>], number: u
         change_one(&mut calls[at], number, change);
         at += 1;
     }
-}
-
-/// What may become of a call that stays open.
-#[derive(Clone, Copy)]
-pub(crate) enum Change {
-    /// It goes to another phase.
-    To(Phase),
-    /// It goes on over the circuit that it has seized.
-    Carry(Hop),
-    /// It loses its circuit by a collision.
-    ThrowBack,
 }

@@ -20,6 +20,20 @@ use std::alloc::Allocator;
 use tx_machine::{Cause, Hop, OpenCall, Phase, Reply, Service, far_of};
 use tx_plan::Circuit;
 
+/// What a call meets on the circuit that it has seized.
+#[derive(Clone, Copy)]
+pub(crate) enum Meeting {
+    /// Nobody: it goes on over the hop.
+    GoesOn(Hop),
+    /// Another call: each of the two had collided before at its exchange, or not.
+    Collides {
+        circuit: Circuit,
+        collided: bool,
+        other: u32,
+        other_collided: bool,
+    },
+}
+
 impl<'p, A: Allocator + Copy> Plain<'p, A> {
     /// What a call meets that confirms.
     pub(crate) fn meeting_of(&self, number: u32) -> Meeting
@@ -139,18 +153,4 @@ impl<'p, A: Allocator + Copy> Plain<'p, A> {
         change_numbered(self.calls.as_mut_slice(), b, &Change::ThrowBack);
         self.marks.releasing.set(circuit);
     }
-}
-
-/// What a call meets on the circuit that it has seized.
-#[derive(Clone, Copy)]
-pub(crate) enum Meeting {
-    /// Nobody: it goes on over the hop.
-    GoesOn(Hop),
-    /// Another call: each of the two had collided before at its exchange, or not.
-    Collides {
-        circuit: Circuit,
-        collided: bool,
-        other: u32,
-        other_collided: bool,
-    },
 }

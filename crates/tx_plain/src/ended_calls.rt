@@ -15,6 +15,22 @@ use std::alloc::Allocator;
 use tx_machine::{Cause, Hop, OpenCall, Path, Phase, Ticket};
 use tx_plan::{Circuit, GroupId, Plan};
 
+/// The calls that end.
+#[derive(Clone, Copy)]
+pub(crate) enum Ends {
+    /// The call of a number.
+    Numbered(u32),
+    /// Of two calls that collide, those that had collided before.
+    Collided {
+        a: u32,
+        a_ends: bool,
+        b: u32,
+        b_ends: bool,
+    },
+    /// The calls on a group.
+    OnGroup(GroupId),
+}
+
 /// Whether the call ends.
 fn is_ended<A: Allocator>(call: &OpenCall<A>, ends: &Ends) -> bool
     ensures { result ≡ ends_by ends.now (call_seen call.now) }
@@ -230,20 +246,4 @@ pub(crate) fn count_ending<A: Allocator>(calls: &[OpenCall<A>], ends: &Ends) -> 
         at += 1;
     }
     count
-}
-
-/// The calls that end.
-#[derive(Clone, Copy)]
-pub(crate) enum Ends {
-    /// The call of a number.
-    Numbered(u32),
-    /// Of two calls that collide, those that had collided before.
-    Collided {
-        a: u32,
-        a_ends: bool,
-        b: u32,
-        b_ends: bool,
-    },
-    /// The calls on a group.
-    OnGroup(GroupId),
 }

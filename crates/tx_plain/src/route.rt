@@ -21,6 +21,17 @@ use tx_machine::{Cause, Facts, Hop, OpenCall, Phase, Reply, Service, place_of};
 use tx_plan::{Circuit, CodeId, ExchangeId, Line, code_of, rest_after};
 use tx_text::NoMemory;
 
+/// What is done with a call that is routed.
+#[derive(Clone, Copy)]
+pub(crate) enum Routing {
+    /// It is answered with a service code, and ends.
+    Answer(Service),
+    /// It is connected to the line.
+    Connect(Line),
+    /// It seizes the circuit.
+    Seize(Circuit),
+}
+
 impl<'p, A: Allocator + Copy> Plain<'p, A> {
     /// What the line decides at its home.
     pub(crate) fn ask_line(&self, code: CodeId, national: &[u8]) -> Routing
@@ -174,15 +185,4 @@ fn is_first(hops: &[Hop]) -> bool
     ensures { result ≡ is_first hops.now }
 {
     hops.is_empty()
-}
-
-/// What is done with a call that is routed.
-#[derive(Clone, Copy)]
-pub(crate) enum Routing {
-    /// It is answered with a service code, and ends.
-    Answer(Service),
-    /// It is connected to the line.
-    Connect(Line),
-    /// It seizes the circuit.
-    Seize(Circuit),
 }

@@ -14,8 +14,8 @@ use Rattle.tx_engine.proofs.Found.{IsLet, first_is_empty, decided_barred, decide
 use Rattle.tx_engine.proofs.route.decide.Goals as goal
 use Rattle.tx_engine.proofs.route.decide.Goals.{else-is_empty-via-then-is_empty+else-is_barred, else-is_empty-via-else-is_empty}
 
-pub behind-rest-requires : goal.behind-rest-requires
-behind-rest-requires g c = c.in-Some.ensures ∙ (λ i. code_of (plan_of (c.requires.codes i)) (c.bytes-keyed.result.now))
+pub after_code-rest-requires : goal.after_code-rest-requires
+after_code-rest-requires g c = c.in-Some.ensures ∙ (λ i. code_of (plan_of (c.requires.codes i)) (c.bytes-keyed.result.now))
 
 pub returns-in_default : goal.returns-in_default
 returns-in_default g c =
@@ -47,8 +47,8 @@ returns-in-Some-find g c =
       | else-is_empty-via-else-is_empty w ↦ inl (first_is_empty hops.items hops.len hops.ok.0 ∙ sym c.is_empty.ensures ∙ w.if-is_empty.false)
     ] in
     let home : (home_of p code == place_of p d) ≡ true = (λ i. sym c.home.ensures i == sym c.place_of-here.ensures i) ∙ sym c.eq.ensures ∙ c.if-eq.true in
-    let rest = c.behind-rest.ensures ∙ ap (λ k. unwrap_or (after (figures_of p code) k) []) c.bytes-keyed.ensures.value in
-    line_found (is_line_of b.ranges code c.behind-rest.result.now) (record { code = code; national = c.behind-rest.result.now }) c.find.result c.in-Some-find.line c.find.ensures c.in-Some-find.is
+    let rest = c.after_code-rest.ensures ∙ ap (λ k. unwrap_or (after (figures_of p code) k) []) c.bytes-keyed.ensures.value in
+    line_found (is_line_of b.ranges code c.after_code-rest.result.now) (record { code = code; national = c.after_code-rest.result.now }) c.find.result c.in-Some-find.line c.find.ensures c.in-Some-find.is
     ∙ ap (λ n. by_line (is_line_of b.ranges code n) (record { code = code; national = n })) rest
     ∙ sym (decided_home p b t d code begins past home)
 
@@ -66,8 +66,8 @@ returns-in-None g c =
       | else-is_empty-via-else-is_empty w ↦ inl (first_is_empty hops.items hops.len hops.ok.0 ∙ sym c.is_empty.ensures ∙ w.if-is_empty.false)
     ] in
     let home : (home_of p code == place_of p d) ≡ true = (λ i. sym c.home.ensures i == sym c.place_of-here.ensures i) ∙ sym c.eq.ensures ∙ c.if-eq.true in
-    let rest = c.behind-rest.ensures ∙ ap (λ k. unwrap_or (after (figures_of p code) k) []) c.bytes-keyed.ensures.value in
-    line_missed (is_line_of b.ranges code c.behind-rest.result.now) (record { code = code; national = c.behind-rest.result.now }) c.find.result c.find.ensures c.in-None.is
+    let rest = c.after_code-rest.ensures ∙ ap (λ k. unwrap_or (after (figures_of p code) k) []) c.bytes-keyed.ensures.value in
+    line_missed (is_line_of b.ranges code c.after_code-rest.result.now) (record { code = code; national = c.after_code-rest.result.now }) c.find.result c.find.ensures c.in-None.is
     ∙ ap (λ n. by_line (is_line_of b.ranges code n) (record { code = code; national = n })) rest
     ∙ sym (decided_home p b t d code begins past home)
 

@@ -1,7 +1,7 @@
 use Rattle.std.proofs.Common.{◌∙◌, ℕ, ◌-◌, List, length, drop, length-drop, ap, arith}
 use Rattle.std.proofs.lemmas.List.{take_all}
-use Rattle.tx_engine.proofs.Behind.{code_fits, rest_is}
-use Rattle.tx_engine.proofs.route.behind.Goals as goal
+use Rattle.tx_engine.proofs.AfterCode.{code_fits, rest_is}
+use Rattle.tx_engine.proofs.route.after_code.Goals as goal
 
 pub slice_bounds-result-count : goal.slice_bounds-result-count
 slice_bounds-result-count g c = rw c.code_figures.ensures (code_fits c.args.plan.now c.args.keyed.now c.args.code c.requires)
