@@ -45,10 +45,11 @@ impl<A: Allocator> CircuitMarks<A> {
     {
         let number = circuit.number;
         let group = circuit.group.index();
-        group < self.groups
-            && 1 <= number
-            && number <= 240
-            && self.bits[240 * group + (number as usize - 1)]
+        if group < self.groups && 1 <= number && number <= 240 {
+            self.bits[240 * group + (number as usize - 1)]
+        } else {
+            false
+        }
     }
 
     /// Marks the circuit.

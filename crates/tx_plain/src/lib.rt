@@ -11,7 +11,6 @@ mod ending;
 mod facts;
 mod group_marks;
 mod keying;
-mod lines;
 mod looking;
 mod marks;
 mod plain;

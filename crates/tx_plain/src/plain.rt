@@ -1,10 +1,11 @@
 // A network over lists.
-ghost use Rattle.std.specs.Prelude.{◌≡◌, ◌<◌, ◌+◌, ◌-◌, IfOk, OnErr, Some, None, true};
+ghost use Rattle.std.specs.Prelude.{◌≡◌, ◌<◌, ◌+◌, ◌-◌, IfOk, OnErr, Some, None, true, not, filter};
 ghost use Rattle.tx_machine.specs.Step.{takes_memory, accepted, counted};
 ghost use Rattle.tx_machine.specs.State.{opening};
 ghost use Rattle.tx_machine.specs.Refusals.{refusal};
+ghost use Rattle.tx_plan.specs.Orders.{same_line};
 
-use crate::lines::take_line;
+use crate::calls::same_line;
 use crate::marks::Marks;
 use std::alloc::{Allocator, Global};
 use std::marker::Model;
@@ -146,5 +147,19 @@ impl<'p, A: Allocator + Copy> Network for Plain<'p, A> {
 
     fn events(&self) -> u64 {
         self.events
+    }
+}
+
+/// Takes a line out of the list.
+fn take_line<A: Allocator>(lines: &mut Vec<Line, A>, line: &Line)
+    ensures { lines.new.items ≡ filter (λ m. not (same_line m line.now)) lines.old.items }
+{
+    let mut at = 0;
+    while at < lines.len() {
+        if same_line(&lines[at], line) {
+            lines.remove(at);
+        } else {
+            at += 1;
+        }
     }
 }

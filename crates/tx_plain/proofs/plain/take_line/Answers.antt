@@ -1,7 +1,7 @@
 use Rattle.std.proofs.Common.{◌<◌, ◌∙◌, sym, arith, length}
 use Rattle.tx_plan.specs.Orders.{same_line}
 use Rattle.tx_plain.proofs.Taking.{goes_past, takes_out, all_past}
-use Rattle.tx_plain.proofs.lines.take_line.Goals as goal
+use Rattle.tx_plain.proofs.plain.take_line.Goals as goal
 
 pub loop-at-preserved : goal.loop-at-preserved
 loop-at-preserved g c =
