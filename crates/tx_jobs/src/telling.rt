@@ -60,7 +60,6 @@ fn tell_script<A: Allocator + Copy, R: Source, W: Sink>(
         Err(_) => Err(JobFault::NoMemory),
         Ok(mut network) => {
             let told = run_telling(alloc, telling, plan, &mut network, script, out);
-            network.close();
             match told {
                 Ok(summary) => Ok(summary),
                 Err(fault) => Err(JobFault::of_run(fault)),

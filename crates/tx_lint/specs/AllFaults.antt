@@ -1,6 +1,5 @@
 -- All faults of a plan's text. A line at fault is told and passed over, and the others are read on.
-use Rattle.std.specs.Prelude.{ℕ, ◌+◌, Bool, true, false, List, [], ◌∷◌, ◌++◌, map, codes, if◌then◌else◌}
-use Rattle.std.specs.Prelude.{Option, None, Some, is_none, Ok, Err}
+use Rattle.std.specs.Prelude.{ℕ, ◌+◌, Bool, true, false, List, [], ◌∷◌, ◌++◌, map, codes, if◌then◌else◌, Option, None, Some, is_none, Ok, Err}
 use Rattle.std.specs.Option.{option_map, option_to_list}
 use Rattle.tx_text.specs.declared.text_fault.TextFault.{TextFault}
 use Rattle.tx_text.specs.declared.frame.FrameFault.{FrameFault}

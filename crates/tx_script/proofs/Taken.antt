@@ -13,9 +13,9 @@ use Rattle.tx_plan.specs.Circuits.{is_circuit}
 use Rattle.tx_plan.specs.Routes.{is_barred}
 use Rattle.tx_plan.specs.Among.{Among}
 use Rattle.tx_plan.proofs.Among.{among_cases, among_left, among_right, among_map, map_among, among_flat, flat_among, among_filter, filter_among}
-use Rattle.tx_entries.specs.declared.circuit.Circuit.{Circuit}
-use Rattle.tx_entries.specs.declared.line.Line.{Line}
-use Rattle.tx_entries.proofs.Named.{circuits_total, same_circuit-is, same_circuit-itself, circuit_tie, exact_circuits, in_insert, in_union}
+use Rattle.tx_plan.specs.declared.circuit.Circuit.{Circuit}
+use Rattle.tx_plan.specs.declared.line.Line.{Line}
+use Rattle.tx_plan.proofs.Named.{circuits_total, same_circuit-is, same_circuit-itself, circuit_tie, exact_circuits, in_insert, in_union}
 use Rattle.tx_machine.specs.declared.event.Event.{Event}
 use Rattle.tx_machine.specs.declared.event.Event.TheVariants.{Key, Route, Confirm, Clear, Released, Fail, Restore, Block, Unblock, CircuitOut, CircuitIn, LineFault, LineMend, LineAway, LineBack}
 use Rattle.tx_machine.specs.declared.cause.Cause.{Cause}

@@ -10,9 +10,9 @@ use Rattle.tx_plan.specs.Codes.{code_of}
 use Rattle.tx_plan.specs.Circuits.{is_circuit}
 use Rattle.tx_plan.specs.Routes.{is_barred}
 use Rattle.tx_plan.specs.Among.{Among}
-use Rattle.tx_entries.specs.declared.circuit.Circuit.{Circuit}
-use Rattle.tx_entries.specs.declared.line.Line.{Line}
-use Rattle.tx_entries.proofs.Named.{same_circuit-is, same_circuit-itself}
+use Rattle.tx_plan.specs.declared.circuit.Circuit.{Circuit}
+use Rattle.tx_plan.specs.declared.line.Line.{Line}
+use Rattle.tx_plan.proofs.Named.{same_circuit-is, same_circuit-itself}
 use Rattle.tx_machine.specs.declared.event.Event.{Event}
 use Rattle.tx_machine.specs.declared.event.Event.TheVariants.{Key, Route, Confirm, Clear, Released, Fail, Restore, Block, Unblock, CircuitOut, CircuitIn, LineFault, LineMend, LineAway, LineBack}
 use Rattle.tx_machine.specs.declared.service.Service.{Service}

@@ -100,7 +100,6 @@ fn run_engine<A: Allocator + Copy>(
     match Engine::starting_at(alloc, plan, text.numbers, text.events) {
         Ok(mut net) => {
             let end = run(alloc, plan, &mut net, source, out);
-            net.close();
             end
         }
         Err(_) => Err(NOT_BEGUN),
