@@ -115,7 +115,7 @@ module _ (p : Plan) (codes : List Code) (c : Calls) (ks : List (List EndKeys)) (
   pub sound_marks : (failed blocked : set.FinSet nat_cmp) (out : set.FinSet circuit_cmp) → AreSound p codes c ks b (record t { failed = failed; blocked = blocked; out = out }) numbers made room
   sound_marks failed blocked out =
       sound_table (record t { failed = failed; blocked = blocked; out = out })
-          (record { inv = sound.together.inv; used = record { groups = sound.together.used.groups; carried = sound.together.used.carried; seized = sound.together.used.seized }; engaged = sound.together.engaged })
+      (record { inv = sound.together.inv; used = record { groups = sound.together.used.groups; carried = sound.together.used.carried; seized = sound.together.used.seized }; engaged = sound.together.engaged })
 
   -- ONE CALL CHANGES
   module _ (key : ℕ) (k : Kept) (was : kept_at c key ≡ Some k) where
