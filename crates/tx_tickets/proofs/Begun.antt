@@ -1,8 +1,9 @@
 -- A line of which some went out, and some is in its room.
-use Rattle.std.proofs.Common.{◌≡◌, ℕ, List, [], ◌++◌, Option, sym, ap, ◌∙◌, append_assoc, append-nil}
+use Rattle.std.proofs.Common.{◌≡◌, ℕ, Bool, List, [], ◌++◌, Option, sym, ap, ◌∙◌, append_assoc, append-nil}
 use Rattle.std.specs.Io.KnownBytes.{append_known}
-use Rattle.tx_text.specs.Ends.{StopsIn}
-use Rattle.tx_text.proofs.Writing.{append_known_twice, stops_first, stops_later}
+use Rattle.tx_text.specs.Wrote.{WroteBy}
+use Rattle.tx_text.proofs.Writing.{append_known_twice}
+use Rattle.tx_text.proofs.Wrote.{Outcome, text_is, wrote_then}
 
 -- a text, of which what does not stand on the line was taken
 pub record IsBegun (old new : Option (List ℕ)) (line text : List ℕ) : Type 0 where
@@ -19,6 +20,6 @@ module _ {a b : Option (List ℕ)} {line text : List ℕ} (s : IsBegun a b line 
   pub begun_out : {c : Option (List ℕ)} → c ≡ append_known b line → IsBegun a c [] text
   begun_out e = record { gone = text; whole = sym (append-nil text); taken = e ∙ ap (λ l. append_known l line) s.taken ∙ append_known_twice a s.gone line ∙ ap (append_known a) (sym s.whole) }
 
-  -- the sink failed in the line
-  pub begun_stop : {c : Option (List ℕ)} → StopsIn b c line → (more : List ℕ) → StopsIn a c (text ++ more)
-  begun_stop stop more = stops_first more (rw s.whole (stops_later s.gone s.taken stop))
+  -- the line was written, or a front of it
+  pub begun_wrote : {c : Option (List ℕ)} {f g h : Bool} {r : Outcome} → g ≡ f → WroteBy b c g h line r → WroteBy a c f h text r
+  begun_wrote {c} {f} {g} {h} {r} same w = text_is a c f h text (s.gone ++ line) r s.whole (wrote_then a b c f g h s.gone line r (s.taken, same) w)
