@@ -101,9 +101,11 @@ with_failure t g = record t {
   seized = set.retain t.seized (λ s. not (s.0.group == g));
 }
 
+-- an end of a circuit is stored as a pair
 abbrev pub seat_code : Coded Seat
 seat_code = coded× coded_circuit coded_ℕ
 
+-- a table is stored as its fields
 abbrev pub table_code : Coded Table
 table_code = code_by (List Group
     × (set.FinSet nat_cmp × (set.FinSet nat_cmp × (set.FinSet circuit_cmp × (set.FinSet circuit_cmp

@@ -22,8 +22,8 @@ use Rattle.tx_lines.specs.Book.{Book, is_line_of}
 use Rattle.tx_circuits.specs.Table.{Table, is_free_at as table_frees, first_free as table_first}
 use Rattle.tx_circuits.proofs.Unnamed.{circuits_at-same}
 use Rattle.tx_engine.specs.inner.Decided.{by_line, by_trunk, decided, decided_for, service_of, carry_out}
-use Rattle.tx_engine.specs.declared.decision.Decision.{Decision}
-use Rattle.tx_engine.specs.declared.decision.Decision.TheVariants.{Answer}
+use Rattle.tx_engine.specs.declared.route.Decision.{Decision}
+use Rattle.tx_engine.specs.declared.route.Decision.TheVariants.{Answer}
 use Rattle.tx_engine.specs.inner.Seen.{state_seen, AreTogether}
 
 pub if_ok : {T E : Type 0} (r : Result T E) {P Q : T → Type 0} → ((x : T) → P x → Q x) → IfOk r P → IfOk r Q

@@ -14,8 +14,8 @@ use Rattle.tx_machine.specs.Routing.{line_of}
 use Rattle.tx_lines.specs.Book.{Book, is_line_of}
 use Rattle.tx_circuits.specs.Table.{Table, first_free}
 use Rattle.tx_engine.specs.inner.Decided.{by_line, by_trunk, decided, decided_for}
-use Rattle.tx_engine.specs.declared.decision.Decision.{Decision}
-use Rattle.tx_engine.specs.declared.decision.Decision.TheVariants.{Reach, Answer}
+use Rattle.tx_engine.specs.declared.route.Decision.{Decision}
+use Rattle.tx_engine.specs.declared.route.Decision.TheVariants.{Reach, Answer}
 
 some : (n : ℕ) → false ≡ (suc n == 0)
 some n = grind (arith, nat_tests)

@@ -25,7 +25,7 @@ use Rattle.tx_machine.specs.Routing.{set_call, in_phase}
 use Rattle.tx_machine.specs.Confirming.{far_of, carried_on, rival}
 use Rattle.tx_machine.specs.Step.{keyed_call}
 use Rattle.tx_machine.specs.Safe.{IsKeyedLine}
-use Rattle.tx_machine.specs.Invariant.{Inv}
+use Rattle.tx_machine.specs.inner.Invariant.{Inv}
 use Rattle.tx_machine.proofs.Lists.{any_none, mem_any, find_none}
 use Rattle.tx_machine.proofs.Uses.{is_free, two_ends}
 use Rattle.tx_machine.proofs.Changes.{key_keeps, connect_keeps, seize_keeps, carry_keeps}

@@ -27,12 +27,12 @@ use Rattle.tx_circuits.specs.Table.{Table, plan_of, is_down, is_free_at as table
 use Rattle.tx_circuits.proofs.Unnamed.{is_circuit-same, may_seize-same}
 use Rattle.tx_calls.specs.Calls.{Kept, Calls, Changes, calls_in}
 use Rattle.tx_calls.specs.inner.Keys.{HasKeys, keys_at, keys_of, pick, with_key}
-use Rattle.tx_calls.specs.declared.end_keys.EndKeys.{EndKeys}
+use Rattle.tx_calls.specs.declared.circuit_keys.EndKeys.{EndKeys}
 use Rattle.tx_calls.proofs.Sorted.{sorted_mem}
 use Rattle.tx_engine.specs.inner.Seen.{AreTogether}
 use Rattle.tx_engine.proofs.Going.{connected_together, seized_together}
-use Rattle.tx_engine.specs.declared.decision.Decision.TheVariants.{Reach, Seize, Answer}
-use Rattle.tx_engine.specs.declared.parts.Parts.{Parts}
+use Rattle.tx_engine.specs.declared.route.Decision.TheVariants.{Reach, Seize, Answer}
+use Rattle.tx_engine.specs.declared.engine_state.EngineState.{EngineState}
 use Rattle.tx_engine.specs.inner.Decided.{decided_for, by_line, by_trunk, service_of, IsDecided}
 use Rattle.tx_engine.specs.inner.Sound.{AreSound, IsSound, is_first_end, state_of}
 use Rattle.tx_engine.proofs.Keyed.{keys_stay, keys_here, keys_else, pick_same, pick_other, ends_same}
@@ -95,7 +95,7 @@ free_by_table t place g x h = by (is_down t g) h
     by true e = absurd (let bad : ⊥ = cc in bad)
     by false e = (find_mem (table_frees t place) (circuits_at (plan_of t) g place) x e).1
 
-module _ {A : Type 0} (n : Parts A) (sound : IsSound n) (key : ℕ) (k : Kept) where
+module _ {A : Type 0} (n : EngineState A) (sound : IsSound n) (key : ℕ) (k : Kept) where
   abbrev p : Plan
   p = n.plan.now
 

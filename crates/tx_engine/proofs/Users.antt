@@ -16,7 +16,7 @@ use Rattle.tx_plan.proofs.Lists.{at_least}
 use Rattle.tx_plan.proofs.Among.{among_left, among_right, filter_among}
 use Rattle.tx_machine.specs.Call.{Call, place_of, is_numbered, call_of}
 use Rattle.tx_machine.specs.InUse.{circuits_used, carries, seizes, seizes_from, uses_group}
-use Rattle.tx_machine.specs.Invariant.{IsRising, Inv}
+use Rattle.tx_machine.specs.inner.Invariant.{IsRising, Inv}
 use Rattle.tx_machine.proofs.Lists.{any_none, mem_any, find_mem, find_none}
 use Rattle.tx_machine.proofs.Uses.{calling_on, an_end}
 use Rattle.tx_circuits.specs.Table.{Table}

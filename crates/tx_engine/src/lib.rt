@@ -13,20 +13,17 @@
 //! ```
 #![tactic(auto)]
 
+mod accepting;
 mod confirm;
-mod decision;
 mod ending;
 mod engine;
+mod engine_state;
 mod facts;
 mod failing;
-mod finding;
 mod head_on;
 mod keying;
-mod parts;
 mod playing;
 mod route;
-mod statuses;
-mod tickets;
 
 pub use engine::Engine;
 pub use playing::{Played, play};

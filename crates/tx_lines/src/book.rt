@@ -17,8 +17,7 @@ use crate::status::{Mark, Status, UNMARKED};
 use indexmap::IndexMap;
 use std::alloc::{Allocator, Global};
 use std::marker::Model;
-use tx_plan::ByWord;
-use tx_plan::{CodeId, Line, National, Plan};
+use tx_plan::{ByWord, CodeId, Line, National, Plan};
 use tx_text::NoMemory;
 
 /// The lines of a plan, and which of them are faulty (out of order), away (their subscriber is

@@ -1,8 +1,7 @@
 -- The word at fault in a line that is refused. It is told where one word is at fault by itself: of
 -- a number of words, of a range's ends, of an exchange and a code that do not go together, and of
 -- too many entries none is.
-use Rattle.std.specs.Prelude.{ℕ, Bool, not, List, [], ◌∷◌, length, find, slice_get, codes, if◌then◌else◌}
-use Rattle.std.specs.Prelude.{Option, Some, None}
+use Rattle.std.specs.Prelude.{ℕ, Bool, not, List, [], ◌∷◌, length, find, slice_get, codes, if◌then◌else◌, Option, Some, None}
 use Rattle.std.specs.List.{list_any}
 use Rattle.std.specs.Option.{option_or}
 use Rattle.std.specs.Str.{bytes_eq}

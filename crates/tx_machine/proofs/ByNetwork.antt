@@ -11,7 +11,7 @@ use Rattle.tx_machine.specs.declared.phase.Phase.TheVariants.{Standing, Calling,
 use Rattle.tx_machine.specs.Call.{Call}
 use Rattle.tx_machine.specs.State.{State}
 use Rattle.tx_machine.specs.Safe.{IsKeyedLine, IsOnlyLine, OfConnected, IsSafeCall, IsSafe}
-use Rattle.tx_machine.specs.Invariant.{IsKept, AreApart, Holds, IsRanked}
+use Rattle.tx_machine.specs.inner.Invariant.{IsKept, AreApart, Holds, IsRanked}
 use Rattle.tx_plan.specs.Mixtures.{SameNetwork}
 use Rattle.tx_plan.proofs.Networks.{rerouted-is}
 

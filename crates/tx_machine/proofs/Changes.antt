@@ -30,7 +30,7 @@ use Rattle.tx_machine.specs.Members.{NoneTwice}
 use Rattle.tx_machine.proofs.Lists.{none_any, any_mem, find_none}
 use Rattle.tx_machine.proofs.Uses.{not_seizing, not_taking, IsFree, joins_more, none_twice_push, no_third_end, two_ends}
 use Rattle.tx_machine.specs.Safe.{IsKeyedLine}
-use Rattle.tx_machine.specs.Invariant.{IsKept, AreApart, IsUnused, Inv, Holds}
+use Rattle.tx_machine.specs.inner.Invariant.{IsKept, AreApart, IsUnused, Inv, Holds}
 use Rattle.tx_machine.proofs.Invariant.{inv_releasing, inv_filter, inv_more, inv_set, swapped, rising_map}
 
 pub not_standing : {x : Circuit} → Standing ≡ Calling x → ⊥

@@ -35,7 +35,7 @@ use Rattle.tx_machine.specs.Excused.{routed_call}
 use Rattle.tx_machine.specs.Sound.{is_refused, is_route_of, routes_of, HasFewRoutes}
 use Rattle.tx_machine.proofs.Lists.{find_mem}
 use Rattle.tx_machine.proofs.Invariant.{set_cases, inv_opening}
-use Rattle.tx_machine.specs.Invariant.{Holds, IsRanked}
+use Rattle.tx_machine.specs.inner.Invariant.{Holds, IsRanked}
 use Rattle.tx_machine.proofs.Steps.{tests_false, stands, step_keeps}
 use Rattle.tx_machine.proofs.Moves.{Moves, stays, connects, seizes_one, goes_on, falls_back, came, after_accepted}
 use Rattle.tx_machine.proofs.Ranks.{AllRanked, step_ranked, hops_within, ranked_place}

@@ -34,7 +34,7 @@ use Rattle.tx_machine.specs.Step.{with_call, accepted, counted, unless_refused, 
 use Rattle.tx_machine.specs.Excused.{HadCollided, IsExcusedTo, IsExcused}
 use Rattle.tx_machine.proofs.Lists.{find_mem, find_none, all_from_mem}
 use Rattle.tx_machine.proofs.Uses.{first_in-none}
-use Rattle.tx_machine.specs.Invariant.{Holds}
+use Rattle.tx_machine.specs.inner.Invariant.{Holds}
 use Rattle.tx_machine.proofs.Ranks.{AllRanked, ranked_place, code_within}
 
 -- THE CIRCUITS OF A GROUP

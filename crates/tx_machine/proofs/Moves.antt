@@ -31,7 +31,7 @@ use Rattle.tx_machine.specs.Step.{keyed_call, with_call, accepted, counted, unle
 use Rattle.tx_machine.proofs.Lists.{find_mem}
 use Rattle.tx_machine.proofs.Uses.{first_in-is, chosen, calling_on}
 use Rattle.tx_machine.proofs.Invariant.{set_cases}
-use Rattle.tx_machine.specs.Invariant.{Holds}
+use Rattle.tx_machine.specs.inner.Invariant.{Holds}
 use Rattle.tx_machine.proofs.Steps.{tests_false, stands}
 
 -- from c the step with this event makes c'

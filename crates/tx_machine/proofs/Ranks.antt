@@ -27,7 +27,7 @@ use Rattle.tx_machine.specs.Members.{NoneTwice}
 use Rattle.tx_machine.specs.Passed.{IsLower, Falls, passed, transits, is_transit, is_home_of}
 use Rattle.tx_machine.proofs.Lists.{any_none, mem_any, any_mem}
 use Rattle.tx_machine.proofs.Steps.{all_mem, enumerated}
-use Rattle.tx_machine.specs.Invariant.{Holds, IsRanked}
+use Rattle.tx_machine.specs.inner.Invariant.{Holds, IsRanked}
 use Rattle.tx_machine.proofs.Changes.{not_standing}
 use Rattle.tx_machine.proofs.Moves.{Moves, stays, connects, seizes_one, goes_on, falls_back, IsNew, came}
 

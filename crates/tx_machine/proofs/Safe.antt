@@ -24,7 +24,7 @@ use Rattle.tx_machine.specs.Passed.{Joins}
 use Rattle.tx_machine.specs.Safe.{IsKeyedLine, IsOnlyLine, OfConnected, JoinsAndCarriesOnce, TakesPartOnce, FallsInRank, RanksFall, IsSafeCall, IsSafe}
 use Rattle.tx_machine.proofs.Lists.{any_none, none_any, any_mem, all_from_mem, places_differ}
 use Rattle.tx_machine.proofs.Steps.{all_mem}
-use Rattle.tx_machine.specs.Invariant.{IsRising, Holds}
+use Rattle.tx_machine.specs.inner.Invariant.{IsRising, Holds}
 use Rattle.tx_machine.proofs.Ranks.{AllRanked, few_transits, passed_once}
 
 -- what holds of each line that a call is connected to

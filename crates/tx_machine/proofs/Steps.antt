@@ -37,7 +37,7 @@ use Rattle.tx_machine.specs.Confirming.{far_of, collide, second_time, confirmed_
 use Rattle.tx_machine.specs.Step.{with_call, accepted, counted, unless_refused, step, cause_by}
 use Rattle.tx_machine.proofs.Lists.{find_mem}
 use Rattle.tx_machine.proofs.Uses.{first_in-is, chosen, calling_on}
-use Rattle.tx_machine.specs.Invariant.{Holds}
+use Rattle.tx_machine.specs.inner.Invariant.{Holds}
 use Rattle.tx_machine.proofs.Changes.{key_keeps, end_keeps, fail_keeps, release_keeps, connect_keeps, seize_keeps, carry_keeps, collide_keeps}
 
 -- no refusal: each test is false

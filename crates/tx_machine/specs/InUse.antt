@@ -14,9 +14,11 @@ use Rattle.tx_machine.specs.State.{State}
 abbrev pub circuits_carried : Call → List Circuit
 circuits_carried c = map (λ h. h.circuit) c.hops
 
+-- the call carries the circuit
 abbrev pub carries : Call → Circuit → Bool
 carries c x = list_any (λ h. same_circuit h.circuit x) c.hops
 
+-- a call in this phase has seized the circuit
 abbrev pub is_calling_on : Phase → Circuit → Bool
 is_calling_on Standing x = false
 is_calling_on (Calling y) x = same_circuit y x

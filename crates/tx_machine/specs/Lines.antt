@@ -11,6 +11,7 @@ use Rattle.tx_machine.specs.declared.service.Service.TheVariants.{Occ, Np, Der, 
 use Rattle.tx_machine.specs.Call.{Call, Phase, Standing, Calling, Connected, lines_called}
 use Rattle.tx_machine.specs.State.{State}
 
+-- a call in this phase is connected to the line
 abbrev pub is_connected_to : Phase → Line → Bool
 is_connected_to Standing l = false
 is_connected_to (Calling x) l = false

@@ -19,6 +19,7 @@ use Rattle.tx_machine.specs.Ending.{answered}
 abbrev pub set_call : ℕ → (Call → Call) → List Call → List Call
 set_call n f calls = map (λ c. if c.number == n then f c else c) calls
 
+-- the call is in another phase
 abbrev pub in_phase : Phase → Call → Call
 in_phase phase c = record c { phase = phase }
 

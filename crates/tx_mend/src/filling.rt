@@ -11,8 +11,7 @@ use crate::basis::Basis;
 use crate::code_ranks::least_at;
 use crate::outgoing::groups_at;
 use std::alloc::Allocator;
-use tx_plan::GroupList;
-use tx_plan::{CodeId, ExchangeId, GroupId, Plan};
+use tx_plan::{CodeId, ExchangeId, GroupId, GroupList, Plan};
 
 /// Whether the group is in the list.
 fn stands(list: &GroupList, group: GroupId) -> bool

@@ -1,17 +1,17 @@
 // National numbers, and subscribers' lines.
 ghost use Rattle.std.specs.Prelude.{◌≡◌, ◌≤◌, true, length, if◌then◌else◌, Some, None};
-ghost use Rattle.tx_text.specs.Padded.{padded_to};
+ghost use Rattle.tx_text.specs.inner.Padded.{padded_to};
 ghost use Rattle.tx_plan.specs.Numbers.{is_national, at_most};
 
 use crate::ids::CodeId;
 use std::hash::{Hash, Hasher};
 use std::marker::Model;
-use tx_text::{Short, are_figures};
+use tx_text::{InlineBytes, are_figures};
 
 /// A national number: 1 to 9 figures. Leading zeros count.
 #[derive(Clone, Copy, PartialEq, Eq)]
 pub struct National {
-    figures: Short<9>,
+    figures: InlineBytes<9>,
 }
 
 impl Model for National {
@@ -51,7 +51,7 @@ impl National {
         if !are_figures(text, 1, 9) {
             return None;
         }
-        let figures = Short::new(text);
+        let figures = InlineBytes::new(text);
         Some(National { figures })
     }
 

@@ -1,15 +1,15 @@
 // The names of exchanges and groups, and the figures of codes, as keys.
 ghost use Rattle.std.specs.Prelude.{◌≡◌, ◌≤◌, length};
-ghost use Rattle.tx_text.specs.Padded.{padded_to};
+ghost use Rattle.tx_text.specs.inner.Padded.{padded_to};
 
 use std::hash::{Hash, Hasher};
 use std::marker::Model;
-use tx_text::Short;
+use tx_text::InlineBytes;
 
 /// A text of at most 8 bytes: a name, or the figures of a code.
 #[derive(Clone, Copy, PartialEq, Eq)]
 pub struct NameKey {
-    text: Short<8>,
+    text: InlineBytes<8>,
 }
 
 impl Model for NameKey {
@@ -43,7 +43,7 @@ impl NameKey {
         ensures { result ≡ text.now }
     {
         NameKey {
-            text: Short::new(text),
+            text: InlineBytes::new(text),
         }
     }
 

@@ -30,7 +30,7 @@ use Rattle.tx_machine.specs.Routing.{in_phase, at_line, at_trunk, line_of, route
 use Rattle.tx_machine.specs.Confirming.{carried_on, thrown_back, far_of}
 use Rattle.tx_machine.specs.Ending.{end_calls}
 use Rattle.tx_machine.specs.Step.{with_call, accepted, counted, unless_refused, step}
-use Rattle.tx_machine.specs.Invariant.{Holds}
+use Rattle.tx_machine.specs.inner.Invariant.{Holds}
 use Rattle.tx_machine.proofs.Lists.{find_mem, none_any, any_none}
 use Rattle.tx_machine.proofs.Uses.{first_in-is, chosen}
 use Rattle.tx_machine.proofs.Invariant.{set_cases}

@@ -34,7 +34,7 @@ use Rattle.tx_machine.specs.Confirming.{confirmed_by, rival, confirmed, far_of}
 use Rattle.tx_machine.specs.Step.{with_call, accepted, counted, unless_refused, step}
 use Rattle.tx_machine.specs.Runs.{run, state_after, OfEveryEvent}
 use Rattle.tx_machine.specs.Excused.{HadCollided, IsNcByCollision}
-use Rattle.tx_machine.specs.Invariant.{Holds}
+use Rattle.tx_machine.specs.inner.Invariant.{Holds}
 use Rattle.tx_machine.proofs.Lists.{find_mem, none_any}
 use Rattle.tx_machine.proofs.Uses.{first_in-none}
 use Rattle.tx_machine.proofs.Invariant.{inv_opening}

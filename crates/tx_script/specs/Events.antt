@@ -14,8 +14,7 @@ use Rattle.tx_machine.specs.declared.party.Party.{Party}
 use Rattle.tx_machine.specs.declared.party.Party.TheVariants.{Caller, Called}
 use Rattle.tx_tickets.specs.Texts.{circuit_text}
 use Rattle.tx_text.specs.declared.text_fault.TextFault.{TextFault}
-use Rattle.tx_text.specs.declared.line_fault.LineFault.TheVariants.{Text as of_text}
-use Rattle.tx_text.specs.declared.frame.FrameFault.TheVariants.{Line as of_line}
+use Rattle.tx_text.specs.Told.{frame_fault}
 use Rattle.tx_text.specs.declared.frame.FaultKind.{FaultKind}
 use Rattle.tx_text.specs.declared.frame.FaultKind.TheVariants.{Frame, Word}
 use Rattle.tx_text.specs.Text.{bytes_fault}
@@ -225,7 +224,7 @@ BeginsWith ws verb rest = (p : Plan) → event_of p ws ≡ event_for p verb rest
 
 -- a fault of a line's bytes comes before those of its words
 abbrev pub event_said : Option TextFault → Said → Result Event (FaultKind ScriptWord)
-event_said (Some f) said = Err (Frame (of_line (of_text f)))
+event_said (Some f) said = Err (Frame (frame_fault f))
 event_said None (Ok e) = Ok e
 event_said None (Err k) = Err (Word k)
 

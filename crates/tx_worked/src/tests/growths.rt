@@ -6,9 +6,7 @@ use tx_circuits::CircuitTable;
 use tx_lines::{LineAnswer, LineBook};
 use tx_plan::{CodeId, Line, Plan, PlanRefusal};
 use tx_plantext::{PlanFault, PlanWord, read_plan};
-use tx_text::{
-    FaultKind, FrameFault, LineFault, LineFeeder, MemorySink, Sink, TextFault, write_bytes,
-};
+use tx_text::{FaultKind, FrameFault, LineFeeder, MemorySink, Sink, TextFault, write_bytes};
 use tx_trie::CodeTrie;
 
 /// What is made: the last three of them over a plan.
@@ -138,7 +136,7 @@ fn make_over<A: Allocator + Copy>(alloc: A, made: Made, plan: &Plan<A>) -> Came 
 /// What came of a plan that could not be read.
 fn came_of(fault: PlanFault) -> Came {
     match fault.kind {
-        FaultKind::Frame(FrameFault::Line(LineFault::Text(TextFault::NoMemory)))
+        FaultKind::Frame(FrameFault::NoMemory)
         | FaultKind::Word(PlanWord::Refused(PlanRefusal::NoMemory)) => Came::NoPlan,
         _ => Came::Wrong,
     }

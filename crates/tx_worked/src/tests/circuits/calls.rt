@@ -117,7 +117,10 @@ pub fn apply(table: &mut CircuitTable, call: Call) -> bool {
 }
 
 fn apply_at_end(table: &mut CircuitTable, x: &Circuit, call: Call) -> bool {
-    let (at, far) = (ExchangeId::of(usize::from(call.end)), ExchangeId::of(usize::from(call.far)));
+    let (at, far) = (
+        ExchangeId::of(usize::from(call.end)),
+        ExchangeId::of(usize::from(call.far)),
+    );
     match call.what {
         Verb::Seize
             if table.has_circuit(x) && table.may_seize(x.group, at) && table.is_free(x, at) => {
