@@ -21,7 +21,7 @@ use tx_text::Words;
 ///
 /// Each declaration appends one entry to one list, or changes nothing and tells the first refusal
 /// in the order of `PlanRefusal`. Names are declared before use.
-#[derive(Drop)]
+#[derive(Debug, Drop)]
 pub struct PlanBuilder<A: Allocator = Global> {
     plan: Plan<A>,
 }

@@ -9,7 +9,7 @@ use std::marker::Model;
 use tx_text::{InlineBytes, are_figures};
 
 /// A national number: 1 to 9 figures. Leading zeros count.
-#[derive(Clone, Copy, PartialEq, Eq)]
+#[derive(Clone, Copy, Debug, PartialEq, Eq)]
 pub struct National {
     figures: InlineBytes<9>,
 }
@@ -59,7 +59,7 @@ impl National {
 }
 
 /// A subscriber's line: a destination code and the national number after it (ITU-T F.69).
-#[derive(Clone, Copy)]
+#[derive(Clone, Copy, Debug)]
 pub struct Line {
     pub code: CodeId,
     pub national: National,
