@@ -4,7 +4,7 @@ ghost use Rattle.std.specs.Prelude.{◌≡◌, ◌<◌, None, ◌≢◌, ◌≤�
 ghost use Rattle.tx_circuits.specs.declared.lists.End.{End as EndValue};
 ghost use Rattle.tx_circuits.specs.declared.lists.Way.{Way as WayValue};
 ghost use Rattle.tx_circuits.specs.inner.Slots.{ahead, back, begins, list_of, rank_of, free_at, link_at, chain, is_free, state_of, opposite, IsListed, AreNeighbours};
-ghost use Rattle.tx_circuits.specs.inner.Linked.{IsLinked, IsLast, with};
+ghost use Rattle.tx_circuits.specs.inner.Linked.{IsLast, with};
 
 use crate::slot::{Slot, State};
 
