@@ -5,7 +5,8 @@ use Rattle.tx_text.specs.declared.frame.FramePart.TheVariants.{Body}
 use Rattle.tx_text.specs.Text.{lines_from}
 use Rattle.tx_text.specs.Told.{AtEnd, told}
 use Rattle.tx_text.specs.Frame.{header_of, framed}
-use Rattle.tx_text.specs.Written.{IsWrittenLine, joined}
+use Rattle.tx_text.specs.Written.{joined}
+use Rattle.tx_text.specs.inner.Written.{IsWrittenLine}
 use Rattle.tx_text.proofs.ReadBack.{has_back, head_back, end_back}
 use Rattle.tx_text.proofs.WrittenWords.{line_of_short, fixed_word}
 use Rattle.tx_plan.specs.Plan.{Plan}

@@ -9,7 +9,7 @@ use itoa::Buffer;
 use std::alloc::Allocator;
 use tx_plan::{CodeId, Plan};
 use tx_rank::{Bounds, Finding, Grade};
-use tx_text::{Sink, WriteFault, write_text};
+use tx_text::{Sink, WriteFault, write_parts};
 
 /// Writes the bounds of a plan and of each of its codes, or that there are none; and why, if the
 /// plan has none.
@@ -42,12 +42,12 @@ fn write_bounds<W: Sink>(
             let mut groups = Buffer::new();
             let limit = transits.format(bounds.limit).as_bytes();
             let spare = groups.format(bounds.spare).as_bytes();
-            write_text(
+            write_parts(
                 &[head, name, b" LIMIT ", limit, b" SPARE ", spare, b"\n"],
                 sink,
             )
         }
-        None => write_text(&[head, name, b" NONE\n"], sink),
+        None => write_parts(&[head, name, b" NONE\n"], sink),
     }
 }
 

@@ -1,5 +1,5 @@
 // The writer of reports.
-ghost use Rattle.std.specs.Prelude.{◌≡◌, length, ◌++◌, codes};
+ghost use Rattle.std.specs.Prelude.{◌++◌, codes};
 ghost use Rattle.std.specs.List.{flat_map};
 ghost use Rattle.tx_text.specs.Wrote.{Wrote};
 ghost use Rattle.tx_audit.specs.Report.{head_line, step_text, walk_text, finding_line, verdict_line, report};
@@ -8,7 +8,7 @@ use itoa::Buffer;
 use std::alloc::Allocator;
 use tx_plan::{CodeId, ExchangeId, GroupId, Plan};
 use tx_rank::{Finding, Walk};
-use tx_text::{Sink, WriteFault, write_text};
+use tx_text::{Sink, WriteFault, write_parts};
 
 /// Writes what was asked, a line for each finding, and the verdict.
 pub(crate) fn write_report<A: Allocator, W: Sink>(
@@ -33,7 +33,7 @@ fn write_head<W: Sink>(limit: u8, spare: u8, sink: &mut W) -> Result<(), WriteFa
     let mut groups = Buffer::new();
     let limit = transits.format(limit).as_bytes();
     let spare = groups.format(spare).as_bytes();
-    write_text(&[b"AUDIT LIMIT ", limit, b" SPARE ", spare, b"\n"], sink)
+    write_parts(&[b"AUDIT LIMIT ", limit, b" SPARE ", spare, b"\n"], sink)
 }
 
 /// Writes YES, or NO with the number of findings.
@@ -41,11 +41,11 @@ pub fn write_verdict<W: Sink>(count: usize, sink: &mut W) -> Result<(), WriteFau
     ensures { Wrote W.taken W.failed sink.old sink.new (verdict_line count) result }
 {
     if count == 0 {
-        return write_text(&[b"VERDICT YES\n"], sink);
+        return write_parts(&[b"VERDICT YES\n"], sink);
     }
     let mut buffer = Buffer::new();
     let count = buffer.format(count).as_bytes();
-    write_text(&[b"VERDICT NO ", count, b"\n"], sink)
+    write_parts(&[b"VERDICT NO ", count, b"\n"], sink)
 }
 
 /// Writes a line for each finding.
@@ -74,7 +74,7 @@ fn write_finding<A: Allocator, W: Sink>(
         Finding::Ambiguous(shorter, longer) => {
             let shorter = plan.code_figures(*shorter);
             let longer = plan.code_figures(*longer);
-            write_text(&[b"F1 AMBIGUOUS ", shorter, b" ", longer, b"\n"], sink)
+            write_parts(&[b"F1 AMBIGUOUS ", shorter, b" ", longer, b"\n"], sink)
         }
         Finding::Loop(code, walk) => write_walk(b"F2 LOOP ", plan, *code, walk, sink),
         Finding::Short(code, walk) => write_walk(b"F3 SHORT ", plan, *code, walk, sink),
@@ -95,7 +95,7 @@ fn write_walk<A: Allocator, W: Sink>(
         (head.now ++ walk_text plan.now code walk.now) result }
 {
     let code = plan.code_figures(code);
-    write_text(
+    write_parts(
         &[head, code, b" VIA ", plan.exchange_name(walk.start)],
         sink,
     )?;
@@ -114,7 +114,7 @@ pub fn write_steps<A: Allocator, W: Sink>(
     for i in 0..steps.len() {
         write_step(plan, steps[i], sink)?;
     }
-    write_text(&[b"\n"], sink)
+    write_parts(&[b"\n"], sink)
 }
 
 fn write_step<A: Allocator, W: Sink>(
@@ -125,5 +125,5 @@ fn write_step<A: Allocator, W: Sink>(
     ensures { Wrote W.taken W.failed sink.old sink.new (step_text plan.now step) result }
 {
     let group = plan.group_name(step.0);
-    write_text(&[b" ", group, b" ", plan.exchange_name(step.1)], sink)
+    write_parts(&[b" ", group, b" ", plan.exchange_name(step.1)], sink)
 }

@@ -30,16 +30,9 @@ pub fn write_counter<A: Allocator, W: Sink>(
 {
     plan.rules();
     all_event_rules(events);
-    write_text(b"SCRIPT 1\n", sink)?;
+    write_bytes(b"SCRIPT 1\n", sink)?;
     write_events(plan, events, sink)?;
-    write_text(b"END\n", sink)
-}
-
-/// Writes a text.
-fn write_text<W: Sink>(text: &[u8], sink: &mut W) -> Result<(), WriteFault>
-    ensures { Wrote W.taken W.failed sink.old sink.new text.now result }
-{
-    write_bytes(text, sink)
+    write_bytes(b"END\n", sink)
 }
 
 /// Writes a line for each event.

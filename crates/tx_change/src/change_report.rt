@@ -7,7 +7,7 @@ use std::alloc::Allocator;
 use tx_audit::{write_findings, write_verdict};
 use tx_plan::Plan;
 use tx_rank::Finding;
-use tx_text::{Sink, WriteFault, write_text};
+use tx_text::{Sink, WriteFault, write_parts};
 
 /// Writes what was asked, a line for each finding, and the verdict. The names are those of either
 /// plan.
@@ -34,5 +34,5 @@ fn write_head<W: Sink>(limit: u8, spare: u8, sink: &mut W) -> Result<(), WriteFa
     let mut groups = Buffer::new();
     let limit = transits.format(limit).as_bytes();
     let spare = groups.format(spare).as_bytes();
-    write_text(&[b"CHANGE LIMIT ", limit, b" SPARE ", spare, b"\n"], sink)
+    write_parts(&[b"CHANGE LIMIT ", limit, b" SPARE ", spare, b"\n"], sink)
 }

@@ -1,7 +1,5 @@
 // How verdicts are written.
-ghost use Rattle.std.specs.Prelude.{◌≡◌, ◌++◌, ◌∷◌, [], true, OnOk, OnErr};
-ghost use Rattle.std.specs.Io.KnownBytes.{append_known};
-ghost use Rattle.tx_text.specs.Ends.{StopsIn};
+ghost use Rattle.std.specs.Prelude.{◌++◌, ◌∷◌, []};
 ghost use Rattle.tx_text.specs.Written.{line_written};
 ghost use Rattle.tx_text.specs.Wrote.{Wrote};
 ghost use Rattle.tx_plan.specs.Plan.{figures_of, exchange_name, group_name};
@@ -12,7 +10,7 @@ use crate::fault::CheckFault;
 use crate::verdict::Verdict;
 use std::alloc::Allocator;
 use tx_plan::{CodeId, ExchangeId, GroupId, Plan};
-use tx_text::{Sink, WriteFault, write_bytes, write_text};
+use tx_text::{Sink, WriteFault, write_bytes, write_parts};
 
 /// Writes the verdict as one line, as `YES` or `NO K7 24 CENTRAL CENO1`, with its LF. Where the
 /// sink fails, a front of the line was taken.
@@ -42,13 +40,13 @@ fn write_no<A: Allocator, W: Sink>(
     match fault {
         CheckFault::Ambiguous(a, b) => {
             let longer = plan.code_figures(b);
-            write_text(
+            write_parts(
                 &[b"NO K1 ", plan.code_figures(a), b" ", longer, b"\n"],
                 sink,
             )
         }
         CheckFault::HomeNotZero(code) => {
-            write_text(&[b"NO K2 ", plan.code_figures(code), b"\n"], sink)
+            write_parts(&[b"NO K2 ", plan.code_figures(code), b"\n"], sink)
         }
         CheckFault::OriginUnranked(code, exchange) => {
             write_exchange(b"NO K3 ", plan, code, exchange, sink)
@@ -80,7 +78,7 @@ fn write_exchange<A: Allocator, W: Sink>(
         ++ line_written (figures_of plan.now code ∷ exchange_name plan.now exchange ∷ [])) result }
 {
     let name = plan.exchange_name(exchange);
-    write_text(&[front, plan.code_figures(code), b" ", name, b"\n"], sink)
+    write_parts(&[front, plan.code_figures(code), b" ", name, b"\n"], sink)
 }
 
 /// Writes the front of a line, and its code, exchange and group.
@@ -97,7 +95,7 @@ fn write_group<A: Allocator, W: Sink>(
 {
     let code = plan.code_figures(code);
     let exchange = plan.exchange_name(exchange);
-    write_text(
+    write_parts(
         &[
             front,
             code,

@@ -1,7 +1,5 @@
 // The picture of the routes for a code.
-ghost use Rattle.std.specs.Prelude.{◌≡◌, ◌+◌, true, OnOk, OnErr, length, get_or};
-ghost use Rattle.std.specs.Io.KnownBytes.{append_known};
-ghost use Rattle.tx_text.specs.Ends.{StopsIn};
+ghost use Rattle.std.specs.Prelude.{◌≡◌, ◌+◌, length, get_or};
 ghost use Rattle.tx_text.specs.Wrote.{Wrote};
 ghost use Rattle.tx_draw.specs.Shown.{first_shown};
 ghost use Rattle.tx_draw.specs.Drawing.{each_before};
@@ -13,7 +11,7 @@ use itoa::Buffer;
 use std::alloc::Allocator;
 use tx_plan::{CodeId, ExchangeId, GroupId, Plan};
 use tx_rank::{Finding, is_marked};
-use tx_text::{Sink, WriteFault, write_text};
+use tx_text::{Sink, WriteFault, write_parts};
 
 /// Writes the picture of the routes for a code as a Graphviz text: the exchanges, and for each
 /// group of a list an arrow with its place in that list.
@@ -30,26 +28,12 @@ pub fn write_code_drawing<A: Allocator, W: Sink>(
     ensures { Wrote W.taken W.failed sink.old sink.new
         (code_drawing plan.now code reached.now (first_shown code findings.now)) result }
 {
-    write_first(plan, code, reached, findings, sink)
-}
-
-/// The same, said at once.
-fn write_first<A: Allocator, W: Sink>(
-    plan: &Plan<A>,
-    code: CodeId,
-    reached: &[bool],
-    findings: &[Finding<A>],
-    sink: &mut W,
-) -> Result<(), WriteFault>
-    ensures { Wrote W.taken W.failed sink.old sink.new
-        (code_drawing plan.now code reached.now (first_shown code findings.now)) result }
-{
     let shown = first_shown(code, findings);
-    write_whole(plan, code, reached, &shown, sink)
+    write_shown(plan, code, reached, &shown, sink)
 }
 
-/// The same of the walk that is shown.
-fn write_whole<A: Allocator, W: Sink>(
+/// Writes the picture with the walk that is shown in red.
+fn write_shown<A: Allocator, W: Sink>(
     plan: &Plan<A>,
     code: CodeId,
     reached: &[bool],
@@ -63,7 +47,7 @@ fn write_whole<A: Allocator, W: Sink>(
     write_title(plan, code, shown, sink)?;
     write_exchanges(plan, code, reached, shown, sink)?;
     write_lists(plan, code, reached, shown, sink)?;
-    write_text(&[b"}\n"], sink)
+    write_parts(&[b"}\n"], sink)
 }
 
 fn write_title<A: Allocator, W: Sink>(
@@ -75,7 +59,7 @@ fn write_title<A: Allocator, W: Sink>(
     ensures { Wrote W.taken W.failed sink.old sink.new (title plan.now code shown.now) result }
 {
     let figures = plan.code_figures(code);
-    write_text(&[b"label=\"Code ", figures, shown.word, b"\";\n"], sink)
+    write_parts(&[b"label=\"Code ", figures, shown.word, b"\";\n"], sink)
 }
 
 // EXCHANGES
@@ -111,7 +95,7 @@ fn write_exchange<A: Allocator, W: Sink>(
     let home = home_text(plan.home(code) == exchange);
     let color = color_text(shown.passes(exchange), is_marked(reached, exchange));
     write_box(plan, exchange, sink)?;
-    write_text(&[b"\"", home, color, b"];\n"], sink)
+    write_parts(&[b"\"", home, color, b"];\n"], sink)
 }
 
 /// The home has a double border.
@@ -195,5 +179,5 @@ fn write_order<A: Allocator, W: Sink>(
     let mut buffer = Buffer::new();
     let order = buffer.format(order).as_bytes();
     let name = plan.group_name(group);
-    write_text(&[b"\"", order, b" ", name, b"\"", color, b"];\n"], sink)
+    write_parts(&[b"\"", order, b" ", name, b"\"", color, b"];\n"], sink)
 }

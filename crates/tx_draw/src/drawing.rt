@@ -1,7 +1,5 @@
 // The picture of a plan.
-ghost use Rattle.std.specs.Prelude.{◌≡◌, true, OnOk, OnErr, length};
-ghost use Rattle.std.specs.Io.KnownBytes.{append_known};
-ghost use Rattle.tx_text.specs.Ends.{StopsIn};
+ghost use Rattle.std.specs.Prelude.{◌≡◌, length};
 ghost use Rattle.tx_text.specs.Wrote.{Wrote};
 ghost use Rattle.tx_draw.specs.Drawing.{each_before, exchange_line, arrow_text, group_label, group_line, drawing};
 
@@ -9,7 +7,7 @@ use crate::parts::{write_box, write_head, write_line_between};
 use itoa::Buffer;
 use std::alloc::Allocator;
 use tx_plan::{Direction, ExchangeId, GroupId, Plan};
-use tx_text::{Sink, WriteFault, write_text};
+use tx_text::{Sink, WriteFault, write_parts};
 
 /// Writes the picture of a plan as a Graphviz text: each exchange with the codes that are at home
 /// there, and each group with its circuits.
@@ -19,17 +17,10 @@ use tx_text::{Sink, WriteFault, write_text};
 pub fn write_drawing<A: Allocator, W: Sink>(plan: &Plan<A>, sink: &mut W) -> Result<(), WriteFault>
     ensures { Wrote W.taken W.failed sink.old sink.new (drawing plan.now) result }
 {
-    write_whole(plan, sink)
-}
-
-/// The same, said at once.
-fn write_whole<A: Allocator, W: Sink>(plan: &Plan<A>, sink: &mut W) -> Result<(), WriteFault>
-    ensures { Wrote W.taken W.failed sink.old sink.new (drawing plan.now) result }
-{
     write_head(sink)?;
     write_exchanges(plan, sink)?;
     write_groups(plan, sink)?;
-    write_text(&[b"}\n"], sink)
+    write_parts(&[b"}\n"], sink)
 }
 
 fn write_exchanges<A: Allocator, W: Sink>(plan: &Plan<A>, sink: &mut W) -> Result<(), WriteFault>
@@ -50,7 +41,7 @@ fn write_exchange<A: Allocator, W: Sink>(
     ensures { Wrote W.taken W.failed sink.old sink.new (exchange_line plan.now exchange) result }
 {
     write_box(plan, exchange, sink)?;
-    write_text(&[b"\"];\n"], sink)
+    write_parts(&[b"\"];\n"], sink)
 }
 
 fn write_groups<A: Allocator, W: Sink>(plan: &Plan<A>, sink: &mut W) -> Result<(), WriteFault>
@@ -85,7 +76,7 @@ fn write_group_label<A: Allocator, W: Sink>(
     let mut buffer = Buffer::new();
     let count = buffer.format(plan.group_count(group)).as_bytes();
     let name = plan.group_name(group);
-    write_text(
+    write_parts(
         &[
             b"\"",
             name,

@@ -5,13 +5,13 @@ ghost use Rattle.tx_draw.specs.Drawing.{head, home_row, box, line_between, each_
 
 use std::alloc::Allocator;
 use tx_plan::{CodeId, ExchangeId, Plan};
-use tx_text::{Sink, WriteFault, write_text};
+use tx_text::{Sink, WriteFault, write_parts};
 
 /// Writes the first lines: what all exchanges and all groups look like.
 pub fn write_head<W: Sink>(sink: &mut W) -> Result<(), WriteFault>
     ensures { Wrote W.taken W.failed sink.old sink.new head result }
 {
-    write_text(
+    write_parts(
         &[
             b"digraph \"plan\" {\n",
             b"graph [fontname=\"Helvetica\"];\n",
@@ -31,7 +31,7 @@ pub fn write_box<A: Allocator, W: Sink>(
     ensures { Wrote W.taken W.failed sink.old sink.new (box plan.now exchange) result }
 {
     let name = plan.exchange_name(exchange);
-    write_text(&[b"\"", name, b"\" [label=\"", name], sink)?;
+    write_parts(&[b"\"", name, b"\" [label=\"", name], sink)?;
     write_home_rows(plan, exchange, sink)
 }
 
@@ -58,7 +58,7 @@ fn write_home_row<A: Allocator, W: Sink>(
     ensures { Wrote W.taken W.failed sink.old sink.new (home_row plan.now exchange code) result }
 {
     if plan.home(code) == exchange {
-        write_text(&[b"\\n", plan.code_figures(code)], sink)
+        write_parts(&[b"\\n", plan.code_figures(code)], sink)
     } else {
         Ok(())
     }
@@ -73,7 +73,7 @@ pub fn write_line_between<A: Allocator, W: Sink>(
 ) -> Result<(), WriteFault>
     ensures { Wrote W.taken W.failed sink.old sink.new (line_between plan.now from to) result }
 {
-    write_text(
+    write_parts(
         &[
             b"\"",
             plan.exchange_name(from),

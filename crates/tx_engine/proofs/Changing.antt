@@ -9,8 +9,8 @@ use Rattle.tx_plan.specs.Rules.{IsPlan}
 use Rattle.tx_plan.specs.Lines.{is_line_at, is_line}
 use Rattle.tx_plan.specs.Circuits.{is_circuit}
 use Rattle.tx_plan.specs.Among.{Among}
-use Rattle.tx_entries.specs.declared.circuit.Circuit.{Circuit}
-use Rattle.tx_entries.specs.declared.line.Line.{Line}
+use Rattle.tx_plan.specs.declared.group.Circuit.{Circuit}
+use Rattle.tx_plan.specs.declared.line.Line.{Line}
 use Rattle.tx_machine.specs.declared.hop.Hop.{Hop}
 use Rattle.tx_machine.specs.declared.phase.Phase.TheVariants.{Standing, Calling}
 use Rattle.tx_machine.specs.Call.{Call, place_of}
@@ -115,7 +115,7 @@ module _ (p : Plan) (codes : List Code) (c : Calls) (ks : List (List EndKeys)) (
   pub sound_marks : (failed blocked : set.FinSet nat_cmp) (out : set.FinSet circuit_cmp) → AreSound p codes c ks b (record t { failed = failed; blocked = blocked; out = out }) numbers made room
   sound_marks failed blocked out =
       sound_table (record t { failed = failed; blocked = blocked; out = out })
-          (record { inv = sound.together.inv; used = record { groups = sound.together.used.groups; carried = sound.together.used.carried; seized = sound.together.used.seized }; engaged = sound.together.engaged })
+      (record { inv = sound.together.inv; used = record { groups = sound.together.used.groups; carried = sound.together.used.carried; seized = sound.together.used.seized }; engaged = sound.together.engaged })
 
   -- ONE CALL CHANGES
   module _ (key : ℕ) (k : Kept) (was : kept_at c key ≡ Some k) where

@@ -4,15 +4,15 @@ use Rattle.std.specs.Prelude.{if◌then◌else◌, find}
 use Rattle.std.specs.Option.{option_map}
 use Rattle.std.specs.FinSet as set
 use Rattle.tx_plan.specs.Orders.{same_circuit}
-use Rattle.tx_entries.proofs.Named.{same_circuit-is}
+use Rattle.tx_plan.proofs.Named.{same_circuit-is}
 use Rattle.tx_plan.specs.Plan.{Plan, home_of, figures_of}
 use Rattle.tx_plan.specs.Codes.{code_of}
 use Rattle.tx_plan.specs.Lines.{is_line_at}
 use Rattle.tx_plan.specs.Routes.{route_list, is_barred}
 use Rattle.tx_plan.specs.Circuits.{may_seize, other_end, circuits_at, is_circuit}
 use Rattle.tx_plan.specs.Among.{Among}
-use Rattle.tx_entries.specs.declared.circuit.Circuit.{Circuit}
-use Rattle.tx_entries.specs.declared.line.Line.{Line}
+use Rattle.tx_plan.specs.declared.group.Circuit.{Circuit}
+use Rattle.tx_plan.specs.declared.line.Line.{Line}
 use Rattle.tx_machine.specs.declared.phase.Phase.TheVariants.{Calling, Connected}
 use Rattle.tx_machine.specs.declared.service.Service.TheVariants.{Na}
 use Rattle.tx_machine.specs.Call.{Call, place_of, is_first}

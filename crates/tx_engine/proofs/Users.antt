@@ -7,12 +7,12 @@ use Rattle.std.specs.Option.{option_map_or}
 use Rattle.std.specs.List.{list_any}
 use Rattle.std.specs.FinSet as set
 use Rattle.tx_plan.specs.Orders.{circuit_cmp, same_circuit}
-use Rattle.tx_entries.proofs.Named.{same_circuit-itself}
+use Rattle.tx_plan.proofs.Named.{same_circuit-itself}
 use Rattle.tx_plan.specs.Plan.{Plan, Group}
 use Rattle.tx_plan.specs.Circuits.{is_circuit, other_end, far_end, count_of, ends_of}
 use Rattle.tx_plan.specs.Among.{Among}
-use Rattle.tx_entries.specs.declared.circuit.Circuit.{Circuit}
-use Rattle.tx_entries.proofs.Lists.{at_least}
+use Rattle.tx_plan.specs.declared.group.Circuit.{Circuit}
+use Rattle.tx_plan.proofs.Lists.{at_least}
 use Rattle.tx_plan.proofs.Among.{among_left, among_right, filter_among}
 use Rattle.tx_machine.specs.Call.{Call, place_of, is_numbered, call_of}
 use Rattle.tx_machine.specs.InUse.{circuits_used, carries, seizes, seizes_from, uses_group}

@@ -8,7 +8,7 @@
 //! /// The reply where the first group of a plan fails before any call: that none was lost.
 //! fn fail_first_group(alloc: Global, plan: &Plan) -> Result<Reply, NoMemory> {
 //!     let mut network = Engine::new(alloc, plan)?;
-//!     network.apply(Event::Fail(GroupId::at(0)))
+//!     network.apply(Event::Fail(GroupId::of(0)))
 //! }
 //! ```
 #![tactic(auto)]

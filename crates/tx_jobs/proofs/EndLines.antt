@@ -6,7 +6,8 @@ use Rattle.std.proofs.Math.Numerals.{one-add}
 use Rattle.std.proofs.lemmas.Bool.{false≢true}
 use Rattle.std.proofs.lemmas.Bool.Decides.{nat_tests}
 use Rattle.tx_text.specs.Text.{without_cr}
-use Rattle.tx_text.specs.Words.{words_of, is_blank, is_hash, is_word_byte}
+use Rattle.tx_text.specs.Words.{words_of, is_blank, is_hash}
+use Rattle.tx_text.specs.inner.Words.{is_word_byte}
 use Rattle.tx_text.specs.Frame.{is_end}
 use Rattle.tx_text.proofs.WordLists.{cuts_word, no_words, blank_before}
 use Rattle.tx_jobs.specs.declared.seen.Seen.TheVariants.{Blanks, E, En, End, Comment, Cr, Other}

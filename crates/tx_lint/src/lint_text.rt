@@ -12,7 +12,7 @@ use itoa::Buffer;
 use std::alloc::Allocator;
 use tx_plan::Plan;
 use tx_plantext::code_and_name;
-use tx_text::{Sink, WriteFault, write_text};
+use tx_text::{Sink, WriteFault, write_parts};
 
 /// Writes a line for each fault or each warning, as `PLAN.txt:5: P9 Unknown SOUTH`, with the words
 /// for the file of the text.
@@ -107,7 +107,7 @@ fn write_line<'a, W: Sink>(
 {
     let mut number = Buffer::new();
     let line = number.format(line).as_bytes();
-    write_text(&[file, b":", line, b": ", row.0, b" ", row.1], sink)?;
+    write_parts(&[file, b":", line, b": ", row.0, b" ", row.1], sink)?;
     write_end(word, sink)
 }
 
@@ -117,7 +117,7 @@ fn write_end<W: Sink>(word: Option<&[u8]>, sink: &mut W) -> Result<(), WriteFaul
         (word_text (option_map (λ w. w.now) word.entry) ++ codes "\n") result }
 {
     match word {
-        Some(word) => write_text(&[b" ", word, b"\n"], sink),
-        None => write_text(&[b"\n"], sink),
+        Some(word) => write_parts(&[b" ", word, b"\n"], sink),
+        None => write_parts(&[b"\n"], sink),
     }
 }

@@ -4,16 +4,16 @@ use Rattle.std.proofs.lemmas.Bool.{and_parts, false_from_ne_true}
 use Rattle.std.specs.Prelude.{if◌then◌else◌, slice_get, is_some}
 use Rattle.std.specs.List.{flat_map}
 use Rattle.std.specs.Option.{option_map_or}
-use Rattle.tx_plan.specs.Orders.{same_circuit, same_line, same_line-is}
-use Rattle.tx_entries.proofs.Named.{same_circuit-is}
+use Rattle.tx_plan.specs.Orders.{same_circuit, same_line}
+use Rattle.tx_plan.proofs.Named.{same_circuit-is, same_line-is}
 use Rattle.tx_plan.specs.Plan.{Plan, Code, figures_of}
 use Rattle.tx_plan.specs.Rules.{IsPlan, IsRange, is_national}
-use Rattle.tx_entries.specs.declared.range.LineRange.{LineRange}
+use Rattle.tx_plan.specs.declared.range.LineRange.{LineRange}
 use Rattle.tx_plan.specs.Certified.{Ranks, IsCertified}
 use Rattle.tx_plan.specs.Lines.{in_range, is_line, full_number}
 use Rattle.tx_plan.specs.Codes.{after, is_prefix}
 use Rattle.tx_plan.specs.Among.{Among}
-use Rattle.tx_entries.specs.declared.line.Line.{Line}
+use Rattle.tx_plan.specs.declared.line.Line.{Line}
 use Rattle.tx_plan.proofs.Among.{among_cases, flat_among}
 use Rattle.tx_machine.specs.Call.{Phase, Standing, Calling, Connected, Call, start_of}
 use Rattle.tx_machine.specs.State.{State}

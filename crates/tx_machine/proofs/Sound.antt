@@ -4,7 +4,7 @@ use Rattle.std.specs.List.{AllByRecursion}
 use Rattle.tx_plan.specs.Plan.{Plan}
 use Rattle.tx_plan.specs.Rules.{IsPlan}
 use Rattle.tx_plan.specs.Certified.{Ranks, IsCertified}
-use Rattle.tx_entries.proofs.Lists.{all_map}
+use Rattle.tx_plan.proofs.Lists.{all_map}
 use Rattle.tx_machine.specs.declared.event.Event.{Event}
 use Rattle.tx_machine.specs.State.{State, opening}
 use Rattle.tx_machine.specs.Step.{step}

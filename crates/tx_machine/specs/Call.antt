@@ -1,8 +1,8 @@
 -- Open calls.
 use Rattle.std.specs.Prelude.{ℕ, Bool, true, false, ◌==◌, List, [], ◌∷◌, find, Option}
 use Rattle.tx_plan.specs.Plan.{Plan, home_of}
-use Rattle.tx_entries.specs.declared.circuit.Circuit.{Circuit}
-use Rattle.tx_entries.specs.declared.line.Line.{Line}
+use Rattle.tx_plan.specs.declared.group.Circuit.{Circuit}
+use Rattle.tx_plan.specs.declared.line.Line.{Line}
 use Rattle.tx_machine.specs.declared.hop.Hop.{Hop}
 pub use Rattle.tx_machine.specs.declared.phase.Phase.{Phase}
 pub use Rattle.tx_machine.specs.declared.phase.Phase.TheVariants.{Standing, Calling, Connected}

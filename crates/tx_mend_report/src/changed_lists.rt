@@ -1,5 +1,5 @@
 // The report of a plan that was mended.
-ghost use Rattle.std.specs.Prelude.{◌≡◌, ◌<◌, codes, length};
+ghost use Rattle.std.specs.Prelude.{◌<◌, codes};
 ghost use Rattle.tx_text.specs.Wrote.{Wrote};
 ghost use Rattle.tx_plan.specs.Routes.{route_list};
 ghost use Rattle.tx_mend_report.specs.MendText.{head_line, list_line, change_line, code_changes, changes, mended_text};
@@ -8,7 +8,7 @@ use itoa::Buffer;
 use std::alloc::Allocator;
 use tx_plan::{CodeId, ExchangeId, Pair, Plan, Routes};
 use tx_plantext::write_route;
-use tx_text::{Sink, WriteFault, write_text};
+use tx_text::{Sink, WriteFault, write_parts};
 
 /// Writes what was asked.
 pub fn write_head<W: Sink>(limit: u8, spare: u8, sink: &mut W) -> Result<(), WriteFault>
@@ -19,7 +19,7 @@ pub fn write_head<W: Sink>(limit: u8, spare: u8, sink: &mut W) -> Result<(), Wri
     let mut groups = Buffer::new();
     let limit = transits.format(limit).as_bytes();
     let spare = groups.format(spare).as_bytes();
-    write_text(&[b"MEND LIMIT ", limit, b" SPARE ", spare, b"\n"], sink)
+    write_parts(&[b"MEND LIMIT ", limit, b" SPARE ", spare, b"\n"], sink)
 }
 
 /// Writes what was asked, each list of a plan that is another one than before, and YES.
@@ -35,7 +35,7 @@ pub fn write_mended<A: Allocator, W: Sink>(
 {
     write_head(limit, spare, sink)?;
     write_changes(before, plan, sink)?;
-    write_text(&[b"VERDICT YES\n"], sink)
+    write_parts(&[b"VERDICT YES\n"], sink)
 }
 
 fn write_changes<A: Allocator, W: Sink>(
@@ -98,7 +98,7 @@ fn write_list<A: Allocator, W: Sink>(
     if plan.list(exchange, code).is_empty() {
         let name = plan.exchange_name(exchange);
         let figures = plan.code_figures(code);
-        return write_text(&[b"DROP ", name, b" ", figures, b"\n"], sink);
+        return write_parts(&[b"DROP ", name, b" ", figures, b"\n"], sink);
     }
     write_route(plan, exchange, code, sink)
 }

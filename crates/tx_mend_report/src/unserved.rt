@@ -1,5 +1,5 @@
 // The report of a plan for which no routes can be certified.
-ghost use Rattle.std.specs.Prelude.{◌≡◌, ◌+◌, Some, length};
+ghost use Rattle.std.specs.Prelude.{◌≡◌, ◌+◌, Some};
 ghost use Rattle.std.specs.List.{flat_map};
 ghost use Rattle.tx_text.specs.Wrote.{Wrote};
 ghost use Rattle.tx_mend_report.specs.MendText.{pair_line, pair_count, unserved_line, verdict_line, unserved_text};
@@ -8,7 +8,7 @@ use crate::changed_lists::write_head;
 use itoa::Buffer;
 use std::alloc::Allocator;
 use tx_plan::{CodeId, ExchangeId, Plan};
-use tx_text::{Sink, WriteFault, write_text};
+use tx_text::{Sink, WriteFault, write_parts};
 
 /// Writes what was asked, the ambiguous pair of codes, each code with the origins that cannot be
 /// served for it, and NO with the number of these lines.
@@ -53,7 +53,7 @@ fn write_both<A: Allocator, W: Sink>(
 {
     let shorter = plan.code_figures(pair.0);
     let longer = plan.code_figures(pair.1);
-    write_text(&[b"F1 AMBIGUOUS ", shorter, b" ", longer, b"\n"], sink)
+    write_parts(&[b"F1 AMBIGUOUS ", shorter, b" ", longer, b"\n"], sink)
 }
 
 fn write_each<A: Allocator, W: Sink>(
@@ -80,7 +80,7 @@ fn write_one<A: Allocator, W: Sink>(
 {
     let figures = plan.code_figures(pair.0);
     let name = plan.exchange_name(pair.1);
-    write_text(&[b"F5 UNSERVED ", figures, b" ", name, b"\n"], sink)
+    write_parts(&[b"F5 UNSERVED ", figures, b" ", name, b"\n"], sink)
 }
 
 /// How many lines the ambiguous pair has.
@@ -99,5 +99,5 @@ fn write_verdict<W: Sink>(count: usize, sink: &mut W) -> Result<(), WriteFault>
 {
     let mut buffer = Buffer::new();
     let count = buffer.format(count).as_bytes();
-    write_text(&[b"VERDICT NO ", count, b"\n"], sink)
+    write_parts(&[b"VERDICT NO ", count, b"\n"], sink)
 }

@@ -4,7 +4,7 @@ use Rattle.std.specs.Prelude.{if◌then◌else◌}
 use Rattle.tx_plan.specs.Plan.{Plan, home_of}
 use Rattle.tx_plan.specs.Codes.{code_of}
 use Rattle.tx_plan.specs.Routes.{is_barred}
-use Rattle.tx_entries.specs.declared.circuit.Circuit.{Circuit}
+use Rattle.tx_plan.specs.declared.group.Circuit.{Circuit}
 use Rattle.tx_machine.specs.declared.phase.Phase.TheVariants.{Calling}
 use Rattle.tx_machine.specs.declared.service.Service.TheVariants.{Na}
 use Rattle.tx_plain.specs.inner.Marks.{HasMark}

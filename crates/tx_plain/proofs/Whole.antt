@@ -11,9 +11,9 @@ use Rattle.tx_plan.specs.Plan.{Plan, Group}
 use Rattle.tx_plan.specs.Rules.{IsPlan, IsGroup}
 use Rattle.tx_plan.specs.Circuits.{is_circuit}
 use Rattle.tx_plan.specs.Among.{Among}
-use Rattle.tx_entries.specs.declared.circuit.Circuit.{Circuit}
-use Rattle.tx_entries.specs.declared.line.Line.{Line}
-use Rattle.tx_entries.proofs.Lists.{at_least}
+use Rattle.tx_plan.specs.declared.group.Circuit.{Circuit}
+use Rattle.tx_plan.specs.declared.line.Line.{Line}
+use Rattle.tx_plan.proofs.Lists.{at_least}
 use Rattle.tx_plan.proofs.Among.{among_cases, among_left, among_right, filter_among}
 use Rattle.tx_machine.specs.declared.phase.Phase.{Phase}
 use Rattle.tx_machine.specs.declared.phase.Phase.TheVariants.{Standing, Calling, Connected}

@@ -10,6 +10,7 @@ mod ended_calls;
 mod ending;
 mod facts;
 mod group_marks;
+mod keyed;
 mod keying;
 mod looking;
 mod marks;

@@ -15,10 +15,11 @@ ghost use Rattle.tx_machine.specs.declared.phase.Phase.TheVariants.{Calling};
 use crate::calls::call_of;
 use crate::changing::{Change, change_numbered, reserve_hop};
 use crate::ended_calls::Ends;
+use crate::keyed::{code_of, rest_after};
 use crate::plain::Plain;
 use std::alloc::Allocator;
 use tx_machine::{Cause, Facts, Hop, OpenCall, Phase, Reply, Service, place_of};
-use tx_plan::{Circuit, CodeId, ExchangeId, Line, code_of, rest_after};
+use tx_plan::{Circuit, CodeId, ExchangeId, Line};
 use tx_text::NoMemory;
 
 /// What is done with a call that is routed.

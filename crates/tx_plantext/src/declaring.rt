@@ -13,48 +13,42 @@ use tx_text::{Words, number};
 fn told(answer: Result<(), PlanRefusal>) -> Result<(), PlanWord>
     ensures { result ≡ word_told answer }
 {
-    match answer {
-        Ok(()) => Ok(()),
-        Err(refusal) => Err(PlanWord::Refused(refusal)),
-    }
+    Ok(answer?)
 }
 
 /// EXCHANGE name.
-#[tactic(auto, using(crate::proofs::Entries::declared_from, crate::proofs::Entries::same_from))]
+#[tactic(auto, using(crate::proofs::Entries::declared_from, crate::proofs::Entries::same_from, crate::proofs::Counts::exchange_count))]
 fn exchange_line<A: Allocator>(plan: &mut PlanBuilder<A>, words: Words<'_>) -> Result<(), PlanWord>
     ensures declared { Declared is_memory (exchange_line plan.old words.entry) plan.new result }
     ensures same { IfErr result (λ _. plan.new ≡ plan.old) }
 {
-    let mut words = words;
-    match (words.next(), words.next()) {
-        (Some(name), None) => told(plan.exchange(name)),
-        _ => Err(PlanWord::Refused(PlanRefusal::WrongCount)),
+    match words.one() {
+        Some(name) => told(plan.exchange(name)),
+        None => Err(PlanWord::Refused(PlanRefusal::WrongCount)),
     }
 }
 
 /// CODE code home.
-#[tactic(auto, using(crate::proofs::Entries::declared_from, crate::proofs::Entries::same_from))]
+#[tactic(auto, using(crate::proofs::Entries::declared_from, crate::proofs::Entries::same_from, crate::proofs::Counts::code_count))]
 fn code_line<A: Allocator>(plan: &mut PlanBuilder<A>, words: Words<'_>) -> Result<(), PlanWord>
     ensures declared { Declared is_memory (code_line plan.old words.entry) plan.new result }
     ensures same { IfErr result (λ _. plan.new ≡ plan.old) }
 {
-    let mut words = words;
-    match (words.next(), words.next(), words.next()) {
-        (Some(code), Some(home), None) => told(plan.code(code, home)),
-        _ => Err(PlanWord::Refused(PlanRefusal::WrongCount)),
+    match words.two() {
+        Some((code, home)) => told(plan.code(code, home)),
+        None => Err(PlanWord::Refused(PlanRefusal::WrongCount)),
     }
 }
 
 /// LINES code low high.
-#[tactic(auto, using(crate::proofs::Entries::declared_from, crate::proofs::Entries::same_from))]
+#[tactic(auto, using(crate::proofs::Entries::declared_from, crate::proofs::Entries::same_from, crate::proofs::Counts::lines_count))]
 fn lines_line<A: Allocator>(plan: &mut PlanBuilder<A>, words: Words<'_>) -> Result<(), PlanWord>
     ensures declared { Declared is_memory (lines_line plan.old words.entry) plan.new result }
     ensures same { IfErr result (λ _. plan.new ≡ plan.old) }
 {
-    let mut words = words;
-    match (words.next(), words.next(), words.next(), words.next()) {
-        (Some(code), Some(low), Some(high), None) => told(plan.lines(code, low, high)),
-        _ => Err(PlanWord::Refused(PlanRefusal::WrongCount)),
+    match words.three() {
+        Some((code, low, high)) => told(plan.lines(code, low, high)),
+        None => Err(PlanWord::Refused(PlanRefusal::WrongCount)),
     }
 }
 
@@ -79,30 +73,17 @@ fn group_by<A: Allocator>(
 }
 
 /// GROUP name a b direction count.
+#[tactic(auto, using(crate::proofs::Counts::group_count))]
 fn group_line<A: Allocator>(plan: &mut PlanBuilder<A>, words: Words<'_>) -> Result<(), PlanWord>
     ensures declared { Declared is_memory (group_line plan.old words.entry) plan.new result }
     ensures same { IfErr result (λ _. plan.new ≡ plan.old) }
 {
-    let mut words = words;
-    let Some(name) = words.next() else {
-        return Err(PlanWord::Refused(PlanRefusal::WrongCount));
-    };
-    let Some(a) = words.next() else {
-        return Err(PlanWord::Refused(PlanRefusal::WrongCount));
-    };
-    let Some(b) = words.next() else {
-        return Err(PlanWord::Refused(PlanRefusal::WrongCount));
-    };
-    let Some(direction) = words.next() else {
-        return Err(PlanWord::Refused(PlanRefusal::WrongCount));
-    };
-    let Some(count) = words.next() else {
-        return Err(PlanWord::Refused(PlanRefusal::WrongCount));
-    };
-    if words.next().is_some() {
-        return Err(PlanWord::Refused(PlanRefusal::WrongCount));
+    match words.five() {
+        Some((name, a, b, direction, count)) => {
+            group_by(plan, name, a, b, direction_of(direction), count_of(count))
+        }
+        None => Err(PlanWord::Refused(PlanRefusal::WrongCount)),
     }
-    group_by(plan, name, a, b, direction_of(direction), count_of(count))
 }
 
 /// ROUTE exchange code groups.
@@ -122,15 +103,14 @@ fn route_line<A: Allocator>(plan: &mut PlanBuilder<A>, words: Words<'_>) -> Resu
 }
 
 /// BAR exchange code.
-#[tactic(auto, using(crate::proofs::Entries::declared_from, crate::proofs::Entries::same_from))]
+#[tactic(auto, using(crate::proofs::Entries::declared_from, crate::proofs::Entries::same_from, crate::proofs::Counts::bar_count))]
 fn bar_line<A: Allocator>(plan: &mut PlanBuilder<A>, words: Words<'_>) -> Result<(), PlanWord>
     ensures declared { Declared is_memory (bar_line plan.old words.entry) plan.new result }
     ensures same { IfErr result (λ _. plan.new ≡ plan.old) }
 {
-    let mut words = words;
-    match (words.next(), words.next(), words.next()) {
-        (Some(exchange), Some(code), None) => told(plan.bar(exchange, code)),
-        _ => Err(PlanWord::Refused(PlanRefusal::WrongCount)),
+    match words.two() {
+        Some((exchange, code)) => told(plan.bar(exchange, code)),
+        None => Err(PlanWord::Refused(PlanRefusal::WrongCount)),
     }
 }
 

@@ -1,8 +1,6 @@
 // The writer of plan texts.
-ghost use Rattle.std.specs.Prelude.{◌≡◌, true, OnOk, OnErr, codes, decimal, ◌++◌};
+ghost use Rattle.std.specs.Prelude.{codes, decimal, ◌++◌};
 ghost use Rattle.std.specs.List.{flat_map};
-ghost use Rattle.std.specs.Io.KnownBytes.{append_known};
-ghost use Rattle.tx_text.specs.Ends.{StopsIn};
 ghost use Rattle.tx_text.specs.Written.{line_written};
 ghost use Rattle.tx_text.specs.Wrote.{Wrote};
 ghost use Rattle.tx_plan.specs.Plan.{group_name};
@@ -12,7 +10,7 @@ ghost use Rattle.tx_plantext.specs.PlanWritten.{plan_written, head_of, exchange_
 use itoa::Buffer;
 use std::alloc::Allocator;
 use tx_plan::{CodeId, Direction, ExchangeId, GroupId, Plan};
-use tx_text::{Sink, WriteFault, write_text};
+use tx_text::{Sink, WriteFault, write_parts};
 
 /// Writes the text of a plan: the header, a line for each entry of the six lists in order of
 /// declaration, and END.
@@ -22,17 +20,10 @@ use tx_text::{Sink, WriteFault, write_text};
 pub fn write_plan<A: Allocator, W: Sink>(plan: &Plan<A>, sink: &mut W) -> Result<(), WriteFault>
     ensures { Wrote W.taken W.failed sink.old sink.new (plan_written plan.now) result }
 {
-    write_whole(plan, sink)
-}
-
-/// The same, said at once.
-fn write_whole<A: Allocator, W: Sink>(plan: &Plan<A>, sink: &mut W) -> Result<(), WriteFault>
-    ensures { Wrote W.taken W.failed sink.old sink.new (plan_written plan.now) result }
-{
     write_head(plan.bars() > 0, sink)?;
     write_numbering(plan, sink)?;
     write_routing(plan, sink)?;
-    write_text(&[b"END\n"], sink)
+    write_parts(&[b"END\n"], sink)
 }
 
 /// Writes the exchanges, the codes and the ranges of lines.
@@ -61,9 +52,9 @@ fn write_head<W: Sink>(bars: bool, sink: &mut W) -> Result<(), WriteFault>
     ensures { Wrote W.taken W.failed sink.old sink.new (line_written (head_of bars)) result }
 {
     if bars {
-        write_text(&[b"PLAN 2\n"], sink)
+        write_parts(&[b"PLAN 2\n"], sink)
     } else {
-        write_text(&[b"PLAN 1\n"], sink)
+        write_parts(&[b"PLAN 1\n"], sink)
     }
 }
 
@@ -140,7 +131,7 @@ fn write_exchange<A: Allocator, W: Sink>(
         (line_at exchange_words plan.now.exchanges place) result }
 {
     match plan.exchange_at(place) {
-        Some(exchange) => write_text(&[b"EXCHANGE ", plan.exchange_name(exchange), b"\n"], sink),
+        Some(exchange) => write_parts(&[b"EXCHANGE ", plan.exchange_name(exchange), b"\n"], sink),
         None => Ok(()),
     }
 }
@@ -156,7 +147,7 @@ fn write_code<A: Allocator, W: Sink>(
     match plan.code_at(place) {
         Some(code) => {
             let home = plan.exchange_name(plan.home(code));
-            write_text(
+            write_parts(
                 &[b"CODE ", plan.code_figures(code), b" ", home, b"\n"],
                 sink,
             )
@@ -176,7 +167,7 @@ fn write_range<A: Allocator, W: Sink>(
     match plan.range_at(place) {
         Some(range) => {
             let code = plan.code_figures(range.code);
-            write_text(
+            write_parts(
                 &[
                     b"LINES ",
                     code,
@@ -207,7 +198,7 @@ fn write_group<A: Allocator, W: Sink>(
             let (a, b) = plan.ends(group);
             let first = plan.exchange_name(a);
             let second = plan.exchange_name(b);
-            write_text(&[b"GROUP ", name, b" ", first, b" ", second, b" "], sink)?;
+            write_parts(&[b"GROUP ", name, b" ", first, b" ", second, b" "], sink)?;
             write_direction(plan.direction(group), sink)?;
             write_count(plan.group_count(group), sink)
         }
@@ -219,8 +210,8 @@ fn write_direction<W: Sink>(direction: Direction, sink: &mut W) -> Result<(), Wr
     ensures { Wrote W.taken W.failed sink.old sink.new (direction_word direction) result }
 {
     match direction {
-        Direction::OneWay => write_text(&[b"ONEWAY"], sink),
-        Direction::BothWay => write_text(&[b"BOTHWAY"], sink),
+        Direction::OneWay => write_parts(&[b"ONEWAY"], sink),
+        Direction::BothWay => write_parts(&[b"BOTHWAY"], sink),
     }
 }
 
@@ -231,7 +222,7 @@ fn write_count<W: Sink>(count: u32, sink: &mut W) -> Result<(), WriteFault>
 {
     let mut buffer = Buffer::new();
     let figures = buffer.format(count).as_bytes();
-    write_text(&[b" ", figures, b"\n"], sink)
+    write_parts(&[b" ", figures, b"\n"], sink)
 }
 
 fn write_route_at<A: Allocator, W: Sink>(
@@ -263,7 +254,7 @@ pub fn write_route<A: Allocator, W: Sink>(
           groups = route_list plan.now exchange code;
         }))) result }
 {
-    write_text(
+    write_parts(
         &[
             b"ROUTE ",
             plan.exchange_name(exchange),
@@ -285,9 +276,9 @@ fn write_names<A: Allocator, W: Sink>(
         (flat_map (λ g. codes " " ++ group_name plan.now g) groups.now ++ codes "\n") result }
 {
     for i in 0..groups.len() {
-        write_text(&[b" ", plan.group_name(groups[i])], sink)?;
+        write_parts(&[b" ", plan.group_name(groups[i])], sink)?;
     }
-    write_text(&[b"\n"], sink)
+    write_parts(&[b"\n"], sink)
 }
 
 fn write_bar<A: Allocator, W: Sink>(
@@ -301,7 +292,7 @@ fn write_bar<A: Allocator, W: Sink>(
     match plan.bar_at(place) {
         Some((exchange, code)) => {
             let exchange = plan.exchange_name(exchange);
-            write_text(
+            write_parts(
                 &[b"BAR ", exchange, b" ", plan.code_figures(code), b"\n"],
                 sink,
             )

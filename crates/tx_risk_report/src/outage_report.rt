@@ -11,7 +11,7 @@ use tx_audit::{write_grade, write_steps, write_verdict};
 use tx_plan::{CodeId, Plan};
 use tx_rank::Walk;
 use tx_risk::{Cut, NamedRisk, Outage, Survival};
-use tx_text::{Sink, WriteFault, write_text};
+use tx_text::{Sink, WriteFault, write_parts};
 
 /// Writes how many outages were tried, what each cuts off, and the verdict; or that the plan has no
 /// grade, as its grade is written.
@@ -50,7 +50,7 @@ fn write_head<W: Sink>(count: usize, sink: &mut W) -> Result<(), WriteFault>
 {
     let mut buffer = Buffer::new();
     let count = buffer.format(count).as_bytes();
-    write_text(&[b"SURVIVE RISKS ", count, b"\n"], sink)
+    write_parts(&[b"SURVIVE RISKS ", count, b"\n"], sink)
 }
 
 /// The name of the risk at a place.
@@ -73,11 +73,11 @@ fn write_outage<A: Allocator, W: Sink>(
         (outage_line plan.now risks.now outage.now) result }
 {
     match outage {
-        Outage::Group(group) => write_text(&[b"GROUP ", plan.group_name(*group), b"\n"], sink),
+        Outage::Group(group) => write_parts(&[b"GROUP ", plan.group_name(*group), b"\n"], sink),
         Outage::Exchange(exchange) => {
-            write_text(&[b"EXCHANGE ", plan.exchange_name(*exchange), b"\n"], sink)
+            write_parts(&[b"EXCHANGE ", plan.exchange_name(*exchange), b"\n"], sink)
         }
-        Outage::Named(place) => write_text(&[b"RISK ", name_of(risks, *place), b"\n"], sink),
+        Outage::Named(place) => write_parts(&[b"RISK ", name_of(risks, *place), b"\n"], sink),
     }
 }
 
@@ -175,7 +175,7 @@ fn write_walk<A: Allocator, W: Sink>(
 {
     let code = plan.code_figures(code);
     let start = plan.exchange_name(walk.start);
-    write_text(
+    write_parts(
         &[
             head,
             code,

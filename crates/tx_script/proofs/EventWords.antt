@@ -8,7 +8,8 @@ use Rattle.std.proofs.lemmas.Bool.Decides.{nat_tests}
 use Rattle.std.proofs.lemmas.List.Prefix.{end_from_reads}
 use Rattle.std.proofs.lemmas.Slice.Eq.{HasBytesAt}
 use Rattle.std.proofs.lemmas.Option.{none-some}
-use Rattle.tx_text.specs.Words.{words_of, is_word_byte, is_figure, is_numeral, are_figures, number_of}
+use Rattle.tx_text.specs.Words.{words_of, is_figure, is_numeral, are_figures, number_of}
+use Rattle.tx_text.specs.inner.Words.{is_word_byte}
 use Rattle.tx_text.proofs.WordLists.{blank_behind, blank_before, word_alone}
 use Rattle.tx_text.proofs.WrittenWords.{all_stronger}
 use Rattle.tx_plan.specs.Plan.{Plan}

@@ -7,7 +7,7 @@ use itoa::Buffer;
 use std::alloc::Allocator;
 use tx_machine::Event;
 use tx_plan::Plan;
-use tx_text::{Sink, WriteFault, write_text};
+use tx_text::{Sink, WriteFault, write_parts};
 
 /// Writes the number of an event and its line, as `EVENT 2 ROUTE 1`, where that is asked for.
 pub(crate) fn write_asked_echo<A: Allocator, W: Sink>(
@@ -46,5 +46,5 @@ fn write_number<W: Sink>(number: u64, sink: &mut W) -> Result<(), WriteFault>
         (number_text number) result }
 {
     let mut digits = Buffer::new();
-    write_text(&[b"EVENT ", digits.format(number).as_bytes(), b" "], sink)
+    write_parts(&[b"EVENT ", digits.format(number).as_bytes(), b" "], sink)
 }

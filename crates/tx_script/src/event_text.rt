@@ -1,7 +1,5 @@
 // The line of an event.
-ghost use Rattle.std.specs.Prelude.{◌≡◌, ◌++◌, [], true, Ok, OnOk, OnErr, codes, decimal, get_or};
-ghost use Rattle.std.specs.Io.KnownBytes.{append_known};
-ghost use Rattle.tx_text.specs.Ends.{StopsIn};
+ghost use Rattle.std.specs.Prelude.{◌≡◌, ◌++◌, [], true, Ok, codes, decimal, get_or};
 ghost use Rattle.tx_text.specs.Words.{are_figures};
 ghost use Rattle.tx_text.specs.Wrote.{Wrote};
 ghost use Rattle.tx_plan.specs.Plan.{Plan as PlanValue, group_name};
@@ -13,7 +11,7 @@ use itoa::Buffer;
 use std::alloc::Allocator;
 use tx_machine::{Event, Party};
 use tx_plan::{GroupId, Line, Plan};
-use tx_text::{Figures, Sink, WriteFault, write_text};
+use tx_text::{Figures, Sink, WriteFault, write_parts};
 use tx_tickets::write_circuit;
 
 /// Writes the line of an event, as `KEY 41 10001 4110002`, with its LF. The plan has the event's
@@ -96,7 +94,7 @@ fn write_key<A: Allocator, W: Sink>(
     ensures wrote { Wrote W.taken W.failed sink.old sink.new (first.now
         ++ (line_text plan.now line.now ++ (codes " " ++ (keyed.now ++ codes "\n")))) result }
 {
-    write_text(
+    write_parts(
         &[
             first,
             plan.code_figures(line.code),
@@ -116,7 +114,7 @@ fn write_call<W: Sink>(first: &[u8], call: u32, end: &[u8], sink: &mut W) -> Res
         (first.now ++ (decimal call ++ end.now)) result }
 {
     let mut digits = Buffer::new();
-    write_text(&[first, digits.format(call).as_bytes(), end, b""], sink)
+    write_parts(&[first, digits.format(call).as_bytes(), end, b""], sink)
 }
 
 /// The party that clears, with what stands before it and after it.
@@ -139,7 +137,7 @@ fn write_group<A: Allocator, W: Sink>(
     ensures { Wrote W.taken W.failed sink.old sink.new
         (first.now ++ (group_name plan.now group ++ codes "\n")) result }
 {
-    write_text(&[first, plan.group_name(group), b"\n"], sink)
+    write_parts(&[first, plan.group_name(group), b"\n"], sink)
 }
 
 /// Writes a first word, given with its space, and a line.
@@ -153,7 +151,7 @@ fn write_line<A: Allocator, W: Sink>(
     ensures wrote { Wrote W.taken W.failed sink.old sink.new
         (first.now ++ (line_text plan.now line.now ++ codes "\n")) result }
 {
-    write_text(
+    write_parts(
         &[
             first,
             plan.code_figures(line.code),

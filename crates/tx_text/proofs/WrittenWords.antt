@@ -9,7 +9,8 @@ use Rattle.std.proofs.lemmas.List.Sums.{AllPass-from_list_all, list_all-from_All
 use Rattle.tx_text.specs.Text.{is_text_byte, bytes_fault}
 use Rattle.std.proofs.lemmas.Fmt.{decimal_is_IsNumeral, decimal_digit, decimal_by_steps, first_decimal, length-decimal-le, decimal_nonempty}
 use Rattle.tx_text.specs.Words.{is_letter, is_figure, is_name, are_figures, is_numeral, number_of}
-use Rattle.tx_text.specs.Written.{IsPlain, IsWord, IsWrittenLine, joined}
+use Rattle.tx_text.specs.Written.{joined}
+use Rattle.tx_text.specs.inner.Written.{IsPlain, IsWord, IsWrittenLine}
 
 -- a word of at most 12 bytes
 pub record IsShortWord (w : List ℕ) : Type 0 where

@@ -11,10 +11,6 @@ is_blank b = b == 32 || b == 9
 abbrev pub is_hash : ℕ → Bool
 is_hash b = b == 35
 
--- a byte of a word
-abbrev pub is_word_byte : ℕ → Bool
-is_word_byte b = not (is_blank b || is_hash b)
-
 -- Some byte stands there.
 abbrev pub is_filled : List ℕ → Bool
 is_filled [] = false
@@ -56,10 +52,6 @@ is_numeral text = are_figures 1 10 text && (length text == 1 || not (slice_index
 abbrev pub number_of : ℕ → List ℕ → Option ℕ
 number_of max text = if is_numeral text && nat_le (digits_value 10 text) max
     then Some (digits_value 10 text) else None
-
--- a name, or nothing where the text is none
-abbrev pub name_of : List ℕ → Option (List ℕ)
-name_of text = if is_name text then Some text else None
 
 -- 1 to 12 figures, or nothing where the text is none such
 abbrev pub figures_of : List ℕ → Option (List ℕ)

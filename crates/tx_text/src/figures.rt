@@ -1,17 +1,18 @@
-// Texts of figures.
-ghost use Rattle.std.specs.Prelude.{◌≡◌, ◌≤◌, true, length};
+// Texts of figures, and numbers in decimal figures.
+ghost use Rattle.std.specs.Prelude.{◌≡◌, ◌≤◌, true, length, Some, None, if◌then◌else◌};
 ghost use Rattle.std.specs.List.{list_all};
-ghost use Rattle.tx_text.specs.Padded.{padded_to};
-ghost use Rattle.tx_text.specs.Words.{figures_of, are_figures, is_figure};
+ghost use Rattle.std.specs.Str.Parse.{digits_value};
+ghost use Rattle.tx_text.specs.inner.Padded.{padded_to};
+ghost use Rattle.tx_text.specs.Words.{figures_of, are_figures, is_figure, number_of};
 
-use crate::short::Short;
+use crate::inline_bytes::InlineBytes;
 use std::marker::Model;
 
 /// A text of 1 to 12 figures, as a caller keys it: a destination code (ITU-T F.69) and a national
 /// number.
-#[derive(Clone, Copy, PartialEq, Eq)]
+#[derive(Clone, Copy, Debug, PartialEq, Eq)]
 pub struct Figures {
-    text: Short<12>,
+    text: InlineBytes<12>,
 }
 
 impl Model for Figures {
@@ -34,8 +35,8 @@ impl Figures {
     pub fn read(text: &[u8]) -> Option<Figures>
         ensures { result ≡ figures_of text.now }
     {
-        if !text.is_empty() && text.len() <= 12 && all_figures(text) {
-            let text = Short::new(text);
+        if are_figures(text, 1, 12) {
+            let text = InlineBytes::new(text);
             Some(Figures { text })
         } else {
             None
@@ -64,30 +65,11 @@ pub(crate) fn is_figure(byte: u8) -> bool
     b'0' <= byte && byte <= b'9'
 }
 
-/// Whether all these bytes are figures, looked at several at a time where their number is fixed.
-fn are_all_figures(bytes: &[u8]) -> bool
-    ensures { result ≡ list_all is_figure bytes.now }
-{
-    let mut all = true;
-    for byte in bytes {
-        all = all & is_figure(*byte);
-    }
-    all
-}
-
-/// Whether a text is figures. Of 4 to 16 bytes the front and the end are looked at in blocks, which
-/// may overlap.
-pub(crate) fn all_figures(text: &[u8]) -> bool
+/// Whether a text is figures.
+fn all_figures(text: &[u8]) -> bool
     ensures { result ≡ list_all is_figure text.now }
 {
-    let len = text.len();
-    if len < 4 || len > 16 {
-        text.iter().all(|byte| is_figure(*byte))
-    } else if len < 8 {
-        are_all_figures(&text[..4]) & are_all_figures(&text[len - 4..])
-    } else {
-        are_all_figures(&text[..8]) & are_all_figures(&text[len - 8..])
-    }
+    text.iter().all(|byte| is_figure(*byte))
 }
 
 /// Whether the text is at least `least` and at most `most` figures, and nothing else.
@@ -96,4 +78,34 @@ pub fn are_figures(text: &[u8], least: usize, most: usize) -> bool
     ensures short { result ≡ true → length text.now ≤ most }
 {
     text.len() >= least && text.len() <= most && all_figures(text)
+}
+
+/// The number that the text is the decimal form of, without a sign or leading zeros, if it is at
+/// most `max`.
+pub fn number(text: &[u8], max: u32) -> Option<u32>
+    ensures { result ≡ number_of max text.now }
+{
+    let value = value_of(text)?;
+    if text.len() > 1 && text[0] == b'0' {
+        return None;
+    }
+    if value > max as u64 {
+        return None;
+    }
+    Some(value as u32)
+}
+
+/// The value of one to ten figures.
+fn value_of(text: &[u8]) -> Option<u64>
+    ensures { result ≡ (if are_figures 1 10 text.now
+        then Some (digits_value 10 text.now) else None) }
+{
+    if !are_figures(text, 1, 10) {
+        return None;
+    }
+    let mut value: u64 = 0;
+    for figure in text {
+        value = value * 10 + u64::from(*figure - b'0');
+    }
+    Some(value)
 }

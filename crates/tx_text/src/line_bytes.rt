@@ -71,8 +71,5 @@ pub(crate) fn lf_or_len(piece: &[u8]) -> usize
     ensures within { result ≤ length piece.now }
     ensures place { result ≡ position_or_len is_lf piece.now }
 {
-    match memchr(b'\n', piece) {
-        Some(place) => place,
-        None => piece.len(),
-    }
+    memchr(b'\n', piece).unwrap_or(piece.len())
 }

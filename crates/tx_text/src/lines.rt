@@ -2,7 +2,7 @@
 ghost use Rattle.std.specs.Prelude.{◌≡◌, ◌+◌, ◌-◌, ◌^◌, ◌<◌, ◌≤◌, ◌∷◌, [], length, IfSome, MatchOption};
 ghost use Rattle.std.specs.Iterator.{YieldsFirstBy, item_count};
 ghost use Rattle.tx_text.specs.Text.{lines_from, checked};
-ghost use Rattle.tx_text.specs.TextLine.{line_of, item_of};
+ghost use Rattle.tx_text.specs.inner.TextLine.{line_of, item_of};
 ghost use Rattle.tx_text.specs.inner.LinesLeft.{items_of};
 
 use crate::line::TextLine;
@@ -11,7 +11,7 @@ use crate::text_fault::TextFault;
 use std::marker::Model;
 
 /// The lines of a text that are left to give. After a fault there is none.
-#[derive(Drop)]
+#[derive(Debug, Drop)]
 pub struct Lines<'a> {
     rest: &'a [u8],
     number: u64,
@@ -25,7 +25,7 @@ impl<'a> Model for Lines<'a> {
 
     ghost Value = { List (Result Line TextFault) };
 
-    ghost use Rattle.tx_text.specs.Lines.{items_left, IsLines};
+    ghost use Rattle.tx_text.specs.inner.Lines.{items_left, IsLines};
 
     ghost view = { items_left };
 

@@ -1,6 +1,6 @@
 // A source over memory that tells its bytes, and fails where it is told to.
 ghost use Rattle.std.specs.Prelude.{◌≡◌, ◌<◌, false};
-ghost use Rattle.tx_text.specs.Memory.{is_due, sooner};
+ghost use Rattle.tx_text.specs.inner.Memory.{is_due, sooner};
 
 use crate::source::{ReadFault, Source};
 use std::marker::Model;
@@ -17,7 +17,7 @@ pub struct MemorySource<'a> {
 
 impl<'a> Model for MemorySource<'a> {
     ghost use Rattle.std.specs.Prelude.{◌<◌};
-    ghost use Rattle.tx_text.specs.Memory.{Supply};
+    ghost use Rattle.tx_text.specs.inner.Memory.{Supply};
 
     ghost Value = { Supply };
 
@@ -67,7 +67,7 @@ fn counted(fails_in: &mut Option<u64>) -> bool
 
 impl<'a> Source for MemorySource<'a> {
     ghost use Rattle.std.specs.Prelude.{◌≡◌, Some};
-    ghost use Rattle.tx_text.specs.Memory.{supply_gives, supply_leaves};
+    ghost use Rattle.tx_text.specs.inner.Memory.{supply_gives, supply_leaves};
 
     ghost rest = { λ s. Some s.rest };
 

@@ -1,16 +1,17 @@
 // Names of exchanges and groups.
 ghost use Rattle.std.specs.Prelude.{◌≡◌, ◌≤◌, ◌||◌, true, length};
 ghost use Rattle.std.specs.List.{list_all};
-ghost use Rattle.tx_text.specs.Words.{name_of, is_name, is_letter, is_figure};
+ghost use Rattle.tx_text.specs.Words.{is_name, is_letter, is_figure};
+ghost use Rattle.tx_text.specs.inner.Words.{name_of};
 
 use crate::figures::is_figure;
-use crate::short::Short;
+use crate::inline_bytes::InlineBytes;
 use std::marker::Model;
 
 /// The name of an exchange or a group: 1 to 8 of `A` to `Z` and `0` to `9`, a letter first.
-#[derive(Clone, Copy, PartialEq, Eq)]
+#[derive(Clone, Copy, Debug, PartialEq, Eq)]
 pub struct Name {
-    text: Short<8>,
+    text: InlineBytes<8>,
 }
 
 impl Model for Name {
@@ -34,7 +35,7 @@ impl Name {
         ensures { result ≡ name_of text.now }
     {
         if is_name(text) {
-            let text = Short::new(text);
+            let text = InlineBytes::new(text);
             Some(Name { text })
         } else {
             None

@@ -1,9 +1,9 @@
 // The ends to which texts are written.
-ghost use Rattle.std.specs.Prelude.{◌≡◌, ℕ, ◌<◌, ◌≤◌, Bool, true, List, Option, Result, length, IsErr, is_err, IfOk, OnOk, OnErr};
+ghost use Rattle.std.specs.Prelude.{◌≡◌, ℕ, ◌<◌, ◌≤◌, Bool, true, List, Option, Result, length, IsErr, is_err, IfOk};
 ghost use Rattle.std.specs.List.{flat_map};
 ghost use Rattle.std.specs.Io.KnownBytes.{append_known};
 ghost use Rattle.tx_text.specs.declared.sink.WriteFault.{WriteFault};
-ghost use Rattle.tx_text.specs.Ends.{moved, StopsIn};
+ghost use Rattle.tx_text.specs.Ends.{moved};
 ghost use Rattle.tx_text.specs.Wrote.{Wrote};
 
 use thiserror::Error;
@@ -58,11 +58,4 @@ pub fn write_parts<W: Sink>(parts: &[&[u8]], sink: &mut W) -> Result<(), WriteFa
         write_bytes(parts[i], sink)?;
     }
     Ok(())
-}
-
-/// Writes the parts of a text, one after another. The four clauses of `write_parts` are one here.
-pub fn write_text<W: Sink>(parts: &[&[u8]], sink: &mut W) -> Result<(), WriteFault>
-    ensures { Wrote W.taken W.failed sink.old sink.new (flat_map (λ p. p.now) parts.now) result }
-{
-    write_parts(parts, sink)
 }

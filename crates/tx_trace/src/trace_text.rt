@@ -1,17 +1,15 @@
 // The writer of traces.
-ghost use Rattle.std.specs.Prelude.{◌≡◌, ◌++◌, codes, Option, ℕ};
+ghost use Rattle.std.specs.Prelude.{◌++◌, codes, Option};
 ghost use Rattle.std.specs.List.{flat_map};
 ghost use Rattle.tx_text.specs.Wrote.{Wrote};
-ghost use Rattle.tx_trace.specs.TraceText.{head_line, bar_line, step_text, way_line, home_line};
-ghost use Rattle.tx_trace.specs.TraceText.{rank_text, place_line, list_lines, met_lines};
-ghost use Rattle.tx_trace.specs.TraceText.{trace_text};
+ghost use Rattle.tx_trace.specs.TraceText.{head_line, bar_line, step_text, way_line, home_line, rank_text, place_line, list_lines, met_lines, trace_text};
 ghost use Rattle.tx_trace.specs.Traces.{IsTraceOf, rank_told};
 
 use crate::tracing::Trace;
 use itoa::Buffer;
 use std::alloc::Allocator;
 use tx_plan::{CodeId, ExchangeId, GroupId, Plan};
-use tx_text::{Sink, WriteFault, write_text};
+use tx_text::{Sink, WriteFault, write_parts};
 
 /// Writes a trace: what was asked, the way while all is free, and for each exchange that is met its
 /// list, or that it is the home.
@@ -41,7 +39,7 @@ fn write_head<A: Allocator, W: Sink>(
 {
     let figures = plan.code_figures(code);
     let name = plan.exchange_name(exchange);
-    write_text(&[b"TRACE ", figures, b" FROM ", name, b"\n"], sink)
+    write_parts(&[b"TRACE ", figures, b" FROM ", name, b"\n"], sink)
 }
 
 /// Writes that calls for the code may not start at the exchange, if a bar says so.
@@ -59,7 +57,7 @@ fn write_bar<A: Allocator, W: Sink>(
     }
     let figures = plan.code_figures(code);
     let name = plan.exchange_name(exchange);
-    write_text(&[b"BARRED ", name, b" ", figures, b"\n"], sink)
+    write_parts(&[b"BARRED ", name, b" ", figures, b"\n"], sink)
 }
 
 fn write_way<A: Allocator, W: Sink>(
@@ -71,7 +69,7 @@ fn write_way<A: Allocator, W: Sink>(
     ensures { Wrote W.taken W.failed sink.old sink.new
         (way_line plan.now start way.now) result }
 {
-    write_text(&[b"FIRST ", plan.exchange_name(start)], sink)?;
+    write_parts(&[b"FIRST ", plan.exchange_name(start)], sink)?;
     write_steps(plan, way, sink)
 }
 
@@ -87,7 +85,7 @@ fn write_steps<A: Allocator, W: Sink>(
     for i in 0..way.len() {
         write_step(plan, way[i], sink)?;
     }
-    write_text(&[b"\n"], sink)
+    write_parts(&[b"\n"], sink)
 }
 
 fn write_step<A: Allocator, W: Sink>(
@@ -99,7 +97,7 @@ fn write_step<A: Allocator, W: Sink>(
         (step_text plan.now step) result }
 {
     let group = plan.group_name(step.0);
-    write_text(&[b" ", group, b" ", plan.exchange_name(step.1)], sink)
+    write_parts(&[b" ", group, b" ", plan.exchange_name(step.1)], sink)
 }
 
 fn write_all_met<A: Allocator, W: Sink>(
@@ -144,7 +142,7 @@ fn write_home<A: Allocator, W: Sink>(
     ensures { Wrote W.taken W.failed sink.old sink.new
         (home_line plan.now exchange) result }
 {
-    write_text(&[b"HOME ", plan.exchange_name(exchange), b"\n"], sink)
+    write_parts(&[b"HOME ", plan.exchange_name(exchange), b"\n"], sink)
 }
 
 /// Writes a line for each group of a list.
@@ -186,7 +184,7 @@ fn write_place<A: Allocator, W: Sink>(
     let name = plan.exchange_name(exchange);
     let group = plan.group_name(group);
     let far = plan.exchange_name(to);
-    write_text(&[b"LIST ", name, b" ", place, b" ", group, b" ", far], sink)?;
+    write_parts(&[b"LIST ", name, b" ", place, b" ", group, b" ", far], sink)?;
     write_rank(trace.rank(to), sink)
 }
 
@@ -196,8 +194,8 @@ fn write_rank<W: Sink>(rank: Option<u16>, sink: &mut W) -> Result<(), WriteFault
         (rank_text rank ++ codes "\n") result }
 {
     let Some(rank) = rank else {
-        return write_text(&[b"\n"], sink);
+        return write_parts(&[b"\n"], sink);
     };
     let mut buffer = Buffer::new();
-    write_text(&[b" RANK ", buffer.format(rank).as_bytes(), b"\n"], sink)
+    write_parts(&[b" RANK ", buffer.format(rank).as_bytes(), b"\n"], sink)
 }

@@ -1,7 +1,5 @@
 // How the codes of a plan are written out.
-ghost use Rattle.std.specs.Prelude.{◌≡◌, ◌∷◌, [], codes, true, OnOk, OnErr};
-ghost use Rattle.std.specs.Io.KnownBytes.{append_known};
-ghost use Rattle.tx_text.specs.Ends.{StopsIn};
+ghost use Rattle.std.specs.Prelude.{◌≡◌, ◌∷◌, [], codes};
 ghost use Rattle.tx_text.specs.Written.{line_written};
 ghost use Rattle.tx_text.specs.Wrote.{Wrote};
 ghost use Rattle.tx_plan.specs.Plan.{figures_of, exchange_name, home_of};
@@ -10,7 +8,7 @@ ghost use Rattle.tx_trie.specs.CodesText.{pair_line, codes_text};
 use crate::trie::CodeTrie;
 use std::alloc::Allocator;
 use tx_plan::{CodeId, Plan};
-use tx_text::{Sink, WriteFault, write_text};
+use tx_text::{Sink, WriteFault, write_parts};
 
 /// Writes a line for each code with its home, in order of declaration, and then the least pair of
 /// which one begins the other, or `DISTINCT`. The trie is that
@@ -41,7 +39,7 @@ fn write_code<A: Allocator, W: Sink>(
 {
     let figures = plan.code_figures(code);
     let home = plan.exchange_name(plan.home(code));
-    write_text(&[b"CODE ", figures, b" ", home, b"\n"], sink)
+    write_parts(&[b"CODE ", figures, b" ", home, b"\n"], sink)
 }
 
 /// Writes the ambiguous pair, or that there is none.
@@ -53,9 +51,9 @@ fn write_pair<A: Allocator, W: Sink>(
     ensures { Wrote W.taken W.failed sink.old sink.new (pair_line plan.now pair) result }
 {
     let Some((shorter, longer)) = pair else {
-        return write_text(&[b"DISTINCT\n"], sink);
+        return write_parts(&[b"DISTINCT\n"], sink);
     };
     let shorter = plan.code_figures(shorter);
     let longer = plan.code_figures(longer);
-    write_text(&[b"AMBIGUOUS ", shorter, b" ", longer, b"\n"], sink)
+    write_parts(&[b"AMBIGUOUS ", shorter, b" ", longer, b"\n"], sink)
 }

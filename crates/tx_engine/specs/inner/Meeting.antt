@@ -1,6 +1,6 @@
 -- Two calls that meet on a circuit.
 use Rattle.std.specs.Prelude.{◌≡◌, ℕ, Some}
-use Rattle.tx_entries.specs.declared.circuit.Circuit.{Circuit}
+use Rattle.tx_plan.specs.declared.group.Circuit.{Circuit}
 use Rattle.tx_machine.specs.declared.phase.Phase.TheVariants.{Calling}
 use Rattle.tx_machine.specs.Confirming.{rival, thrown_back}
 use Rattle.tx_calls.specs.Calls.{Kept, Calls, kept_at}

@@ -6,7 +6,7 @@ use Rattle.tx_plan.specs.Rules.{IsPlan}
 use Rattle.tx_plan.specs.Lines.{is_line_at}
 use Rattle.tx_plan.specs.Circuits.{is_circuit, ends_of}
 use Rattle.tx_plan.specs.Among.{Among}
-use Rattle.tx_entries.specs.declared.circuit.Circuit.{Circuit}
+use Rattle.tx_plan.specs.declared.group.Circuit.{Circuit}
 use Rattle.tx_machine.specs.declared.phase.Phase.TheVariants.{Calling}
 use Rattle.tx_machine.specs.Call.{place_of, call_of}
 use Rattle.tx_machine.specs.State.{State}

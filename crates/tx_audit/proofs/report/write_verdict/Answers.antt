@@ -5,4 +5,4 @@ use Rattle.tx_audit.proofs.report.write_verdict.Goals as goal
 pub returns : goal.returns
 returns g c =
     let some = c.if-count-eq0.false in
-    rw (ne_eqb c.args.count 0 (omega arith)) (rw (c.as_bytes-count.ensures.value, c.format.ensures.text) at c.write_text-2.ensures)
+    rw (ne_eqb c.args.count 0 (omega arith)) (rw (c.as_bytes-count.ensures.value, c.format.ensures.text) at c.write_parts-2.ensures)

@@ -11,7 +11,7 @@ use Rattle.tx_engine.proofs.route.choice.Goals as goal
 pub first_free-circuit-requires : goal.first_free-circuit-requires
 first_free-circuit-requires g c =
     let x = c.group-item.result in
-    let there = subst (λ gs. Among x gs) c.list-groups.ensures (among_at c.list-groups.result.now c.loop-group.group-index x c.loop-group-test.true c.group-item.is) in
+    let there = subst (λ gs. Among x gs) c.list-groups.ensures.value (among_at c.list-groups.result.now c.loop-group.group-index x c.loop-group-test.true c.group-item.is) in
     may_seize-same c.args.plan.now c.args.circuits.now c.requires x c.args.place ∙ listed_may c.args.plan.now c.rules.ensures c.args.place c.args.code x there
 
 pub loop-group-preserved : goal.loop-group-preserved
@@ -27,9 +27,9 @@ returns-then-is_some g c =
     let some : is_some (look c.group-item.result) ≡ true = ap is_some (sym found.ensures.value) ∙ sym c.is_some.ensures ∙ c.if-is_some.true in
     found.ensures.value
     ∙ sym (c.loop-group.invariant ∙ first_here look c.list-groups.result.now c.loop-group.group-index c.group-item.result c.loop-group-test.true c.group-item.is some)
-    ∙ ap (first_in look) c.list-groups.ensures
+    ∙ ap (first_in look) c.list-groups.ensures.value
 
 pub returns : goal.returns
 returns g c =
     let look = first_free c.args.circuits.now c.args.place in
-    sym (c.loop-group.invariant ∙ first_none look c.list-groups.result.now c.loop-group.group-index c.loop-group-test.false) ∙ ap (first_in look) c.list-groups.ensures
+    sym (c.loop-group.invariant ∙ first_none look c.list-groups.result.now c.loop-group.group-index c.loop-group-test.false) ∙ ap (first_in look) c.list-groups.ensures.value

@@ -18,4 +18,4 @@ pub returns : goal.returns
 returns g c =
     let l = changes c.args.before.now c.args.plan.now in
     wrote_then _ _ _ _ _ _ (head_line c.args.limit c.args.spare) (l ++ codes "VERDICT YES\n") _ c.in_ok-write_head.ensures
-    (wrote_then _ _ _ _ _ _ l (codes "VERDICT YES\n") _ c.in_ok-write_changes.ensures c.write_text.ensures)
+    (wrote_then _ _ _ _ _ _ l (codes "VERDICT YES\n") _ c.in_ok-write_changes.ensures c.write_parts.ensures)

@@ -1,7 +1,7 @@
 use Rattle.std.proofs.Common.{◌≡◌, ◌+◌, sym, subst, ap, ◌∙◌, None, arith}
 use Rattle.std.specs.FinSet as set
 use Rattle.tx_plan.specs.Orders.{line_cmp}
-use Rattle.tx_entries.proofs.Named.{line_put}
+use Rattle.tx_plan.proofs.Named.{line_put}
 use Rattle.tx_machine.specs.declared.event.Event.TheVariants.{Released, Restore, Block, Unblock, CircuitOut, CircuitIn, LineFault, LineMend, LineAway, LineBack}
 use Rattle.tx_machine.specs.declared.reply.Reply.TheVariants.{Done}
 use Rattle.tx_machine.specs.Refusals.{refusal}
@@ -64,17 +64,17 @@ overflow_add-self g c =
 
 pub returns-clause-plan : goal.returns-clause-plan
 returns-clause-plan g c = ap (λ (n : Net). n.plan) c.self-2.view_is ∙ elim c.match-event.branch [
-      | in-Released w ↦ ap (λ (n : Net). n.plan) w.self-is ∙ ap (λ (n : Net). n.plan) w.self.view_is
-      | in-Restore w ↦ ap (λ (n : Net). n.plan) w.self-is ∙ ap (λ (n : Net). n.plan) w.self-in-Restore.view_is
-      | in-Block w ↦ ap (λ (n : Net). n.plan) w.self-is ∙ ap (λ (n : Net). n.plan) w.self-in-Block.view_is
-      | in-Unblock w ↦ ap (λ (n : Net). n.plan) w.self-is ∙ ap (λ (n : Net). n.plan) w.self-in-Unblock.view_is
-      | in-CircuitOut w ↦ ap (λ (n : Net). n.plan) w.self-is ∙ ap (λ (n : Net). n.plan) w.self-in-CircuitOut.view_is
-      | in-CircuitIn w ↦ ap (λ (n : Net). n.plan) w.self-is ∙ ap (λ (n : Net). n.plan) w.self-in-CircuitIn.view_is
-      | in-LineFault+in_ok-push-in-LineFault w ↦ ap (λ (n : Net). n.plan) w.self-is ∙ ap (λ (n : Net). n.plan) w.self-in-LineFault.view_is
-      | in-LineMend w ↦ ap (λ (n : Net). n.plan) w.self-is ∙ ap (λ (n : Net). n.plan) w.self-in-LineMend.view_is
-      | in-LineAway+in_ok-push-in-LineAway w ↦ ap (λ (n : Net). n.plan) w.self-is ∙ ap (λ (n : Net). n.plan) w.self-in-LineAway.view_is
-      | in-LineBack w ↦ ap (λ (n : Net). n.plan) w.self-is ∙ ap (λ (n : Net). n.plan) w.self-in-LineBack.view_is
-    ]
+  | in-Released w ↦ ap (λ (n : Net). n.plan) w.self-is ∙ ap (λ (n : Net). n.plan) w.self.view_is
+  | in-Restore w ↦ ap (λ (n : Net). n.plan) w.self-is ∙ ap (λ (n : Net). n.plan) w.self-in-Restore.view_is
+  | in-Block w ↦ ap (λ (n : Net). n.plan) w.self-is ∙ ap (λ (n : Net). n.plan) w.self-in-Block.view_is
+  | in-Unblock w ↦ ap (λ (n : Net). n.plan) w.self-is ∙ ap (λ (n : Net). n.plan) w.self-in-Unblock.view_is
+  | in-CircuitOut w ↦ ap (λ (n : Net). n.plan) w.self-is ∙ ap (λ (n : Net). n.plan) w.self-in-CircuitOut.view_is
+  | in-CircuitIn w ↦ ap (λ (n : Net). n.plan) w.self-is ∙ ap (λ (n : Net). n.plan) w.self-in-CircuitIn.view_is
+  | in-LineFault+in_ok-push-in-LineFault w ↦ ap (λ (n : Net). n.plan) w.self-is ∙ ap (λ (n : Net). n.plan) w.self-in-LineFault.view_is
+  | in-LineMend w ↦ ap (λ (n : Net). n.plan) w.self-is ∙ ap (λ (n : Net). n.plan) w.self-in-LineMend.view_is
+  | in-LineAway+in_ok-push-in-LineAway w ↦ ap (λ (n : Net). n.plan) w.self-is ∙ ap (λ (n : Net). n.plan) w.self-in-LineAway.view_is
+  | in-LineBack w ↦ ap (λ (n : Net). n.plan) w.self-is ∙ ap (λ (n : Net). n.plan) w.self-in-LineBack.view_is
+]
 
 pub returns-clause-ok : goal.returns-clause-ok
 returns-clause-ok g c =
