@@ -15,7 +15,7 @@ _telexplan() {
                 *:change:-*) words="--limit --spare --cert --mixture --counter --help" ;;
                 *:survive:-*) words="--risks --help" ;;
                 *:check:-*) words="--limit --spare --help" ;;
-                *:run:-*) words="--cert --limit --spare --strict --echo --help" ;;
+                *:run:-*) words="--cert --limit --spare --strict --echo --summary --help" ;;
                 *:lint:-* | *:grade:-* | *:codes:-* | *:trace:-*) words="--help" ;;
                 *:draw:-*) words="--code --limit --spare --help" ;;
             esac

@@ -5,12 +5,13 @@
        tools/examples.py --cases
 
 Runs each example of examples/list with a built program (crates/telexplan/out/telexplan where none is named), in a folder of its own, and compares what it prints,
-its exit status and the files that it makes with what stands in examples/. A fault stands on standard error, and nothing else does. An example that begins with a
-script in Python runs that, with the program as its first word; no case shows it. Then checks README.md and docs/FORMATS.md: each block there says, in a comment before
-it, what it shows, and has to show just that; the table of codes has to be the program's and to have the codes of the definitions, the map of the crates has to be that
-of crates.txt, what the pages name has to be there, each link of theirs has to lead to a file and a heading that are there, the player of the gate, crates/tx_worked,
-has to have the examples and the pictures as they stand, all pictures of the plans of crates/tx_worked have to be ones that can be read, and docs/telexplan.bash and
-docs/telexplan.1 have to have the commands and options that the program's help tells. Prints a line for each difference; the status is 1 if there is one.
+its exit status and the files that it makes with what stands in examples/. A fault stands on standard error, but for those that `lint` finds, and nothing else does.
+An example that begins with a script in Python runs that, with the program as its first word; no case shows it. Then checks README.md and docs/FORMATS.md: each block
+there says, in a comment before it, what it shows, and has to show just that; the table of codes has to be the program's and to have the codes of the definitions,
+the map of the crates has to be that of crates.txt, what the pages name has to be there, each link of theirs has to lead to a file and a heading that are there, the
+player of the gate, crates/tx_worked, has to have the examples and the pictures as they stand, all pictures of the plans of crates/tx_worked have to be ones that can
+be read, and docs/telexplan.bash and docs/telexplan.1 have to have the commands and options that the program's help tells. Prints a line for each difference; the
+status is 1 if there is one.
 
 --pages runs nothing: it checks the pages and the player's cases alone. Each example is such a case, and the gate plays them, so the pages then show what the
 program prints, but for those that a script in Python runs.
@@ -113,7 +114,8 @@ def check_examples(program, tell):
         status, printed, fault, made = run(program, example)
         if status != example.status:
             tell(f"{example.name}: the status is {status} and not {example.status}")
-        if bool(fault) != (status > 1) or fault and not fault.startswith((b"telexplan: ", b"error: ")):
+        is_listed = example.words[:1] == ["lint"] and status == 2
+        if bool(fault) != (status > 1 and not is_listed) or fault and not fault.startswith((b"telexplan: ", b"error: ")):
             tell(f"{example.name}: standard error has {fault!r}")
         if printed + fault != read(out_of(example)):
             tell(f"{example.name}: {difference(read(out_of(example)), printed + fault)}")
@@ -132,6 +134,26 @@ def check_arguments(program, tell):
     ran = subprocess.run(program + [b"\xff"], capture_output=True, timeout=60)
     if (ran.returncode, ran.stdout, ran.stderr) != (64, b"", b"telexplan: a word is no UTF-8 text\n"):
         tell(f"a word that is no UTF-8 text: the status is {ran.returncode}, and standard error has {ran.stderr!r}")
+
+
+def check_made(program, tell):
+    """A file that takes the place of another one has its permissions, a link to that one leads to it, and nothing is left beside it. A pipe is written to at once. No case
+    can say it."""
+    audit = ["audit", os.path.join(TOP, "examples/three.plan"), "--limit", "1", "--spare", "1", "--cert"]
+    with tempfile.TemporaryDirectory() as room:
+        old, link = os.path.join(room, "old"), os.path.join(room, "link")
+        with open(old, "w") as it:
+            it.write("old\n")
+        os.chmod(old, 0o640)
+        os.symlink("old", link)
+        subprocess.run(program + audit + [link], capture_output=True, timeout=60)
+        if read(old) != read("examples/three.cert") or os.stat(old).st_mode & 0o777 != 0o640:
+            tell("a file that is made by a link has other bytes or permissions")
+        if not os.path.islink(link) or sorted(os.listdir(room)) != ["link", "old"]:
+            tell(f"a file that is made by a link leaves {sorted(os.listdir(room))}")
+    ran = subprocess.run(program + audit + ["/dev/stdout"], capture_output=True, timeout=60)
+    if (ran.returncode, ran.stdout) != (0, read("examples/three-audit.out") + read("examples/three.cert")):
+        tell(f"a certificate to a pipe: the status is {ran.returncode}, and standard output has {ran.stdout!r}")
 
 
 def in_examples(ending):
@@ -307,6 +329,8 @@ def codes_defined():
     rows = set()
     for crate, name in [("tx_text", "Rows"), ("tx_plantext", "PlanFaults"), ("tx_lint", "LintText"), ("tx_cert", "CertFaults"), ("tx_script", "ScriptFaults"), ("tx_risk_text", "RiskFaults")]:
         rows.update(re.findall(r'\(codes "([APCSQX]\d+)", codes "(\w+)"\)', text(crate, name)))
+        for framed in re.findall(r'frame_row((?: \(codes "\w+"\))+)', text(crate, name)):
+            rows.update(zip(re.findall(r'"(\w+)"', framed), ["NoHeader", "NoEnd", "AfterEnd", "ReadFault"]))
     rows.update((b, a) for a, b in re.findall(r'refusal_text (\w+) = codes "(M\d+)"', text("tx_tickets", "Texts")))
     names = dict(row[:2] for row in codes_explained())
     rows.update((it, names.get(it)) for it in re.findall(r'(?:service|cause)_text \w+ = codes "(\w+)"', text("tx_tickets", "Texts")))
@@ -417,6 +441,11 @@ def check_map(tell):
 # CASES FOR THE PLAYER OF THE GATE
 
 
+def telling_of(words):
+    """The kind of the case of a run, by what it tells."""
+    return {(True, False): "telling", (False, True): "telling summary", (True, True): "telling both"}.get(("--echo" in words, "--summary" in words), "run")
+
+
 def case_of(example):
     """The kind of a case, and its texts; None where no case shows the example."""
     if example.input and not example.words:
@@ -431,7 +460,7 @@ def case_of(example):
         plan, script, cert = texts
         return f"checked{bounds}", b"---\n".join([plan, cert, script])
     drawn = " ".join(["draw"] + [it for it in map(example.option, ["--code", "--limit", "--spare"]) if it])
-    kinds = {"run": "telling" if "--echo" in example.words else "run", "draw": drawn, "codes": "codes", "grade": "grade"} | {it: it + bounds for it in ("check", "audit", "change", "mend")}
+    kinds = {"run": telling_of(example.words), "draw": drawn, "codes": "codes", "grade": "grade"} | {it: it + bounds for it in ("check", "audit", "change", "mend")}
     kinds |= {"survive": "survive" if example.option("--risks") else "survive alone", "trace": " ".join(["trace", *example.words[2:]]), "lint": " ".join(example.words)}
     return (kinds[verb], b"---\n".join(texts)) if verb in kinds else None
 
@@ -550,6 +579,7 @@ def main(words):
     if not only_pages:
         check_examples(program, told.append)
         check_arguments(program, told.append)
+        check_made(program, told.append)
     check_pages(told.append)
     check_names(told.append)
     check_links(told.append)

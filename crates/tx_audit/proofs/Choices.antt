@@ -10,8 +10,8 @@ use Rattle.tx_plan.specs.Plan.{Plan, Group}
 use Rattle.tx_plan.specs.Rules.{IsPlan, IsGroup}
 use Rattle.tx_plan.specs.Routes.{route_list}
 use Rattle.tx_plan.specs.Circuits.{is_circuit, circuits_at, count_of}
-use Rattle.tx_entries.specs.declared.circuit.Circuit.{Circuit}
-use Rattle.tx_entries.specs.declared.line.Line.{Line}
+use Rattle.tx_plan.specs.declared.group.Circuit.{Circuit}
+use Rattle.tx_plan.specs.declared.line.Line.{Line}
 use Rattle.tx_plan.specs.Among.{Among}
 use Rattle.tx_machine.specs.declared.hop.Hop.{Hop}
 use Rattle.tx_machine.specs.declared.phase.Phase.TheVariants.{Standing}

@@ -9,8 +9,8 @@ use Rattle.tx_text.specs.Words.{is_figure, are_figures, figures_of as keyed_of}
 use Rattle.tx_plan.specs.Plan.{Plan, Code, Group, figures_of}
 use Rattle.tx_plan.specs.Rules.{IsPlan, IsCode}
 use Rattle.tx_plan.specs.Routes.{route_list}
-use Rattle.tx_entries.specs.declared.line.Line.{Line}
-use Rattle.tx_entries.specs.declared.range.LineRange.{LineRange}
+use Rattle.tx_plan.specs.declared.line.Line.{Line}
+use Rattle.tx_plan.specs.declared.range.LineRange.{LineRange}
 use Rattle.tx_plan.proofs.ByPlace.{entry_at}
 use Rattle.tx_plan.specs.Among.{Among}
 use Rattle.tx_rank.specs.declared.finding.Finding.{Finding}

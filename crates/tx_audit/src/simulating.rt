@@ -37,7 +37,6 @@ pub fn simulate<A: Allocator + Copy, R: Source, W: Sink>(
         }),
         Ok(mut network) => {
             let ran = run(alloc, plan, &mut network, script, out);
-            network.close();
             ran
         }
     }

@@ -14,8 +14,8 @@ use indexmap::IndexMap;
 use slab::Slab;
 use std::alloc::{Allocator, Global};
 use std::marker::Model;
-use tx_entries::ByWord;
 use tx_machine::{Hop, OpenCall, Phase};
+use tx_plan::ByWord;
 use tx_text::NoMemory;
 
 /// The open calls. Each has a key from its opening to its end, and is found by its number.

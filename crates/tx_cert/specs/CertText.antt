@@ -5,20 +5,17 @@ use Rattle.std.specs.List.{flat_map, range_with_len}
 use Rattle.std.specs.Str.{bytes_eq}
 use Rattle.std.specs.Io.KnownBytes.{IsAtEnd}
 use Rattle.tx_text.specs.declared.frame.FaultKind.{FaultKind}
-use Rattle.tx_text.specs.declared.frame.FramePart.TheVariants.{Start}
-use Rattle.tx_text.specs.Text.{lines_of}
+use Rattle.tx_text.specs.Ends.{Input}
 use Rattle.tx_text.specs.Words.{number_of}
-use Rattle.tx_text.specs.Told.{Ending, AtEnd, told}
+use Rattle.tx_text.specs.Told.{Ending, AtEnd}
 use Rattle.tx_text.specs.Written.{line_written}
-use Rattle.tx_text.specs.Frame.{header_of, framed, EndsAs}
-use Rattle.tx_text.specs.Said.{said, Answered}
+use Rattle.tx_text.specs.Frame.{EndsAs}
+use Rattle.tx_text.specs.Said.{text_said, Answered}
 use Rattle.tx_plan.specs.Plan.{Plan, exchange_named, code_named, exchange_name, figures_of}
 use Rattle.tx_plan.specs.Rules.{IsPlan}
 use Rattle.tx_cert.specs.declared.fault.CertWord.{CertWord}
 use Rattle.tx_cert.specs.declared.fault.CertWord.TheVariants.{UnknownWord, WrongCount, UnknownName, BadNumber, Duplicate, NoMemory}
 use Rattle.tx_cert.specs.Certificate.{Certificate, no_ranks_for, rank_at, with_rank, IsCertificateOf}
-
--- WHAT A LINE SAYS
 
 -- a rank for a pair that has none yet
 abbrev pub ranked_by : Certificate → ℕ → ℕ → Option ℕ → ℕ → Result Certificate CertWord
@@ -49,30 +46,24 @@ declare p v t [] = Err UnknownWord
 declare p v t (w ∷ ws) = if bytes_eq w (codes "RANK")
     then rank_line p t ws else if bytes_eq w (codes "END") then Err WrongCount else Err UnknownWord
 
--- THE GRAMMAR: the certificate that a text says for a plan, or its first fault, whichever way the
--- text ends
+-- the certificate that a text says for a plan, or its first fault, whichever way the text ends
 abbrev pub cert_of : Plan → Ending → List ℕ → Result Certificate (ℕ × FaultKind CertWord)
-cert_of p e text = said (declare p) 1 (no_ranks_for p)
-    (framed (header_of (codes "CERT") 1) Start 1 (told e (lines_of text)))
+cert_of p = text_said (declare p) (codes "CERT") 1 (no_ranks_for p)
 
--- lack of memory
+-- no memory was left
 abbrev pub is_memory : CertWord → Bool
 is_memory NoMemory = true
 is_memory w = false
 
 -- the whole text that was read says this certificate of the plan
-abbrev pub SaysCert : Plan → (old new : Option (List ℕ)) → Certificate → Type 0
-SaysCert p old new t = EndsAs old new (cert_of p) AtEnd (Ok t) × IsAtEnd new
+abbrev pub SaysCert : Plan → Input → Certificate → Type 0
+SaysCert p text t = EndsAs text.old text.new (cert_of p) AtEnd (Ok t) × IsAtEnd text.new
 
--- WHAT A READER OF CERTIFICATE TEXTS ANSWERS. Broken says that the source failed or met the bound
--- on calls, unread that nothing was read. Memory can be
--- wanting only before anything is read.
-abbrev pub ReadsCert : Plan → (old new : Option (List ℕ))
-    → (broken unread : Type 0) → Result Certificate (ℕ × FaultKind CertWord) → Type 0
-ReadsCert p old new broken unread result =
-    Answered is_memory old new (cert_of p) broken unread (λ n. (n ≡ 1) × unread) result
-
--- WHAT IS WRITTEN
+-- What a reader of certificate texts answers. Memory can run out only before anything is read.
+abbrev pub ReadsCert : Plan → Input → Result Certificate (ℕ × FaultKind CertWord) → Type 0
+ReadsCert p text result =
+    Answered is_memory text.old text.new (cert_of p) text.broken text.unread
+    (λ n. (n ≡ 1) × text.unread) result
 
 -- the line of an exchange that is ranked for a code, and no line of one that isn't
 abbrev pub rank_lines : Plan → ℕ → ℕ → Option ℕ → List (List (List ℕ))
@@ -94,7 +85,7 @@ abbrev pub cert_written : Plan → Certificate → List ℕ
 cert_written p t = line_written (codes "CERT" ∷ codes "1" ∷ [])
     ++ (flat_map line_written (cert_lines p t) ++ codes "END\n")
 
--- THE ROUND TRIP: what is written for a certificate of a plan says that certificate
+-- what is written for a certificate of a plan says that certificate
 abbrev pub ReadsBack : Type 0
 ReadsBack = (p : Plan) (t : Certificate) → IsPlan p
     → IsCertificateOf p t → cert_of p AtEnd (cert_written p t) ≡ Ok t

@@ -8,7 +8,7 @@ use tx_plan::{CodeId, ExchangeId, Plan};
 use tx_text::NoMemory;
 
 /// A certificate: for each code and exchange of a plan a rank from 0 to 65,535, or none.
-#[derive(Drop)]
+#[derive(Debug, Drop)]
 pub struct Cert<A: Allocator = Global> {
     codes: usize,
     exchanges: usize,

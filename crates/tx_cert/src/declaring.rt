@@ -1,5 +1,5 @@
 // What each line of a certificate text declares.
-ghost use Rattle.std.specs.Prelude.{◌≡◌, ◌≢◌, length, Ok, Err, IfOk, IfErr};
+ghost use Rattle.std.specs.Prelude.{◌≡◌, length, Ok, Err, IfOk, IfErr};
 ghost use Rattle.tx_text.specs.Words.{number_of};
 ghost use Rattle.tx_plan.specs.Plan.{code_named, exchange_named};
 ghost use Rattle.tx_cert.specs.CertText.{declare, rank_line, rank_said};
@@ -24,7 +24,6 @@ fn add_rank<A: Allocator>(
         (exchange_named plan.now exchange.now) (number_of 65535 rank.now) ≡ Ok cert.new) }
     ensures err { IfErr result (λ e. rank_said cert.old (code_named plan.now code.now)
         (exchange_named plan.now exchange.now) (number_of 65535 rank.now) ≡ Err e) }
-    ensures memory { IfErr result (λ e. e ≢ CertWord.NoMemory) }
     ensures codes { cert.new.codes ≡ cert.old.codes }
     ensures exchanges { cert.new.exchanges ≡ cert.old.exchanges }
 {
@@ -55,7 +54,6 @@ fn rank_line<A: Allocator>(
     requires exchanges { cert.old.exchanges ≡ length plan.now.exchanges }
     ensures ok { IfOk result (λ _. rank_line plan.now cert.old words.entry ≡ Ok cert.new) }
     ensures err { IfErr result (λ e. rank_line plan.now cert.old words.entry ≡ Err e) }
-    ensures memory { IfErr result (λ e. e ≢ CertWord.NoMemory) }
     ensures codes { cert.new.codes ≡ cert.old.codes }
     ensures exchanges { cert.new.exchanges ≡ cert.old.exchanges }
 {
@@ -76,7 +74,6 @@ pub(crate) fn declare<A: Allocator>(
     requires exchanges { cert.old.exchanges ≡ length plan.now.exchanges }
     ensures ok { IfOk result (λ _. declare plan.now 1 cert.old words.entry ≡ Ok cert.new) }
     ensures err { IfErr result (λ e. declare plan.now 1 cert.old words.entry ≡ Err e) }
-    ensures memory { IfErr result (λ e. e ≢ CertWord.NoMemory) }
     ensures codes { cert.new.codes ≡ cert.old.codes }
     ensures exchanges { cert.new.exchanges ≡ cert.old.exchanges }
 {

@@ -1,6 +1,6 @@
 // The mixture that a finding shows.
 ghost use Rattle.std.specs.Prelude.{◌≡◌, ◌≤◌, ◌++◌, true, false, length, slice_get, Some, IfOk, filter};
-ghost use Rattle.tx_entries.specs.declared.pair.Pair.{Pair as Bar};
+ghost use Rattle.tx_plan.specs.declared.ids.Pair.{Pair as Bar};
 ghost use Rattle.tx_plan.specs.Plan.{Route};
 ghost use Rattle.tx_plan.specs.Among.{Among};
 ghost use Rattle.tx_plan.specs.Mixtures.{SameNetwork};
@@ -129,7 +129,7 @@ fn list_of(groups: &[GroupId]) -> GroupList
 {
     let mut list = GroupList::new();
     for i in 0..groups.len() {
-        list.keep(groups[i]);
+        list.push(groups[i]);
     }
     list
 }

@@ -2,11 +2,11 @@
 use Rattle.std.proofs.Common.{◌≡◌, ◌≢◌, ℕ, zero, suc, ◌+◌, ◌<◌, ◌≤◌, Bool, true, false, List, [], ◌∷◌, length, map, slice_index_or, Option, Some, None, refl, sym, subst, ap, ◌∙◌, arith}
 use Rattle.std.specs.Prelude.{IfSome, unwrap_or}
 use mathlib.Core.Bool.{beq}
-use Rattle.tx_circuits.specs.declared.free_lists.End.TheVariants.{First, Other}
+use Rattle.tx_circuits.specs.declared.lists.End.TheVariants.{First, Other}
 use Rattle.std.proofs.lemmas.List.{length-map}
-use Rattle.tx_circuits.specs.declared.free_lists.End.{End}
-use Rattle.tx_circuits.specs.declared.free_lists.Way.{Way}
-use Rattle.tx_circuits.specs.declared.free_lists.Way.TheVariants.{Up, Down}
+use Rattle.tx_circuits.specs.declared.lists.End.{End}
+use Rattle.tx_circuits.specs.declared.lists.Way.{Way}
+use Rattle.tx_circuits.specs.declared.lists.Way.TheVariants.{Up, Down}
 use Rattle.tx_circuits.specs.declared.slot.Slot.{Slot}
 use Rattle.tx_circuits.specs.inner.Linked.{IsFirst, IsLast, IsLinked, with}
 use Rattle.tx_circuits.specs.inner.Slots.{free_at, is_free, state_of, rank_of, back}

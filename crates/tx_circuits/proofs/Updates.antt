@@ -8,12 +8,12 @@ use Rattle.std.specs.Ordering.{nat_cmp}
 use Rattle.std.proofs.lemmas.Bool.Decides.{eqb_tells}
 use Rattle.std.proofs.lemmas.Map.Lookups.{exact_unsigned}
 use Rattle.tx_plan.specs.Orders.{circuit_cmp}
-use Rattle.tx_entries.specs.declared.circuit.Circuit.{Circuit}
-use Rattle.tx_entries.proofs.Named.{circuits_total, exact_circuits}
-use Rattle.tx_circuits.specs.declared.free_lists.End.{End}
-use Rattle.tx_circuits.specs.declared.free_lists.End.TheVariants.{First, Other}
-use Rattle.tx_circuits.specs.declared.state.State.{State}
-use Rattle.tx_circuits.specs.declared.group_head.GroupHead.{GroupHead}
+use Rattle.tx_plan.specs.declared.group.Circuit.{Circuit}
+use Rattle.tx_plan.proofs.Named.{circuits_total, exact_circuits}
+use Rattle.tx_circuits.specs.declared.lists.End.{End}
+use Rattle.tx_circuits.specs.declared.lists.End.TheVariants.{First, Other}
+use Rattle.tx_circuits.specs.declared.slot.State.{State}
+use Rattle.tx_circuits.specs.declared.group.GroupHead.{GroupHead}
 use Rattle.tx_circuits.specs.inner.Slots.{has_seized, with_seized, opposite, cleared, rising}
 use Rattle.tx_circuits.specs.inner.Groups.{GroupState, state_at, numbered, seizing_end, end_at, with_state, with_failed, with_blocked, change_at}
 use Rattle.tx_circuits.specs.Table.{Seat, seat_cmp, Table, with_held, with_released, with_failure}

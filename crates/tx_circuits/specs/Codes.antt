@@ -2,14 +2,16 @@
 use Rattle.std.specs.Prelude.{◌≡◌, ℕ, Bool, if◌then◌else◌, List, refl}
 use Rattle.std.specs.Coded.{Coded, code_by, coded×, coded_bool, coded_ℕ, coded_list}
 use Rattle.tx_plan.specs.Circuits.{is_both}
-use Rattle.tx_entries.specs.declared.direction.Direction.{Direction}
-use Rattle.tx_entries.specs.declared.direction.Direction.TheVariants.{OneWay, BothWay}
+use Rattle.tx_plan.specs.declared.group.Direction.{Direction}
+use Rattle.tx_plan.specs.declared.group.Direction.TheVariants.{OneWay, BothWay}
 use Rattle.tx_plan.specs.Plan.{Group}
 
+-- a direction is told by whether it is both ways
 abbrev pub both_is : (d : Direction) → (if is_both d then BothWay else OneWay) ≡ d
 both_is OneWay = refl
 both_is BothWay = refl
 
+-- a group is stored as its fields
 abbrev pub group_code : Coded Group
 group_code = code_by (List ℕ × (ℕ × (ℕ × (Bool × ℕ)))) (coded×
     (coded_list coded_ℕ) (coded× coded_ℕ (coded× coded_ℕ (coded× coded_bool coded_ℕ)))) (λ g.

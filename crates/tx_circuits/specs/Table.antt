@@ -7,7 +7,7 @@ use Rattle.std.specs.FinSet as set
 use Rattle.tx_plan.specs.Plan.{Plan, Group, no_plan}
 use Rattle.tx_plan.specs.Circuits.{circuits_at}
 use Rattle.tx_plan.specs.Orders.{same_circuit, circuit_cmp, coded_circuit}
-use Rattle.tx_entries.specs.declared.circuit.Circuit.{Circuit}
+use Rattle.tx_plan.specs.declared.group.Circuit.{Circuit}
 use Rattle.tx_circuits.specs.Codes.{group_code}
 
 -- an end of a circuit: the circuit, and the exchange
@@ -101,9 +101,11 @@ with_failure t g = record t {
   seized = set.retain t.seized (λ s. not (s.0.group == g));
 }
 
+-- an end of a circuit is stored as a pair
 abbrev pub seat_code : Coded Seat
 seat_code = coded× coded_circuit coded_ℕ
 
+-- a table is stored as its fields
 abbrev pub table_code : Coded Table
 table_code = code_by (List Group
     × (set.FinSet nat_cmp × (set.FinSet nat_cmp × (set.FinSet circuit_cmp × (set.FinSet circuit_cmp

@@ -5,11 +5,9 @@ ghost use Rattle.tx_circuits.specs.inner.Slots.{cleared, has_seized};
 ghost use Rattle.tx_circuits.specs.inner.Groups.{state_at, end_at, change_at, with_state, with_failed, with_blocked, first_place, idle, IsAppended};
 ghost use Rattle.tx_circuits.specs.inner.Seen.{holds};
 
-use crate::free_lists::{End, FreeLists};
-use crate::group_head::GroupHead;
-use crate::row::Row;
-use crate::slot::Slot;
-use crate::state::State;
+use crate::group::{GroupHead, Row};
+use crate::lists::{End, FreeLists};
+use crate::slot::{Slot, State};
 use std::alloc::{Allocator, Global};
 use std::marker::Model;
 use tx_plan::{Circuit, ExchangeId, GroupId};

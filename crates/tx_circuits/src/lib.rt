@@ -2,14 +2,10 @@
 //! with the circuits that an end may seize in free lists.
 #![tactic(auto)]
 
-mod chain;
-mod free_lists;
 mod group;
-mod group_head;
 mod groups;
-mod row;
+mod lists;
 mod slot;
-mod state;
 mod table;
 
 pub use table::CircuitTable;

@@ -4,9 +4,9 @@ ghost use Rattle.std.specs.FinSet as set;
 ghost use Rattle.tx_plan.specs.Circuits.{is_circuit, may_seize};
 ghost use Rattle.tx_circuits.specs.Table.{Table, plan_of, all_free, is_free_at, is_down, first_free, IsSeizedBy, with_held, withdrawn, with_released, released_unless, with_failure};
 
-use crate::group_head::GroupHead;
+use crate::group::GroupHead;
 use crate::groups::Groups;
-use crate::state::State;
+use crate::slot::State;
 use std::alloc::{Allocator, Global};
 use std::marker::Model;
 use tx_plan::{Circuit, ExchangeId, GroupId, Plan};

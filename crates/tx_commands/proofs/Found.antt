@@ -1,16 +1,24 @@
 -- What a parse of words found, as the commands that it asks for.
-use Rattle.std.proofs.Common.{◌≡◌, ◌∙◌, ℕ, ◌<◌, ◌^◌, true, List, Option, None, Some, refl, sym, ap, subst}
+use Rattle.std.proofs.Common.{◌≡◌, ◌∙◌, ℕ, ◌<◌, ◌^◌, true, List, Option, None, Some, option_map, refl, sym, ap, subst}
+use Rattle.std.specs.Borrow.{Bor}
 use Rattle.std.specs.Str.Parse.{IsNumeral, digits_value, without_leading_plus}
-use Rattle.clap.specs.Words.{App, HasMatchesOf, Row, Text, found_of, is_simple, one_text, rows_of, subcommand_of, subcommand_rows_of}
+use Rattle.clap.specs.Words.{App, HasMatchesOf, Row, Text, first_of, found_of, is_simple, one_text, rows_of, subcommand_of, subcommand_rows_of}
 use Rattle.clap.specs.declared.parser.matches.ArgMatches.{ArgMatches}
-use Rattle.clap.proofs.WalkLemmas.{one_text-rows}
+use Rattle.clap.specs.Matches.{first_value}
+use Rattle.clap.proofs.WalkLemmas.{first_value-rows, one_text-rows}
 use Rattle.clap.proofs.OnLiterals.{clap_on_literals}
 use Rattle.tx_commands.specs.Grammar.{program_words}
 use Rattle.tx_commands.specs.Commands.{Gives, IsFoundIn}
 use Rattle.tx_commands.specs.inner.Refused.{IsClash, IsRefused}
 use Rattle.tx_commands.specs.declared.command.Command.{Command}
 use Rattle.tx_commands.specs.declared.refusal.Refusal.{Refusal}
-use Rattle.tx_commands.specs.declared.refusal.Refusal.TheVariants.{Incomplete, Together, DrawTogether, NoSuchCode, InputTwice, Overwrites, NoMemory}
+use Rattle.tx_commands.specs.declared.refusal.Refusal.TheVariants.{Incomplete, Together, CheckedTelling, DrawTogether, NoSuchCode, InputTwice, Overwrites, NoMemory}
+
+-- the word that was read for an id is the first that was found for it
+pub first_found : (m : ArgMatches) (id : List ℕ) (word : Option (Bor (List ℕ)))
+    → option_map (λ w. w.now) word ≡ first_value (found_of m) id
+    → first_of id (rows_of (found_of m)) ≡ option_map (λ w. w.now) word
+first_found m id word is = sym (first_value-rows (found_of m) id) ∙ sym is
 
 -- a number that was read was given
 pub given_by : (m : ArgMatches) (id : List ℕ) (n : ℕ) (one : Option (List ℕ)) → one_text (found_of m) id ≡ one
@@ -38,6 +46,7 @@ refused_for_clash found command InputTwice asked clash = (command, asked, clash)
 refused_for_clash found command Overwrites asked clash = (command, asked, clash)
 refused_for_clash found command Incomplete asked clash = tt
 refused_for_clash found command Together asked clash = absurd clash
+refused_for_clash found command CheckedTelling asked clash = absurd clash
 refused_for_clash found command DrawTogether asked clash = absurd clash
 refused_for_clash found command NoSuchCode asked clash = absurd clash
 refused_for_clash found command NoMemory asked clash = tt

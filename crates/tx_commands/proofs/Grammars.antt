@@ -1,5 +1,5 @@
 -- What a command has once a command is added.
-use Rattle.std.proofs.Common.{◌≡◌, ◌∙◌, Bool, true, false, Result, Ok, IfOk, ap, ap₂, subst}
+use Rattle.std.proofs.Common.{◌≡◌, ◌∙◌, Bool, true, Result, Ok, IfOk, ap, ap₂, subst}
 use Rattle.std.proofs.lemmas.Result.{IfOk-weaker}
 use Rattle.clap.specs.Words.{AddsSubcommand, App, Rule, app_of, rule_of, with_subcommand}
 use Rattle.clap.specs.declared.builder.arg.Arg.{Arg}

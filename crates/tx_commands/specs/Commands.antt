@@ -1,5 +1,5 @@
 -- What words ask for.
-use Rattle.std.specs.Prelude.{◌≡◌, ◌≤◌, ℕ, Bool, true, false, List, Option, None, Some, map, option_map, codes, string_bytes, String}
+use Rattle.std.specs.Prelude.{◌≡◌, ◌≤◌, ℕ, Bool, true, false, List, Option, None, Some, map, option_map, codes, string_bytes, String, ◌||◌}
 use Rattle.std.specs.Borrow.{Bor}
 use Rattle.std.specs.Option.{option_map_or}
 use Rattle.std.specs.Str.{bytes_eq}
@@ -39,29 +39,35 @@ is_set found id = option_map_or (λ word. bytes_eq word (codes "true")) (first_o
 pub record TellsNoMore (found : List Row) : Type 0 where
   pub strict : is_set found (codes "strict") ≡ false
   pub echo : is_set found (codes "echo") ≡ false
+  pub summary : is_set found (codes "summary") ≡ false
 
 -- what was found after the name of a command asks for this
 abbrev pub Asks : List ℕ → List Row → Command → Type 0
 Asks name found Pipe = ⊥
-Asks name found (Run plan script None) = (name ≡ codes "run") × Names found (codes "plan") plan
-    × Names found (codes "script") script × (first_of (codes "cert") found ≡ None) × (first_of
-    (codes "limit") found ≡ None) × (first_of (codes "spare") found ≡ None) × TellsNoMore found
-Asks name found (Run plan script (Some (cert, limit, spare))) = (name ≡ codes "run") × Names found
-    (codes "plan") plan × Names found (codes "script") script × Names found (codes "cert") cert
-    × Gives found (codes "limit") limit × Gives found (codes "spare") spare × TellsNoMore found
-Asks name found (RunTelling plan script strict echo) =
+Asks name found (Run plan script None) =
+    (name ≡ codes "run") × Names found (codes "plan") plan × Names found (codes "script") script
+    × (first_of (codes "cert") found ≡ None) × (first_of (codes "limit") found ≡ None)
+    × (first_of (codes "spare") found ≡ None) × TellsNoMore found
+Asks name found (Run plan script (Some (cert, limit, spare))) =
+    (name ≡ codes "run") × Names found (codes "plan") plan × Names found (codes "script") script
+    × Names found (codes "cert") cert × Gives found (codes "limit") limit
+    × Gives found (codes "spare") spare × TellsNoMore found
+Asks name found (RunTelling plan script strict echo summary) =
     (name ≡ codes "run") × Names found (codes "plan") plan × Names found (codes "script") script
     × (first_of (codes "cert") found ≡ None) × (first_of (codes "limit") found ≡ None)
     × (first_of (codes "spare") found ≡ None)
     × (is_set found (codes "strict") ≡ strict) × (is_set found (codes "echo") ≡ echo)
-Asks name found (Check plan cert limit spare) = (name ≡ codes "check")
-    × Names found (codes "plan") plan × Names found (codes "cert") cert
+    × (is_set found (codes "summary") ≡ summary)
+    × (((strict || echo) || summary) ≡ true)
+Asks name found (Check plan cert limit spare) =
+    (name ≡ codes "check") × Names found (codes "plan") plan × Names found (codes "cert") cert
     × Gives found (codes "limit") limit × Gives found (codes "spare") spare
 Asks name found (Lint plan) = (name ≡ codes "lint") × Names found (codes "plan") plan
 Asks name found (Codes plan) = (name ≡ codes "codes") × Names found (codes "plan") plan
-Asks name found (Audit plan limit spare cert counter) = (name ≡ codes "audit")
-    × Names found (codes "plan") plan × Gives found (codes "limit") limit × Gives found
-    (codes "spare") spare × (first_of (codes "cert") found ≡ option_map string_bytes cert)
+Asks name found (Audit plan limit spare cert counter) =
+    (name ≡ codes "audit") × Names found (codes "plan") plan
+    × Gives found (codes "limit") limit × Gives found (codes "spare") spare
+    × (first_of (codes "cert") found ≡ option_map string_bytes cert)
     × (first_of (codes "counter") found ≡ option_map string_bytes counter)
 Asks name found (Change old new limit spare cert mixture counter) =
     (name ≡ codes "change") × Names found (codes "old") old × Names found (codes "new") new
@@ -81,14 +87,15 @@ Asks name found (Grade plan) = (name ≡ codes "grade") × Names found (codes "p
 Asks name found (Trace plan exchange code) =
     (name ≡ codes "trace") × Names found (codes "plan") plan
     × Names found (codes "exchange") exchange × Names found (codes "code") code
-Asks name found (Draw plan None) = (name ≡ codes "draw")
-    × Names found (codes "plan") plan × (first_of (codes "code") found ≡ None)
+Asks name found (Draw plan None) =
+    (name ≡ codes "draw") × Names found (codes "plan") plan
+    × (first_of (codes "code") found ≡ None) × (first_of (codes "limit") found ≡ None)
+    × (first_of (codes "spare") found ≡ None)
+Asks name found (Draw plan (Some (code, None))) =
+    (name ≡ codes "draw") × Names found (codes "plan") plan × Names found (codes "code") code
     × (first_of (codes "limit") found ≡ None) × (first_of (codes "spare") found ≡ None)
-Asks name found (Draw plan (Some (code, None))) = (name ≡ codes "draw")
-    × Names found (codes "plan") plan × Names found (codes "code") code
-    × (first_of (codes "limit") found ≡ None) × (first_of (codes "spare") found ≡ None)
-Asks name found (Draw plan (Some (code, Some (limit, spare)))) = (name ≡ codes "draw")
-    × Names found (codes "plan") plan × Names found (codes "code") code
+Asks name found (Draw plan (Some (code, Some (limit, spare)))) =
+    (name ≡ codes "draw") × Names found (codes "plan") plan × Names found (codes "code") code
     × Gives found (codes "limit") limit × Gives found (codes "spare") spare
 Asks name found (Explain None) = (name ≡ codes "explain") × (first_of (codes "code") found ≡ None)
 Asks name found (Explain (Some word)) =

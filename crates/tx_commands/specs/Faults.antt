@@ -36,12 +36,12 @@ has found id = is_some (first_of id found)
 -- `run` has some of its three options, and not all
 pub record IsRunInPart (name : List ℕ) (found : List Row) : Type 0 where
   pub run : name ≡ codes "run"
-  pub some : (has found (codes "cert") || (has found (codes "limit") || has found (codes "spare")))
-      ≡ true
-  pub not_all : (has found (codes "cert")
-      && (has found (codes "limit") && has found (codes "spare"))) ≡ false
+  pub some :
+      (has found (codes "cert") || (has found (codes "limit") || has found (codes "spare"))) ≡ true
+  pub not_all :
+      (has found (codes "cert") && (has found (codes "limit") && has found (codes "spare"))) ≡ false
 
--- Why the words of a command that was found are refused. What is told through the library, and lack
+-- Why the words of a command that was found are refused. What is told through the library, and want
 -- of memory, are left open.
 abbrev pub IsRefusalIn : Option (List ℕ × List Row) → WordsFault → Type 0
 IsRefusalIn command Together = IsSomeAnd command (λ c. IsRunInPart c.0 c.1)

@@ -13,9 +13,11 @@ given (Some file ∷ rest) = file ∷ given rest
 -- the files that a command reads
 abbrev pub files_read : Command → List (List ℕ)
 files_read Pipe = []
-files_read (Run plan script checked) = string_bytes plan ∷ string_bytes script ∷ given
-    (option_map (λ c. string_bytes c.0) checked ∷ [])
-files_read (RunTelling plan script strict echo) = string_bytes plan ∷ string_bytes script ∷ []
+files_read (Run plan script checked) =
+    string_bytes plan ∷ string_bytes script
+    ∷ given (option_map (λ c. string_bytes c.0) checked ∷ [])
+files_read (RunTelling plan script strict echo summary) =
+    string_bytes plan ∷ string_bytes script ∷ []
 files_read (Check plan cert limit spare) = string_bytes plan ∷ string_bytes cert ∷ []
 files_read (Lint plan) = string_bytes plan ∷ []
 files_read (Codes plan) = string_bytes plan ∷ []
@@ -27,7 +29,7 @@ files_read (Survive plan risks) = string_bytes plan ∷ given (option_map string
 files_read (Grade plan) = string_bytes plan ∷ []
 files_read (Trace plan exchange code) = string_bytes plan ∷ []
 files_read (Draw plan routes) = string_bytes plan ∷ []
-files_read (Explain entry) = []
+files_read (Explain word) = []
 
 -- the files that it may make
 abbrev pub files_made : Command → List (List ℕ)

@@ -1,5 +1,6 @@
 -- The words that the program takes, as the library of command lines sees them: commands, whose
--- files go by place and whose options go by name.
+-- files
+-- go by place and whose options go by name.
 use Rattle.std.specs.Prelude.{ℕ, List, Some, true, codes, pos}
 use Rattle.clap.specs.Words.{App, Rule, new_app, new_rule, with_rule, with_subcommand}
 use Rattle.clap.specs.declared.builder.action.ArgAction.TheVariants.{Set, SetTrue}
@@ -36,13 +37,14 @@ plan_words name = with_rule (new_app name) (file (codes "plan"))
 
 abbrev pub run_words : App
 run_words =
-    with_rule (with_rule (with_rule (with_rule (with_rule (with_rule
+    with_rule (with_rule (with_rule (with_rule (with_rule (with_rule (with_rule
     (plan_words (codes "run")) (file (codes "script"))) (option (codes "cert"))) limit) spare)
-    (flag (codes "strict"))) (flag (codes "echo"))
+    (flag (codes "strict"))) (flag (codes "echo"))) (flag (codes "summary"))
 
 abbrev pub check_words : App
-check_words = with_rule (with_rule (with_rule (plan_words (codes "check")) (file (codes "cert")))
-    (needed limit)) (needed spare)
+check_words =
+    with_rule (with_rule (with_rule
+    (plan_words (codes "check")) (file (codes "cert"))) (needed limit)) (needed spare)
 
 abbrev pub lint_words : App
 lint_words = plan_words (codes "lint")
@@ -54,8 +56,10 @@ abbrev pub codes_words : App
 codes_words = plan_words (codes "codes")
 
 abbrev pub audit_words : App
-audit_words = with_rule (with_rule (with_rule (with_rule (plan_words (codes "audit"))
-    (needed limit)) (needed spare)) (option (codes "cert"))) (option (codes "counter"))
+audit_words =
+    with_rule (with_rule (with_rule (with_rule
+    (plan_words (codes "audit")) (needed limit)) (needed spare))
+    (option (codes "cert"))) (option (codes "counter"))
 
 -- a command with a plan, and an option that names another one, so the plan goes by another id
 abbrev pub mend_words : App
@@ -69,8 +73,9 @@ survive_words = with_rule (plan_words (codes "survive")) (option (codes "risks")
 
 -- a command with a plan, and with two words that have to be given as it has
 abbrev pub trace_words : App
-trace_words = with_rule (with_rule (plan_words (codes "trace")) (file (codes "exchange")))
-    (file (codes "code"))
+trace_words =
+    with_rule (with_rule
+    (plan_words (codes "trace")) (file (codes "exchange"))) (file (codes "code"))
 
 -- a command whose words are two plans
 abbrev pub change_words : App
@@ -79,17 +84,21 @@ change_words = with_rule (with_rule (with_rule (with_rule (with_rule (with_rule 
     (needed spare)) (option (codes "cert"))) (option (codes "mixture"))) (option (codes "counter"))
 
 abbrev pub draw_words : App
-draw_words = with_rule
-    (with_rule (with_rule (plan_words (codes "draw")) (option (codes "code"))) limit) spare
+draw_words =
+    with_rule (with_rule (with_rule
+    (plan_words (codes "draw")) (option (codes "code"))) limit) spare
 
 -- a code, which need not be given
 abbrev pub explain_words : App
-explain_words = with_rule (new_app (codes "explain"))
+explain_words =
+    with_rule (new_app (codes "explain"))
     (record (new_rule (codes "code")) { value_names = 1; action = Some Set })
 
 -- the program takes its words from the first on, tells its version, and has twelve commands
 abbrev pub top_words : App
-top_words = let app = new_app (codes "telexplan") in record app { top = record app.top { no_binary_name = true; has_version = true } }
+top_words =
+    let app = new_app (codes "telexplan") in
+    record app { top = record app.top { no_binary_name = true; has_version = true } }
 
 -- with those that judge plans
 abbrev pub judging_words : App

@@ -23,7 +23,7 @@ pub(crate) fn over_plan<'a>(
     with_file(Ok(command), alloc, "plan", "PLAN", help::PLAN)
 }
 
-/// A command with one argument more, if it could be made so far.
+/// Adds an argument to a command, if that could be made so far.
 fn with_arg<'a>(
     command: Result<clap::Command<'a>, AllocError>,
     arg: Arg<'a>,
@@ -41,7 +41,7 @@ fn with_arg<'a>(
     }
 }
 
-/// The same with a file, which has to be named.
+/// Adds a file, which has to be named.
 pub(crate) fn with_file<'a>(
     command: Result<clap::Command<'a>, AllocError>,
     alloc: Global,
@@ -57,8 +57,8 @@ pub(crate) fn with_file<'a>(
 
 /// A word that goes by its place.
 pub(crate) fn word<'a>(alloc: Global, id: &'a str, shown: &'a str, help: &'a str) -> Arg<'a>
-    ensures rule { rule_of result ≡ record (new_rule id.now)
-        { value_names = 1; action = Some Set } }
+    ensures rule { rule_of result
+        ≡ record (new_rule id.now) { value_names = 1; action = Some Set } }
     ensures local { result.global ≡ false }
 {
     Arg::new(alloc, id)
@@ -75,7 +75,7 @@ fn option<'a>(alloc: Global, id: &'a str, shown: &'a str, help: &'a str) -> Arg<
     word(alloc, id, shown, help).long(id)
 }
 
-/// The same with an option with a word.
+/// Adds an option with a word.
 pub(crate) fn with_option<'a>(
     command: Result<clap::Command<'a>, AllocError>,
     alloc: Global,
@@ -89,7 +89,18 @@ pub(crate) fn with_option<'a>(
     with_arg(command, option(alloc, id, shown, help))
 }
 
-/// The same with an option without a word.
+/// An option without a word.
+fn flag<'a>(alloc: Global, id: &'a str, help: &'a str) -> Arg<'a>
+    ensures rule { rule_of result ≡ grammar.flag id.now }
+    ensures local { result.global ≡ false }
+{
+    Arg::new(alloc, id)
+        .long(id)
+        .help(help)
+        .action(ArgAction::SetTrue)
+}
+
+/// Adds an option without a word.
 pub(crate) fn with_flag<'a>(
     command: Result<clap::Command<'a>, AllocError>,
     alloc: Global,
@@ -100,17 +111,6 @@ pub(crate) fn with_flag<'a>(
         → IfOk result (λ c. app_of c ≡ with_rule app (grammar.flag id.now)) }
 {
     with_arg(command, flag(alloc, id, help))
-}
-
-/// An option without a word.
-fn flag<'a>(alloc: Global, id: &'a str, help: &'a str) -> Arg<'a>
-    ensures rule { rule_of result ≡ grammar.flag id.now }
-    ensures local { result.global ≡ false }
-{
-    Arg::new(alloc, id)
-        .long(id)
-        .help(help)
-        .action(ArgAction::SetTrue)
 }
 
 fn limit<'a>(alloc: Global) -> Arg<'a>
@@ -141,14 +141,15 @@ listed and each of them is down or has no free circuit",
     .value_parser(value_parser!(u8).range(0..=15))
 }
 
-/// The same with a limit and a spare number, which may have to be given.
+/// Adds a limit and a spare number, which may have to be given.
 pub(crate) fn with_bounds<'a>(
     command: Result<clap::Command<'a>, AllocError>,
     alloc: Global,
     needed: bool,
 ) -> Result<clap::Command<'a>, AllocError>
-    ensures { (app : App) → IfOk command.entry (λ c. app_of c ≡ app) → IfOk result
-        (λ c. app_of c ≡ with_rule (with_rule app (record grammar.limit { required = needed }))
+    ensures { (app : App) → IfOk command.entry (λ c. app_of c ≡ app)
+        → IfOk result (λ c. app_of c
+        ≡ with_rule (with_rule app (record grammar.limit { required = needed }))
         (record grammar.spare { required = needed })) }
 {
     let command = with_arg(command, limit(alloc).required(needed));

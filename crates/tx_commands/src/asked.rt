@@ -57,7 +57,8 @@ fn number(matches: &ArgMatches<'_>, id: &str, most: u8) -> Option<u8>
 /// The limit and the spare number, if both are given.
 fn bounds(matches: &ArgMatches<'_>) -> Option<(u8, u8)>
     ensures range { IfSome result (λ b. (b.0 ≤ 62) × (b.1 ≤ 15)) }
-    ensures given { IfSome result (λ b. Gives (rows_of (found_of matches.now)) (codes "limit") b.0
+    ensures given { IfSome result (λ b.
+        Gives (rows_of (found_of matches.now)) (codes "limit") b.0
         × Gives (rows_of (found_of matches.now)) (codes "spare") b.1) }
 {
     match (number(matches, "limit", 62), number(matches, "spare", 15)) {
@@ -211,14 +212,17 @@ fn run_of(alloc: Global, plan: String, matches: &ArgMatches<'_>) -> Result<Comma
     };
     let strict = is_set(matches, "strict");
     let echo = is_set(matches, "echo");
+    let summary = is_set(matches, "summary");
+    let more = strict || echo || summary;
     match checked {
-        None if strict || echo => Ok(Command::RunTelling {
+        None if more => Ok(Command::RunTelling {
             plan,
             script,
             strict,
             echo,
+            summary,
         }),
-        Some(_) if strict || echo => Err(Refusal::CheckedTelling),
+        Some(_) if more => Err(Refusal::CheckedTelling),
         checked => Ok(Command::Run {
             plan,
             script,

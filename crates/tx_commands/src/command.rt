@@ -11,14 +11,14 @@ pub enum Command {
         script: String,
         checked: Option<(String, u8, u8)>,
     },
-    /// `run PLAN SCRIPT` where more is told: by the status that an event was refused, or the line
-    /// of
-    /// each event before its reply.
+    /// `run PLAN SCRIPT` where more is told: by the status that an event was refused, the line of
+    /// each event before its reply, or a summary.
     RunTelling {
         plan: String,
         script: String,
         strict: bool,
         echo: bool,
+        summary: bool,
     },
     /// `check PLAN CERT --limit L --spare K`: at most L transits, with K groups to spare.
     Check {
@@ -56,8 +56,7 @@ pub enum Command {
         counter: Option<String>,
     },
     /// `mend PLAN --limit L --spare K`: the mended plan goes to a file, if one is named, and so
-    /// does
-    /// its certificate.
+    /// does its certificate.
     Mend {
         plan: String,
         limit: u8,

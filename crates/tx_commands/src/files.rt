@@ -10,16 +10,6 @@ use crate::refusal::Refusal;
 /// The name of standard input, where a file is read.
 pub const STANDARD_INPUT: &str = "-";
 
-/// The name of a file, if one is named.
-fn name_of(file: &Option<String>) -> Option<&str>
-    ensures { option_map (λ s. s.now) result ≡ option_map string_bytes file.now }
-{
-    match file {
-        Some(name) => Some(name.as_str()),
-        None => None,
-    }
-}
-
 /// The certificate of a run, if there is one.
 fn cert_of(checked: &Option<(String, u8, u8)>) -> Option<&str>
     ensures { option_map (λ s. s.now) result
@@ -47,7 +37,7 @@ fn files_read(command: &Command) -> [Option<&str>; 3]
         }
         Command::Check { plan, cert, .. } => [Some(plan.as_str()), Some(cert.as_str()), None],
         Command::Change { old, new, .. } => [Some(old.as_str()), Some(new.as_str()), None],
-        Command::Survive { plan, risks } => [Some(plan.as_str()), name_of(risks), None],
+        Command::Survive { plan, risks } => [Some(plan.as_str()), risks.as_deref(), None],
         Command::Codes { plan }
         | Command::Lint { plan }
         | Command::Audit { plan, .. }
@@ -63,14 +53,14 @@ fn files_made(command: &Command) -> [Option<&str>; 3]
     ensures { names result ≡ files_made command.now }
 {
     match command {
-        Command::Audit { cert, counter, .. } => [name_of(cert), name_of(counter), None],
-        Command::Mend { mended, cert, .. } => [name_of(mended), name_of(cert), None],
+        Command::Audit { cert, counter, .. } => [cert.as_deref(), counter.as_deref(), None],
+        Command::Mend { mended, cert, .. } => [mended.as_deref(), cert.as_deref(), None],
         Command::Change {
             cert,
             mixture,
             counter,
             ..
-        } => [name_of(cert), name_of(mixture), name_of(counter)],
+        } => [cert.as_deref(), mixture.as_deref(), counter.as_deref()],
         _ => [None, None, None],
     }
 }

@@ -42,11 +42,18 @@ the verdict; goes with --limit and --spare",
         "strict",
         "End with status 1 if an event was refused",
     );
-    with_flag(
+    let run = with_flag(
         run,
         alloc,
         "echo",
         "Print each event with its number before its reply",
+    );
+    with_flag(
+        run,
+        alloc,
+        "summary",
+        "Print at the end how calls ended, and the most circuits of each group
+that were taken at once",
     )
 }
 
@@ -86,7 +93,7 @@ fn lint_grammar<'a>(alloc: Global) -> Result<clap::Command<'a>, AllocError>
     over_plan(
         alloc,
         "lint",
-        "Tell all faults of a plan's text, or else what is of no use in the plan or likely not meant",
+        "Tell all faults of a plan's text, or else what in it is of no use or likely not meant",
         help::LINT,
     )
 }

@@ -1,6 +1,5 @@
 // What the help says of plans, and what the help of each command ends with: an example, and the
-// exit
-// statuses.
+// exit statuses.
 
 pub(crate) const PLAN: &str =
     "The route plan: exchanges, codes, lines, groups, routes and bars; - is standard input";
@@ -80,5 +79,5 @@ of memory, 64 for refused words, and for a code that the plan has not";
 
 pub(crate) const EXPLAIN: &str = "Example: telexplan explain P11
 
-Exit status: 0 for a code of the table and without one, 3 for a failed write, 4 for want of
-memory, 64 for refused words";
+Exit status: 0 for a code or a name of the table and without one, 3 for a failed write, 4 for want
+of memory, 64 for refused words";

@@ -84,7 +84,7 @@ fn words_fault(grammar: &mut clap::Command<'_>, refusal: Refusal) -> Result<Word
         Refusal::CheckedTelling => in_its_words(
             grammar,
             ErrorKind::ArgumentConflict,
-            "--strict and --echo do not go with --cert",
+            "--strict, --echo and --summary do not go with --cert",
         ),
         Refusal::DrawTogether => in_its_words(
             grammar,

@@ -6,8 +6,8 @@ use Rattle.tx_plan.specs.Plan.{Plan, home_of}
 use Rattle.tx_plan.specs.Codes.{code_of}
 use Rattle.tx_plan.specs.Lines.{is_line_at}
 use Rattle.tx_plan.specs.Routes.{route_list, is_barred}
-use Rattle.tx_entries.specs.declared.circuit.Circuit.{Circuit}
-use Rattle.tx_entries.specs.declared.line.Line.{Line}
+use Rattle.tx_plan.specs.declared.group.Circuit.{Circuit}
+use Rattle.tx_plan.specs.declared.line.Line.{Line}
 use Rattle.tx_machine.specs.declared.service.Service.TheVariants.{Np, Na}
 use Rattle.tx_machine.specs.declared.event.Event.TheVariants.{Route}
 use Rattle.tx_machine.specs.Call.{Call, place_of, is_first, call_of}
@@ -22,8 +22,8 @@ use Rattle.tx_lines.specs.Book.{Book, is_line_of}
 use Rattle.tx_circuits.specs.Table.{Table, is_free_at as table_frees, first_free as table_first}
 use Rattle.tx_circuits.proofs.Unnamed.{circuits_at-same}
 use Rattle.tx_engine.specs.inner.Decided.{by_line, by_trunk, decided, decided_for, service_of, carry_out}
-use Rattle.tx_engine.specs.declared.decision.Decision.{Decision}
-use Rattle.tx_engine.specs.declared.decision.Decision.TheVariants.{Answer}
+use Rattle.tx_engine.specs.declared.route.Decision.{Decision}
+use Rattle.tx_engine.specs.declared.route.Decision.TheVariants.{Answer}
 use Rattle.tx_engine.specs.inner.Seen.{state_seen, AreTogether}
 
 pub if_ok : {T E : Type 0} (r : Result T E) {P Q : T → Type 0} → ((x : T) → P x → Q x) → IfOk r P → IfOk r Q

@@ -15,7 +15,7 @@ use Rattle.tx_engine.specs.inner.GivenBack.{CanGiveBack, given_back, freed}
 use Rattle.tx_engine.specs.inner.Seen.{state_seen}
 use Rattle.tx_engine.proofs.Together.{may_end, together_after, state_after}
 use Rattle.tx_engine.proofs.Filters.{alone}
-use Rattle.tx_engine.specs.declared.parts.Parts.{Parts}
+use Rattle.tx_engine.specs.declared.engine_state.EngineState.{EngineState}
 use Rattle.tx_engine.specs.inner.Sound.{AreSound, IsSound, state_of}
 use Rattle.tx_engine.proofs.Keyed.{keyed_removed, hop_room_removed}
 
@@ -27,7 +27,7 @@ length_split t (c ∷ cs) =
       | false ↦ let r = length_split t cs in omega arith
     ]
 
-module _ {A : Type 0} (n : Parts A) (sound : IsSound n) (key : ℕ) (k : Kept) (was : kept_at n.calls key ≡ Some k) where
+module _ {A : Type 0} (n : EngineState A) (sound : IsSound n) (key : ℕ) (k : Kept) (was : kept_at n.calls key ≡ Some k) where
   abbrev p : Plan
   p = n.plan.now
 

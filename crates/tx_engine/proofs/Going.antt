@@ -7,14 +7,14 @@ use Rattle.std.specs.FinSet as set
 use Rattle.std.proofs.lemmas.List.Folds.{list_any-append}
 use Rattle.std.proofs.Math.Bool.{or-false, or_comm, and-false, and-true}
 use Rattle.tx_plan.specs.Orders.{circuit_cmp, same_circuit, same_line}
-use Rattle.tx_entries.proofs.Named.{circuits_total, circuit_tie, lines_total, line_tie, same_circuit-is, same_circuit-itself}
-use Rattle.tx_entries.proofs.Tables.{list_any-map}
+use Rattle.tx_plan.proofs.Named.{circuits_total, circuit_tie, lines_total, line_tie, same_circuit-is, same_circuit-itself}
+use Rattle.tx_plan.proofs.Tables.{list_any-map}
 use Rattle.tx_plan.specs.Plan.{Plan}
 use Rattle.tx_plan.specs.Lines.{is_line}
 use Rattle.tx_plan.specs.Circuits.{is_circuit, other_end}
 use Rattle.tx_plan.specs.Among.{Among}
-use Rattle.tx_entries.specs.declared.circuit.Circuit.{Circuit}
-use Rattle.tx_entries.specs.declared.line.Line.{Line}
+use Rattle.tx_plan.specs.declared.group.Circuit.{Circuit}
+use Rattle.tx_plan.specs.declared.line.Line.{Line}
 use Rattle.tx_machine.specs.declared.hop.Hop.{Hop}
 use Rattle.tx_machine.specs.declared.phase.Phase.{Phase}
 use Rattle.tx_machine.specs.declared.phase.Phase.TheVariants.{Standing, Calling, Connected}
@@ -25,7 +25,7 @@ use Rattle.tx_machine.specs.Routing.{set_call, in_phase}
 use Rattle.tx_machine.specs.Confirming.{far_of, carried_on, rival}
 use Rattle.tx_machine.specs.Step.{keyed_call}
 use Rattle.tx_machine.specs.Safe.{IsKeyedLine}
-use Rattle.tx_machine.specs.Invariant.{Inv}
+use Rattle.tx_machine.specs.inner.Invariant.{Inv}
 use Rattle.tx_machine.proofs.Lists.{any_none, mem_any, find_none}
 use Rattle.tx_machine.proofs.Uses.{is_free, two_ends}
 use Rattle.tx_machine.proofs.Changes.{key_keeps, connect_keeps, seize_keeps, carry_keeps}

@@ -1,7 +1,6 @@
 pub mod Keyed
 pub mod Opening
 pub mod Changing
-pub mod Refused
 pub mod Deciding
 pub mod Routing
 pub mod Leading
@@ -10,7 +9,7 @@ pub mod Confirming
 pub mod HeadOn
 pub mod Lost
 pub mod Taken
-pub mod Behind
+pub mod AfterCode
 pub mod Found
 pub mod Choosing
 pub mod Filters

@@ -7,16 +7,16 @@ use Rattle.std.specs.Option.{option_map_or}
 use Rattle.std.specs.List.{list_any}
 use Rattle.std.specs.FinSet as set
 use Rattle.tx_plan.specs.Orders.{circuit_cmp, same_circuit}
-use Rattle.tx_entries.proofs.Named.{same_circuit-itself}
+use Rattle.tx_plan.proofs.Named.{same_circuit-itself}
 use Rattle.tx_plan.specs.Plan.{Plan, Group}
 use Rattle.tx_plan.specs.Circuits.{is_circuit, other_end, far_end, count_of, ends_of}
 use Rattle.tx_plan.specs.Among.{Among}
-use Rattle.tx_entries.specs.declared.circuit.Circuit.{Circuit}
-use Rattle.tx_entries.proofs.Lists.{at_least}
+use Rattle.tx_plan.specs.declared.group.Circuit.{Circuit}
+use Rattle.tx_plan.proofs.Lists.{at_least}
 use Rattle.tx_plan.proofs.Among.{among_left, among_right, filter_among}
 use Rattle.tx_machine.specs.Call.{Call, place_of, is_numbered, call_of}
 use Rattle.tx_machine.specs.InUse.{circuits_used, carries, seizes, seizes_from, uses_group}
-use Rattle.tx_machine.specs.Invariant.{IsRising, Inv}
+use Rattle.tx_machine.specs.inner.Invariant.{IsRising, Inv}
 use Rattle.tx_machine.proofs.Lists.{any_none, mem_any, find_mem, find_none}
 use Rattle.tx_machine.proofs.Uses.{calling_on, an_end}
 use Rattle.tx_circuits.specs.Table.{Table}

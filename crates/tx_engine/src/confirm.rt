@@ -1,31 +1,34 @@
 // Confirming a circuit.
-ghost use Rattle.std.specs.Prelude.{◌≡◌, ◌<◌, ◌-◌, ◌^◌, false};
+ghost use Rattle.std.specs.Prelude.{◌≡◌, ◌<◌, ◌-◌, ◌^◌, None, false};
 ghost use Rattle.std.specs.FinSet as set;
 ghost use Rattle.tx_machine.specs.declared.event.Event.TheVariants.{Confirm};
 ghost use Rattle.tx_machine.specs.declared.phase.Phase.TheVariants.{Calling};
 ghost use Rattle.tx_machine.specs.declared.reply.Reply.TheVariants.{At};
 ghost use Rattle.tx_machine.specs.Confirming.{far_of};
-ghost use Rattle.tx_machine.specs.Step.{step, accepted, counted};
+ghost use Rattle.tx_machine.specs.Step.{accepted, counted};
+ghost use Rattle.tx_machine.specs.Refusals.{refusal};
 ghost use Rattle.tx_calls.specs.Calls.{Kept};
 ghost use Rattle.tx_engine.specs.inner.Sound.{IsSound, IsUnder, state_of};
 
-use crate::parts::Parts;
+use crate::engine_state::EngineState;
 use std::alloc::Allocator;
-use tx_machine::{Hop, Reply, far_of};
+use tx_machine::{Hop, Phase, Reply, far_of};
 use tx_plan::{Circuit, ExchangeId};
 
-impl<'p, A: Allocator + Copy> Parts<'p, A> {
+impl<'p, A: Allocator + Copy> EngineState<'p, A> {
     /// A call is confirmed.
     pub(crate) fn confirm(&mut self, number: u32) -> Reply
-        requires { IsSound self.old }
+        requires sound { IsSound self.old }
+        requires open { refusal self.old.plan.now (state_of self.old) (Confirm number) ≡ None }
         ensures sound { IsSound self.new }
         ensures plan { self.new.plan.now ≡ self.old.plan.now }
-        ensures step { step self.old.plan.now (state_of self.old) (Confirm number)
+        ensures step { counted (accepted self.old.plan.now (state_of self.old) (Confirm number))
             ≡ (result, state_of self.new) }
     {
-        let (key, circuit) = match self.calling(number) {
-            Ok(found) => found,
-            Err(refusal) => return Reply::Refused(refusal),
+        let key = self.key_of(number);
+        let circuit = match self.calls.at(key).phase {
+            Phase::Calling(circuit) => circuit,
+            Phase::Standing | Phase::Connected(_) => unreachable!(),
         };
         let far = far_of(self.plan, self.calls.at(key), &circuit);
         if self.circuits.is_seized(&circuit, far) {

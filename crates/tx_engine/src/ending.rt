@@ -1,33 +1,33 @@
 // Calls that end.
-ghost use Rattle.std.specs.Prelude.{◌≡◌, ◌≢◌, ℕ, ◌<◌, ◌-◌, ◌^◌, is_some, Some, true};
+ghost use Rattle.std.specs.Prelude.{◌≡◌, ◌≢◌, ℕ, ◌<◌, ◌-◌, ◌^◌, is_some, Some, None, true};
 ghost use Rattle.tx_machine.specs.declared.event.Event.TheVariants.{Clear};
 ghost use Rattle.tx_machine.specs.Ending.{end_call, ticket_of};
-ghost use Rattle.tx_machine.specs.Step.{step};
+ghost use Rattle.tx_machine.specs.Step.{accepted, counted};
+ghost use Rattle.tx_machine.specs.Refusals.{refusal};
 ghost use Rattle.tx_calls.specs.Calls.{Kept, kept_at};
 ghost use Rattle.tx_machine.specs.Seen.{call_seen};
 ghost use Rattle.tx_engine.specs.inner.GivenBack.{released_all, given_back, thrown_off, freed, CanReleaseAll, CanGiveBack, CanThrowOff};
 ghost use Rattle.tx_engine.specs.inner.Sound.{IsSound, state_of};
 
-use crate::parts::Parts;
+use crate::engine_state::EngineState;
 use std::alloc::Allocator;
 use tx_circuits::CircuitTable;
 use tx_lines::LineBook;
 use tx_machine::{Cause, Hop, OpenCall, Party, Path, Phase, Reply, Ticket, far_of, place_of};
 use tx_plan::{Circuit, Plan};
 
-impl<'p, A: Allocator + Copy> Parts<'p, A> {
+impl<'p, A: Allocator + Copy> EngineState<'p, A> {
     /// A call is cleared.
     pub(crate) fn clear(&mut self, number: u32, party: Party) -> Reply
-        requires { IsSound self.old }
+        requires sound { IsSound self.old }
+        requires open { refusal self.old.plan.now
+            (state_of self.old) (Clear number party) ≡ None }
         ensures sound { IsSound self.new }
         ensures plan { self.new.plan.now ≡ self.old.plan.now }
-        ensures step { step self.old.plan.now (state_of self.old) (Clear number party)
-            ≡ (result, state_of self.new) }
+        ensures step { counted (accepted self.old.plan.now
+            (state_of self.old) (Clear number party)) ≡ (result, state_of self.new) }
     {
-        let key = match self.clearable(number, party) {
-            Ok(key) => key,
-            Err(refusal) => return Reply::Refused(refusal),
-        };
+        let key = self.key_of(number);
         let cause = match party {
             Party::Caller => Cause::ClearedByCaller,
             Party::Called => Cause::ClearedByCalled,

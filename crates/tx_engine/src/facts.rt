@@ -10,59 +10,59 @@ impl<'p, A: Allocator + Copy> Facts for Engine<'p, A> {
     ghost state = { λ n. n.state };
 
     fn phase_of(&self, number: u32) -> Option<Phase> {
-        match self.parts.calls.find(number) {
-            Some(key) => Some(self.parts.calls.at(key).phase),
+        match self.inner.calls.find(number) {
+            Some(key) => Some(self.inner.calls.at(key).phase),
             None => None,
         }
     }
 
     fn has_line(&self, line: &Line) -> bool {
-        self.parts.lines.has(line)
+        self.inner.lines.has(line)
     }
 
     fn is_engaged(&self, line: &Line) -> bool {
-        self.parts.lines.is_engaged(line)
+        self.inner.lines.is_engaged(line)
     }
 
     fn is_faulty(&self, line: &Line) -> bool {
-        self.parts.lines.is_faulty(line)
+        self.inner.lines.is_faulty(line)
     }
 
     fn is_away(&self, line: &Line) -> bool {
-        self.parts.lines.is_away(line)
+        self.inner.lines.is_away(line)
     }
 
     fn has_circuit(&self, circuit: &Circuit) -> bool {
-        self.parts.circuits.has_circuit(circuit)
+        self.inner.circuits.has_circuit(circuit)
     }
 
     fn is_releasing(&self, circuit: &Circuit) -> bool {
-        self.parts.circuits.is_releasing(circuit)
+        self.inner.circuits.is_releasing(circuit)
     }
 
     fn is_out(&self, circuit: &Circuit) -> bool {
-        self.parts.circuits.is_out(circuit)
+        self.inner.circuits.is_out(circuit)
     }
 
     fn has_group(&self, group: GroupId) -> bool {
-        let plan = self.parts.plan;
+        let plan = self.inner.plan;
         let groups = plan.groups();
         group.index() < groups
     }
 
     fn is_failed(&self, group: GroupId) -> bool {
-        self.parts.circuits.is_failed(group)
+        self.inner.circuits.is_failed(group)
     }
 
     fn is_blocked(&self, group: GroupId) -> bool {
-        self.parts.circuits.is_blocked(group)
+        self.inner.circuits.is_blocked(group)
     }
 
     fn numbers_given(&self) -> u32 {
-        self.parts.numbers
+        self.inner.numbers
     }
 
     fn events_accepted(&self) -> u64 {
-        self.parts.events
+        self.inner.events
     }
 }

@@ -10,13 +10,13 @@ ghost use Rattle.tx_machine.specs.Call.{Call, call_of};
 ghost use Rattle.tx_machine.specs.Ending.{end_call};
 ghost use Rattle.tx_machine.specs.InUse.{uses_group, seizes_from};
 ghost use Rattle.tx_machine.specs.Refusals.{refusal};
-ghost use Rattle.tx_machine.specs.Step.{step};
+ghost use Rattle.tx_machine.specs.Step.{accepted, counted};
 ghost use Rattle.tx_calls.specs.Calls.{calls_in};
 ghost use Rattle.tx_engine.specs.inner.InTurn.{uses, IsLosing};
 ghost use Rattle.tx_engine.specs.inner.Users.{AreNumbersOf};
 ghost use Rattle.tx_engine.specs.inner.Sound.{IsSound, state_of};
 
-use crate::parts::Parts;
+use crate::engine_state::EngineState;
 use arrayvec::ArrayVec;
 use std::alloc::Allocator;
 use tx_machine::{Cause, Reply};
@@ -25,14 +25,14 @@ use tx_plan::{Circuit, ExchangeId, GroupId};
 /// Numbers of calls on a group. Each of its 240 circuits has at most two.
 type Users = ArrayVec<u32, 480>;
 
-impl<'p, A: Allocator + Copy> Parts<'p, A> {
+impl<'p, A: Allocator + Copy> EngineState<'p, A> {
     /// A group fails.
     pub(crate) fn fail(&mut self, group: GroupId) -> Reply
         requires sound { IsSound self.old }
         requires open { refusal self.old.plan.now (state_of self.old) (Fail group) ≡ None }
         ensures sound { IsSound self.new }
         ensures plan { self.new.plan.now ≡ self.old.plan.now }
-        ensures step { step self.old.plan.now (state_of self.old) (Fail group)
+        ensures step { counted (accepted self.old.plan.now (state_of self.old) (Fail group))
             ≡ (result, state_of self.new) }
     {
         let lost = self.lose_users(group);

@@ -13,7 +13,7 @@ ghost use Rattle.tx_engine.specs.inner.Meeting.{AreMeeting, AreThrown, IsMet};
 ghost use Rattle.tx_engine.specs.inner.Sound.{IsSound, IsUnder, state_of};
 
 use crate::ending::throw_off;
-use crate::parts::Parts;
+use crate::engine_state::EngineState;
 use std::alloc::Allocator;
 use tx_machine::{Cause, Reply, Service};
 use tx_plan::{Circuit, ExchangeId};
@@ -26,7 +26,7 @@ pub(crate) struct Met {
     pub collided: bool,
 }
 
-impl<'p, A: Allocator + Copy> Parts<'p, A> {
+impl<'p, A: Allocator + Copy> EngineState<'p, A> {
     /// The call under the key and its rival, which has seized the circuit from its far end, meet
     /// head on.
     pub(crate) fn meet(

@@ -8,25 +8,22 @@
 //! /// The reply where the first group of a plan fails before any call: that none was lost.
 //! fn fail_first_group(alloc: Global, plan: &Plan) -> Result<Reply, NoMemory> {
 //!     let mut network = Engine::new(alloc, plan)?;
-//!     network.apply(Event::Fail(GroupId::at(0)))
+//!     network.apply(Event::Fail(GroupId::of(0)))
 //! }
 //! ```
 #![tactic(auto)]
 
+mod accepting;
 mod confirm;
-mod decision;
 mod ending;
 mod engine;
+mod engine_state;
 mod facts;
 mod failing;
-mod finding;
 mod head_on;
 mod keying;
-mod parts;
 mod playing;
 mod route;
-mod statuses;
-mod tickets;
 
 pub use engine::Engine;
 pub use playing::{Played, play};

@@ -1,5 +1,5 @@
 // Lists of events, played on the engine.
-ghost use Rattle.std.specs.Prelude.{◌≡◌, ◌++◌, IfOk, OnOk, []};
+ghost use Rattle.std.specs.Prelude.{◌≡◌, IfOk, OnOk, []};
 ghost use Rattle.tx_machine.specs.Drained.{drained};
 ghost use Rattle.tx_machine.specs.Runs.{replies as replies_to, state_after};
 ghost use Rattle.tx_machine.specs.State.{opening};
@@ -41,56 +41,15 @@ pub fn play<'p, A: Allocator + Copy>(
       state = drained (state_after plan.now (opening numbers accepted) events.now) [];
     }) }
 {
-    match Engine::starting_at(alloc, plan, numbers, accepted) {
-        Ok(network) => play_on(alloc, network, events),
-        Err(error) => Err(error),
-    }
-}
-
-/// Plays events on a network.
-fn play_on<'p, A: Allocator + Copy>(
-    alloc: A,
-    mut network: Engine<'p, A>,
-    events: &[Event],
-) -> Result<Played<'p, A>, NoMemory>
-    ensures replies { IfOk result (λ played. played.replies.items
-        ≡ replies_to network.entry.plan network.entry.state events.now) }
-    ensures tickets { IfOk result (λ played. played.tickets.items
-        ≡ (state_after network.entry.plan network.entry.state events.now).tickets) }
-    ensures network { IfOk result (λ played. played.network ≡ record network.entry
-        { state = drained (state_after network.entry.plan network.entry.state events.now) [] }) }
-{
+    let mut network = Engine::starting_at(alloc, plan, numbers, accepted)?;
     let mut replies = Vec::new(alloc);
-    match drive_out(alloc, &mut network, events, &mut replies) {
-        Ok(taken) => Ok(Played {
-            replies,
-            tickets: taken,
-            network,
-        }),
-        Err(error) => {
-            drop(replies);
-            drop(network);
-            Err(error)
-        }
-    }
-}
-
-/// Applies the events, appends the replies, and takes the tickets out of the network.
-fn drive_out<A: Allocator + Copy>(
-    alloc: A,
-    network: &mut Engine<'_, A>,
-    events: &[Event],
-    replies: &mut Vec<Reply, A>,
-) -> Result<Vec<Ticket<A>, A>, NoMemory>
-    ensures replies { OnOk result (replies.new.items
-        ≡ replies.old.items ++ replies_to network.old.plan network.old.state events.now) }
-    ensures tickets { IfOk result (λ tickets. tickets.items
-        ≡ (state_after network.old.plan network.old.state events.now).tickets) }
-    ensures network { OnOk result (network.new ≡ record network.old
-        { state = drained (state_after network.old.plan network.old.state events.now) [] }) }
-{
-    drive(network, events, replies)?;
-    take_tickets(alloc, network)
+    drive(&mut network, events, &mut replies)?;
+    let tickets = take_tickets(alloc, &mut network)?;
+    Ok(Played {
+        replies,
+        tickets,
+        network,
+    })
 }
 
 /// Takes all tickets out of a network.

@@ -21,7 +21,12 @@ texts e = (text_at e 0, text_at e 1, text_at e 2, text_at e 3)
 -- THE TABLE, as its texts: the codes of faults of texts, those that a run prints, and those of what
 -- is wrong with a plan
 unfoldable pub table : List Texts
-table = map (λ e. let t = get_or e in ((t 0 (record { now = [] })).now, (t 1 (record { now = [] })).now, (t 2 (record { now = [] })).now, (t 3 (record { now = [] })).now))
+table = map (λ e. let t = get_or e in (
+  (t 0 (record { now = [] })).now,
+  (t 1 (record { now = [] })).now,
+  (t 2 (record { now = [] })).now,
+  (t 3 (record { now = [] })).now,
+))
     (TEXT_FAULTS ++ (RUN_CODES ++ PLAN_CODES))
 
 -- a word asks for an entry by its code or its name, in capitals or small letters

@@ -1,7 +1,6 @@
 -- That the table has each code that is printed.
 use Rattle.std.specs.Prelude.{◌≡◌, ◌≢◌, ℕ, true, List, [], ◌∷◌, ◌++◌, map, Some, codes}
-use Rattle.tx_text.specs.declared.line_fault.LineFault.TheVariants.{Read}
-use Rattle.tx_text.specs.declared.frame.FrameFault.TheVariants.{Line}
+use Rattle.tx_text.specs.declared.frame.FrameFault.TheVariants.{Read}
 use Rattle.tx_text.specs.declared.frame.FaultKind.{FaultKind}
 use Rattle.tx_text.specs.declared.frame.FaultKind.TheVariants.{Frame}
 use Rattle.tx_plan.specs.Plan.{Plan}
@@ -51,8 +50,8 @@ CertFaultsAreExplained = (kind : FaultKind CertWord) → IsExplained (cert_row k
 
 -- a source that failed is no fault of a script
 abbrev pub ScriptFaultsAreExplained : Type 0
-ScriptFaultsAreExplained = (kind : FaultKind ScriptWord)
-    → kind ≢ Frame (Line Read) → IsExplained (script_row kind)
+ScriptFaultsAreExplained =
+    (kind : FaultKind ScriptWord) → kind ≢ Frame Read → IsExplained (script_row kind)
 
 abbrev pub RiskFaultsAreExplained : Type 0
 RiskFaultsAreExplained = (kind : FaultKind RiskWord) → IsExplained (risk_row kind)

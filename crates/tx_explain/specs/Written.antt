@@ -9,8 +9,9 @@ entry_line t = t.0 ++ (codes " " ++ (t.1 ++ (codes ": " ++ (t.2 ++ codes "\n")))
 
 -- what is told of one code
 abbrev pub entry_text : Texts → List ℕ
-entry_text t = t.0 ++ (codes " "
-    ++ (t.1 ++ (codes "\n" ++ (t.2 ++ (codes "\nWhat to do: " ++ (t.3 ++ codes "\n"))))))
+entry_text t =
+    t.0 ++ (codes " " ++ (t.1 ++ (codes "\n"
+    ++ (t.2 ++ (codes "\nWhat to do: " ++ (t.3 ++ codes "\n"))))))
 
 -- what is written of an entry: all that is told of it if the word asks for it; without a word, its
 -- line

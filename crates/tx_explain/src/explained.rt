@@ -5,10 +5,10 @@ use std::alloc::Allocator;
 
 /// The code of an entry asks for that entry alone; a name may be that of several, as `Short`.
 ///
-/// Each code that is printed has an entry: of a fault of a text, of a warning, of a finding, and of
-/// what no lists can serve by the name that is printed with it, of a refusal, of why a call ended
+/// Each code that is printed has an entry. That of a fault of a text, of a warning, of a finding
 /// and
-/// of a fault of a check by its code.
+/// of what no lists can serve has the name that is printed after the code. A refusal, why a call
+/// ended and a fault of a check are printed by the code alone.
 pub fn codes_are_explained<A: Allocator>()
     ensures once { CodesAreDistinct }
     ensures plans { PlanFaultsAreExplained }

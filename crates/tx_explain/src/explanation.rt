@@ -13,7 +13,7 @@ use tx_text::{Sink, WriteFault, write_parts};
 /// about it; without a word, a line for each code with its meaning.
 pub fn write_explanation<W: Sink>(word: Option<&str>, sink: &mut W) -> Result<(), WriteFault>
     ensures { Wrote W.taken W.failed sink.old sink.new
-        (explanation_text (option_map (λ w. w.now) word)) result }
+        (explanation_text (option_map (λ w. w.now) word.entry)) result }
 {
     write_tables(&tables(), word, sink)
 }
@@ -24,8 +24,8 @@ fn write_tables<W: Sink>(
     sink: &mut W,
 ) -> Result<(), WriteFault>
     ensures { Wrote W.taken W.failed sink.old sink.new
-        (flat_map (λ t. flat_map (λ e. told_text (option_map (λ w. w.now) word) (texts e)) t.now)
-        tables.now) result }
+        (flat_map (λ t. flat_map (λ e. told_text (option_map (λ w. w.now) word.entry) (texts e))
+        t.now) tables.now) result }
 {
     for i in 0..tables.len() {
         write_entries(tables[i], word, sink)?;
@@ -39,7 +39,8 @@ fn write_entries<W: Sink>(
     sink: &mut W,
 ) -> Result<(), WriteFault>
     ensures { Wrote W.taken W.failed sink.old sink.new
-        (flat_map (λ e. told_text (option_map (λ w. w.now) word) (texts e)) entries.now) result }
+        (flat_map (λ e. told_text (option_map (λ w. w.now) word.entry) (texts e)) entries.now)
+        result }
 {
     for i in 0..entries.len() {
         write_told(&entries[i], word, sink)?;
@@ -49,15 +50,11 @@ fn write_entries<W: Sink>(
 
 fn write_told<W: Sink>(entry: &Entry, word: Option<&str>, sink: &mut W) -> Result<(), WriteFault>
     ensures { Wrote W.taken W.failed sink.old sink.new
-        (told_text (option_map (λ w. w.now) word) (texts entry.now)) result }
+        (told_text (option_map (λ w. w.now) word.entry) (texts entry.now)) result }
 {
     match word {
-        Some(word) => {
-            if is_asked(word, entry) {
-                return write_entry(entry, sink);
-            }
-            Ok(())
-        }
+        Some(word) if is_asked(word, entry) => write_entry(entry, sink),
+        Some(_) => Ok(()),
         None => write_line(entry, sink),
     }
 }

@@ -16,7 +16,7 @@ use Rattle.tx_script.specs.declared.run_cause.RunCause.TheVariants.{Read, Write,
 use Rattle.tx_script.specs.declared.script_word.ScriptWord.{ScriptWord}
 use Rattle.tx_script.specs.Answers.{Moved, FaultyBy, is_reader_room, Stopped, RunAnswers}
 use Rattle.tx_jobs.specs.declared.job_fault.JobFault.{JobFault}
-use Rattle.tx_jobs.specs.JobEnds.{Output}
+use Rattle.tx_text.specs.Ends.{Output}
 use Rattle.tx_jobs.specs.Jobs.{ScriptRan}
 
 module _ (B D U V : Type 0) (f : B → D) (g : U → V) where

@@ -18,7 +18,7 @@ use Rattle.tx_jobs.specs.declared.change_fault.ChangeFault.TheVariants.{Job}
 use Rattle.tx_jobs.specs.JobFaults.{mark_by, plan_fault}
 use Rattle.tx_jobs.specs.AuditJobs.{audit_fault}
 use Rattle.tx_jobs.specs.ChangeFaults.{in_new_plan, new_plan_fault, change_mark_by}
-use Rattle.tx_jobs.specs.JobEnds.{Output}
+use Rattle.tx_text.specs.Ends.{Output}
 use Rattle.tx_jobs.specs.ChangeJobs.{ToldChange, OnUnsoundChange}
 use Rattle.tx_jobs.specs.inner.Changing.{changed_of}
 use Rattle.tx_jobs.proofs.RefusedTexts.{plan_mark}

@@ -2,7 +2,7 @@
 use Rattle.std.proofs.Common.{◌≡◌, ◌∙◌, ℕ, List, Option, Ok, Err, inr, refl, sym, ap, subst}
 use Rattle.std.specs.Io.KnownBytes.{append_known}
 use Rattle.tx_text.specs.declared.sink.WriteFault.{WriteFault}
-use Rattle.tx_text.specs.Ends.{StopsIn}
+use Rattle.tx_text.specs.Ends.{StopsIn, Input, output}
 use Rattle.tx_plan.specs.Plan.{Plan}
 use Rattle.tx_cert.specs.Certificate.{Certificate}
 use Rattle.tx_machine.specs.State.{opening}
@@ -13,7 +13,7 @@ use Rattle.tx_audit.specs.declared.checked.Checked.{Checked}
 use Rattle.tx_audit.specs.declared.checked.Checked.TheVariants.{Ran, Denied}
 use Rattle.tx_audit.specs.CheckedRuns.{CheckedAnswers}
 use Rattle.tx_jobs.specs.declared.job_fault.JobFault.TheVariants.{Write}
-use Rattle.tx_jobs.specs.JobEnds.{Input, output, bytes_moved}
+use Rattle.tx_jobs.specs.JobEnds.{bytes_moved}
 use Rattle.tx_jobs.specs.CheckedJobs.{ToldRun, ToldNo}
 
 module _ {W : Type 0} (taken : W → Option (List ℕ)) (p : Plan) (t : Certificate) (limit spare : ℕ) (script : Input) (a b c : W) where

@@ -3,6 +3,7 @@ mod Piping
 mod Breaking
 mod CheckedRun
 mod Simulating
+mod ToldRuns
 mod Evidenced
 mod ChangeTold
 mod ChangeEvidenced

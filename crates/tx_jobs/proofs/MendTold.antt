@@ -6,7 +6,7 @@ use Rattle.tx_mend_report.specs.declared.reporting.MendFault.TheVariants.{Write,
 use Rattle.tx_mend_report.specs.MendAnswers.{MendAnswers, mark_after as mend_mark_after}
 use Rattle.tx_jobs.specs.declared.job_fault.JobFault.{JobFault}
 use Rattle.tx_jobs.specs.JobFaults.{mark_by}
-use Rattle.tx_jobs.specs.JobEnds.{Output}
+use Rattle.tx_text.specs.Ends.{Output}
 use Rattle.tx_jobs.specs.MendJobs.{mend_fault, ToldMending}
 
 module _ (A : Type 0) (p : Plan) (limit spare : ℕ) (out : Output) where

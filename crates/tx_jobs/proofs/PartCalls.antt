@@ -1,7 +1,8 @@
 -- What the calls that read a part of an input mean for the input.
 use Rattle.std.proofs.Common.{◌≡◌, ◌⊎◌, ℕ, zero, suc, ◌+◌, ◌-◌, ◌≤◌, Bool, true, false, List, [], ◌∷◌, Option, Result, Ok, Err, refl, sym, ap, ◌∙◌, arith, inl, inr, subst}
 use Rattle.tx_text.specs.declared.source.ReadFault.{ReadFault}
-use Rattle.tx_text.specs.Calls.{Gives, Gave, Went, Calls, CallsAtMost}
+use Rattle.tx_text.specs.Calls.{Gives, Gave, CallsAtMost}
+use Rattle.tx_text.specs.inner.CallsLeft.{Went, Calls}
 use Rattle.tx_jobs.specs.declared.script_part.ScriptPart.{ScriptPart}
 use Rattle.tx_jobs.specs.inner.Reading.{CalledInput, LeftInput, PartCall}
 

@@ -21,7 +21,7 @@ use Rattle.tx_jobs.proofs.PlanCalls.{Took, calls_took, prepend_none, whole_plan,
 use Rattle.tx_script.specs.declared.summary.Summary.{Summary}
 use Rattle.tx_jobs.specs.declared.job_fault.JobFault.{JobFault}
 use Rattle.tx_jobs.specs.JobFaults.{plan_fault}
-use Rattle.tx_jobs.specs.JobEnds.{Output, input}
+use Rattle.tx_text.specs.Ends.{Output, input}
 use Rattle.tx_jobs.specs.Jobs.{ScriptRan}
 use Rattle.tx_jobs.specs.PipeJobs.{calls_behind, PipeRan, PipeRefused}
 use Rattle.tx_jobs.proofs.Breaking.{refused_with, simulated_with}

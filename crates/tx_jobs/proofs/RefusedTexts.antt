@@ -1,8 +1,6 @@
 -- Refused texts and the sink's mark.
 use Rattle.std.proofs.Common.{◌≡◌, ◌∙◌, Bool, refl, sym, ap}
-use Rattle.tx_text.specs.declared.text_fault.TextFault.TheVariants.{LineTooLong, BadByte, NoMemory as TextNoMemory}
-use Rattle.tx_text.specs.declared.line_fault.LineFault.TheVariants.{Text, Read as LineRead}
-use Rattle.tx_text.specs.declared.frame.FrameFault.TheVariants.{Line, Form}
+use Rattle.tx_text.specs.declared.frame.FrameFault.TheVariants.{LineTooLong, BadByte, NoMemory as TextNoMemory, Read as LineRead, NoHeader, NoEnd, AfterEnd}
 use Rattle.tx_text.specs.declared.frame.FaultAt.{FaultAt}
 use Rattle.tx_text.specs.declared.frame.FaultKind.{FaultKind}
 use Rattle.tx_text.specs.declared.frame.FaultKind.TheVariants.{Frame, Word}
@@ -24,11 +22,13 @@ use Rattle.tx_jobs.specs.JobFaults.{plan_fault, plan_fault_by, cert_fault, cert_
 use Rattle.tx_jobs.specs.AuditJobs.{audit_fault}
 
 plan_by : (old : Bool) (f : FaultAt PlanWord) (k : FaultKind PlanWord) → mark_by old (plan_fault_by f k) ≡ old
-plan_by old f (Frame (Line LineRead)) = refl
-plan_by old f (Frame (Line (Text LineTooLong))) = refl
-plan_by old f (Frame (Line (Text BadByte))) = refl
-plan_by old f (Frame (Line (Text TextNoMemory))) = refl
-plan_by old f (Frame (Form k)) = refl
+plan_by old f (Frame LineRead) = refl
+plan_by old f (Frame LineTooLong) = refl
+plan_by old f (Frame BadByte) = refl
+plan_by old f (Frame TextNoMemory) = refl
+plan_by old f (Frame NoHeader) = refl
+plan_by old f (Frame NoEnd) = refl
+plan_by old f (Frame AfterEnd) = refl
 plan_by old f (Word UnknownWord) = refl
 plan_by old f (Word (Refused r)) = elim r as (λ r. mark_by old (plan_fault_by f (Word (Refused r))) ≡ old) [
   | WrongCount ↦ refl
@@ -56,11 +56,13 @@ pub plan_mark : (old : Bool) (f : FaultAt PlanWord) (told : JobFault) → told �
 plan_mark old f told e = sym (ap (mark_by old) e ∙ plan_unmarked old f)
 
 cert_by : (old : Bool) (f : FaultAt CertWord) (k : FaultKind CertWord) → mark_by old (cert_fault_by f k) ≡ old
-cert_by old f (Frame (Line LineRead)) = refl
-cert_by old f (Frame (Line (Text LineTooLong))) = refl
-cert_by old f (Frame (Line (Text BadByte))) = refl
-cert_by old f (Frame (Line (Text TextNoMemory))) = refl
-cert_by old f (Frame (Form k)) = refl
+cert_by old f (Frame LineRead) = refl
+cert_by old f (Frame LineTooLong) = refl
+cert_by old f (Frame BadByte) = refl
+cert_by old f (Frame TextNoMemory) = refl
+cert_by old f (Frame NoHeader) = refl
+cert_by old f (Frame NoEnd) = refl
+cert_by old f (Frame AfterEnd) = refl
 cert_by old f (Word CertUnknownWord) = refl
 cert_by old f (Word CertWrongCount) = refl
 cert_by old f (Word UnknownName) = refl
@@ -73,11 +75,13 @@ pub cert_mark : (old : Bool) (f : FaultAt CertWord) (told : JobFault) → told �
 cert_mark old f told e = sym (ap (mark_by old) e ∙ cert_by old f f.kind)
 
 script_by : (old : Bool) (f : FaultAt ScriptWord) (k : FaultKind ScriptWord) → mark_by old (script_fault_by f k) ≡ old
-script_by old f (Frame (Line LineRead)) = refl
-script_by old f (Frame (Line (Text LineTooLong))) = refl
-script_by old f (Frame (Line (Text BadByte))) = refl
-script_by old f (Frame (Line (Text TextNoMemory))) = refl
-script_by old f (Frame (Form k)) = refl
+script_by old f (Frame LineRead) = refl
+script_by old f (Frame LineTooLong) = refl
+script_by old f (Frame BadByte) = refl
+script_by old f (Frame TextNoMemory) = refl
+script_by old f (Frame NoHeader) = refl
+script_by old f (Frame NoEnd) = refl
+script_by old f (Frame AfterEnd) = refl
 script_by old f (Word w) = refl
 
 run_marked : (old : Bool) (c : RunCause) → mark_by old (cause_fault c) ≡ run_mark_by old c

@@ -5,7 +5,8 @@ use Rattle.tx_script.specs.declared.run_fault.RunFault.{RunFault}
 use Rattle.tx_audit.specs.CheckedRuns.{Simulated}
 use Rattle.tx_jobs.specs.declared.job_fault.JobFault.{JobFault}
 use Rattle.tx_jobs.specs.JobFaults.{run_fault}
-use Rattle.tx_jobs.specs.JobEnds.{Input, Output, bytes_moved}
+use Rattle.tx_text.specs.Ends.{Input, Output}
+use Rattle.tx_jobs.specs.JobEnds.{bytes_moved}
 use Rattle.tx_jobs.specs.Jobs.{ScriptRan}
 
 module _ (p : Plan) (script : Input) (out : Output) (f : RunFault) (told : JobFault) (by : told ≡ run_fault f) where

@@ -2,9 +2,7 @@
 use Rattle.std.proofs.Common.{◌≡◌, ◌≢◌, ◌∙◌, ℕ, Bool, List, [], ◌∷◌, length, None, refl, sym, ap}
 use Rattle.std.proofs.lemmas.List.{nil_from_length}
 use Rattle.std.specs.List.{AllByRecursion}
-use Rattle.tx_text.specs.declared.text_fault.TextFault.TheVariants.{LineTooLong, BadByte, NoMemory as TextNoMemory}
-use Rattle.tx_text.specs.declared.line_fault.LineFault.TheVariants.{Text, Read as LineRead}
-use Rattle.tx_text.specs.declared.frame.FrameFault.TheVariants.{Line, Form}
+use Rattle.tx_text.specs.declared.frame.FrameFault.TheVariants.{LineTooLong, BadByte, NoMemory as TextNoMemory, Read as LineRead, NoHeader, NoEnd, AfterEnd}
 use Rattle.tx_text.specs.declared.frame.FaultAt.{FaultAt}
 use Rattle.tx_text.specs.declared.frame.FaultKind.{FaultKind}
 use Rattle.tx_text.specs.declared.frame.FaultKind.TheVariants.{Frame, Word}
@@ -45,11 +43,13 @@ survival_is A p risks (Ungraded grade) wherever all none codes some right listed
 
 risks_by : (old : Bool) (f : FaultAt RiskWord) (k : FaultKind RiskWord)
     → survive_mark_by old (risks_fault_by f k) ≡ old
-risks_by old f (Frame (Line LineRead)) = refl
-risks_by old f (Frame (Line (Text LineTooLong))) = refl
-risks_by old f (Frame (Line (Text BadByte))) = refl
-risks_by old f (Frame (Line (Text TextNoMemory))) = refl
-risks_by old f (Frame (Form k)) = refl
+risks_by old f (Frame LineRead) = refl
+risks_by old f (Frame LineTooLong) = refl
+risks_by old f (Frame BadByte) = refl
+risks_by old f (Frame TextNoMemory) = refl
+risks_by old f (Frame NoHeader) = refl
+risks_by old f (Frame NoEnd) = refl
+risks_by old f (Frame AfterEnd) = refl
 risks_by old f (Word UnknownWord) = refl
 risks_by old f (Word WrongCount) = refl
 risks_by old f (Word BadName) = refl

@@ -7,7 +7,7 @@ use Rattle.tx_audit.specs.Audits.{AuditAnswers}
 use Rattle.tx_jobs.specs.declared.job_fault.JobFault.{JobFault}
 use Rattle.tx_jobs.specs.declared.job_fault.JobFault.TheVariants.{Write, NoMemory}
 use Rattle.tx_jobs.specs.JobFaults.{plan_fault}
-use Rattle.tx_jobs.specs.JobEnds.{Input, Output}
+use Rattle.tx_text.specs.Ends.{Input, Output}
 
 -- why an audit stopped, as a job tells it
 abbrev pub audit_fault : AuditFault → JobFault

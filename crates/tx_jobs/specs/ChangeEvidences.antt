@@ -13,7 +13,7 @@ use Rattle.tx_jobs.specs.declared.mixture.Mixture.{Mixture}
 use Rattle.tx_jobs.specs.declared.mixture.Mixture.TheVariants.{Scripted, Unscripted}
 use Rattle.tx_jobs.specs.declared.mixture.ChangeEvidence.{ChangeEvidence}
 use Rattle.tx_jobs.specs.declared.mixture.ChangeEvidence.TheVariants.{Sound, Unsound}
-use Rattle.tx_jobs.specs.JobEnds.{Input, Output}
+use Rattle.tx_text.specs.Ends.{Input, Output}
 use Rattle.tx_jobs.specs.ChangeJobs.{ChangeJobAnswers}
 
 module _ {A : Type 0} where

@@ -16,7 +16,7 @@ use Rattle.tx_jobs.specs.declared.change_fault.ChangeFault.{ChangeFault}
 use Rattle.tx_jobs.specs.declared.change_fault.ChangeFault.TheVariants.{Job, TwoNetworks}
 use Rattle.tx_jobs.specs.declared.job_fault.JobFault.TheVariants.{Write, NoMemory}
 use Rattle.tx_jobs.specs.ChangeFaults.{old_plan_fault, new_plan_fault}
-use Rattle.tx_jobs.specs.JobEnds.{Input, Output}
+use Rattle.tx_text.specs.Ends.{Input, Output}
 use Rattle.tx_jobs.specs.Jobs.{PlanRead}
 
 -- it holds of both plans and the findings, if something was wrong
@@ -45,7 +45,7 @@ ToldChange p q limit spare out (Err other) = ⊥
 pub record RefusedAs {X : Type 0} (tell : FaultAt PlanWord → ChangeFault) (text : Input)
     (untouched : Type 0) (result : Result X ChangeFault) : Type 0 where
   pub fault : FaultAt PlanWord
-  pub read : ReadsPlan text.old text.new text.broken text.unread (Err (fault.line, fault.kind))
+  pub read : ReadsPlan text (Err (fault.line, fault.kind))
   pub told : result ≡ Err (tell fault)
   pub rest : untouched
 

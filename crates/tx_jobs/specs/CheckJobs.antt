@@ -1,7 +1,7 @@
 -- What `check PLAN CERT` answers: what its calls do, one after another.
 use Rattle.std.specs.Prelude.{◌≡◌, ◌⊎◌, ℕ, Result, Ok, Err}
 use Rattle.std.specs.Io.KnownBytes.{append_known}
-use Rattle.tx_text.specs.Ends.{StopsIn}
+use Rattle.tx_text.specs.Ends.{StopsIn, Input, Output}
 use Rattle.tx_text.specs.declared.frame.FaultAt.{FaultAt}
 use Rattle.tx_plan.specs.Plan.{Plan}
 use Rattle.tx_machine.specs.Sound.{IsSound}
@@ -15,7 +15,6 @@ use Rattle.tx_check.specs.Verdicts.{verdict_written}
 use Rattle.tx_jobs.specs.declared.job_fault.JobFault.{JobFault}
 use Rattle.tx_jobs.specs.declared.job_fault.JobFault.TheVariants.{Write}
 use Rattle.tx_jobs.specs.JobFaults.{cert_fault}
-use Rattle.tx_jobs.specs.JobEnds.{Input, Output}
 use Rattle.tx_jobs.specs.Jobs.{PlanRead, PlanRefused}
 
 -- the checker's verdict
@@ -35,14 +34,14 @@ ToldVerdict p t limit spare out (Err other) = ⊥
 pub record CertRead (p : Plan) (text : Input) (after : Certificate → Type 0) : Type 0 where
   pub cert : Certificate
   pub fits : IsCertificateOf p cert
-  pub read : SaysCert p text.old text.new cert
+  pub read : SaysCert p text cert
   pub goes_on : after cert
 
 -- the certificate was refused, and nothing else was read or written
 pub record CertRefused {X : Type 0} (p : Plan)
     (text : Input) (untouched : Type 0) (result : Result X JobFault) : Type 0 where
   pub fault : FaultAt CertWord
-  pub read : ReadsCert p text.old text.new text.broken text.unread (Err (fault.line, fault.kind))
+  pub read : ReadsCert p text (Err (fault.line, fault.kind))
   pub told : result ≡ Err (cert_fault fault)
   pub rest : untouched
 

@@ -2,7 +2,7 @@
 use Rattle.std.specs.Prelude.{◌≡◌, ◌⊎◌, ℕ, Result, Ok, Err}
 use Rattle.std.specs.Io.KnownBytes.{append_known}
 use Rattle.tx_text.specs.declared.sink.WriteFault.{WriteFault}
-use Rattle.tx_text.specs.Ends.{StopsIn}
+use Rattle.tx_text.specs.Ends.{StopsIn, Input, Output}
 use Rattle.tx_plan.specs.Plan.{Plan}
 use Rattle.tx_cert.specs.Certificate.{Certificate}
 use Rattle.tx_check.specs.declared.fault.CheckFault.{CheckFault}
@@ -15,7 +15,7 @@ use Rattle.tx_audit.specs.CheckedRuns.{RanFromOpening, HadNoRoom, IsAllowed}
 use Rattle.tx_jobs.specs.declared.job_fault.JobFault.{JobFault}
 use Rattle.tx_jobs.specs.declared.job_fault.JobFault.TheVariants.{Write}
 use Rattle.tx_jobs.specs.JobFaults.{run_fault}
-use Rattle.tx_jobs.specs.JobEnds.{Input, Output, bytes_moved}
+use Rattle.tx_jobs.specs.JobEnds.{bytes_moved}
 use Rattle.tx_jobs.specs.Jobs.{PlanRead, PlanRefused}
 use Rattle.tx_jobs.specs.CheckJobs.{CertRead, CertRefused, verdict_for}
 

@@ -1,7 +1,7 @@
 -- What `draw PLAN` answers.
 use Rattle.std.specs.Prelude.{◌≡◌, ◌⊎◌, ℕ, Bool, List, [], Option, None, Some, Result, Ok, Err}
 use Rattle.std.specs.Io.KnownBytes.{append_known}
-use Rattle.tx_text.specs.Ends.{StopsIn}
+use Rattle.tx_text.specs.Ends.{StopsIn, Input, Output}
 use Rattle.tx_plan.specs.Plan.{Plan, code_named}
 use Rattle.tx_rank.specs.Walks.{net_of}
 use Rattle.tx_rank.specs.Reached.{AreReached}
@@ -14,7 +14,6 @@ use Rattle.tx_jobs.specs.declared.job_fault.JobFault.{JobFault}
 use Rattle.tx_jobs.specs.declared.job_fault.JobFault.TheVariants.{Write, NoMemory}
 use Rattle.tx_jobs.specs.declared.drawn.Drawn.{Drawn}
 use Rattle.tx_jobs.specs.declared.drawn.Drawn.TheVariants.{Picture, NoSuchCode}
-use Rattle.tx_jobs.specs.JobEnds.{Input, Output}
 use Rattle.tx_jobs.specs.Jobs.{PlanRead, PlanRefused}
 
 -- the findings of which one may be shown: those of an audit for a limit and a spare number, and

@@ -13,7 +13,7 @@ use Rattle.tx_jobs.specs.declared.evidence.Evidence.{Evidence}
 use Rattle.tx_jobs.specs.declared.evidence.Evidence.TheVariants.{Sound, Unsound}
 use Rattle.tx_jobs.specs.declared.job_fault.JobFault.{JobFault}
 use Rattle.tx_jobs.specs.declared.job_fault.JobFault.TheVariants.{NoMemory}
-use Rattle.tx_jobs.specs.JobEnds.{Input, Output}
+use Rattle.tx_text.specs.Ends.{Input, Output}
 use Rattle.tx_jobs.specs.AuditJobs.{AuditJobAnswers}
 
 -- 0 after a Yes, 1 after a No

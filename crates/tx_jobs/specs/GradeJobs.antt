@@ -2,7 +2,7 @@
 use Rattle.std.specs.Prelude.{◌≡◌, ◌≢◌, ◌⊎◌, if◌then◌else◌, ℕ, List, [], Option, Some, None, is_some, Result, Ok, Err}
 use Rattle.std.specs.Io.KnownBytes.{append_known}
 use Rattle.std.specs.List.{AllByRecursion}
-use Rattle.tx_text.specs.Ends.{StopsIn}
+use Rattle.tx_text.specs.Ends.{StopsIn, Input, Output}
 use Rattle.tx_plan.specs.Plan.{Plan}
 use Rattle.tx_machine.specs.Sound.{IsSound}
 use Rattle.tx_rank.specs.declared.finding.Finding.{Finding}
@@ -13,7 +13,6 @@ use Rattle.tx_rank.specs.Grades.{AreBounds, CanBeCertified, AreCodeGrades, AreUn
 use Rattle.tx_audit.specs.GradeText.{grade_text}
 use Rattle.tx_jobs.specs.declared.job_fault.JobFault.{JobFault}
 use Rattle.tx_jobs.specs.declared.job_fault.JobFault.TheVariants.{Write, NoMemory}
-use Rattle.tx_jobs.specs.JobEnds.{Input, Output}
 use Rattle.tx_jobs.specs.Jobs.{PlanRead, PlanRefused}
 
 -- no ranks certify the plan, whatever the limit and the spare number, and the findings say why:
@@ -25,8 +24,7 @@ pub record IsUngraded {A : Type 0} (p : Plan) (findings : List (Finding A)) : Ty
   pub listed : AreUnmended p findings
 
 -- the bounds with which ranks certify a plan and with which it is sound, and no findings; or that
--- it
--- has none
+-- it has none
 abbrev pub IsGradeOfPlan : {A : Type 0} → Plan → Option Bounds → List (Finding A) → Type 0
 IsGradeOfPlan p (Some b) findings =
     AreBounds (CanBeCertified p) b × AreBounds (IsSound p) b × (findings ≡ [])

@@ -1,8 +1,6 @@
 -- Why jobs stop, and what is told of it.
 use Rattle.std.specs.Prelude.{ℕ, Bool, true, List, ◌++◌, Result, Ok, Err, codes, decimal}
-use Rattle.tx_text.specs.declared.text_fault.TextFault.TheVariants.{NoMemory as TextNoMemory}
-use Rattle.tx_text.specs.declared.line_fault.LineFault.TheVariants.{Text, Read as LineRead}
-use Rattle.tx_text.specs.declared.frame.FrameFault.TheVariants.{Line}
+use Rattle.tx_text.specs.declared.frame.FrameFault.TheVariants.{Read as LineRead, NoMemory as TextNoMemory}
 use Rattle.tx_text.specs.declared.frame.FaultAt.{FaultAt}
 use Rattle.tx_text.specs.declared.frame.FaultKind.{FaultKind}
 use Rattle.tx_text.specs.declared.frame.FaultKind.TheVariants.{Frame, Word}
@@ -32,8 +30,8 @@ status_of NoMemory = 4
 
 -- A failure to read and a lack of memory are told as such.
 abbrev pub plan_fault_by : FaultAt PlanWord → FaultKind PlanWord → JobFault
-plan_fault_by f (Frame (Line LineRead)) = Read
-plan_fault_by f (Frame (Line (Text TextNoMemory))) = NoMemory
+plan_fault_by f (Frame LineRead) = Read
+plan_fault_by f (Frame TextNoMemory) = NoMemory
 plan_fault_by f (Word (Refused PlanNoMemory)) = NoMemory
 plan_fault_by f k = Plan f
 
@@ -41,8 +39,8 @@ abbrev pub plan_fault : FaultAt PlanWord → JobFault
 plan_fault f = plan_fault_by f f.kind
 
 abbrev pub cert_fault_by : FaultAt CertWord → FaultKind CertWord → JobFault
-cert_fault_by f (Frame (Line LineRead)) = Read
-cert_fault_by f (Frame (Line (Text TextNoMemory))) = NoMemory
+cert_fault_by f (Frame LineRead) = Read
+cert_fault_by f (Frame TextNoMemory) = NoMemory
 cert_fault_by f (Word CertNoMemory) = NoMemory
 cert_fault_by f k = Cert f
 
@@ -50,7 +48,7 @@ abbrev pub cert_fault : FaultAt CertWord → JobFault
 cert_fault f = cert_fault_by f f.kind
 
 abbrev pub script_fault_by : FaultAt ScriptWord → FaultKind ScriptWord → JobFault
-script_fault_by f (Frame (Line (Text TextNoMemory))) = NoMemory
+script_fault_by f (Frame TextNoMemory) = NoMemory
 script_fault_by f k = Script f
 
 abbrev pub script_fault : FaultAt ScriptWord → JobFault

@@ -5,7 +5,7 @@ use Rattle.tx_plan.specs.Plan.{Plan}
 use Rattle.tx_plan.specs.Rules.{IsPlan}
 use Rattle.tx_plan.specs.Ambiguous.{ambiguous_of}
 use Rattle.tx_trie.specs.CodesText.{codes_text}
-use Rattle.tx_text.specs.Ends.{StopsIn}
+use Rattle.tx_text.specs.Ends.{StopsIn, Input, Output}
 use Rattle.std.specs.Io.KnownBytes.{append_known}
 use Rattle.tx_plantext.specs.declared.fault.PlanWord.{PlanWord}
 use Rattle.tx_plantext.specs.PlanText.{SaysPlan, ReadsPlan}
@@ -15,7 +15,7 @@ use Rattle.tx_audit.specs.CheckedRuns.{RanFromOpening}
 use Rattle.tx_jobs.specs.declared.job_fault.JobFault.{JobFault}
 use Rattle.tx_jobs.specs.declared.job_fault.JobFault.TheVariants.{Write, NoMemory}
 use Rattle.tx_jobs.specs.JobFaults.{plan_fault, run_fault}
-use Rattle.tx_jobs.specs.JobEnds.{Input, Output, bytes_moved}
+use Rattle.tx_jobs.specs.JobEnds.{bytes_moved}
 
 -- what a run answers, as a job tells it
 abbrev pub told_run : Result Summary RunFault → Result Summary JobFault
@@ -42,14 +42,14 @@ ScriptRan p script out result = RanPlan p script out result ⊎ HadNoRoom script
 pub record PlanRead (text : Input) (after : Plan → Type 0) : Type 0 where
   pub plan : Plan
   pub rules : IsPlan plan
-  pub read : SaysPlan text.old text.new plan
+  pub read : SaysPlan text plan
   pub goes_on : after plan
 
 -- the plan was refused, and nothing else was read or written
 pub record PlanRefused {X : Type 0} (text : Input)
     (untouched : Type 0) (result : Result X JobFault) : Type 0 where
   pub fault : FaultAt PlanWord
-  pub read : ReadsPlan text.old text.new text.broken text.unread (Err (fault.line, fault.kind))
+  pub read : ReadsPlan text (Err (fault.line, fault.kind))
   pub told : result ≡ Err (plan_fault fault)
   pub rest : untouched
 

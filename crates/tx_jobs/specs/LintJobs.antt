@@ -1,13 +1,12 @@
 -- What `lint PLAN` answers.
 use Rattle.std.specs.Prelude.{◌≡◌, ◌⊎◌, ℕ, List, Result, Ok, Err}
 use Rattle.std.specs.Io.KnownBytes.{append_known}
-use Rattle.tx_text.specs.Ends.{StopsIn}
+use Rattle.tx_text.specs.Ends.{StopsIn, Input, Output}
 use Rattle.tx_lint.specs.declared.fault.LintFault.{LintFault}
 use Rattle.tx_lint.specs.declared.fault.LintFault.TheVariants.{Read as LintRead, NoMemory as LintNoMemory}
 use Rattle.tx_lint.specs.Lints.{Lint, IsLintOf, lint_text, lint_status, IsWholeText}
 use Rattle.tx_jobs.specs.declared.job_fault.JobFault.{JobFault}
 use Rattle.tx_jobs.specs.declared.job_fault.JobFault.TheVariants.{Read, Write, NoMemory}
-use Rattle.tx_jobs.specs.JobEnds.{Input, Output}
 
 -- why a text was not looked through, as a job tells it
 abbrev pub lint_fault : LintFault → JobFault

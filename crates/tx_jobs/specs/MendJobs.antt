@@ -9,7 +9,7 @@ use Rattle.tx_mend_report.specs.declared.reporting.MendFault.TheVariants.{Write 
 use Rattle.tx_mend_report.specs.MendAnswers.{IsRightMending, mend_report, MendToldInPart}
 use Rattle.tx_jobs.specs.declared.job_fault.JobFault.{JobFault}
 use Rattle.tx_jobs.specs.declared.job_fault.JobFault.TheVariants.{Write, NoMemory}
-use Rattle.tx_jobs.specs.JobEnds.{Input, Output}
+use Rattle.tx_text.specs.Ends.{Input, Output}
 use Rattle.tx_jobs.specs.Jobs.{PlanRead, PlanRefused}
 
 -- why there is no whole report, as a job tells it

@@ -6,7 +6,7 @@ use Rattle.tx_text.specs.Calls.{Gave, CallsAtMost, source_calls}
 use Rattle.tx_jobs.specs.Parts.{plan_part, script_part, left_of_plan}
 use Rattle.tx_script.specs.declared.summary.Summary.{Summary}
 use Rattle.tx_jobs.specs.declared.job_fault.JobFault.{JobFault}
-use Rattle.tx_jobs.specs.JobEnds.{Input, Output, input}
+use Rattle.tx_text.specs.Ends.{Input, Output, input}
 use Rattle.tx_jobs.specs.Jobs.{PlanRead, PlanRefused, ScriptRan}
 
 -- the plan of an input, as an input of its own

@@ -1,8 +1,6 @@
 -- Why the job of outages stops, and what is told of it.
 use Rattle.std.specs.Prelude.{ℕ, Bool, List, Result, Ok, Err, codes}
-use Rattle.tx_text.specs.declared.text_fault.TextFault.TheVariants.{NoMemory as TextNoMemory}
-use Rattle.tx_text.specs.declared.line_fault.LineFault.TheVariants.{Text, Read as LineRead}
-use Rattle.tx_text.specs.declared.frame.FrameFault.TheVariants.{Line}
+use Rattle.tx_text.specs.declared.frame.FrameFault.TheVariants.{Read as LineRead, NoMemory as TextNoMemory}
 use Rattle.tx_text.specs.declared.frame.FaultAt.{FaultAt}
 use Rattle.tx_text.specs.declared.frame.FaultKind.{FaultKind}
 use Rattle.tx_text.specs.declared.frame.FaultKind.TheVariants.{Frame, Word}
@@ -21,8 +19,8 @@ status_of_survive (Risks f) = 2
 
 -- A failure to read and a lack of memory are told as such.
 abbrev pub risks_fault_by : FaultAt RiskWord → FaultKind RiskWord → SurviveFault
-risks_fault_by f (Frame (Line LineRead)) = Job Read
-risks_fault_by f (Frame (Line (Text TextNoMemory))) = Job NoMemory
+risks_fault_by f (Frame LineRead) = Job Read
+risks_fault_by f (Frame TextNoMemory) = Job NoMemory
 risks_fault_by f (Word RiskNoMemory) = Job NoMemory
 risks_fault_by f k = Risks f
 

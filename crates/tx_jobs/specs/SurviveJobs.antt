@@ -1,7 +1,7 @@
 -- What `survive PLAN` answers: what its calls do, one after another.
 use Rattle.std.specs.Prelude.{◌≡◌, ◌⊎◌, ℕ, List, [], ◌∷◌, None, Result, Ok, Err}
 use Rattle.std.specs.Io.KnownBytes.{append_known}
-use Rattle.tx_text.specs.Ends.{StopsIn}
+use Rattle.tx_text.specs.Ends.{StopsIn, Input, Output}
 use Rattle.tx_text.specs.declared.frame.FaultAt.{FaultAt}
 use Rattle.tx_plan.specs.Plan.{Plan}
 use Rattle.tx_plantext.specs.declared.fault.PlanWord.{PlanWord}
@@ -19,7 +19,6 @@ use Rattle.tx_jobs.specs.declared.survive_fault.SurviveFault.{SurviveFault}
 use Rattle.tx_jobs.specs.declared.survive_fault.SurviveFault.TheVariants.{Job, Risks}
 use Rattle.tx_jobs.specs.JobFaults.{plan_fault}
 use Rattle.tx_jobs.specs.SurviveFaults.{risks_fault}
-use Rattle.tx_jobs.specs.JobEnds.{Input, Output}
 use Rattle.tx_jobs.specs.Jobs.{PlanRead, PlanRefused}
 use Rattle.tx_jobs.specs.GradeJobs.{IsGradeOf}
 
@@ -64,14 +63,14 @@ ToldOfRisks p risks out (Err (Risks f)) = ⊥
 pub record RisksRead (p : Plan) (text : Input) (after : List NamedRisk → Type 0) : Type 0 where
   pub risks : List NamedRisk
   pub fit : AreRisksFor p risks
-  pub read : ReadsRisks p text.old text.new text.broken text.unread (Ok risks)
+  pub read : ReadsRisks p text (Ok risks)
   pub goes_on : after risks
 
 -- the text of risks was refused, and nothing was written
 pub record RisksRefused {X : Type 0} (p : Plan) (text : Input) (untouched : Type 0)
     (result : Result X SurviveFault) : Type 0 where
   pub fault : FaultAt RiskWord
-  pub read : ReadsRisks p text.old text.new text.broken text.unread (Err (fault.line, fault.kind))
+  pub read : ReadsRisks p text (Err (fault.line, fault.kind))
   pub told : result ≡ Err (risks_fault fault)
   pub rest : untouched
 
@@ -84,7 +83,7 @@ RisksAnswers p risks out result =
 pub record RefusedFirst {X : Type 0} (text : Input) (untouched : Type 0)
     (result : Result X SurviveFault) : Type 0 where
   pub fault : FaultAt PlanWord
-  pub read : ReadsPlan text.old text.new text.broken text.unread (Err (fault.line, fault.kind))
+  pub read : ReadsPlan text (Err (fault.line, fault.kind))
   pub told : result ≡ Err (Job (plan_fault fault))
   pub rest : untouched
 

@@ -5,7 +5,7 @@ ghost use Rattle.tx_text.specs.Calls.{CallsAtMost, source_calls};
 ghost use Rattle.tx_plan.specs.Mixtures.{SameNetwork};
 ghost use Rattle.tx_change.specs.Shown.{IsShown};
 ghost use Rattle.tx_jobs.specs.ChangeFaults.{change_mark_after};
-ghost use Rattle.tx_jobs.specs.JobEnds.{input, output};
+ghost use Rattle.tx_text.specs.Ends.{input, output};
 ghost use Rattle.tx_jobs.specs.ChangeJobs.{OnUnsoundChange};
 ghost use Rattle.tx_jobs.specs.ChangeEvidences.{ChangeEvidenceAnswers, IsChangeEvidenceOf, IsMixtureOf};
 

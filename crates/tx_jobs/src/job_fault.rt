@@ -13,7 +13,7 @@ use tx_mend_report::MendFault;
 use tx_plan::PlanRefusal;
 use tx_plantext::{PlanFault, PlanWord};
 use tx_script::{RunCause, RunFault, ScriptFault};
-use tx_text::{FaultKind, FrameFault, LineFault, TextFault};
+use tx_text::{FaultKind, FrameFault};
 
 /// Why a job stopped before its end. `write_fault` says it in full.
 #[derive(Clone, Copy, Debug, PartialEq, Eq, Error)]
@@ -56,8 +56,8 @@ impl JobFault {
         ensures { result ≡ plan_fault fault }
     {
         match fault.kind {
-            FaultKind::Frame(FrameFault::Line(LineFault::Read)) => JobFault::Read,
-            FaultKind::Frame(FrameFault::Line(LineFault::Text(TextFault::NoMemory)))
+            FaultKind::Frame(FrameFault::Read) => JobFault::Read,
+            FaultKind::Frame(FrameFault::NoMemory)
             | FaultKind::Word(PlanWord::Refused(PlanRefusal::NoMemory)) => JobFault::NoMemory,
             _ => JobFault::Plan(fault),
         }
@@ -67,9 +67,9 @@ impl JobFault {
         ensures { result ≡ cert_fault fault }
     {
         match fault.kind {
-            FaultKind::Frame(FrameFault::Line(LineFault::Read)) => JobFault::Read,
-            FaultKind::Frame(FrameFault::Line(LineFault::Text(TextFault::NoMemory)))
-            | FaultKind::Word(CertWord::NoMemory) => JobFault::NoMemory,
+            FaultKind::Frame(FrameFault::Read) => JobFault::Read,
+            FaultKind::Frame(FrameFault::NoMemory) | FaultKind::Word(CertWord::NoMemory) =>
+                JobFault::NoMemory,
             _ => JobFault::Cert(fault),
         }
     }
@@ -117,9 +117,7 @@ impl JobFault {
         ensures { result ≡ script_fault fault }
     {
         match fault.kind {
-            FaultKind::Frame(FrameFault::Line(LineFault::Text(TextFault::NoMemory))) => {
-                JobFault::NoMemory
-            }
+            FaultKind::Frame(FrameFault::NoMemory) => { JobFault::NoMemory }
             _ => JobFault::Script(fault),
         }
     }

@@ -5,7 +5,7 @@ ghost use Rattle.tx_text.specs.Said.{told_fault};
 ghost use Rattle.tx_plantext.specs.PlanText.{ReadsPlan};
 ghost use Rattle.tx_jobs.specs.inner.Reading.{left, plan_rest, PlanCall, ScriptCall};
 ghost use Rattle.tx_jobs.specs.JobFaults.{mark_after};
-ghost use Rattle.tx_jobs.specs.JobEnds.{input, output};
+ghost use Rattle.tx_text.specs.Ends.{input, output};
 ghost use Rattle.tx_jobs.specs.Jobs.{ScriptRan};
 ghost use Rattle.tx_jobs.specs.PipeJobs.{PipeJobAnswers};
 

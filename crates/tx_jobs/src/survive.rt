@@ -4,7 +4,7 @@ ghost use Rattle.tx_text.specs.Calls.{CallsAtMost, source_calls};
 ghost use Rattle.tx_risk.specs.NamedRisks.{AreRisksFor};
 ghost use Rattle.tx_jobs.specs.JobFaults.{mark_after};
 ghost use Rattle.tx_jobs.specs.SurviveFaults.{survive_mark_after};
-ghost use Rattle.tx_jobs.specs.JobEnds.{input, output};
+ghost use Rattle.tx_text.specs.Ends.{input, output};
 ghost use Rattle.tx_jobs.specs.SurviveJobs.{SurviveJobAnswers, SurviveRisksJobAnswers, RisksAnswers, ToldSurvival, status_of_survival};
 
 use crate::job_fault::JobFault;

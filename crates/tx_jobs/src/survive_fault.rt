@@ -5,7 +5,7 @@ ghost use Rattle.tx_jobs.specs.SurviveFaults.{status_of_survive, risks_fault};
 use crate::job_fault::JobFault;
 use thiserror::Error;
 use tx_risk_text::{RiskFault, RiskWord};
-use tx_text::{FaultKind, FrameFault, LineFault, TextFault};
+use tx_text::{FaultKind, FrameFault};
 
 /// Why the job of outages stopped before its end. `write_survive_fault` says it in full.
 #[derive(Clone, Copy, Debug, PartialEq, Eq, Error)]
@@ -34,11 +34,9 @@ impl SurviveFault {
         ensures { result ≡ risks_fault fault }
     {
         match fault.kind {
-            FaultKind::Frame(FrameFault::Line(LineFault::Read)) => {
-                SurviveFault::Job(JobFault::Read)
-            }
-            FaultKind::Frame(FrameFault::Line(LineFault::Text(TextFault::NoMemory)))
-            | FaultKind::Word(RiskWord::NoMemory) => SurviveFault::Job(JobFault::NoMemory),
+            FaultKind::Frame(FrameFault::Read) => { SurviveFault::Job(JobFault::Read) }
+            FaultKind::Frame(FrameFault::NoMemory) | FaultKind::Word(RiskWord::NoMemory) =>
+                SurviveFault::Job(JobFault::NoMemory),
             _ => SurviveFault::Risks(fault),
         }
     }

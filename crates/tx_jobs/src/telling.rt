@@ -1,9 +1,9 @@
-// The job of `run PLAN SCRIPT --echo`, and the exit status of a run that is to tell whether an
-// event was refused.
+// The job of `run PLAN SCRIPT` where more is told, and the exit status of a run that is to tell
+// whether an event was refused.
 ghost use Rattle.std.specs.Prelude.{◌≡◌};
 ghost use Rattle.tx_text.specs.Calls.{CallsAtMost, source_calls};
 ghost use Rattle.tx_jobs.specs.JobFaults.{mark_after};
-ghost use Rattle.tx_jobs.specs.JobEnds.{input, output};
+ghost use Rattle.tx_text.specs.Ends.{input, output};
 ghost use Rattle.tx_jobs.specs.TellingJobs.{ScriptTold, TellingJobAnswers, status_of_replies};
 
 use crate::job_fault::JobFault;
@@ -11,19 +11,20 @@ use std::alloc::Allocator;
 use tx_engine::Engine;
 use tx_plan::Plan;
 use tx_plantext::read_plan_from;
-use tx_script::{Summary, run_telling};
+use tx_script::{Summary, Telling, run_telling};
 use tx_text::{Sink, Source};
 
-/// Reads a plan, and then runs a script over it as `run_job` does. Where the lines of events are
-/// asked for, the line of each stands before its reply.
+/// Reads a plan, and then runs a script over it as `run_job` does. Where they are asked for, the
+/// line of each event stands before its reply, and the summary after the line END EVENTS.
 pub fn run_telling_job<A: Allocator + Copy, P: Source, R: Source, W: Sink>(
     alloc: A,
-    echo: bool,
+    telling: Telling,
     plan: &mut P,
     script: &mut R,
     out: &mut W,
 ) -> Result<Summary, JobFault>
-    ensures answers { TellingJobAnswers echo (input P.rest P.failed P.called plan.old plan.new)
+    ensures answers { TellingJobAnswers telling
+        (input P.rest P.failed P.called plan.old plan.new)
         (input R.rest R.failed R.called script.old script.new)
         (output W.taken out.old out.new) result }
     ensures mark { W.failed out.new ≡ mark_after (W.failed out.old) result }
@@ -33,7 +34,7 @@ pub fn run_telling_job<A: Allocator + Copy, P: Source, R: Source, W: Sink>(
     match read_plan_from(alloc, plan) {
         Ok(plan) => {
             plan.rules();
-            let told = tell_script(alloc, echo, &plan, script, out);
+            let told = tell_script(alloc, telling, &plan, script, out);
             drop(plan);
             told
         }
@@ -41,24 +42,24 @@ pub fn run_telling_job<A: Allocator + Copy, P: Source, R: Source, W: Sink>(
     }
 }
 
-/// Runs a script over a network of the plan, from its opening state, and tells its events.
+/// Runs a script over a network of the plan, from its opening state, and returns what is asked for.
 fn tell_script<A: Allocator + Copy, R: Source, W: Sink>(
     alloc: A,
-    echo: bool,
+    telling: Telling,
     plan: &Plan<A>,
     script: &mut R,
     out: &mut W,
 ) -> Result<Summary, JobFault>
-    ensures answers { ScriptTold plan.now echo (input
-        R.rest R.failed R.called script.old script.new) (output W.taken out.old out.new) result }
+    ensures answers { ScriptTold plan.now telling
+        (input R.rest R.failed R.called script.old script.new)
+        (output W.taken out.old out.new) result }
     ensures mark { W.failed out.new ≡ mark_after (W.failed out.old) result }
     ensures calls { CallsAtMost R.called source_calls script.old script.new }
 {
     match Engine::new(alloc, plan) {
         Err(_) => Err(JobFault::NoMemory),
         Ok(mut network) => {
-            let told = run_telling(alloc, echo, plan, &mut network, script, out);
-            network.close();
+            let told = run_telling(alloc, telling, plan, &mut network, script, out);
             match told {
                 Ok(summary) => Ok(summary),
                 Err(fault) => Err(JobFault::of_run(fault)),

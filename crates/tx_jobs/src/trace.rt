@@ -4,7 +4,7 @@ ghost use Rattle.tx_text.specs.Calls.{CallsAtMost, source_calls};
 ghost use Rattle.tx_plan.specs.Plan.{exchange_named, code_named};
 ghost use Rattle.tx_trace.specs.TraceText.{trace_text};
 ghost use Rattle.tx_jobs.specs.JobFaults.{mark_after};
-ghost use Rattle.tx_jobs.specs.JobEnds.{input, output};
+ghost use Rattle.tx_text.specs.Ends.{input, output};
 ghost use Rattle.tx_jobs.specs.TraceJobs.{ToldTrace, TracedNamed, TraceJobAnswers};
 
 use crate::job_fault::JobFault;

@@ -3,7 +3,7 @@ use Rattle.std.proofs.Common.{◌≡◌, ℕ, ◌+◌, ◌<◌, ◌≤◌, true,
 use Rattle.std.proofs.lemmas.Bool.{false≢true}
 use Rattle.std.specs.List.{AllWithin}
 use Rattle.std.specs.Ordering.{is_le}
-use Rattle.tx_entries.specs.declared.range.LineRange.{LineRange}
+use Rattle.tx_plan.specs.declared.range.LineRange.{LineRange}
 use Rattle.tx_lines.specs.inner.Ordered.{place_cmp, start_of, IsInOrder, IsStart}
 use Rattle.tx_lines.proofs.Order.{partitioned, starts_by}
 use Rattle.tx_lines.proofs.ByCode.{below_first, above_first}

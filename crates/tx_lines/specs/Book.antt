@@ -6,8 +6,8 @@ use Rattle.std.specs.Coded.{Coded, code_by, coded×, coded_ℕ, coded_list}
 use Rattle.tx_plan.specs.Plan.{no_plan}
 use Rattle.tx_plan.specs.Lines.{is_line_at}
 use Rattle.tx_plan.specs.Orders.{line_cmp, coded_line}
-use Rattle.tx_entries.specs.declared.line.Line.{Line}
-use Rattle.tx_entries.specs.declared.range.LineRange.{LineRange}
+use Rattle.tx_plan.specs.declared.line.Line.{Line}
+use Rattle.tx_plan.specs.declared.range.LineRange.{LineRange}
 use Rattle.tx_lines.specs.declared.answer.LineAnswer.{LineAnswer}
 use Rattle.tx_lines.specs.declared.answer.LineAnswer.TheVariants.{NoLine, OutOfOrder, Away, Engaged, Free}
 

@@ -4,7 +4,7 @@ ghost use Rattle.std.specs.FinSet as set;
 ghost use Rattle.indexmap.specs.IndexMap.{Updates, get, spare};
 ghost use Rattle.tx_plan.specs.Lines.{is_line_at};
 ghost use Rattle.tx_plan.specs.Orders.{same_line};
-ghost use Rattle.tx_entries.specs.declared.line.Line.{Line};
+ghost use Rattle.tx_plan.specs.declared.line.Line.{Line};
 ghost use Rattle.tx_lines.specs.declared.status.Status.{Status};
 ghost use Rattle.tx_lines.specs.declared.status.Mark.{Mark};
 ghost use Rattle.tx_lines.specs.Book.{is_line_of, has_status, place_taken, switched, answer_of};
@@ -17,8 +17,7 @@ use crate::status::{Mark, Status, UNMARKED};
 use indexmap::IndexMap;
 use std::alloc::{Allocator, Global};
 use std::marker::Model;
-use tx_entries::ByWord;
-use tx_plan::{CodeId, Line, National, Plan};
+use tx_plan::{ByWord, CodeId, Line, National, Plan};
 use tx_text::NoMemory;
 
 /// The lines of a plan, and which of them are faulty (out of order), away (their subscriber is

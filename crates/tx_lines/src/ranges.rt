@@ -21,7 +21,7 @@ pub struct Ranges<A: Allocator = Global> {
 
 impl<A: Allocator> Model for Ranges<A> {
     ghost use Rattle.std.specs.Prelude.{List};
-    ghost use Rattle.tx_entries.specs.declared.range.LineRange.{LineRange};
+    ghost use Rattle.tx_plan.specs.declared.range.LineRange.{LineRange};
     ghost use Rattle.tx_lines.specs.inner.Ordered.{IsInOrder, AreFirsts};
 
     ghost Value = { List LineRange };

@@ -1,12 +1,9 @@
 -- All faults of a plan's text. A line at fault is told and passed over, and the others are read on.
-use Rattle.std.specs.Prelude.{ℕ, ◌+◌, Bool, true, false, List, [], ◌∷◌, ◌++◌, map, codes, if◌then◌else◌}
-use Rattle.std.specs.Prelude.{Option, None, Some, is_none, Ok, Err}
+use Rattle.std.specs.Prelude.{ℕ, ◌+◌, Bool, true, false, List, [], ◌∷◌, ◌++◌, map, codes, if◌then◌else◌, Option, None, Some, is_none, Ok, Err}
 use Rattle.std.specs.Option.{option_map, option_to_list}
 use Rattle.tx_text.specs.declared.text_fault.TextFault.{TextFault}
-use Rattle.tx_text.specs.declared.line_fault.LineFault.TheVariants.{Text}
-use Rattle.tx_text.specs.declared.frame.FormFault.{FormFault}
-use Rattle.tx_text.specs.declared.frame.FormFault.TheVariants.{NoHeader}
-use Rattle.tx_text.specs.declared.frame.FrameFault.TheVariants.{Line as of_line, Form as of_form}
+use Rattle.tx_text.specs.declared.frame.FrameFault.{FrameFault}
+use Rattle.tx_text.specs.declared.frame.FrameFault.TheVariants.{NoHeader}
 use Rattle.tx_text.specs.declared.frame.FaultKind.{FaultKind}
 use Rattle.tx_text.specs.declared.frame.FaultKind.TheVariants.{Frame, Word}
 use Rattle.tx_text.specs.declared.frame.FramePart.{FramePart}
@@ -15,6 +12,7 @@ use Rattle.tx_text.specs.declared.frame.LineForm.{LineForm}
 use Rattle.tx_text.specs.declared.frame.LineForm.TheVariants.{Blank, Header as HeaderLine, Plain, End, Bad}
 use Rattle.tx_text.specs.Text.{Line, lines_of, bytes_fault}
 use Rattle.tx_text.specs.Words.{words_of}
+use Rattle.tx_text.specs.Told.{frame_fault}
 use Rattle.tx_text.specs.Frame.{header_of, looked, closing, last_fault}
 use Rattle.tx_plan.specs.Plan.{Plan, no_plan}
 use Rattle.tx_plantext.specs.declared.fault.PlanWord.{PlanWord}
@@ -54,15 +52,15 @@ form_kind s ws Blank = None
 form_kind s ws (HeaderLine v) = None
 form_kind s ws Plain = refused (declare s.version s.plan ws)
 form_kind s ws End = None
-form_kind s ws (Bad x) = Some (Frame (of_form x))
+form_kind s ws (Bad x) = Some (Frame x)
 
 -- what a finished line with these words is in the frame of a plan
 abbrev pub form_of : FramePart → List (List ℕ) → LineForm
 form_of part ws = looked (header_of (codes "PLAN") 2) part ws
 
 -- the form of a text is faulty
-abbrev pub form_told : Option FormFault → Option (FaultKind PlanWord)
-form_told x = option_map (λ f. Frame (of_form f)) x
+abbrev pub form_told : Option FrameFault → Option (FaultKind PlanWord)
+form_told x = option_map (λ f. Frame f) x
 
 -- of the words of a line, whether an LF ended it or the text
 abbrev pub words_kind : Progress → Bool → List (List ℕ) → Option (FaultKind PlanWord)
@@ -72,7 +70,7 @@ words_kind s false ws = form_told (last_fault s.part ws)
 -- The bytes of a line come before its words.
 abbrev pub bytes_first : Option TextFault → Option (FaultKind PlanWord)
     → Option (FaultKind PlanWord)
-bytes_first (Some x) k = Some (Frame (of_line (Text x)))
+bytes_first (Some x) k = Some (Frame (frame_fault x))
 bytes_first None k = k
 
 abbrev pub line_kind : Progress → Line → Option (FaultKind PlanWord)

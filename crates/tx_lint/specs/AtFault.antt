@@ -1,15 +1,14 @@
 -- The word at fault in a line that is refused. It is told where one word is at fault by itself: of
 -- a number of words, of a range's ends, of an exchange and a code that do not go together, and of
 -- too many entries none is.
-use Rattle.std.specs.Prelude.{ℕ, Bool, not, List, [], ◌∷◌, length, find, slice_get, codes, if◌then◌else◌}
-use Rattle.std.specs.Prelude.{Option, Some, None}
+use Rattle.std.specs.Prelude.{ℕ, Bool, not, List, [], ◌∷◌, length, find, slice_get, codes, if◌then◌else◌, Option, Some, None}
 use Rattle.std.specs.List.{list_any}
 use Rattle.std.specs.Option.{option_or}
 use Rattle.std.specs.Str.{bytes_eq}
 use Rattle.tx_text.specs.declared.frame.FaultKind.{FaultKind}
 use Rattle.tx_text.specs.declared.frame.FaultKind.TheVariants.{Frame, Word}
 use Rattle.tx_text.specs.Words.{is_name}
-use Rattle.tx_entries.specs.Numbers.{is_national}
+use Rattle.tx_plan.specs.Numbers.{is_national}
 use Rattle.tx_plan.specs.declared.refusal.PlanRefusal.{PlanRefusal}
 use Rattle.tx_plan.specs.declared.refusal.PlanRefusal.TheVariants.{BadName, BadCode, BadNumber, Duplicate, Unknown, SameEnds, NotOutgoing, RepeatedGroup}
 use Rattle.tx_plan.specs.Plan.{Plan}

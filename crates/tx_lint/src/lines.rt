@@ -14,8 +14,8 @@ use std::alloc::Allocator;
 use tx_plan::{PlanBuilder, PlanRefusal};
 use tx_plantext::{PlanWord, declare};
 use tx_text::{
-    FaultKind, FormFault, FrameFault, FramePart, LineFault, LineForm, NoMemory, TextLine,
-    bytes_fault, closing, first_line, last_fault, look, words,
+    FaultKind, FrameFault, FramePart, LineForm, NoMemory, TextLine, bytes_fault, closing,
+    first_line, last_fault, look, words,
 };
 
 const KEY: &[u8] = b"PLAN";
@@ -76,8 +76,7 @@ impl<'t, A: Allocator> Reading<'t, A> {
         ensures { OnOk result (TookIn self.old self.new (line_of line.entry)) }
     {
         if let Some(fault) = bytes_fault(line.text) {
-            let fault = FrameFault::Line(LineFault::Text(fault));
-            self.tell(line, FaultKind::Frame(fault))?;
+            self.tell(line, FaultKind::Frame(FrameFault::from(fault)))?;
             return Ok(());
         }
         if line.finished {
@@ -85,7 +84,7 @@ impl<'t, A: Allocator> Reading<'t, A> {
             return self.take_form(line, form);
         }
         if let Some(fault) = last_fault(self.part, line.text) {
-            self.tell(line, FaultKind::Frame(FrameFault::Form(fault)))?;
+            self.tell(line, FaultKind::Frame(fault))?;
         }
         Ok(())
     }
@@ -107,8 +106,8 @@ impl<'t, A: Allocator> Reading<'t, A> {
             LineForm::Plain => self.declare(line)?,
             LineForm::End => self.part = FramePart::Ended,
             LineForm::Bad(fault) => {
-                self.tell(line, FaultKind::Frame(FrameFault::Form(fault)))?;
-                if matches!(fault, FormFault::NoHeader) {
+                self.tell(line, FaultKind::Frame(fault))?;
+                if matches!(fault, FrameFault::NoHeader) {
                     self.part = FramePart::Body;
                     self.version = VERSIONS;
                 }
@@ -149,7 +148,7 @@ impl<'t, A: Allocator> Reading<'t, A> {
         if let Some(fault) = closing(self.part) {
             self.faults.push(Fault {
                 line: number,
-                kind: FaultKind::Frame(FrameFault::Form(fault)),
+                kind: FaultKind::Frame(fault),
                 word: None,
             })?;
         }

@@ -11,7 +11,7 @@ use tx_plan::{Pair, Plan};
 use tx_text::{Words, is_name};
 
 /// Whether an exchange of the name was declared.
-#[tactic(auto, using(tx_entries::proofs::Lists::found_any))]
+#[tactic(auto, using(tx_plan::proofs::Lists::found_any))]
 pub(crate) fn is_exchange<A: Allocator>(plan: &Plan<A>, name: &[u8]) -> bool
     ensures { result ≡ has_exchange plan.now name.now }
 {
@@ -19,7 +19,7 @@ pub(crate) fn is_exchange<A: Allocator>(plan: &Plan<A>, name: &[u8]) -> bool
 }
 
 /// Whether a code of the figures was declared.
-#[tactic(auto, using(tx_entries::proofs::Lists::found_any))]
+#[tactic(auto, using(tx_plan::proofs::Lists::found_any))]
 pub(crate) fn is_code<A: Allocator>(plan: &Plan<A>, figures: &[u8]) -> bool
     ensures { result ≡ has_code plan.now figures.now }
 {
@@ -27,7 +27,7 @@ pub(crate) fn is_code<A: Allocator>(plan: &Plan<A>, figures: &[u8]) -> bool
 }
 
 /// Whether a group of the name was declared.
-#[tactic(auto, using(tx_entries::proofs::Lists::found_any))]
+#[tactic(auto, using(tx_plan::proofs::Lists::found_any))]
 fn is_group<A: Allocator>(plan: &Plan<A>, name: &[u8]) -> bool
     ensures { result ≡ has_group plan.now name.now }
 {

@@ -1,17 +1,17 @@
 -- What calls keep does not depend on routes and bars: it holds by each plan of a network if by one.
 use Rattle.std.proofs.Common.{ℕ, List, subst}
 use Rattle.tx_plan.specs.Plan.{Plan, Route}
-use Rattle.tx_plan.specs.Rerouted.{rerouted}
+use Rattle.tx_plan.specs.Mixed.{rerouted}
 use Rattle.tx_plan.specs.Certified.{Ranks}
-use Rattle.tx_entries.specs.declared.pair.Pair.{Pair}
-use Rattle.tx_entries.specs.declared.line.Line.{Line}
-use Rattle.tx_entries.proofs.Lists.{all_map}
+use Rattle.tx_plan.specs.declared.ids.Pair.{Pair}
+use Rattle.tx_plan.specs.declared.line.Line.{Line}
+use Rattle.tx_plan.proofs.Lists.{all_map}
 use Rattle.tx_machine.specs.declared.phase.Phase.{Phase}
 use Rattle.tx_machine.specs.declared.phase.Phase.TheVariants.{Standing, Calling, Connected}
 use Rattle.tx_machine.specs.Call.{Call}
 use Rattle.tx_machine.specs.State.{State}
 use Rattle.tx_machine.specs.Safe.{IsKeyedLine, IsOnlyLine, OfConnected, IsSafeCall, IsSafe}
-use Rattle.tx_machine.specs.Invariant.{IsKept, AreApart, Holds, IsRanked}
+use Rattle.tx_machine.specs.inner.Invariant.{IsKept, AreApart, Holds, IsRanked}
 use Rattle.tx_plan.specs.Mixtures.{SameNetwork}
 use Rattle.tx_plan.proofs.Networks.{rerouted-is}
 

@@ -7,13 +7,13 @@ use Rattle.std.specs.Ordering.{eq_by_cmp}
 use Rattle.std.specs.FinSet as set
 use Rattle.std.proofs.lemmas.List.{map_push}
 use Rattle.tx_plan.specs.Orders.{circuit_cmp, same_circuit}
-use Rattle.tx_entries.proofs.Named.{same_circuit-is, same_circuit-itself, in_insert, in_remove, in_retain, in_union, by_cmp-is}
+use Rattle.tx_plan.proofs.Named.{same_circuit-is, same_circuit-itself, in_insert, in_remove, in_retain, in_union, by_cmp-is}
 use Rattle.tx_plan.specs.Plan.{Plan}
 use Rattle.tx_plan.specs.Lines.{is_line}
 use Rattle.tx_plan.specs.Circuits.{is_circuit, other_end}
 use Rattle.tx_plan.specs.Among.{Among}
-use Rattle.tx_entries.specs.declared.circuit.Circuit.{Circuit}
-use Rattle.tx_entries.specs.declared.line.Line.{Line}
+use Rattle.tx_plan.specs.declared.group.Circuit.{Circuit}
+use Rattle.tx_plan.specs.declared.line.Line.{Line}
 use Rattle.tx_plan.proofs.Among.{among_cases, filter_among, flat_among, map_among}
 use Rattle.tx_machine.specs.declared.cause.Cause.{Cause}
 use Rattle.tx_machine.specs.declared.cause.Cause.TheVariants.{Lost as ByLoss}
@@ -30,7 +30,7 @@ use Rattle.tx_machine.specs.Members.{NoneTwice}
 use Rattle.tx_machine.proofs.Lists.{none_any, any_mem, find_none}
 use Rattle.tx_machine.proofs.Uses.{not_seizing, not_taking, IsFree, joins_more, none_twice_push, no_third_end, two_ends}
 use Rattle.tx_machine.specs.Safe.{IsKeyedLine}
-use Rattle.tx_machine.specs.Invariant.{IsKept, AreApart, IsUnused, Inv, Holds}
+use Rattle.tx_machine.specs.inner.Invariant.{IsKept, AreApart, IsUnused, Inv, Holds}
 use Rattle.tx_machine.proofs.Invariant.{inv_releasing, inv_filter, inv_more, inv_set, swapped, rising_map}
 
 pub not_standing : {x : Circuit} → Standing ≡ Calling x → ⊥

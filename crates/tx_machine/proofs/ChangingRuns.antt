@@ -12,7 +12,7 @@ use Rattle.tx_machine.specs.Step.{step}
 use Rattle.tx_machine.specs.Safe.{IsSafe}
 use Rattle.tx_machine.specs.Excused.{IsExcused, FewDown, OthersFree, IsNcByCollision}
 use Rattle.tx_machine.specs.Sound.{routes_of}
-use Rattle.tx_machine.specs.Invariant.{Holds, IsRanked}
+use Rattle.tx_machine.specs.inner.Invariant.{Holds, IsRanked}
 use Rattle.tx_machine.proofs.Invariant.{inv_opening}
 use Rattle.tx_machine.proofs.Steps.{step_keeps}
 use Rattle.tx_machine.proofs.Ranks.{step_ranked}
@@ -22,10 +22,9 @@ use Rattle.tx_machine.proofs.Spares.{by_collision}
 use Rattle.tx_machine.proofs.Counts.{IsCounted, is_counted, counted_step}
 use Rattle.tx_plan.specs.Mixtures.{SameNetwork, IsMixture, AreCommon}
 use Rattle.tx_machine.specs.ChangingRuns.{Turn, changing_run, AreMixtures, IsSafeByEach, IsSoundChange, HasFewRoutesMeanwhile, SufficesMeanwhile}
-use Rattle.tx_plan.proofs.Networks.{same_back}
+use Rattle.tx_plan.proofs.Networks.{same_back, same_along}
 use Rattle.tx_machine.proofs.ByNetwork.{holds_by, ranked_by, safe_by}
 use Rattle.tx_plan.proofs.CommonRanks.{mixture_certified}
-use Rattle.tx_plan.proofs.Networks.{same_along}
 
 module _ (old new : Plan) (ranks : Ranks) (limit spare : ℕ) (same : SameNetwork old new) (both : AreCommon old new ranks limit spare) where
   -- what is kept, whichever plan is in force

@@ -8,8 +8,8 @@ use Rattle.tx_plan.specs.Certified.{Ranks, IsCertified}
 use Rattle.tx_plan.specs.Codes.{code_of}
 use Rattle.tx_plan.specs.Routes.{is_barred}
 use Rattle.tx_plan.specs.Among.{Among}
-use Rattle.tx_entries.specs.declared.circuit.Circuit.{Circuit}
-use Rattle.tx_entries.specs.declared.line.Line.{Line}
+use Rattle.tx_plan.specs.declared.group.Circuit.{Circuit}
+use Rattle.tx_plan.specs.declared.line.Line.{Line}
 use Rattle.tx_plan.proofs.Among.{filter_among}
 use Rattle.tx_machine.specs.declared.event.Event.{Event}
 use Rattle.tx_machine.specs.declared.event.Event.TheVariants.{Key, Route, Confirm, Clear, Released, Fail, Restore, Block, Unblock, CircuitOut, CircuitIn, LineFault, LineMend, LineAway, LineBack}
@@ -35,7 +35,7 @@ use Rattle.tx_machine.specs.Excused.{routed_call}
 use Rattle.tx_machine.specs.Sound.{is_refused, is_route_of, routes_of, HasFewRoutes}
 use Rattle.tx_machine.proofs.Lists.{find_mem}
 use Rattle.tx_machine.proofs.Invariant.{set_cases, inv_opening}
-use Rattle.tx_machine.specs.Invariant.{Holds, IsRanked}
+use Rattle.tx_machine.specs.inner.Invariant.{Holds, IsRanked}
 use Rattle.tx_machine.proofs.Steps.{tests_false, stands, step_keeps}
 use Rattle.tx_machine.proofs.Moves.{Moves, stays, connects, seizes_one, goes_on, falls_back, came, after_accepted}
 use Rattle.tx_machine.proofs.Ranks.{AllRanked, step_ranked, hops_within, ranked_place}

@@ -11,8 +11,8 @@ use Rattle.tx_plan.specs.Codes.{code_of}
 use Rattle.tx_plan.specs.Routes.{route_list, is_barred}
 use Rattle.tx_plan.specs.Circuits.{is_circuit, downward, upward, order_at, circuits_at}
 use Rattle.tx_plan.specs.Among.{Among}
-use Rattle.tx_entries.specs.declared.circuit.Circuit.{Circuit}
-use Rattle.tx_entries.specs.declared.line.Line.{Line}
+use Rattle.tx_plan.specs.declared.group.Circuit.{Circuit}
+use Rattle.tx_plan.specs.declared.line.Line.{Line}
 use Rattle.tx_plan.proofs.Among.{among_left, among_map, among_right}
 use Rattle.tx_machine.specs.declared.event.Event.{Event}
 use Rattle.tx_machine.specs.declared.event.Event.TheVariants.{Key, Route, Confirm, Clear, Released, Fail, Restore, Block, Unblock, CircuitOut, CircuitIn, LineFault, LineMend, LineAway, LineBack}
@@ -34,7 +34,7 @@ use Rattle.tx_machine.specs.Step.{with_call, accepted, counted, unless_refused, 
 use Rattle.tx_machine.specs.Excused.{HadCollided, IsExcusedTo, IsExcused}
 use Rattle.tx_machine.proofs.Lists.{find_mem, find_none, all_from_mem}
 use Rattle.tx_machine.proofs.Uses.{first_in-none}
-use Rattle.tx_machine.specs.Invariant.{Holds}
+use Rattle.tx_machine.specs.inner.Invariant.{Holds}
 use Rattle.tx_machine.proofs.Ranks.{AllRanked, ranked_place, code_within}
 
 -- THE CIRCUITS OF A GROUP

@@ -6,11 +6,11 @@ use Rattle.std.specs.FinSet as set
 use Rattle.tx_plan.specs.Orders.{circuit_cmp}
 use Rattle.tx_plan.specs.Plan.{Plan}
 use Rattle.tx_plan.specs.Among.{Among}
-use Rattle.tx_entries.specs.declared.circuit.Circuit.{Circuit}
+use Rattle.tx_plan.specs.declared.group.Circuit.{Circuit}
 use Rattle.tx_plan.proofs.Among.{among_cases, filter_among, map_among}
 use Rattle.tx_machine.specs.Call.{Call}
 use Rattle.tx_machine.specs.Routing.{set_call}
-use Rattle.tx_machine.specs.Invariant.{IsKept, AreApart, IsUnused, IsRising, Inv}
+use Rattle.tx_machine.specs.inner.Invariant.{IsKept, AreApart, IsUnused, IsRising, Inv}
 
 pub rising_filter : (keeps : Call → Bool) (cs : List Call) → IsRising cs → IsRising (filter keeps cs)
 rising_filter keeps [] r = tt

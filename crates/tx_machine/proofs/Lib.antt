@@ -3,6 +3,7 @@ pub mod Uses
 pub mod Invariant
 pub mod Changes
 pub mod Steps
+pub mod Unrefused
 pub mod Moves
 pub mod Ranks
 pub mod Safe

@@ -7,8 +7,8 @@ use Rattle.tx_plan.specs.Lines.{is_line}
 use Rattle.tx_plan.specs.Codes.{code_of}
 use Rattle.tx_plan.specs.Routes.{route_list, is_barred}
 use Rattle.tx_plan.specs.Among.{Among}
-use Rattle.tx_entries.specs.declared.circuit.Circuit.{Circuit}
-use Rattle.tx_entries.specs.declared.line.Line.{Line}
+use Rattle.tx_plan.specs.declared.group.Circuit.{Circuit}
+use Rattle.tx_plan.specs.declared.line.Line.{Line}
 use Rattle.tx_plan.proofs.Among.{among_cases, filter_among, map_among}
 use Rattle.tx_machine.specs.declared.event.Event.{Event}
 use Rattle.tx_machine.specs.declared.event.Event.TheVariants.{Key, Route, Confirm, Clear, Released, Fail, Restore, Block, Unblock, CircuitOut, CircuitIn, LineFault, LineMend, LineAway, LineBack}
@@ -31,7 +31,7 @@ use Rattle.tx_machine.specs.Step.{keyed_call, with_call, accepted, counted, unle
 use Rattle.tx_machine.proofs.Lists.{find_mem}
 use Rattle.tx_machine.proofs.Uses.{first_in-is, chosen, calling_on}
 use Rattle.tx_machine.proofs.Invariant.{set_cases}
-use Rattle.tx_machine.specs.Invariant.{Holds}
+use Rattle.tx_machine.specs.inner.Invariant.{Holds}
 use Rattle.tx_machine.proofs.Steps.{tests_false, stands}
 
 -- from c the step with this event makes c'

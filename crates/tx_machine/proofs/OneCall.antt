@@ -10,8 +10,8 @@ use Rattle.tx_plan.specs.Codes.{code_of}
 use Rattle.tx_plan.specs.Lines.{is_line}
 use Rattle.tx_plan.specs.Routes.{is_barred}
 use Rattle.tx_plan.specs.Circuits.{other_end}
-use Rattle.tx_entries.specs.declared.circuit.Circuit.{Circuit}
-use Rattle.tx_entries.specs.declared.line.Line.{Line}
+use Rattle.tx_plan.specs.declared.group.Circuit.{Circuit}
+use Rattle.tx_plan.specs.declared.line.Line.{Line}
 use Rattle.tx_plan.specs.Among.{Among}
 use Rattle.tx_machine.specs.declared.event.Event.TheVariants.{Key, Route, Confirm, Block, Unblock}
 use Rattle.tx_machine.specs.declared.hop.Hop.{Hop}

@@ -7,15 +7,15 @@ use Rattle.std.specs.List.{enumerate_from, AllByRecursion}
 use Rattle.std.specs.Option.{option_map}
 use Rattle.tx_plan.proofs.Longest.{longest_among}
 use Rattle.tx_plan.specs.Plan.{Plan, Code, home_of}
-use Rattle.tx_entries.specs.declared.range.LineRange.{LineRange}
+use Rattle.tx_plan.specs.declared.range.LineRange.{LineRange}
 use Rattle.tx_plan.specs.Certified.{Ranks, IsBelow, LeadsLower, IsCertified}
 use Rattle.tx_plan.specs.Rules.{is_national}
 use Rattle.tx_plan.specs.Lines.{in_range, is_line}
 use Rattle.tx_plan.specs.Codes.{is_prefix, codes_before, longest, code_of}
 use Rattle.tx_plan.specs.Routes.{route_list, is_barred, is_origin}
 use Rattle.tx_plan.specs.Among.{Among}
-use Rattle.tx_entries.specs.declared.circuit.Circuit.{Circuit}
-use Rattle.tx_entries.specs.declared.line.Line.{Line}
+use Rattle.tx_plan.specs.declared.group.Circuit.{Circuit}
+use Rattle.tx_plan.specs.declared.line.Line.{Line}
 use Rattle.tx_plan.proofs.Among.{filter_among}
 use Rattle.tx_machine.specs.declared.event.Event.{Event}
 use Rattle.tx_machine.specs.declared.hop.Hop.{Hop}
@@ -27,7 +27,7 @@ use Rattle.tx_machine.specs.Members.{NoneTwice}
 use Rattle.tx_machine.specs.Passed.{IsLower, Falls, passed, transits, is_transit, is_home_of}
 use Rattle.tx_machine.proofs.Lists.{any_none, mem_any, any_mem}
 use Rattle.tx_machine.proofs.Steps.{all_mem, enumerated}
-use Rattle.tx_machine.specs.Invariant.{Holds, IsRanked}
+use Rattle.tx_machine.specs.inner.Invariant.{Holds, IsRanked}
 use Rattle.tx_machine.proofs.Changes.{not_standing}
 use Rattle.tx_machine.proofs.Moves.{Moves, stays, connects, seizes_one, goes_on, falls_back, IsNew, came}
 

@@ -4,16 +4,16 @@ use Rattle.std.proofs.lemmas.Bool.{and_parts, false_from_ne_true}
 use Rattle.std.specs.Prelude.{if◌then◌else◌, slice_get, is_some}
 use Rattle.std.specs.List.{flat_map}
 use Rattle.std.specs.Option.{option_map_or}
-use Rattle.tx_plan.specs.Orders.{same_circuit, same_line, same_line-is}
-use Rattle.tx_entries.proofs.Named.{same_circuit-is}
+use Rattle.tx_plan.specs.Orders.{same_circuit, same_line}
+use Rattle.tx_plan.proofs.Named.{same_circuit-is, same_line-is}
 use Rattle.tx_plan.specs.Plan.{Plan, Code, figures_of}
 use Rattle.tx_plan.specs.Rules.{IsPlan, IsRange, is_national}
-use Rattle.tx_entries.specs.declared.range.LineRange.{LineRange}
+use Rattle.tx_plan.specs.declared.range.LineRange.{LineRange}
 use Rattle.tx_plan.specs.Certified.{Ranks, IsCertified}
 use Rattle.tx_plan.specs.Lines.{in_range, is_line, full_number}
 use Rattle.tx_plan.specs.Codes.{after, is_prefix}
 use Rattle.tx_plan.specs.Among.{Among}
-use Rattle.tx_entries.specs.declared.line.Line.{Line}
+use Rattle.tx_plan.specs.declared.line.Line.{Line}
 use Rattle.tx_plan.proofs.Among.{among_cases, flat_among}
 use Rattle.tx_machine.specs.Call.{Phase, Standing, Calling, Connected, Call, start_of}
 use Rattle.tx_machine.specs.State.{State}
@@ -24,7 +24,7 @@ use Rattle.tx_machine.specs.Passed.{Joins}
 use Rattle.tx_machine.specs.Safe.{IsKeyedLine, IsOnlyLine, OfConnected, JoinsAndCarriesOnce, TakesPartOnce, FallsInRank, RanksFall, IsSafeCall, IsSafe}
 use Rattle.tx_machine.proofs.Lists.{any_none, none_any, any_mem, all_from_mem, places_differ}
 use Rattle.tx_machine.proofs.Steps.{all_mem}
-use Rattle.tx_machine.specs.Invariant.{IsRising, Holds}
+use Rattle.tx_machine.specs.inner.Invariant.{IsRising, Holds}
 use Rattle.tx_machine.proofs.Ranks.{AllRanked, few_transits, passed_once}
 
 -- what holds of each line that a call is connected to

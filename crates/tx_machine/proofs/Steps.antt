@@ -15,8 +15,8 @@ use Rattle.tx_plan.specs.Codes.{after, is_prefix, codes_before, longest, code_of
 use Rattle.tx_plan.specs.Routes.{route_list, is_barred}
 use Rattle.tx_plan.specs.Circuits.{far_end, other_end, may_seize, is_both}
 use Rattle.tx_plan.specs.Among.{Among}
-use Rattle.tx_entries.specs.declared.circuit.Circuit.{Circuit}
-use Rattle.tx_entries.specs.declared.line.Line.{Line}
+use Rattle.tx_plan.specs.declared.group.Circuit.{Circuit}
+use Rattle.tx_plan.specs.declared.line.Line.{Line}
 use Rattle.tx_plan.proofs.Among.{filter_among}
 use Rattle.tx_machine.specs.declared.event.Event.{Event}
 use Rattle.tx_machine.specs.declared.event.Event.TheVariants.{Key, Route, Confirm, Clear, Released, Fail, Restore, Block, Unblock, CircuitOut, CircuitIn, LineFault, LineMend, LineAway, LineBack}
@@ -37,7 +37,7 @@ use Rattle.tx_machine.specs.Confirming.{far_of, collide, second_time, confirmed_
 use Rattle.tx_machine.specs.Step.{with_call, accepted, counted, unless_refused, step, cause_by}
 use Rattle.tx_machine.proofs.Lists.{find_mem}
 use Rattle.tx_machine.proofs.Uses.{first_in-is, chosen, calling_on}
-use Rattle.tx_machine.specs.Invariant.{Holds}
+use Rattle.tx_machine.specs.inner.Invariant.{Holds}
 use Rattle.tx_machine.proofs.Changes.{key_keeps, end_keeps, fail_keeps, release_keeps, connect_keeps, seize_keeps, carry_keeps, collide_keeps}
 
 -- no refusal: each test is false

@@ -5,13 +5,13 @@ use Rattle.std.specs.Prelude.{if◌then◌else◌, find, slice_get, is_some, nat
 use Rattle.std.specs.Option.{option_map_or}
 use Rattle.std.specs.List.{list_any}
 use Rattle.std.specs.FinSet as set
-use Rattle.tx_plan.specs.Orders.{same_circuit, same_line, same_line-itself}
-use Rattle.tx_entries.proofs.Named.{same_circuit-is, same_circuit-itself}
+use Rattle.tx_plan.specs.Orders.{same_circuit, same_line}
+use Rattle.tx_plan.proofs.Named.{same_circuit-is, same_circuit-itself, same_line-itself}
 use Rattle.tx_plan.specs.Plan.{Plan, Group}
 use Rattle.tx_plan.specs.Circuits.{far_end, other_end, is_circuit, circuits_at, order_at, upward, downward}
 use Rattle.tx_plan.specs.Among.{Among}
-use Rattle.tx_entries.specs.declared.circuit.Circuit.{Circuit}
-use Rattle.tx_entries.specs.declared.line.Line.{Line}
+use Rattle.tx_plan.specs.declared.group.Circuit.{Circuit}
+use Rattle.tx_plan.specs.declared.line.Line.{Line}
 use Rattle.tx_plan.proofs.Among.{among_cases, map_among}
 use Rattle.tx_machine.specs.declared.hop.Hop.{Hop}
 use Rattle.tx_machine.specs.Call.{Phase, Standing, Calling, Connected, Call, last_exchange, place_of, lines_called}

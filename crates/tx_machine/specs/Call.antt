@@ -1,8 +1,8 @@
 -- Open calls.
 use Rattle.std.specs.Prelude.{ℕ, Bool, true, false, ◌==◌, List, [], ◌∷◌, find, Option}
 use Rattle.tx_plan.specs.Plan.{Plan, home_of}
-use Rattle.tx_entries.specs.declared.circuit.Circuit.{Circuit}
-use Rattle.tx_entries.specs.declared.line.Line.{Line}
+use Rattle.tx_plan.specs.declared.group.Circuit.{Circuit}
+use Rattle.tx_plan.specs.declared.line.Line.{Line}
 use Rattle.tx_machine.specs.declared.hop.Hop.{Hop}
 pub use Rattle.tx_machine.specs.declared.phase.Phase.{Phase}
 pub use Rattle.tx_machine.specs.declared.phase.Phase.TheVariants.{Standing, Calling, Connected}
@@ -23,21 +23,23 @@ pub record Call : Type 0 where
 abbrev pub call_of : ℕ → List Call → Option Call
 call_of n calls = find (λ c. c.number == n) calls
 
+-- the call has the number
 abbrev pub is_numbered : ℕ → Call → Bool
 is_numbered n c = c.number == n
 
--- PHASES
-
+-- the phase is that of a call that waits to be routed
 abbrev pub is_standing : Phase → Bool
 is_standing Standing = true
 is_standing (Calling x) = false
 is_standing (Connected l) = false
 
+-- the phase is that of a call that has seized a circuit and waits for its confirmation
 abbrev pub is_calling : Phase → Bool
 is_calling Standing = false
 is_calling (Calling x) = true
 is_calling (Connected l) = false
 
+-- the phase is that of a call that is connected to a line
 abbrev pub is_connected : Phase → Bool
 is_connected Standing = false
 is_connected (Calling x) = false
@@ -54,8 +56,6 @@ abbrev pub lines_called : Phase → List Line
 lines_called Standing = []
 lines_called (Calling x) = []
 lines_called (Connected l) = l ∷ []
-
--- WHERE A CALL STANDS
 
 -- the exchange that the hops lead to from the start
 abbrev pub last_exchange : ℕ → List Hop → ℕ

@@ -3,7 +3,7 @@ use Rattle.std.specs.Prelude.{ℕ, Bool, true, false, not, ◌&&◌, ◌||◌, �
 use Rattle.std.specs.FinSet as set
 use Rattle.tx_plan.specs.Plan.{Plan}
 use Rattle.tx_plan.specs.Circuits.{other_end}
-use Rattle.tx_entries.specs.declared.circuit.Circuit.{Circuit}
+use Rattle.tx_plan.specs.declared.group.Circuit.{Circuit}
 use Rattle.tx_machine.specs.declared.cause.Cause.TheVariants.{Service as ByService}
 use Rattle.tx_machine.specs.declared.refusal.Refusal.TheVariants.{NotCalling}
 use Rattle.tx_machine.specs.declared.reply.Reply.{Reply}

@@ -1,6 +1,6 @@
 -- What is kept of a call that ended: its ticket.
 use Rattle.std.specs.Prelude.{ℕ, List}
-use Rattle.tx_entries.specs.declared.line.Line.{Line}
+use Rattle.tx_plan.specs.declared.line.Line.{Line}
 use Rattle.tx_machine.specs.declared.cause.Cause.{Cause}
 use Rattle.tx_machine.specs.declared.hop.Hop.{Hop}
 

@@ -5,7 +5,7 @@ use Rattle.tx_plan.specs.Plan.{Plan}
 use Rattle.tx_plan.specs.Codes.{code_of}
 use Rattle.tx_plan.specs.Routes.{route_list}
 use Rattle.tx_plan.specs.Circuits.{is_circuit, may_seize}
-use Rattle.tx_entries.specs.declared.circuit.Circuit.{Circuit}
+use Rattle.tx_plan.specs.declared.group.Circuit.{Circuit}
 use Rattle.tx_machine.specs.declared.event.Event.{Event}
 use Rattle.tx_machine.specs.declared.event.Event.TheVariants.{Route}
 use Rattle.tx_machine.specs.declared.reply.Reply.{Reply}
@@ -45,6 +45,8 @@ abbrev pub routed_call : Event → Option ℕ
 routed_call (Route n) = Some n
 routed_call e = None
 
+-- NC to the call that an event routes is excused where it found no circuit; the other service codes
+-- need no excuse
 abbrev pub IsExcusedTo : Plan → ℕ → State → Option ℕ → Service → Type 0
 IsExcusedTo p spare s (Some n) Nc = FoundNone p s spare n
 IsExcusedTo p spare s None Nc = ⊥
@@ -65,7 +67,6 @@ abbrev pub IsExcused : Plan → ℕ → State → Event → Reply → Type 0
 IsExcused p spare s e (Answered service) = IsExcusedTo p spare s (routed_call e) service
 IsExcused p spare s e other = IsNcByCollision s other
 
--- WHILE FEW GROUPS ARE DOWN
 -- no more groups of the plan are down than this
 abbrev pub FewDown : Plan → State → ℕ → Type 0
 FewDown p s spare = count_by (is_down s) (range_with_len 0 (length p.groups)) ≤ spare

@@ -6,7 +6,7 @@ use Rattle.tx_plan.specs.Orders.{same_circuit}
 use Rattle.tx_plan.specs.Plan.{Plan}
 use Rattle.tx_plan.specs.Routes.{route_list}
 use Rattle.tx_plan.specs.Circuits.{circuits_at}
-use Rattle.tx_entries.specs.declared.circuit.Circuit.{Circuit}
+use Rattle.tx_plan.specs.declared.group.Circuit.{Circuit}
 use Rattle.tx_machine.specs.Call.{Call, Phase, Standing, Calling, Connected, circuit_called, place_of}
 use Rattle.tx_machine.specs.State.{State}
 
@@ -14,9 +14,11 @@ use Rattle.tx_machine.specs.State.{State}
 abbrev pub circuits_carried : Call → List Circuit
 circuits_carried c = map (λ h. h.circuit) c.hops
 
+-- the call carries the circuit
 abbrev pub carries : Call → Circuit → Bool
 carries c x = list_any (λ h. same_circuit h.circuit x) c.hops
 
+-- a call in this phase has seized the circuit
 abbrev pub is_calling_on : Phase → Circuit → Bool
 is_calling_on Standing x = false
 is_calling_on (Calling y) x = same_circuit y x

@@ -16,7 +16,6 @@ pub mod Excused
 pub mod Sound
 pub mod ChangingRuns
 pub mod Unrefused
-pub mod Invariant
 pub mod Driven
 pub mod Drained
 pub mod Seen

@@ -5,12 +5,13 @@ use Rattle.std.specs.FinSet as set
 use Rattle.tx_plan.specs.Orders.{same_line}
 use Rattle.tx_plan.specs.Plan.{Plan}
 use Rattle.tx_plan.specs.Lines.{is_line}
-use Rattle.tx_entries.specs.declared.line.Line.{Line}
+use Rattle.tx_plan.specs.declared.line.Line.{Line}
 use Rattle.tx_machine.specs.declared.service.Service.{Service}
 use Rattle.tx_machine.specs.declared.service.Service.TheVariants.{Occ, Np, Der, Abs}
 use Rattle.tx_machine.specs.Call.{Call, Phase, Standing, Calling, Connected, lines_called}
 use Rattle.tx_machine.specs.State.{State}
 
+-- a call in this phase is connected to the line
 abbrev pub is_connected_to : Phase → Line → Bool
 is_connected_to Standing l = false
 is_connected_to (Calling x) l = false

@@ -17,6 +17,7 @@ Joins p x (h ∷ hops) = (is_circuit p h.circuit ≡ true)
 abbrev pub passed : Plan → Call → List ℕ
 passed p c = start_of p c ∷ map (λ h. h.far) c.hops
 
+-- the exchange is the home of the code, if there is one
 abbrev pub is_home_of : Plan → Option ℕ → ℕ → Bool
 is_home_of p None x = false
 is_home_of p (Some code) x = home_of p code == x

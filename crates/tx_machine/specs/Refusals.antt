@@ -19,6 +19,7 @@ abbrev pub is_other : (Phase → Bool) → Option Call → Bool
 is_other test None = false
 is_other test (Some c) = not (test c.phase)
 
+-- the plan has the group
 abbrev pub is_group : Plan → ℕ → Bool
 is_group p g = is_some (slice_get p.groups g)
 

@@ -3,8 +3,8 @@ use Rattle.std.specs.Prelude.{ℕ, ◌&&◌, ◌==◌, if◌then◌else◌, List
 use Rattle.tx_plan.specs.Plan.{Plan, figures_of, home_of}
 use Rattle.tx_plan.specs.Codes.{after, code_of}
 use Rattle.tx_plan.specs.Routes.{is_barred}
-use Rattle.tx_entries.specs.declared.circuit.Circuit.{Circuit}
-use Rattle.tx_entries.specs.declared.line.Line.{Line}
+use Rattle.tx_plan.specs.declared.group.Circuit.{Circuit}
+use Rattle.tx_plan.specs.declared.line.Line.{Line}
 use Rattle.tx_machine.specs.declared.reply.Reply.{Reply}
 use Rattle.tx_machine.specs.declared.reply.Reply.TheVariants.{Seized, Connected as ConnectedTo}
 use Rattle.tx_machine.specs.declared.service.Service.{Service}
@@ -19,6 +19,7 @@ use Rattle.tx_machine.specs.Ending.{answered}
 abbrev pub set_call : ℕ → (Call → Call) → List Call → List Call
 set_call n f calls = map (λ c. if c.number == n then f c else c) calls
 
+-- the call is in another phase
 abbrev pub in_phase : Phase → Call → Call
 in_phase phase c = record c { phase = phase }
 

@@ -14,6 +14,7 @@ pub record Moment : Type 0 where
   pub reply : Reply
   pub after : State
 
+-- the event of a run that comes to a state
 abbrev pub moment : Plan → State → Event → Moment
 moment p s e = record { before = s; event = e; reply = (step p s e).0; after = (step p s e).1 }
 

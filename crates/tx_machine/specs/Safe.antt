@@ -6,7 +6,7 @@ use Rattle.tx_plan.specs.Orders.{same_circuit, same_line}
 use Rattle.tx_plan.specs.Plan.{Plan, home_of}
 use Rattle.tx_plan.specs.Lines.{is_line, full_number}
 use Rattle.tx_plan.specs.Codes.{code_of}
-use Rattle.tx_entries.specs.declared.line.Line.{Line}
+use Rattle.tx_plan.specs.declared.line.Line.{Line}
 use Rattle.tx_machine.specs.Members.{NoneTwice}
 use Rattle.tx_machine.specs.Call.{Call, Phase, Standing, Calling, Connected, start_of, place_of}
 use Rattle.tx_machine.specs.State.{State}
@@ -30,8 +30,6 @@ OfConnected Standing Holds = Unit {0}
 OfConnected (Calling x) Holds = Unit {0}
 OfConnected (Connected l) Holds = Holds l
 
--- WHAT HOLDS IN EVERY RUN OF EVERY PLAN
-
 -- each hop's circuit is one of the plan and joins the exchange before it to the one after it, and
 -- no circuit is carried twice, by one call or by two
 pub record JoinsAndCarriesOnce (p : Plan) (s : State) : Type 0 where
@@ -45,8 +43,6 @@ pub record TakesPartOnce (p : Plan) (s : State) : Type 0 where
   pub once : NoneTwice same_line (flat_map lines_of s.calls)
   pub keyed : AllByRecursion (λ c. OfConnected c.phase (IsKeyedLine p c)) s.calls
 
--- WHAT HOLDS IN EVERY RUN OF A CERTIFIED PLAN
-
 -- ranks for the code of a call fall along its hops, it passes no exchange twice and at most limit
 -- transits, and it is connected to the only line of its number
 pub record FallsInRank (p : Plan) (ranks : Ranks) (limit : ℕ) (c : Call) : Type 0 where
@@ -55,10 +51,9 @@ pub record FallsInRank (p : Plan) (ranks : Ranks) (limit : ℕ) (c : Call) : Typ
   pub few : length (transits p c) ≤ limit
   pub only : OfConnected c.phase (IsOnlyLine p c)
 
+-- ranks fall for every open call
 abbrev pub RanksFall : Plan → Ranks → ℕ → State → Type 0
 RanksFall p ranks limit s = AllByRecursion (FallsInRank p ranks limit) s.calls
-
--- SAFE
 
 -- each hop's circuit is one of the plan and joins the exchange before it to the one after it, no
 -- exchange is passed twice, there are at most limit

@@ -15,10 +15,12 @@ pub record IsSound (p : Plan) (limit spare : ℕ) : Type 0 where
   pub safe : InEveryState p (IsSafe p limit)
   pub excused : OfEveryEvent p (IsExcused p spare)
 
+-- the reply is a refusal
 abbrev pub is_refused : Reply → Bool
 is_refused (Refused r) = true
 is_refused other = false
 
+-- the call that an event routes is that of the number
 abbrev pub is_route_of : ℕ → Option ℕ → Bool
 is_route_of n None = false
 is_route_of n (Some m) = m == n

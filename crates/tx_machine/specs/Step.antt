@@ -2,7 +2,7 @@
 use Rattle.std.specs.Prelude.{ℕ, ◌+◌, Bool, true, false, not, ◌==◌, List, [], ◌∷◌, ◌++◌, length, filter, Option, Some, None}
 use Rattle.std.specs.FinSet as set
 use Rattle.tx_plan.specs.Plan.{Plan}
-use Rattle.tx_entries.specs.declared.line.Line.{Line}
+use Rattle.tx_plan.specs.declared.line.Line.{Line}
 use Rattle.tx_machine.specs.declared.cause.Cause.{Cause}
 use Rattle.tx_machine.specs.declared.cause.Cause.TheVariants.{ClearedByCaller, ClearedByCalled, Lost as ByLoss}
 use Rattle.tx_machine.specs.declared.event.Event.{Event}
@@ -46,6 +46,7 @@ failed_at p g s =
     let t = end_calls p ByLoss (uses_group g) s in
     record t { failed = set.insert t.failed g; releasing = set.retain t.releasing (λ x. not (x.group == g)) }
 
+-- the cause of a call that a party clears
 abbrev pub cause_by : Party → Cause
 cause_by Caller = ClearedByCaller
 cause_by Called = ClearedByCalled
@@ -77,6 +78,7 @@ accepted p s (LineBack l) = (Done, record s { away = set.remove s.away l })
 abbrev pub counted : Reply × State → Reply × State
 counted next = (next.0, record next.1 { events = next.1.events + 1 })
 
+-- a refused event changes nothing
 abbrev pub unless_refused : Option Refusal → State → Reply × State → Reply × State
 unless_refused (Some r) s next = (Refused r, s)
 unless_refused None s next = next

@@ -24,6 +24,6 @@ pub fn far_of<A: Allocator>(plan: &Plan<A>, call: &OpenCall<A>, circuit: &Circui
 {
     match plan.other_end(circuit.group, place_of(plan, call)) {
         Some(far) => far,
-        None => ExchangeId::at(0),
+        None => ExchangeId::of(0),
     }
 }

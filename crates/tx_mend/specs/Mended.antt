@@ -4,7 +4,7 @@ use Rattle.std.specs.List.{flat_map}
 use Rattle.tx_plan.specs.Plan.{Plan, Route}
 use Rattle.tx_plan.specs.Routes.{is_origin_for}
 use Rattle.tx_plan.specs.Declaring.{has_route}
-use Rattle.tx_plan.specs.Rerouted.{rerouted}
+use Rattle.tx_plan.specs.Mixed.{rerouted}
 use Rattle.tx_mend.specs.LeastRanks.{places, least_rank}
 use Rattle.tx_mend.specs.Lists.{mended_list}
 

@@ -11,8 +11,7 @@ use crate::basis::Basis;
 use crate::code_ranks::least_at;
 use crate::outgoing::groups_at;
 use std::alloc::Allocator;
-use tx_entries::GroupList;
-use tx_plan::{CodeId, ExchangeId, GroupId, Plan};
+use tx_plan::{CodeId, ExchangeId, GroupId, GroupList, Plan};
 
 /// Whether the group is in the list.
 fn stands(list: &GroupList, group: GroupId) -> bool
@@ -38,7 +37,7 @@ fn put(list: &mut GroupList, group: GroupId, spare: u8)
     if stands(list, group) {
         return;
     }
-    list.keep(group);
+    list.push(group);
 }
 
 /// Appends groups that lead to one rank, in order of declaration, until there are more than
@@ -107,7 +106,7 @@ fn kept_below<A: Allocator>(
     let present = plan.list(exchange, code);
     for group in present {
         if leads_below(plan, ranks, exchange, rank, *group) {
-            list.keep(*group);
+            list.push(*group);
         }
     }
     list
@@ -121,7 +120,7 @@ pub fn present_list<A: Allocator>(plan: &Plan<A>, code: CodeId, exchange: Exchan
     let mut list = GroupList::new();
     let present = plan.list(exchange, code);
     for group in present {
-        list.keep(*group);
+        list.push(*group);
     }
     list
 }

@@ -8,8 +8,7 @@ ghost use Rattle.tx_mend.specs.inner.Pairs.{full_route, present_pairs, routes_be
 use crate::basis::Basis;
 use crate::filling::full_list;
 use std::alloc::Allocator;
-use tx_entries::{GroupList, Routes};
-use tx_plan::{CodeId, ExchangeId, Pair, Plan};
+use tx_plan::{CodeId, ExchangeId, GroupList, Pair, Plan, Routes};
 use tx_text::NoMemory;
 
 /// Adds a route, unless it has no groups.

@@ -5,7 +5,7 @@ use Rattle.std.specs.Str.{bytes_eq}
 use Rattle.tx_text.specs.Written.{line_written}
 use Rattle.tx_plan.specs.Plan.{Plan, Route, figures_of, exchange_name}
 use Rattle.tx_plan.specs.Routes.{route_list}
-use Rattle.tx_plan.specs.Rerouted.{rerouted}
+use Rattle.tx_plan.specs.Mixed.{rerouted}
 use Rattle.tx_plantext.specs.PlanWritten.{route_words}
 
 -- what was asked

@@ -10,10 +10,10 @@ use Rattle.std.proofs.lemmas.Bool.Decides.{same_from_decides}
 use Rattle.std.proofs.lemmas.Map.Lookups.{exact_unsigned}
 use Rattle.std.proofs.lemmas.Cmp.{tied_itself}
 use Rattle.tx_plan.specs.Orders.{circuit_cmp}
-use Rattle.tx_entries.proofs.Named.{circuits_total, exact_circuits, by_cmp-is}
-use Rattle.tx_entries.proofs.Tables.{list_any-map}
-use Rattle.tx_entries.specs.declared.circuit.Circuit.{Circuit}
-use Rattle.tx_entries.proofs.Lists.{at_least}
+use Rattle.tx_plan.proofs.Named.{circuits_total, exact_circuits, by_cmp-is}
+use Rattle.tx_plan.proofs.Tables.{list_any-map}
+use Rattle.tx_plan.specs.declared.group.Circuit.{Circuit}
+use Rattle.tx_plan.proofs.Lists.{at_least}
 use Rattle.std.proofs.lemmas.List.{get_or-set_other}
 use Rattle.std.proofs.lemmas.Grind.{get_or-set_at}
 use Rattle.tx_plain.specs.inner.Marks.{places, circuit_at, index_of, circuits_of, groups_of, HasMark, IsCleared}

@@ -1,8 +1,8 @@
 -- What holds of the calls, as they change.
 use Rattle.std.proofs.Common.{◌≡◌, ℕ, ◌+◌, ◌≤◌, ◌==◌, Bool, true, false, List, [], ◌∷◌, ◌++◌, ◌⊎◌, inl, inr, map, refl, ap, sym, ◌∙◌, subst, arith, eqb-true}
 use Rattle.std.specs.Prelude.{filter, if◌then◌else◌}
-use Rattle.tx_entries.specs.declared.circuit.Circuit.{Circuit}
-use Rattle.tx_entries.specs.declared.line.Line.{Line}
+use Rattle.tx_plan.specs.declared.group.Circuit.{Circuit}
+use Rattle.tx_plan.specs.declared.line.Line.{Line}
 use Rattle.tx_machine.specs.declared.phase.Phase.TheVariants.{Calling}
 use Rattle.tx_machine.specs.Call.{Call, is_calling}
 use Rattle.tx_machine.specs.InUse.{circuits_used}

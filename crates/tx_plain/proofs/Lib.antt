@@ -3,7 +3,6 @@ pub mod Whole
 pub mod Choosing
 pub mod Routed
 pub mod Marking
-pub mod Marked
 pub mod Bits
 pub mod Views
 pub mod Sweeps

@@ -4,13 +4,13 @@ use Rattle.std.specs.Prelude.{if◌then◌else◌}
 use Rattle.tx_plan.specs.Plan.{Plan, home_of}
 use Rattle.tx_plan.specs.Codes.{code_of}
 use Rattle.tx_plan.specs.Routes.{is_barred}
-use Rattle.tx_entries.specs.declared.circuit.Circuit.{Circuit}
+use Rattle.tx_plan.specs.declared.group.Circuit.{Circuit}
 use Rattle.tx_machine.specs.declared.phase.Phase.TheVariants.{Calling}
 use Rattle.tx_machine.specs.declared.service.Service.TheVariants.{Na}
 use Rattle.tx_plain.specs.inner.Marks.{HasMark}
 use Rattle.tx_plain.specs.inner.Decided.{IsOn, IsMet}
-use Rattle.tx_plain.specs.declared.meeting.Meeting.{Meeting}
-use Rattle.tx_plain.specs.declared.meeting.Meeting.TheVariants.{GoesOn, Collides}
+use Rattle.tx_plain.specs.declared.confirm.Meeting.{Meeting}
+use Rattle.tx_plain.specs.declared.confirm.Meeting.TheVariants.{GoesOn, Collides}
 use Rattle.tx_machine.specs.Call.{call_of, Call, is_first, place_of}
 use Rattle.tx_machine.specs.State.{State}
 use Rattle.tx_machine.specs.Routing.{routed, routed_for, at_line, at_trunk, line_of}

@@ -8,7 +8,7 @@ use Rattle.tx_plan.specs.Among.{Among}
 use Rattle.tx_machine.specs.Seen.{call_seen}
 use Rattle.tx_plain.specs.inner.Seen.{changed, change_at, HasRoom, IsReady, CanChange}
 use Rattle.tx_machine.specs.declared.open_call.OpenCall.{OpenCall}
-use Rattle.tx_plain.specs.declared.change.Change.{Change}
+use Rattle.tx_plain.specs.declared.changing.Change.{Change}
 use Rattle.tx_plain.proofs.Sweeps.{step_seen, mem_set, mem_take_set}
 
 -- the calls up to a place have room for a hop

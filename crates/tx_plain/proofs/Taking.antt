@@ -10,7 +10,7 @@ use Rattle.tx_machine.specs.declared.open_call.OpenCall.{OpenCall}
 use Rattle.tx_machine.specs.Ended.{Ended}
 use Rattle.tx_machine.specs.Ending.{ticket_of}
 use Rattle.tx_machine.specs.Seen.{call_seen}
-use Rattle.tx_plain.specs.declared.ends.Ends.{Ends}
+use Rattle.tx_plain.specs.declared.ended_calls.Ends.{Ends}
 use Rattle.tx_plain.specs.inner.GivenUp.{ends_by}
 use Rattle.tx_plain.proofs.Views.{IsEnding}
 

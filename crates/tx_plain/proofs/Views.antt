@@ -9,7 +9,7 @@ use Rattle.tx_machine.specs.Ending.{ticket_of}
 use Rattle.tx_machine.specs.Seen.{call_seen}
 use Rattle.tx_plain.specs.inner.GivenUp.{ends_by}
 use Rattle.tx_machine.specs.declared.open_call.OpenCall.{OpenCall}
-use Rattle.tx_plain.specs.declared.ends.Ends.{Ends}
+use Rattle.tx_plain.specs.declared.ended_calls.Ends.{Ends}
 
 pub any_map : {A B : Type 0} (t : B → Bool) (f : A → B) (xs : List A) → list_any (λ x. t (f x)) xs ≡ list_any t (map f xs)
 any_map t f [] = refl

@@ -11,9 +11,9 @@ use Rattle.tx_plan.specs.Plan.{Plan, Group}
 use Rattle.tx_plan.specs.Rules.{IsPlan, IsGroup}
 use Rattle.tx_plan.specs.Circuits.{is_circuit}
 use Rattle.tx_plan.specs.Among.{Among}
-use Rattle.tx_entries.specs.declared.circuit.Circuit.{Circuit}
-use Rattle.tx_entries.specs.declared.line.Line.{Line}
-use Rattle.tx_entries.proofs.Lists.{at_least}
+use Rattle.tx_plan.specs.declared.group.Circuit.{Circuit}
+use Rattle.tx_plan.specs.declared.line.Line.{Line}
+use Rattle.tx_plan.proofs.Lists.{at_least}
 use Rattle.tx_plan.proofs.Among.{among_cases, among_left, among_right, filter_among}
 use Rattle.tx_machine.specs.declared.phase.Phase.{Phase}
 use Rattle.tx_machine.specs.declared.phase.Phase.TheVariants.{Standing, Calling, Connected}
@@ -34,9 +34,9 @@ use Rattle.tx_plain.specs.inner.Seen.{changed, HasRoom, IsReady}
 use Rattle.tx_plain.specs.inner.GivenUp.{ends_by, is_given, AreMarked}
 use Rattle.tx_plain.specs.inner.Whole.{AreHeld, IsWhole}
 use Rattle.tx_machine.specs.declared.open_call.OpenCall.{OpenCall}
-use Rattle.tx_plain.specs.declared.change.Change.{Change}
-use Rattle.tx_plain.specs.declared.change.Change.TheVariants.{To, Carry, ThrowBack}
-use Rattle.tx_plain.specs.declared.ends.Ends.{Ends}
+use Rattle.tx_plain.specs.declared.changing.Change.{Change}
+use Rattle.tx_plain.specs.declared.changing.Change.TheVariants.{To, Carry, ThrowBack}
+use Rattle.tx_plain.specs.declared.ended_calls.Ends.{Ends}
 use Rattle.tx_plain.proofs.Views.{any_filter, filter_map_seen}
 use Rattle.tx_plain.proofs.Holding.{held_filter, held_set, held_more, calling_ready}
 

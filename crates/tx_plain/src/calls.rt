@@ -34,7 +34,7 @@ fn takes_part<A: Allocator>(call: &OpenCall<A>, line: &Line) -> bool
     }
     match &call.phase {
         Phase::Connected(other) => same_line(other, line),
-        _ => false,
+        Phase::Standing | Phase::Calling(_) => false,
     }
 }
 
@@ -67,7 +67,7 @@ pub(crate) fn seizes<A: Allocator>(call: &OpenCall<A>, circuit: &Circuit) -> boo
 {
     match &call.phase {
         Phase::Calling(other) => same_circuit(other, circuit),
-        _ => false,
+        Phase::Standing | Phase::Connected(_) => false,
     }
 }
 

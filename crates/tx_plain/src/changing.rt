@@ -5,10 +5,20 @@ ghost use Rattle.tx_machine.specs.Routing.{set_call};
 ghost use Rattle.tx_machine.specs.Seen.{call_seen};
 ghost use Rattle.tx_plain.specs.inner.Seen.{changed, change_at, HasRoom, IsReady, CanChange};
 
-use crate::change::Change;
 use std::alloc::Allocator;
-use tx_machine::{OpenCall, Phase};
+use tx_machine::{Hop, OpenCall, Phase};
 use tx_text::NoMemory;
+
+/// What may become of a call that stays open.
+#[derive(Clone, Copy)]
+pub(crate) enum Change {
+    /// It goes to another phase.
+    To(Phase),
+    /// It goes on over the circuit that it has seized.
+    Carry(Hop),
+    /// It loses its circuit by a collision.
+    ThrowBack,
+}
 
 /// Makes room for a hop of a call with the number.
 fn reserve_one<A: Allocator>(call: &mut OpenCall<A>, number: u32) -> Result<(), NoMemory>

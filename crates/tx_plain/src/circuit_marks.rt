@@ -3,7 +3,6 @@ ghost use Rattle.std.specs.Prelude.{◌≡◌, ◌<◌, ◌≤◌, ◌+◌, ◌*
 ghost use Rattle.std.specs.FinSet as set;
 ghost use Rattle.tx_plain.specs.inner.Marks.{HasMark, IsCleared, index_of};
 
-use crate::bit::bit_at;
 use std::alloc::{Allocator, Global};
 use std::marker::Model;
 use tx_plan::{Circuit, GroupId};
@@ -47,7 +46,7 @@ impl<A: Allocator> CircuitMarks<A> {
         let number = circuit.number;
         let group = circuit.group.index();
         if group < self.groups && 1 <= number && number <= 240 {
-            bit_at(self.bits.as_slice(), 240 * group + (number as usize - 1))
+            self.bits[240 * group + (number as usize - 1)]
         } else {
             false
         }

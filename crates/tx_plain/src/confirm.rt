@@ -1,5 +1,5 @@
 // Confirming a circuit.
-ghost use Rattle.tx_plain.specs.declared.meeting.Meeting.TheVariants.{GoesOn, Collides};
+ghost use Rattle.tx_plain.specs.declared.confirm.Meeting.TheVariants.{GoesOn, Collides};
 ghost use Rattle.std.specs.Prelude.{◌≡◌, ◌<◌, ◌+◌, ◌-◌, ◌^◌, Some, None, length, is_some, true, false};
 ghost use Rattle.tx_machine.specs.Step.{step, accepted, counted};
 ghost use Rattle.tx_machine.specs.Call.{is_calling, call_of};
@@ -10,17 +10,29 @@ ghost use Rattle.tx_machine.specs.Seen.{call_seen};
 ghost use Rattle.tx_plain.specs.inner.Decided.{meeting_done, IsMet, IsOn};
 ghost use Rattle.tx_machine.specs.declared.event.Event.TheVariants.{Confirm};
 ghost use Rattle.tx_machine.specs.declared.phase.Phase.TheVariants.{Calling};
-ghost use Rattle.tx_plain.specs.declared.change.Change.TheVariants.{Carry};
+ghost use Rattle.tx_plain.specs.declared.changing.Change.TheVariants.{Carry};
 
 use crate::calls::{call_of, rival_of};
-use crate::change::Change;
-use crate::changing::change_numbered;
-use crate::ends::Ends;
-use crate::meeting::Meeting;
+use crate::changing::{Change, change_numbered};
+use crate::ended_calls::Ends;
 use crate::plain::Plain;
 use std::alloc::Allocator;
 use tx_machine::{Cause, Hop, OpenCall, Phase, Reply, Service, far_of};
 use tx_plan::Circuit;
+
+/// What a call meets on the circuit that it has seized.
+#[derive(Clone, Copy)]
+pub(crate) enum Meeting {
+    /// Nobody: it goes on over the hop.
+    GoesOn(Hop),
+    /// Another call: each of the two had collided before at its exchange, or not.
+    Collides {
+        circuit: Circuit,
+        collided: bool,
+        other: u32,
+        other_collided: bool,
+    },
+}
 
 impl<'p, A: Allocator + Copy> Plain<'p, A> {
     /// What a call meets that confirms.
@@ -61,7 +73,7 @@ impl<'p, A: Allocator + Copy> Plain<'p, A> {
                     },
                 }
             }
-            _ => unreachable!(),
+            Phase::Standing | Phase::Connected(_) => unreachable!(),
         }
     }
 

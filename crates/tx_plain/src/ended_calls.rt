@@ -11,10 +11,25 @@ ghost use Rattle.tx_plain.specs.inner.GivenUp.{ends_by, with_more, is_given, Are
 
 use crate::calls::seizes;
 use crate::circuit_marks::CircuitMarks;
-use crate::ends::Ends;
 use std::alloc::Allocator;
 use tx_machine::{Cause, Hop, OpenCall, Path, Phase, Ticket};
 use tx_plan::{Circuit, GroupId, Plan};
+
+/// The calls that end.
+#[derive(Clone, Copy)]
+pub(crate) enum Ends {
+    /// The call of a number.
+    Numbered(u32),
+    /// Of two calls that collide, those that had collided before.
+    Collided {
+        a: u32,
+        a_ends: bool,
+        b: u32,
+        b_ends: bool,
+    },
+    /// The calls on a group.
+    OnGroup(GroupId),
+}
 
 /// Whether the call ends.
 fn is_ended<A: Allocator>(call: &OpenCall<A>, ends: &Ends) -> bool
@@ -47,7 +62,7 @@ fn phase_uses(phase: &Phase, group: GroupId) -> bool
 {
     match phase {
         Phase::Calling(circuit) => circuit.group == group,
-        _ => false,
+        Phase::Standing | Phase::Connected(_) => false,
     }
 }
 

@@ -7,8 +7,7 @@ ghost use Rattle.tx_machine.specs.Ending.{end_calls};
 ghost use Rattle.tx_plain.specs.inner.GivenUp.{ends_by};
 ghost use Rattle.tx_machine.specs.declared.event.Event.TheVariants.{Fail, Clear};
 
-use crate::ended_calls::{count_ending, give_up, take_out};
-use crate::ends::Ends;
+use crate::ended_calls::{Ends, count_ending, give_up, take_out};
 use crate::plain::Plain;
 use std::alloc::Allocator;
 use tx_machine::{Cause, Party, Reply};

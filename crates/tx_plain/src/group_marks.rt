@@ -2,7 +2,6 @@
 ghost use Rattle.std.specs.Prelude.{◌≡◌, ◌<◌, IfOk};
 ghost use Rattle.std.specs.FinSet as set;
 
-use crate::bit::bit_at;
 use std::alloc::{Allocator, Global};
 use std::marker::Model;
 use tx_plan::GroupId;
@@ -43,7 +42,7 @@ impl<A: Allocator> GroupMarks<A> {
     pub(crate) fn has(&self, group: GroupId) -> bool
         ensures { result ≡ set.contains self.now.marked group }
     {
-        bit_at(self.bits.as_slice(), group.index())
+        group.index() < self.groups && self.bits[group.index()]
     }
 
     /// Marks the group.

@@ -5,7 +5,6 @@ ghost use Rattle.tx_plan.specs.Circuits.{upward, downward};
 
 use crate::calls::{carried_by, seized_from};
 use crate::plain::Plain;
-use crate::truth::none_of;
 use std::alloc::Allocator;
 use tx_plan::{Circuit, CodeId, ExchangeId, GroupId};
 
@@ -21,11 +20,10 @@ impl<'p, A: Allocator + Copy> Plain<'p, A> {
     pub(crate) fn is_free(&self, place: ExchangeId, circuit: &Circuit) -> bool
         ensures { result ≡ is_free_at self.now.plan self.now.state place circuit.now }
     {
-        let carried = carried_by(self.calls.as_slice(), circuit);
-        let releasing = self.marks.releasing.has(circuit);
-        let out = self.marks.out.has(circuit);
-        let seized = seized_from(self.plan, self.calls.as_slice(), circuit, place);
-        none_of(carried, releasing, out, seized)
+        !carried_by(self.calls.as_slice(), circuit)
+            && !self.marks.releasing.has(circuit)
+            && !self.marks.out.has(circuit)
+            && !seized_from(self.plan, self.calls.as_slice(), circuit, place)
     }
 
     /// The free circuit of the least number.

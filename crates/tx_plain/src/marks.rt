@@ -1,12 +1,11 @@
 // The marks of groups and circuits.
 ghost use Rattle.std.specs.Prelude.{◌≡◌, ◌<◌, ◌≤◌, ◌^◌, IfOk, not, ◌==◌};
 ghost use Rattle.std.specs.FinSet as set;
-ghost use Rattle.tx_plain.specs.inner.Marked.{marked_after, CanMark, no_marks};
+ghost use Rattle.tx_plain.specs.inner.Marked.{no_marks};
 
 use crate::circuit_marks::CircuitMarks;
 use crate::group_marks::GroupMarks;
 use std::alloc::{Allocator, Global};
-use tx_machine::Event;
 use tx_plan::GroupId;
 use tx_text::NoMemory;
 
@@ -39,22 +38,6 @@ impl<A: Allocator + Copy> Marks<A> {
 }
 
 impl<A: Allocator> Marks<A> {
-    /// Sets the mark of an event, or takes it away.
-    pub(crate) fn mark(&mut self, event: &Event)
-        requires { CanMark event.now self.old }
-        ensures { self.new ≡ marked_after event.now self.old }
-    {
-        match event {
-            Event::Released(circuit) => self.releasing.clear(circuit),
-            Event::Restore(group) => self.failed.clear(*group),
-            Event::Block(group) => self.blocked.set(*group),
-            Event::Unblock(group) => self.blocked.clear(*group),
-            Event::CircuitOut(circuit) => self.out.set(circuit),
-            Event::CircuitIn(circuit) => self.out.clear(circuit),
-            _ => {}
-        }
-    }
-
     /// A group fails, and none of its circuits is releasing any longer.
     pub(crate) fn fail(&mut self, group: GroupId)
         requires failed { group < self.old.failed.groups }

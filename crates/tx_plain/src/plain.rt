@@ -1,13 +1,15 @@
 // A network over lists.
-ghost use Rattle.std.specs.Prelude.{◌≡◌, ◌<◌, ◌+◌, ◌-◌, IfOk, OnErr, Some, None, true};
+ghost use Rattle.std.specs.Prelude.{◌≡◌, ◌<◌, ◌+◌, ◌-◌, IfOk, OnErr, Some, None, true, not, filter};
 ghost use Rattle.tx_machine.specs.Step.{takes_memory, accepted, counted};
 ghost use Rattle.tx_machine.specs.State.{opening};
 ghost use Rattle.tx_machine.specs.Refusals.{refusal};
+ghost use Rattle.tx_plan.specs.Orders.{same_line};
 
+use crate::calls::same_line;
 use crate::marks::Marks;
 use std::alloc::{Allocator, Global};
 use std::marker::Model;
-use tx_machine::{Event, Network, OpenCall, Refusal, Reply, Ticket, refusal_of};
+use tx_machine::{Event, Network, OpenCall, Reply, Ticket, refusal_of};
 use tx_plan::{Line, Plan};
 use tx_text::NoMemory;
 
@@ -86,7 +88,7 @@ impl<'p, A: Allocator + Copy> Plain<'p, A> {
         })
     }
 
-    /// One event that no refusal meets.
+    /// One event that is not refused.
     fn accept(&mut self, event: &Event) -> Result<Reply, NoMemory>
         requires open { refusal self.old.plan self.old.state event.now ≡ None }
         ensures plan { self.new.plan ≡ self.old.plan }
@@ -96,13 +98,24 @@ impl<'p, A: Allocator + Copy> Plain<'p, A> {
         ensures memory { OnErr result (takes_memory event.now ≡ true) }
     {
         match event {
-            Event::Key { line, keyed } => self.key(*line, *keyed),
-            Event::Route(number) => self.route(*number),
-            Event::Confirm(number) => Ok(self.confirm(*number)),
-            Event::Clear { call, party } => Ok(self.clear(*call, *party)),
-            Event::Fail(group) => Ok(self.fail(*group)),
-            _ => self.mark(event),
+            Event::Key { line, keyed } => return self.key(*line, *keyed),
+            Event::Route(number) => return self.route(*number),
+            Event::Confirm(number) => return Ok(self.confirm(*number)),
+            Event::Clear { call, party } => return Ok(self.clear(*call, *party)),
+            Event::Fail(group) => return Ok(self.fail(*group)),
+            Event::Released(circuit) => self.marks.releasing.clear(circuit),
+            Event::Restore(group) => self.marks.failed.clear(*group),
+            Event::Block(group) => self.marks.blocked.set(*group),
+            Event::Unblock(group) => self.marks.blocked.clear(*group),
+            Event::CircuitOut(circuit) => self.marks.out.set(circuit),
+            Event::CircuitIn(circuit) => self.marks.out.clear(circuit),
+            Event::LineFault(line) => self.faulty.push(*line)?,
+            Event::LineMend(line) => take_line(&mut self.faulty, line),
+            Event::LineAway(line) => self.away.push(*line)?,
+            Event::LineBack(line) => take_line(&mut self.away, line),
         }
+        self.events += 1;
+        Ok(Reply::Done)
     }
 }
 
@@ -114,8 +127,7 @@ impl<'p, A: Allocator + Copy> Network for Plain<'p, A> {
     ghost state = { λ n. n.state };
 
     fn apply(&mut self, event: Event) -> Result<Reply, NoMemory> {
-        let refusal = refusal_of(self, &event);
-        match refusal {
+        match refusal_of(self, &event) {
             Some(refusal) => Ok(Reply::Refused(refusal)),
             None => self.accept(&event),
         }
@@ -135,5 +147,19 @@ impl<'p, A: Allocator + Copy> Network for Plain<'p, A> {
 
     fn events(&self) -> u64 {
         self.events
+    }
+}
+
+/// Takes a line out of the list.
+fn take_line<A: Allocator>(lines: &mut Vec<Line, A>, line: &Line)
+    ensures { lines.new.items ≡ filter (λ m. not (same_line m line.now)) lines.old.items }
+{
+    let mut at = 0;
+    while at < lines.len() {
+        if same_line(&lines[at], line) {
+            lines.remove(at);
+        } else {
+            at += 1;
+        }
     }
 }

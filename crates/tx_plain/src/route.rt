@@ -1,5 +1,5 @@
 // Routing a call.
-ghost use Rattle.tx_plain.specs.declared.routing.Routing.TheVariants.{Answer};
+ghost use Rattle.tx_plain.specs.declared.route.Routing.TheVariants.{Answer};
 ghost use Rattle.std.specs.Prelude.{◌≡◌, ◌<◌, ◌+◌, ◌-◌, ◌^◌, IfOk, OnErr, Some, None, is_some, ◌==◌, true};
 ghost use Rattle.tx_machine.specs.Step.{step, accepted, counted};
 ghost use Rattle.tx_machine.specs.Call.{is_first, call_of};
@@ -13,16 +13,25 @@ ghost use Rattle.tx_machine.specs.declared.event.Event.TheVariants.{Route};
 ghost use Rattle.tx_machine.specs.declared.phase.Phase.TheVariants.{Calling};
 
 use crate::calls::call_of;
-use crate::change::Change;
-use crate::changing::{change_numbered, reserve_hop};
-use crate::ends::Ends;
+use crate::changing::{Change, change_numbered, reserve_hop};
+use crate::ended_calls::Ends;
+use crate::keyed::{code_of, rest_after};
 use crate::plain::Plain;
-use crate::routing::Routing;
-use crate::truth::both;
 use std::alloc::Allocator;
 use tx_machine::{Cause, Facts, Hop, OpenCall, Phase, Reply, Service, place_of};
-use tx_plan::{Circuit, CodeId, ExchangeId, Line, code_of, rest_after};
+use tx_plan::{Circuit, CodeId, ExchangeId, Line};
 use tx_text::NoMemory;
+
+/// What is done with a call that is routed.
+#[derive(Clone, Copy)]
+pub(crate) enum Routing {
+    /// It is answered with a service code, and ends.
+    Answer(Service),
+    /// It is connected to the line.
+    Connect(Line),
+    /// It seizes the circuit.
+    Seize(Circuit),
+}
 
 impl<'p, A: Allocator + Copy> Plain<'p, A> {
     /// What the line decides at its home.
@@ -88,7 +97,7 @@ impl<'p, A: Allocator + Copy> Plain<'p, A> {
             None => Routing::Answer(Service::Np),
             Some(code) => {
                 let place = place_of(plan, call);
-                let barred = both(is_first(&call.hops), plan.is_barred(place, code));
+                let barred = is_first(&call.hops) && plan.is_barred(place, code);
                 let home = plan.home(code);
                 if barred {
                     Routing::Answer(Service::Na)

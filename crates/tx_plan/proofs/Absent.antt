@@ -1,5 +1,5 @@
 -- A word that is no name names nothing.
-use Rattle.std.proofs.Common.{◌≡◌, ℕ, ◌<◌, ◌≤◌, Bool, true, false, ◌&&◌, ◌||◌, nat_le, List, [], ◌∷◌, length, None, refl, sym, ap, ◌∙◌, arith}
+use Rattle.std.proofs.Common.{◌≡◌, ℕ, ◌<◌, ◌≤◌, Bool, true, false, ◌&&◌, ◌||◌, nat_le, List, [], ◌∷◌, length, Option, Some, None, is_some, refl, sym, ap, ◌∙◌, arith}
 use Rattle.std.specs.Prelude.{position}
 use Rattle.std.specs.List.{AllByRecursion, list_all}
 use Rattle.std.specs.Str.{bytes_eq}
@@ -7,7 +7,9 @@ use Rattle.std.proofs.lemmas.Slice.Eq.{bytes_eq-Decides}
 use Rattle.std.proofs.lemmas.Bool.{leb-true, and_parts}
 use Rattle.tx_text.specs.Words.{is_name, is_letter, is_figure}
 use Rattle.tx_plan.specs.Rules.{is_code}
-use Rattle.tx_entries.proofs.Lists.{no_place}
+use Rattle.tx_plan.specs.Plan.{Plan, exchange_named, code_named, group_named}
+use Rattle.tx_plan.specs.Declaring.{has_exchange, has_code, has_group}
+use Rattle.tx_plan.proofs.Lists.{no_place, found_any}
 
 same_not : (b : Bool) → (b ≡ true → true ≡ false) → b ≡ false
 same_not true k = k refl
@@ -34,3 +36,23 @@ short_name (b ∷ bs) e =
 pub short_code : (w : List ℕ) → is_code w ≡ true → length w ≤ 3
 short_code w e =
     leb-true (length w) 3 (and_parts (nat_le 2 (length w)) (nat_le (length w) 3) (and_parts (nat_le 2 (length w) && nat_le (length w) 3) (list_all is_figure w) e).0).1
+
+-- nothing was found
+pub none_found : {A : Type 0} (o : Option A) → ((x : A) → o ≡ Some x → ⊥) → false ≡ is_some o
+none_found None h = refl
+none_found (Some x) h = absurd (h x refl)
+
+pub nothing : {A : Type 0} (o : Option A) → ((x : A) → o ≡ Some x → ⊥) → o ≡ None
+nothing None h = refl
+nothing (Some x) h = absurd (h x refl)
+
+-- whether a look-up by a name found something is whether that is declared
+module _ (p : Plan) (w : List ℕ) (o : Option ℕ) (b : Bool) where
+  pub has_exchange-is : o ≡ exchange_named p w → b ≡ is_some o → has_exchange p w ≡ b
+  has_exchange-is e h = sym (h ∙ ap is_some e ∙ found_any (bytes_eq w) p.exchanges)
+
+  pub has_code-is : o ≡ code_named p w → b ≡ is_some o → has_code p w ≡ b
+  has_code-is e h = sym (h ∙ ap is_some e ∙ found_any (λ c. bytes_eq w c.figures) p.codes)
+
+  pub has_group-is : o ≡ group_named p w → b ≡ is_some o → has_group p w ≡ b
+  has_group-is e h = sym (h ∙ ap is_some e ∙ found_any (λ g. bytes_eq w g.name) p.groups)

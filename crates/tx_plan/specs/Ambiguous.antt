@@ -1,6 +1,6 @@
 -- Codes of which one begins another, so that keyed figures do not say where the code ends (ITU-T
 -- F.69).
-use Rattle.std.specs.Prelude.{◌≡◌, ℕ, Bool, true, ◌&&◌, nat_lt, if◌then◌else◌, List, [], ◌∷◌, length, map, filter, Option, Some, None, slice_get}
+use Rattle.std.specs.Prelude.{ℕ, Bool, ◌&&◌, nat_lt, if◌then◌else◌, List, [], ◌∷◌, length, map, filter, Option, Some, None}
 use Rattle.std.specs.List.{enumerate_from, flat_map}
 use Rattle.std.specs.Option.{option_map}
 use Rattle.std.specs.Ordering.{ordering_then, is_le, nat_cmp}
@@ -19,15 +19,6 @@ abbrev pub is_ambiguous : CodePair → Bool
 is_ambiguous p = is_prefix p.first.1.figures p.second.1.figures
     && nat_lt (length p.first.1.figures) (length p.second.1.figures)
 
-abbrev pub pair_at : ℕ → ℕ → Code → Code → CodePair
-pair_at i j c d = record { first = (i, c); second = (j, d) }
-
--- an ambiguous pair of the codes, by its places
-pub record IsAmbiguousAt (codes : List Code) (i j : ℕ) (c d : Code) : Type 0 where
-  pub first : slice_get codes i ≡ Some c
-  pub second : slice_get codes j ≡ Some d
-  pub begins : is_ambiguous (pair_at i j c d) ≡ true
-
 -- all pairs of codes
 abbrev pub code_pairs : List Code → List CodePair
 code_pairs codes = flat_map (λ c. map (λ d. record { first = c; second = d })
@@ -38,6 +29,7 @@ abbrev pub pair_cmp : CodePair → CodePair → Ordering
 pair_cmp p q = ordering_then (slice_cmp nat_cmp p.first.1.figures q.first.1.figures)
     (slice_cmp nat_cmp p.second.1.figures q.second.1.figures)
 
+-- the less of a pair and another one, if there is another
 abbrev pub lesser : CodePair → Option CodePair → Option CodePair
 lesser p None = Some p
 lesser p (Some q) = if is_le (pair_cmp p q) then Some p else Some q

@@ -2,10 +2,11 @@
 use Rattle.std.specs.Prelude.{ℕ, zero, suc, Bool, true, false, ◌&&◌, ◌||◌, ◌==◌, nat_le, if◌then◌else◌, List, [], ◌∷◌, ◌++◌, map, Option, Some, None, option_and_then, slice_get}
 use Rattle.std.specs.Option.{option_map_or}
 use Rattle.tx_plan.specs.Plan.{Plan, Group}
-use Rattle.tx_entries.specs.declared.circuit.Circuit.{Circuit}
-use Rattle.tx_entries.specs.declared.direction.Direction.{Direction}
-use Rattle.tx_entries.specs.declared.direction.Direction.TheVariants.{OneWay, BothWay}
+use Rattle.tx_plan.specs.declared.group.Circuit.{Circuit}
+use Rattle.tx_plan.specs.declared.group.Direction.{Direction}
+use Rattle.tx_plan.specs.declared.group.Direction.TheVariants.{OneWay, BothWay}
 
+-- both ends may seize
 abbrev pub is_both : Direction → Bool
 is_both OneWay = false
 is_both BothWay = true
@@ -14,6 +15,7 @@ is_both BothWay = true
 abbrev pub far_end : Group → ℕ → Option ℕ
 far_end g x = if g.a == x then Some g.b else if g.b == x then Some g.a else None
 
+-- the exchange across a group of the plan from x, if x is an end of it
 abbrev pub other_end : Plan → ℕ → ℕ → Option ℕ
 other_end p g x = option_and_then (λ r. far_end r x) (slice_get p.groups g)
 
@@ -21,6 +23,7 @@ other_end p g x = option_and_then (λ r. far_end r x) (slice_get p.groups g)
 abbrev pub may_seize_row : Group → ℕ → Bool
 may_seize_row r x = (r.a == x) || (is_both r.direction && (r.b == x))
 
+-- exchange x may seize a group of the plan
 abbrev pub may_seize : Plan → ℕ → ℕ → Bool
 may_seize p g x = option_map_or (λ r. may_seize_row r x) (slice_get p.groups g) false
 
@@ -57,6 +60,7 @@ upward (suc n) = upward n ++ suc n ∷ []
 abbrev pub order_at : Group → ℕ → List ℕ
 order_at r x = if r.a == x then upward r.count else downward r.count
 
+-- the circuits of a group in the order in which exchange x looks at them
 abbrev pub circuits_at : Plan → ℕ → ℕ → List Circuit
 circuits_at p g x = option_map_or (λ r. map (λ n. record { group = g; number = n }) (order_at r x))
     (slice_get p.groups g) []

@@ -2,14 +2,32 @@
 use Rattle.std.specs.Prelude.{ℕ, List, [], Option, slice_get, position}
 use Rattle.std.specs.Option.{option_map_or}
 use Rattle.std.specs.Str.{bytes_eq}
-pub use Rattle.tx_entries.specs.Entries.{Code, Group, Route}
-use Rattle.tx_entries.specs.declared.pair.Pair.{Pair}
-use Rattle.tx_entries.specs.declared.range.LineRange.{LineRange}
+use Rattle.tx_plan.specs.declared.group.Direction.{Direction}
+use Rattle.tx_plan.specs.declared.ids.Pair.{Pair}
+use Rattle.tx_plan.specs.declared.range.LineRange.{LineRange}
+
+-- a destination code: its figures, and the exchange that is its home
+pub record Code : Type 0 where
+  pub figures : List ℕ
+  pub home : ℕ
+
+-- a group of circuits from a, its first end, to b
+pub record Group : Type 0 where
+  pub name : List ℕ
+  pub a : ℕ
+  pub b : ℕ
+  pub direction : Direction
+  pub count : ℕ
+
+-- the groups that an exchange tries for a code, in order
+pub record Route : Type 0 where
+  pub exchange : ℕ
+  pub code : ℕ
+  pub groups : List ℕ
 
 -- An exchange is its name. Exchanges, codes and groups are known by their places in these lists,
--- from 0. A range is the national numbers of a code
--- from low to high. A bar is an exchange and a code: calls that start there for that code are not
--- admitted.
+-- from 0. A range is the national numbers of a code from low to high. A bar is an exchange and a
+-- code: calls that start there for that code are not admitted.
 pub record Plan : Type 0 where
   pub exchanges : List (List ℕ)
   pub codes : List Code
@@ -21,8 +39,6 @@ pub record Plan : Type 0 where
 -- nothing is declared yet
 abbrev pub no_plan : Plan
 no_plan = record { exchanges = []; codes = []; ranges = []; groups = []; routes = []; bars = [] }
-
--- NAMES AND PLACES
 
 -- the exchange of a name
 abbrev pub exchange_named : Plan → List ℕ → Option ℕ

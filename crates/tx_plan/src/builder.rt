@@ -3,14 +3,18 @@ ghost use Rattle.std.specs.Prelude.{◌≡◌};
 ghost use Rattle.tx_plan.specs.Plan.{no_plan};
 ghost use Rattle.tx_plan.specs.Declaring.{Declares, first_true, exchange_refusals, with_exchange, code_refusals, with_code, lines_refusals, with_lines, group_refusals, with_group, route_refusals, with_route, bar_refusals, with_bar};
 
+use crate::bars::Bars;
 use crate::entries::{
     bar_entry, code_entry, exchange_entry, group_entry, range_entry, route_entry,
 };
+use crate::group::Direction;
 use crate::plan::Plan;
 use crate::refusal::PlanRefusal;
+use crate::routes::Routes;
+use crate::word_hasher::ByWord;
+use indexmap::{IndexMap, IndexSet};
 use std::alloc::{Allocator, Global};
 use std::marker::Model;
-use tx_entries::{Bars, Codes, Direction, Exchanges, Groups, Ranges, Routes};
 use tx_text::Words;
 
 /// A plan in the making. What it declared so far obeys the rules of a plan.
@@ -37,10 +41,10 @@ impl<A: Allocator + Copy> PlanBuilder<A> {
     {
         PlanBuilder {
             plan: Plan {
-                exchanges: Exchanges::new(alloc),
-                codes: Codes::new(alloc),
-                ranges: Ranges::new(alloc),
-                groups: Groups::new(alloc),
+                exchanges: IndexSet::with_hasher(alloc, ByWord),
+                codes: IndexMap::with_hasher(alloc, ByWord),
+                ranges: Vec::new(alloc),
+                groups: IndexMap::with_hasher(alloc, ByWord),
                 routes: Routes::new(alloc),
                 bars: Bars::new(alloc),
             },
@@ -57,10 +61,7 @@ impl<A: Allocator> PlanBuilder<A> {
     {
         let plan = &mut self.plan;
         let entry = exchange_entry(plan, name)?;
-        match plan.exchanges.add(entry) {
-            Ok(()) => {}
-            Err(_) => return Err(PlanRefusal::NoMemory),
-        }
+        plan.exchanges.insert(entry)?;
         Ok(())
     }
 
@@ -73,10 +74,7 @@ impl<A: Allocator> PlanBuilder<A> {
     {
         let plan = &mut self.plan;
         let (figures, home) = code_entry(plan, code, home)?;
-        match plan.codes.add(figures, home) {
-            Ok(()) => {}
-            Err(_) => return Err(PlanRefusal::NoMemory),
-        }
+        plan.codes.insert(figures, home)?;
         Ok(())
     }
 
@@ -88,14 +86,8 @@ impl<A: Allocator> PlanBuilder<A> {
             (with_lines self.old code.now low.now high.now) self.new result }
     {
         let plan = &mut self.plan;
-        let range = match range_entry(plan, code, low, high) {
-            Ok(entry) => entry,
-            Err(refusal) => return Err(refusal),
-        };
-        match plan.ranges.add(range) {
-            Ok(()) => {}
-            Err(_) => return Err(PlanRefusal::NoMemory),
-        }
+        let range = range_entry(plan, code, low, high)?;
+        plan.ranges.push(range)?;
         Ok(())
     }
 
@@ -115,10 +107,7 @@ impl<A: Allocator> PlanBuilder<A> {
     {
         let plan = &mut self.plan;
         let (key, row) = group_entry(plan, name, a, b, direction, count)?;
-        match plan.groups.add(key, row) {
-            Ok(()) => {}
-            Err(_) => return Err(PlanRefusal::NoMemory),
-        }
+        plan.groups.insert(key, row)?;
         Ok(())
     }
 
@@ -136,14 +125,8 @@ impl<A: Allocator> PlanBuilder<A> {
             self.old (with_route self.old exchange.now code.now groups.entry) self.new result }
     {
         let plan = &mut self.plan;
-        let (pair, list) = match route_entry(plan, exchange, code, groups) {
-            Ok(entry) => entry,
-            Err(refusal) => return Err(refusal),
-        };
-        match plan.routes.add(pair, list) {
-            Ok(()) => {}
-            Err(_) => return Err(PlanRefusal::NoMemory),
-        }
+        let (pair, list) = route_entry(plan, exchange, code, groups)?;
+        plan.routes.add(pair, list)?;
         Ok(())
     }
 
@@ -154,14 +137,8 @@ impl<A: Allocator> PlanBuilder<A> {
             (with_bar self.old exchange.now code.now) self.new result }
     {
         let plan = &mut self.plan;
-        let pair = match bar_entry(plan, exchange, code) {
-            Ok(entry) => entry,
-            Err(refusal) => return Err(refusal),
-        };
-        match plan.bars.add(pair) {
-            Ok(()) => {}
-            Err(_) => return Err(PlanRefusal::NoMemory),
-        }
+        let pair = bar_entry(plan, exchange, code)?;
+        plan.bars.add(pair)?;
         Ok(())
     }
 

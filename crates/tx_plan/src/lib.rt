@@ -23,20 +23,31 @@
 //! ```
 #![tactic(auto)]
 
+mod bars;
 mod builder;
 mod entries;
+mod group;
+mod group_list;
 mod group_words;
-mod keyed;
+mod ids;
+mod line;
+mod name_key;
 mod names;
 mod plan;
+mod range;
 mod refusal;
 mod route_words;
+mod routes;
+mod word_hasher;
 
+pub use bars::Bars;
 pub use builder::PlanBuilder;
-pub use keyed::{code_of, rest_after};
+pub use group::{Circuit, Direction};
+pub use group_list::GroupList;
+pub use ids::{CodeId, ExchangeId, GroupId, Pair};
+pub use line::{Line, National};
 pub use plan::Plan;
+pub use range::LineRange;
 pub use refusal::PlanRefusal;
-pub use tx_entries::{
-    Bars, Circuit, CodeId, Direction, ExchangeId, GroupId, GroupList, Line, LineRange, NameKey,
-    National, Pair, Routes,
-};
+pub use routes::Routes;
+pub use word_hasher::ByWord;

@@ -1,20 +1,27 @@
 // A route plan and its readers.
-ghost use Rattle.std.specs.Prelude.{◌≡◌, ◌≤◌, if◌then◌else◌, nat_lt, Some, None, length, slice_get};
-ghost use Rattle.std.specs.Option.{option_map};
+ghost use Rattle.std.specs.Prelude.{◌≡◌, ◌≤◌, ◌&&◌, ◌==◌, if◌then◌else◌, nat_lt, Some, None, length, slice_get};
+ghost use Rattle.std.specs.List.{list_any};
+ghost use Rattle.std.specs.Option.{option_map, option_copied};
 ghost use Rattle.tx_plan.specs.Plan.{home_of};
-ghost use Rattle.tx_plan.specs.Lines.{is_line_at};
+ghost use Rattle.tx_plan.specs.Lines.{is_line_at, in_range};
 ghost use Rattle.tx_plan.specs.Routes.{route_list, is_barred, is_origin, is_origin_for};
 ghost use Rattle.tx_plan.specs.Circuits.{direction_of, count_of, ends_of, other_end, may_seize};
 ghost use Rattle.tx_plan.specs.Rules.{IsPlan};
-ghost use Rattle.tx_plan.specs.Rerouted.{rerouted};
+ghost use Rattle.tx_plan.specs.Mixed.{rerouted};
 ghost use Rattle.tx_plan.specs.Declaring.{has_route, overlaps};
+ghost use Rattle.tx_plan.specs.inner.Tables.{row_of};
 
+use crate::bars::Bars;
+use crate::group::{Direction, GroupRow};
+use crate::ids::{CodeId, ExchangeId, GroupId, Pair};
+use crate::line::{Line, National};
+use crate::name_key::NameKey;
+use crate::range::LineRange;
+use crate::routes::Routes;
+use crate::word_hasher::ByWord;
+use indexmap::{IndexMap, IndexSet};
 use std::alloc::{Allocator, Global};
 use std::marker::Model;
-use tx_entries::{
-    Bars, CodeId, Codes, Direction, ExchangeId, Exchanges, GroupId, Groups, Line, LineRange,
-    National, Pair, Ranges, Routes,
-};
 
 /// A route plan: exchanges, codes, ranges, groups, routes and bars, each in order of declaration.
 /// It obeys the rules of a plan.
@@ -22,10 +29,10 @@ use tx_entries::{
 /// Readers by id answer a foreign id with a default, and none takes memory.
 #[derive(Drop)]
 pub struct Plan<A: Allocator = Global> {
-    pub(crate) exchanges: Exchanges<A>,
-    pub(crate) codes: Codes<A>,
-    pub(crate) ranges: Ranges<A>,
-    pub(crate) groups: Groups<A>,
+    pub(crate) exchanges: IndexSet<NameKey, ByWord, A>,
+    pub(crate) codes: IndexMap<NameKey, ExchangeId, ByWord, A>,
+    pub(crate) ranges: Vec<LineRange, A>,
+    pub(crate) groups: IndexMap<NameKey, GroupRow, ByWord, A>,
     pub(crate) routes: Routes<A>,
     pub(crate) bars: Bars<A>,
 }
@@ -33,26 +40,15 @@ pub struct Plan<A: Allocator = Global> {
 impl<A: Allocator> Model for Plan<A> {
     ghost use Rattle.tx_plan.specs.Plan.{Plan};
     ghost use Rattle.tx_plan.specs.Rules.{IsPlan};
+    ghost use Rattle.tx_plan.specs.inner.Tables.{plan_of};
 
     ghost Value = { Plan };
 
-    ghost view = { λ p. record {
-      exchanges = p.exchanges;
-      codes = p.codes;
-      ranges = p.ranges;
-      groups = p.groups;
-      routes = p.routes;
-      bars = p.bars;
-    } };
+    ghost view = { λ p. plan_of p.exchanges.keys p.codes.entries p.ranges.items p.groups.entries
+        p.routes p.bars };
 
-    ghost invariant = { λ p. IsPlan (record {
-      exchanges = p.exchanges;
-      codes = p.codes;
-      ranges = p.ranges;
-      groups = p.groups;
-      routes = p.routes;
-      bars = p.bars;
-    }) };
+    ghost invariant = { λ p. IsPlan (plan_of p.exchanges.keys p.codes.entries p.ranges.items
+        p.groups.entries p.routes p.bars) };
 }
 
 /// Counts, and entries by their places.
@@ -153,28 +149,25 @@ impl<A: Allocator> Plan<A> {
     pub fn range_at(&self, place: usize) -> Option<LineRange>
         ensures { result ≡ slice_get self.now.ranges place }
     {
-        self.ranges.at(place).copied()
+        self.ranges.get(place).copied()
     }
 
     /// The exchange and the code of the route at a place, from 0. `list` has its groups.
     pub fn route_at(&self, place: usize) -> Option<(ExchangeId, CodeId)>
-        ensures { result ≡ option_map (λ r. (r.exchange, r.code))
+        ensures value { result ≡ option_map (λ r. (r.exchange, r.code))
             (slice_get self.now.routes place) }
+        ensures rules { IsPlan self.now }
     {
-        match self.routes.pair_at(place) {
-            Some(pair) => Some((pair.exchange, pair.code)),
-            None => None,
-        }
+        let pair = self.routes.pair_at(place)?;
+        Some((pair.exchange, pair.code))
     }
 
     /// The exchange and the code of the bar at a place, from 0.
     pub fn bar_at(&self, place: usize) -> Option<(ExchangeId, CodeId)>
         ensures { result ≡ option_map (λ b. (b.exchange, b.code)) (slice_get self.now.bars place) }
     {
-        match self.bars.at(place) {
-            Some(pair) => Some((pair.exchange, pair.code)),
-            None => None,
-        }
+        let pair = self.bars.at(place)?;
+        Some((pair.exchange, pair.code))
     }
 }
 
@@ -198,7 +191,10 @@ impl<A: Allocator> Plan<A> {
     pub fn home(&self, code: CodeId) -> ExchangeId
         ensures { result ≡ home_of self.now code }
     {
-        self.codes.home(code.index())
+        match self.codes.get_index(code.index()) {
+            Some((_, home)) => *home,
+            None => ExchangeId::of(0),
+        }
     }
 
     /// The line of a code and a national number, if that lies in a range of the code (ITU-T F.69).
@@ -206,17 +202,31 @@ impl<A: Allocator> Plan<A> {
         ensures { result ≡ (if is_line_at self.now code national.now
             then Some (record { code = code; national = national.now }) else None) }
     {
-        let national = National::read(national)?;
-        if self.ranges.has(code, national.bytes()) {
-            Some(Line { code, national })
+        let line = Line {
+            code,
+            national: National::read(national)?,
+        };
+        if self.is_in_range(code, national) {
+            Some(line)
         } else {
             None
         }
     }
 
+    /// Whether a national number lies in a range of the code.
+    fn is_in_range(&self, code: CodeId, number: &[u8]) -> bool
+        ensures { result ≡ list_any (λ r. (r.code == code) && in_range number.now r)
+            self.now.ranges }
+    {
+        self.ranges
+            .iter()
+            .any(|range| range.code == code && range.has(number))
+    }
+
     /// The groups that the exchange tries for the code, in order; none where no route is declared.
     pub fn list(&self, exchange: ExchangeId, code: CodeId) -> &[GroupId]
-        ensures { result.now ≡ route_list self.now exchange code }
+        ensures value { result.now ≡ route_list self.now exchange code }
+        ensures rules { IsPlan self.now }
     {
         self.routes.list(&Pair { exchange, code })
     }
@@ -232,7 +242,9 @@ impl<A: Allocator> Plan<A> {
     pub(crate) fn overlaps(&self, code: CodeId, low: &[u8], high: &[u8]) -> bool
         ensures { result ≡ overlaps self.now (Some code) low.now high.now }
     {
-        self.ranges.overlaps(code, low, high)
+        self.ranges
+            .iter()
+            .any(|range| range.shares(code, low, high))
     }
 
     /// Whether calls that start at the exchange for the code are not admitted.
@@ -247,9 +259,8 @@ impl<A: Allocator> Plan<A> {
         ensures { result ≡ is_origin self.now exchange }
     {
         self.ranges
-            .as_slice()
             .iter()
-            .any(|range| self.codes.home(range.code.index()) == exchange)
+            .any(|range| self.home(range.code) == exchange)
     }
 
     /// Whether calls for the code may start at the exchange: it is an origin that is not barred for
@@ -263,11 +274,20 @@ impl<A: Allocator> Plan<A> {
 
 /// Groups of circuits.
 impl<A: Allocator> Plan<A> {
+    /// What is declared of the group beside its name.
+    fn row(&self, group: GroupId) -> Option<&GroupRow>
+        ensures value { option_copied result ≡ option_map row_of (slice_get self.now.groups group) }
+        ensures rules { IsPlan self.now }
+    {
+        let (_, row) = self.groups.get_index(group.index())?;
+        Some(row)
+    }
+
     /// From which ends the group may be seized; `OneWay` for a foreign one.
     pub fn direction(&self, group: GroupId) -> Direction
         ensures { result ≡ direction_of self.now group }
     {
-        match self.groups.at(group.index()) {
+        match self.row(group) {
             Some(row) => row.direction,
             None => Direction::OneWay,
         }
@@ -278,7 +298,7 @@ impl<A: Allocator> Plan<A> {
         ensures value { result ≡ count_of self.now group }
         ensures few { result ≤ 240 }
     {
-        match self.groups.at(group.index()) {
+        match self.row(group) {
             Some(row) => u32::from(row.count),
             None => 0,
         }
@@ -288,35 +308,35 @@ impl<A: Allocator> Plan<A> {
     pub fn ends(&self, group: GroupId) -> (ExchangeId, ExchangeId)
         ensures { result ≡ ends_of self.now group }
     {
-        match self.groups.at(group.index()) {
+        match self.row(group) {
             Some(row) => (row.a, row.b),
-            None => (ExchangeId::at(0), ExchangeId::at(0)),
+            None => (ExchangeId::of(0), ExchangeId::of(0)),
         }
     }
 
-    /// The exchange across the group, if the exchange is an end of it. Which of them it is cannot
-    /// be foreseen: the sum of both ends less the one is the other.
+    /// The exchange across the group, if the exchange is an end of it.
     pub fn other_end(&self, group: GroupId, exchange: ExchangeId) -> Option<ExchangeId>
-        ensures { result ≡ other_end self.now group exchange }
+        ensures value { result ≡ other_end self.now group exchange }
+        ensures rules { IsPlan self.now }
     {
-        let row = self.groups.at(group.index())?;
-        if (row.a == exchange) | (row.b == exchange) {
-            let far = row.a.index() + row.b.index() - exchange.index();
-            Some(ExchangeId::of(far))
+        let row = self.row(group)?;
+        if row.a == exchange {
+            Some(row.b)
+        } else if row.b == exchange {
+            Some(row.a)
         } else {
             None
         }
     }
 
     /// Whether the exchange may seize the group: its first end may, and of a both-way group the
-    /// other end too. Both are looked at, since which of them it is
-    /// cannot be foreseen.
+    /// other end too.
     pub fn may_seize(&self, group: GroupId, exchange: ExchangeId) -> bool
         ensures { result ≡ may_seize self.now group exchange }
     {
-        match self.groups.at(group.index()) {
+        match self.row(group) {
             Some(row) => {
-                (row.a == exchange) | ((row.direction == Direction::BothWay) & (row.b == exchange))
+                row.a == exchange || row.direction == Direction::BothWay && row.b == exchange
             }
             None => false,
         }

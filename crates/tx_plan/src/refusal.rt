@@ -1,5 +1,10 @@
 // Why a declaration is refused.
+ghost use Rattle.std.specs.Prelude.{◌≡◌};
+ghost use Rattle.tx_plan.specs.declared.refusal.PlanRefusal.TheVariants.{NoMemory as OutOfMemory};
+
+use std::alloc::AllocFailed;
 use thiserror::Error;
+use tx_text::NoMemory;
 
 /// Why a declaration of a plan is refused. Of several reasons the first in this order is given. The
 /// codes are those that a plan's text is refused with.
@@ -50,4 +55,20 @@ pub enum PlanRefusal {
     /// P21: no memory was left.
     #[error("no memory")]
     NoMemory,
+}
+
+impl From<NoMemory> for PlanRefusal {
+    ghost from_gives = { λ _ refusal. refusal ≡ OutOfMemory };
+
+    fn from(_: NoMemory) -> PlanRefusal {
+        PlanRefusal::NoMemory
+    }
+}
+
+impl<T: Drop> From<AllocFailed<T>> for PlanRefusal {
+    ghost from_gives = { λ _ refusal. refusal ≡ OutOfMemory };
+
+    fn from(_: AllocFailed<T>) -> PlanRefusal {
+        PlanRefusal::NoMemory
+    }
 }

@@ -1,20 +1,18 @@
 // What the words of a route's groups come to, in one pass over them.
-ghost use Rattle.std.specs.Prelude.{◌≡◌, ◌||◌, ◌++◌, ◌∷◌, [], Some, IfSome, not, false, nat_le, length};
-ghost use Rattle.std.specs.Option.{option_map_or};
+ghost use Rattle.std.specs.Prelude.{◌≡◌, ◌||◌, ◌++◌, ◌∷◌, [], not, false, nat_le, length};
 ghost use Rattle.tx_text.specs.Words.{is_name};
-ghost use Rattle.tx_plan.specs.Circuits.{may_seize};
-ghost use Rattle.tx_plan.specs.Declaring.{has_group, is_not_outgoing, holds_at, group_at};
-ghost use Rattle.tx_plan.specs.inner.Seen.{IsSeen};
+ghost use Rattle.tx_plan.specs.Declaring.{has_group, is_not_outgoing, group_at};
+ghost use Rattle.tx_plan.specs.inner.RouteScan.{IsScanOf};
 
-use crate::entries::group_of;
+use crate::group_list::GroupList;
+use crate::ids::{GroupId, Pair};
 use crate::plan::Plan;
 use std::alloc::Allocator;
-use tx_entries::{GroupId, GroupList, Pair};
 use tx_text::{Words, is_name};
 
 /// What a route's words come to.
 #[derive(Drop)]
-pub(crate) struct Seen {
+pub(crate) struct RouteScan {
     /// One is no name.
     pub bad: bool,
     /// One names no group.
@@ -27,8 +25,9 @@ pub(crate) struct Seen {
     pub list: GroupList,
 }
 
-impl Seen {
+impl RouteScan {
     /// Takes in the next word.
+    #[tactic(auto, using(crate::proofs::Lists::found_any))]
     fn note<A: Allocator>(&mut self, plan: &Plan<A>, pair: &Option<Pair>, word: &[u8])
         ensures bad { self.new.bad ≡ (self.old.bad || not (is_name word.now)) }
         ensures unknown { self.new.unknown
@@ -39,77 +38,26 @@ impl Seen {
         ensures list { self.new.many ≡ false
             → self.new.list ≡ self.old.list ++ group_at plan.now word.now ∷ [] }
     {
-        let group = group_of(plan, word);
-        self.bad = self.bad || (group.is_none() && !is_name(word));
+        let group = plan.group_named(word);
+        let closed = match (pair, group) {
+            (Some(pair), Some(group)) => !plan.may_seize(group, pair.exchange),
+            _ => false,
+        };
+        self.bad = self.bad || !is_name(word);
         self.unknown = self.unknown || group.is_none();
-        self.not_outgoing = self.not_outgoing || is_closed(plan, pair, group);
-        if !self.list.keep(group.unwrap_or(GroupId::at(0))) {
+        self.not_outgoing = self.not_outgoing || closed;
+        if !self.list.push(group.unwrap_or(GroupId::of(0))) {
             self.many = true;
         }
     }
 }
 
-/// Whether the pair's exchange may not seize the group.
-fn is_closed<A: Allocator>(plan: &Plan<A>, pair: &Option<Pair>, group: Option<GroupId>) -> bool
-    ensures { result ≡ holds_at pair.now
-        (λ x c. option_map_or (λ i. not (may_seize plan.now i x)) group false) }
-{
-    match pair {
-        None => false,
-        Some(pair) => match group {
-            None => false,
-            Some(group) => !plan.may_seize(group, pair.exchange),
-        },
-    }
-}
-
-/// The groups that the words name, where each names a group that the pair's exchange may seize, and
-/// no more than 16 stand there. It stops at the first word
-/// where that fails, and tells nothing of the words then.
-fn outgoing<A: Allocator>(plan: &Plan<A>, pair: &Pair, words: Words<'_>) -> Option<GroupList>
-    ensures { IfSome result (λ list. IsSeen plan.now (Some pair.now) words.entry (record
-        { bad = false; unknown = false; not_outgoing = false; many = false; list = list })) }
+/// What the words come to for a pair.
+pub(crate) fn scan<A: Allocator>(plan: &Plan<A>, pair: &Option<Pair>, words: Words<'_>) -> RouteScan
+    ensures { IsScanOf plan.now pair.now words.entry result }
 {
     let mut rest = words;
-    let mut list = GroupList::new();
-    'words: loop {
-        match rest.next() {
-            None => return Some(list),
-            Some(word) => {
-                let group = group_of(plan, word)?;
-                if !plan.may_seize(group, pair.exchange) || !list.keep(group) {
-                    return None;
-                }
-            }
-        }
-    }
-}
-
-/// What the words come to for a pair. A list as most are, of outgoing groups alone, is told by a
-/// shorter loop.
-pub(crate) fn see<A: Allocator>(plan: &Plan<A>, pair: &Option<Pair>, words: Words<'_>) -> Seen
-    ensures { IsSeen plan.now pair.now words.entry result }
-{
-    if let Some(pair) = pair {
-        if let Some(list) = outgoing(plan, pair, words.again()) {
-            return Seen {
-                bad: false,
-                unknown: false,
-                not_outgoing: false,
-                many: false,
-                list,
-            };
-        }
-    }
-    see_each(plan, pair, words)
-}
-
-/// The same, of any words.
-fn see_each<A: Allocator>(plan: &Plan<A>, pair: &Option<Pair>, words: Words<'_>) -> Seen
-    ensures { IsSeen plan.now pair.now words.entry result }
-{
-    let mut rest = words;
-    let mut seen = Seen {
+    let mut scan = RouteScan {
         bad: false,
         unknown: false,
         not_outgoing: false,
@@ -118,8 +66,8 @@ fn see_each<A: Allocator>(plan: &Plan<A>, pair: &Option<Pair>, words: Words<'_>)
     };
     'words: loop {
         match rest.next() {
-            None => return seen,
-            Some(word) => seen.note(plan, pair, word),
+            None => return scan,
+            Some(word) => scan.note(plan, pair, word),
         }
     }
 }

@@ -4,6 +4,5 @@ pub mod ListLines
 pub mod Places
 pub mod PlanLines
 pub mod PlanWriting
-pub mod Reading
 pub mod RouteLines
 pub mod Written

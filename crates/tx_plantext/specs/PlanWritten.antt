@@ -5,29 +5,32 @@ use Rattle.std.specs.List.{flat_map, slice_get}
 use Rattle.std.specs.Option.{option_map_or}
 use Rattle.tx_text.specs.Told.{AtEnd}
 use Rattle.tx_text.specs.Written.{line_written}
-use Rattle.tx_entries.specs.declared.direction.Direction.{Direction}
-use Rattle.tx_entries.specs.declared.direction.Direction.TheVariants.{OneWay, BothWay}
-use Rattle.tx_entries.specs.declared.pair.Pair.{Pair}
-use Rattle.tx_entries.specs.declared.range.LineRange.{LineRange}
+use Rattle.tx_plan.specs.declared.group.Direction.{Direction}
+use Rattle.tx_plan.specs.declared.group.Direction.TheVariants.{OneWay, BothWay}
+use Rattle.tx_plan.specs.declared.ids.Pair.{Pair}
+use Rattle.tx_plan.specs.declared.range.LineRange.{LineRange}
 use Rattle.tx_plan.specs.Plan.{Plan, Code, Group, Route, exchange_name, figures_of, group_name}
 use Rattle.tx_plan.specs.Rules.{IsPlan}
 use Rattle.tx_plantext.specs.PlanText.{plan_of}
 
--- THE WORDS OF EACH LINE
-
+-- the words of an exchange's line
 abbrev pub exchange_words : List ℕ → List (List ℕ)
 exchange_words name = codes "EXCHANGE" ∷ name ∷ []
 
+-- the words of a code's line
 abbrev pub code_words : Plan → Code → List (List ℕ)
 code_words p c = codes "CODE" ∷ c.figures ∷ exchange_name p c.home ∷ []
 
+-- the words of a line of LINES
 abbrev pub range_words : Plan → LineRange → List (List ℕ)
 range_words p r = codes "LINES" ∷ figures_of p r.code ∷ r.low ∷ r.high ∷ []
 
+-- the word of a direction
 abbrev pub direction_word : Direction → List ℕ
 direction_word OneWay = codes "ONEWAY"
 direction_word BothWay = codes "BOTHWAY"
 
+-- the words of a group's line
 abbrev pub group_words : Plan → Group → List (List ℕ)
 group_words p g =
     codes "GROUP"
@@ -37,6 +40,7 @@ group_words p g =
     ∷ direction_word g.direction
     ∷ decimal g.count ∷ []
 
+-- the words of a route's line
 abbrev pub route_words : Plan → Route → List (List ℕ)
 route_words p r =
     codes "ROUTE"
@@ -44,6 +48,7 @@ route_words p r =
     ∷ figures_of p r.code
     ∷ map (group_name p) r.groups
 
+-- the words of a line of BAR
 abbrev pub bar_words : Plan → Pair → List (List ℕ)
 bar_words p b = codes "BAR" ∷ exchange_name p b.exchange ∷ figures_of p b.code ∷ []
 
@@ -52,8 +57,6 @@ abbrev pub plan_lines : Plan → List (List (List ℕ))
 plan_lines p = map exchange_words p.exchanges
     ++ (map (code_words p) p.codes ++ (map (range_words p) p.ranges ++ (map (group_words p) p.groups
     ++ (map (route_words p) p.routes ++ map (bar_words p) p.bars))))
-
--- THE LINES OF A LIST
 
 -- the lines of its entries
 abbrev pub lines_of_list : {A : Type 0} → (A → List (List ℕ)) → List A → List ℕ
@@ -64,8 +67,7 @@ abbrev pub line_at : {A : Type 0} → (A → List (List ℕ)) → List A → ℕ
 line_at words entries place =
     option_map_or (λ x. line_written (words x)) (slice_get entries place) []
 
--- THE TEXT
-
+-- whether a plan has bars
 abbrev pub has_bars : Plan → Bool
 has_bars p = nat_lt 0 (length p.bars)
 
@@ -74,6 +76,7 @@ abbrev pub head_of : Bool → List (List ℕ)
 head_of false = codes "PLAN" ∷ codes "1" ∷ []
 head_of true = codes "PLAN" ∷ codes "2" ∷ []
 
+-- the version of the header
 abbrev pub version_of : Bool → ℕ
 version_of false = 1
 version_of true = 2

@@ -13,10 +13,7 @@ use tx_text::{Words, number};
 fn told(answer: Result<(), PlanRefusal>) -> Result<(), PlanWord>
     ensures { result ≡ word_told answer }
 {
-    match answer {
-        Ok(()) => Ok(()),
-        Err(refusal) => Err(PlanWord::Refused(refusal)),
-    }
+    Ok(answer?)
 }
 
 /// EXCHANGE name.

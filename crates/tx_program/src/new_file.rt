@@ -40,12 +40,14 @@ impl<'a, F: Folder> NewFile<'a, F> {
 
 impl<'a, F: Folder> Write for NewFile<'a, F> {
     fn write(&mut self, bytes: &[u8]) -> io::Result<usize> {
-        if self.file.is_none() {
-            self.file = Some(self.folder.begin(self.name)?);
-        }
         match &mut self.file {
             Some(file) => file.write(bytes),
-            None => Ok(0),
+            None => {
+                let mut file = self.folder.begin(self.name)?;
+                let written = file.write(bytes);
+                self.file = Some(file);
+                written
+            }
         }
     }
 

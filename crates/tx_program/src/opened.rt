@@ -9,6 +9,7 @@ use crate::kept::Keep;
 use std::io::Read;
 use tx_commands::Command;
 use tx_jobs::JobFault;
+use tx_script::Telling;
 
 /// How many transits a call may pass, and how many groups of a list are to spare.
 #[derive(Clone, Copy)]
@@ -69,8 +70,7 @@ pub(crate) enum Opened<'a, I: Read + Drop, R: Read + Drop> {
         script: Input<I, R>,
         /// A refused event gives another exit status.
         strict: bool,
-        /// Each event is told before its reply.
-        echo: bool,
+        telling: Telling,
     },
     Checked {
         plan: Input<I, R>,
@@ -141,7 +141,14 @@ impl<'a, I: Read + Drop, R: Read + Drop> Opened<'a, I, R> {
                 script,
                 strict,
                 echo,
-            } => Opened::run_telling(inputs, plan, script, *strict, *echo),
+                summary,
+            } => {
+                let telling = Telling {
+                    echo: *echo,
+                    summary: *summary,
+                };
+                Opened::run_telling(inputs, plan, script, *strict, telling)
+            }
             Command::Check {
                 plan,
                 cert,
@@ -221,14 +228,14 @@ impl<'a, I: Read + Drop, R: Read + Drop> Opened<'a, I, R> {
         plan: &String,
         script: &String,
         strict: bool,
-        echo: bool,
+        telling: Telling,
     ) -> Result<Opened<'a, I, R>, JobFault> {
         let (plan, script) = inputs.open_both(plan.as_str(), script.as_str())?;
         Ok(Opened::RunTelling {
             plan,
             script,
             strict,
-            echo,
+            telling,
         })
     }
 

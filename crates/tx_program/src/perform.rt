@@ -19,6 +19,7 @@ use tx_jobs::{
     pipe_job, replies_status, run_checked_status, run_job, run_telling_job, survival_status,
     survive_job, survive_risks_job, trace_job,
 };
+use tx_script::Telling;
 use tx_text::Source;
 
 /// Opens the files of a command, does its job, and lets its output out. Answers the exit status. An
@@ -62,8 +63,8 @@ fn do_job<A: Allocator + Copy, F: Folder, I: Read + Drop, O: Write + Drop>(
             plan,
             script,
             strict,
-            echo,
-        } => run_telling_files(alloc, plan, script, strict, echo, output)?,
+            telling,
+        } => run_telling_files(alloc, plan, script, strict, telling, output)?,
         Opened::Checked {
             plan,
             cert,
@@ -122,17 +123,17 @@ fn run_script<A: Allocator + Copy, P: Source, R: Read + Drop, O: Write + Drop>(
     run_job(alloc, plan, &mut script, &mut output.sink()).and(Ok(0))
 }
 
-/// `run PLAN SCRIPT` with `--strict` or `--echo`.
+/// `run PLAN SCRIPT` with `--strict`, `--echo` or `--summary`.
 fn run_telling_files<A: Allocator + Copy, P: Read + Drop, R: Read + Drop, O: Write + Drop>(
     alloc: A,
     plan: P,
     script: R,
     strict: bool,
-    echo: bool,
+    telling: Telling,
     output: &Output<O, A>,
 ) -> Result<u8, JobFault> {
     let mut plan = output.source(alloc, plan)?;
-    tell_script(alloc, &mut plan, script, strict, echo, output)
+    tell_script(alloc, &mut plan, script, strict, telling, output)
 }
 
 /// Runs the script over the plan, and returns what is asked for. A function of its own, since each
@@ -142,16 +143,11 @@ fn tell_script<A: Allocator + Copy, P: Source, R: Read + Drop, O: Write + Drop>(
     plan: &mut P,
     script: R,
     strict: bool,
-    echo: bool,
+    telling: Telling,
     output: &Output<O, A>,
 ) -> Result<u8, JobFault> {
     let mut script = output.source(alloc, script)?;
-    let mut sink = output.sink();
-    let summary = if echo {
-        run_telling_job(alloc, echo, plan, &mut script, &mut sink)?
-    } else {
-        run_job(alloc, plan, &mut script, &mut sink)?
-    };
+    let summary = run_telling_job(alloc, telling, plan, &mut script, &mut output.sink())?;
     Ok(replies_status(&summary, strict))
 }
 

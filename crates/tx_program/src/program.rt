@@ -30,11 +30,9 @@ pub struct Ends<'a, F, I: Drop, O: Drop, E: Drop> {
 /// read or write (of help too), 4 when memory runs out, 64 for refused words, and for a code to
 /// draw,
 /// or an exchange or a code to trace, that the plan does not have. Without words, on a terminal, it
-/// prints
-/// its help. A fault is told by one line on standard error, and refused words by what the library
-/// of
-/// command lines says. The words are read with `alloc`, and what they ask for is done with
-/// `memory`.
+/// prints its help. A fault is told by one line on standard error, and refused words by what the
+/// library of command lines says. The words are read with `alloc`, and what they ask for is done
+/// with `memory`.
 pub fn run_words<
     A: Allocator + Copy,
     F: Folder,
@@ -45,9 +43,10 @@ pub fn run_words<
     ensures refused { AskNothing words.now → IsRefusedWith words.now result }
 {
     if words.is_empty() && ends.input.is_terminal() {
-        return do_words(alloc, memory, &["--help"], ends);
+        do_words(alloc, memory, &["--help"], ends)
+    } else {
+        do_words(alloc, memory, words, ends)
     }
-    do_words(alloc, memory, words, ends)
 }
 
 /// The same, whatever the input is.

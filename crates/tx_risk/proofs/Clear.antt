@@ -9,8 +9,8 @@ use Rattle.tx_plan.specs.Routes.{route_list, is_barred}
 use Rattle.tx_plan.specs.Circuits.{circuits_at}
 use Rattle.tx_plan.specs.Among.{Among}
 use Rattle.tx_plan.proofs.Among.{among_cases, filter_among, among_left, among_right, among_map, map_among}
-use Rattle.tx_entries.specs.declared.circuit.Circuit.{Circuit}
-use Rattle.tx_entries.specs.declared.line.Line.{Line}
+use Rattle.tx_plan.specs.declared.group.Circuit.{Circuit}
+use Rattle.tx_plan.specs.declared.line.Line.{Line}
 use Rattle.tx_machine.specs.declared.event.Event.{Event}
 use Rattle.tx_machine.specs.declared.event.Event.TheVariants.{Key, Route, Confirm, Clear, Released, Fail, Restore, Block, Unblock, CircuitOut, CircuitIn, LineFault, LineMend, LineAway, LineBack}
 use Rattle.tx_machine.specs.declared.hop.Hop.{Hop}
@@ -30,7 +30,7 @@ use Rattle.tx_machine.specs.Routing.{in_phase, at_line, at_trunk, line_of, route
 use Rattle.tx_machine.specs.Confirming.{carried_on, thrown_back, far_of}
 use Rattle.tx_machine.specs.Ending.{end_calls}
 use Rattle.tx_machine.specs.Step.{with_call, accepted, counted, unless_refused, step}
-use Rattle.tx_machine.specs.Invariant.{Holds}
+use Rattle.tx_machine.specs.inner.Invariant.{Holds}
 use Rattle.tx_machine.proofs.Lists.{find_mem, none_any, any_none}
 use Rattle.tx_machine.proofs.Uses.{first_in-is, chosen}
 use Rattle.tx_machine.proofs.Invariant.{set_cases}

@@ -15,7 +15,7 @@ use Rattle.tx_machine.specs.Refusals.{is_group}
 use Rattle.tx_machine.proofs.Lists.{all_from_mem}
 use Rattle.tx_machine.proofs.Steps.{all_mem}
 use Rattle.tx_plan.proofs.Among.{filter_among, among_filter}
-use Rattle.tx_rank.specs.Walks.{Goes, net_of, end_of}
+use Rattle.tx_rank.specs.Walks.{Goes, net_of, end_of, IsWalk}
 use Rattle.tx_machine.specs.declared.event.Event.{Event}
 use Rattle.tx_machine.specs.declared.event.Event.TheVariants.{Key, Route, Block}
 use Rattle.tx_machine.specs.declared.phase.Phase.TheVariants.{Standing}
@@ -32,7 +32,6 @@ use Rattle.tx_audit.proofs.Choices.{first_in_none, none_of}
 use Rattle.tx_audit.proofs.Listed.{listed_known}
 use Rattle.tx_audit.proofs.Showing.{Gone, gone}
 use Rattle.tx_audit.proofs.Passing.{no_turn}
-use Rattle.tx_rank.specs.Walks.{IsWalk}
 use Rattle.tx_rank.proofs.PassedOnce.{before_once}
 use Rattle.tx_risk.specs.Risks.{Risk, net_without, IsCut}
 use Rattle.tx_risk.proofs.LeftLists.{left_goes}

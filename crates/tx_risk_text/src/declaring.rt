@@ -1,5 +1,5 @@
 // What each line of a text of risks declares.
-ghost use Rattle.std.specs.Prelude.{◌≡◌, false, not, map, IfOk, OnOk};
+ghost use Rattle.std.specs.Prelude.{◌≡◌, false, not, map, IfOk, IfErr, OnOk, OnErr};
 ghost use Rattle.std.specs.List.{list_any};
 ghost use Rattle.std.specs.Str.{bytes_eq};
 ghost use Rattle.tx_text.specs.Said.{Declared};
@@ -115,7 +115,8 @@ fn add_risk<A: Allocator + Copy>(
     words: Words<'_>,
 ) -> Result<(), NoMemory>
     requires { list_any (λ w. not (has_group plan.now w)) words ≡ false }
-    ensures { OnOk result (risks.new ≡ with_risk plan.now risks.old name words.entry) }
+    ensures ok { OnOk result (risks.new ≡ with_risk plan.now risks.old name words.entry) }
+    ensures same { OnErr result (risks.new ≡ risks.old) }
 {
     let groups = groups_of(alloc, plan, words)?;
     risks.add(NamedRisk { name, groups })
@@ -129,8 +130,9 @@ fn risk_by<A: Allocator + Copy>(
     name: &[u8],
     words: Words<'_>,
 ) -> Result<(), RiskWord>
-    ensures { Declared is_memory (risk_by plan.now risks.old name.now words.entry)
+    ensures declared { Declared is_memory (risk_by plan.now risks.old name.now words.entry)
         risks.new result }
+    ensures same { IfErr result (λ _. risks.new ≡ risks.old) }
 {
     let Some(own) = Name::read(name) else {
         return Err(RiskWord::BadName);
@@ -144,10 +146,7 @@ fn risk_by<A: Allocator + Copy>(
     if !is_none_twice(words.again()) {
         return Err(RiskWord::RepeatedGroup);
     }
-    match add_risk(alloc, plan, risks, own, words) {
-        Ok(()) => Ok(()),
-        Err(_) => Err(RiskWord::NoMemory),
-    }
+    Ok(add_risk(alloc, plan, risks, own, words)?)
 }
 
 /// The words after RISK: a name, and one or more groups.
@@ -157,8 +156,9 @@ fn risk_line<A: Allocator + Copy>(
     risks: &mut Risks<A>,
     words: Words<'_>,
 ) -> Result<(), RiskWord>
-    ensures { Declared is_memory (risk_line plan.now risks.old words.entry) risks.new
+    ensures declared { Declared is_memory (risk_line plan.now risks.old words.entry) risks.new
         result }
+    ensures same { IfErr result (λ _. risks.new ≡ risks.old) }
 {
     let mut words = words;
     let Some(name) = words.next() else {
@@ -171,7 +171,8 @@ fn risk_line<A: Allocator + Copy>(
     risk_by(alloc, plan, risks, name, words)
 }
 
-/// What the line declares under a header of this version, after the lines before it.
+/// Declares what the line does under a header of this version, after the lines before it. A line
+/// that is refused changes nothing.
 #[tactic(auto, unfolding(crate::specs::RiskText::declare))]
 pub(crate) fn declare<A: Allocator + Copy>(
     alloc: A,
@@ -180,8 +181,9 @@ pub(crate) fn declare<A: Allocator + Copy>(
     risks: &mut Risks<A>,
     words: Words<'_>,
 ) -> Result<(), RiskWord>
-    ensures { Declared is_memory (declare plan.now version risks.old words.entry) risks.new
+    ensures declared { Declared is_memory (declare plan.now version risks.old words.entry) risks.new
         result }
+    ensures same { IfErr result (λ _. risks.new ≡ risks.old) }
 {
     let mut words = words;
     let Some(first) = words.next() else {

@@ -14,8 +14,8 @@ use Rattle.tx_text.proofs.ReadBack.{words_joined}
 use Rattle.tx_text.proofs.WrittenWords.{IsShortWord, all_stronger, name_bytes, name_word, figures_word, number_word, number_back, circuit_word, line_of_short, fixed_word, no_fault}
 use Rattle.tx_plan.specs.Plan.{Plan, group_name, figures_of as code_figures}
 use Rattle.tx_plan.specs.Rules.{IsPlan, is_national}
-use Rattle.tx_entries.specs.declared.circuit.Circuit.{Circuit}
-use Rattle.tx_entries.specs.declared.line.Line.{Line}
+use Rattle.tx_plan.specs.declared.group.Circuit.{Circuit}
+use Rattle.tx_plan.specs.declared.line.Line.{Line}
 use Rattle.tx_machine.specs.declared.event.Event.{Event}
 use Rattle.tx_machine.specs.declared.event.Event.TheVariants.{Key, Route, Confirm, Clear, Released, Fail, Restore, Block, Unblock, CircuitOut, CircuitIn, LineFault, LineMend, LineAway, LineBack}
 use Rattle.tx_machine.specs.declared.party.Party.{Party}

@@ -6,6 +6,12 @@ pub mod Scripts
 pub mod Moments
 pub mod Draining
 pub mod Answering
+pub mod Taken
+pub mod TakenSteps
+pub mod GroupUses
+pub mod Ended
+pub mod Counting
+pub mod Told
 pub mod Running
-pub mod Telling
-pub mod TellingRuns
+pub mod RunEnds
+pub mod Silent

@@ -9,8 +9,8 @@ use Rattle.tx_plan.proofs.ByPlace.{place_within}
 use Rattle.tx_text.specs.Words.{number_of, figures_of, are_figures, is_numeral}
 use Rattle.tx_plan.specs.Plan.{Plan, Code, Group, code_named, group_named}
 use Rattle.tx_plan.specs.Rules.{is_national}
-use Rattle.tx_entries.specs.declared.circuit.Circuit.{Circuit}
-use Rattle.tx_entries.specs.declared.line.Line.{Line}
+use Rattle.tx_plan.specs.declared.group.Circuit.{Circuit}
+use Rattle.tx_plan.specs.declared.line.Line.{Line}
 use Rattle.tx_machine.specs.declared.event.Event.{Event}
 use Rattle.tx_machine.specs.declared.event.Event.TheVariants.{Key, Route, Confirm, Clear, Released, Fail, Restore, Block, Unblock, CircuitOut, CircuitIn, LineFault, LineMend, LineAway, LineBack}
 use Rattle.tx_machine.specs.declared.party.Party.{Party}

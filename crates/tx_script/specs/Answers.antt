@@ -3,8 +3,7 @@ use Rattle.std.specs.Prelude.{◌≡◌, ◌⊎◌, ℕ, ◌+◌, Bool, true, fa
 use Rattle.std.specs.Io.KnownBytes.{append_known, IsAtEnd}
 use Rattle.tx_text.specs.declared.frame.FaultKind.{FaultKind}
 use Rattle.tx_text.specs.declared.frame.FaultKind.TheVariants.{Frame, Word}
-use Rattle.tx_text.specs.declared.frame.FrameFault.TheVariants.{Line as of_line}
-use Rattle.tx_text.specs.declared.line_fault.LineFault.TheVariants.{Read as line_read}
+use Rattle.tx_text.specs.declared.frame.FrameFault.TheVariants.{Read as line_read}
 use Rattle.tx_text.specs.Ends.{StopsIn}
 use Rattle.tx_text.specs.Told.{Ending, AtEnd, Cut}
 use Rattle.tx_text.specs.Frame.{ReadsOn, EndsAs, Stands}
@@ -83,9 +82,9 @@ pub record RanToCut (p : Plan) (x : Moved) (broken : Type 0) (event : ℕ) : Typ
   pub line : ℕ
   pub place : event ≡ length events + 1
   pub text : EndsAs x.rest_old x.rest_new (script_of p) Cut
-      (faulty events line (Frame (of_line line_read)))
+      (faulty events line (Frame line_read))
   pub failed : broken
-  pub ran : Ran p x (faulty events line (Frame (of_line line_read)))
+  pub ran : Ran p x (faulty events line (Frame line_read))
 
 -- Memory ran out in this event: the lines of those before it were written, and nothing of it was
 -- done. It takes memory, and would not be refused.

@@ -6,16 +6,15 @@ use Rattle.tx_text.specs.Words.{words_of, number_of, figures_of, are_figures}
 use Rattle.tx_text.specs.Written.{joined, line_written}
 use Rattle.tx_plan.specs.Plan.{Plan, code_named, group_named, group_name, figures_of as code_figures}
 use Rattle.tx_plan.specs.Rules.{IsPlan, is_national}
-use Rattle.tx_entries.specs.declared.circuit.Circuit.{Circuit}
-use Rattle.tx_entries.specs.declared.line.Line.{Line}
+use Rattle.tx_plan.specs.declared.group.Circuit.{Circuit}
+use Rattle.tx_plan.specs.declared.line.Line.{Line}
 use Rattle.tx_machine.specs.declared.event.Event.{Event}
 use Rattle.tx_machine.specs.declared.event.Event.TheVariants.{Key, Route, Confirm, Clear, Released, Fail, Restore, Block, Unblock, CircuitOut, CircuitIn, LineFault, LineMend, LineAway, LineBack}
 use Rattle.tx_machine.specs.declared.party.Party.{Party}
 use Rattle.tx_machine.specs.declared.party.Party.TheVariants.{Caller, Called}
 use Rattle.tx_tickets.specs.Texts.{circuit_text}
 use Rattle.tx_text.specs.declared.text_fault.TextFault.{TextFault}
-use Rattle.tx_text.specs.declared.line_fault.LineFault.TheVariants.{Text as of_text}
-use Rattle.tx_text.specs.declared.frame.FrameFault.TheVariants.{Line as of_line}
+use Rattle.tx_text.specs.Told.{frame_fault}
 use Rattle.tx_text.specs.declared.frame.FaultKind.{FaultKind}
 use Rattle.tx_text.specs.declared.frame.FaultKind.TheVariants.{Frame, Word}
 use Rattle.tx_text.specs.Text.{bytes_fault}
@@ -225,7 +224,7 @@ BeginsWith ws verb rest = (p : Plan) → event_of p ws ≡ event_for p verb rest
 
 -- a fault of a line's bytes comes before those of its words
 abbrev pub event_said : Option TextFault → Said → Result Event (FaultKind ScriptWord)
-event_said (Some f) said = Err (Frame (of_line (of_text f)))
+event_said (Some f) said = Err (Frame (frame_fault f))
 event_said None (Ok e) = Ok e
 event_said None (Err k) = Err (Word k)
 

@@ -5,5 +5,8 @@ pub mod Output
 pub mod Untold
 pub mod Answers
 pub mod Answered
+pub mod Taken
+pub mod Summaries
 pub mod Telling
 pub mod TellingAnswers
+pub mod inner

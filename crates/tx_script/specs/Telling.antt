@@ -1,12 +1,16 @@
--- What a run tells where the line of each event is asked for too.
-use Rattle.std.specs.Prelude.{ℕ, ◌+◌, Bool, if◌then◌else◌, List, [], ◌∷◌, ◌++◌, codes, decimal}
+-- What a run tells where more is asked for: the line of each event, and a summary of the run.
+use Rattle.std.specs.Prelude.{ℕ, ◌+◌, Bool, if◌then◌else◌, List, [], ◌∷◌, ◌++◌, Option, None, Some, codes, decimal}
+use Rattle.tx_text.specs.declared.frame.FaultKind.{FaultKind}
 use Rattle.tx_plan.specs.Plan.{Plan}
 use Rattle.tx_machine.specs.declared.event.Event.{Event}
 use Rattle.tx_machine.specs.State.{State}
 use Rattle.tx_machine.specs.Runs.{Moment, run, state_after}
+use Rattle.tx_script.specs.declared.script_word.ScriptWord.{ScriptWord}
+use Rattle.tx_script.specs.declared.telling.Telling.{Telling}
 use Rattle.tx_script.specs.Events.{event_text}
 use Rattle.tx_script.specs.Script.{Script}
-use Rattle.tx_script.specs.Output.{moment_text, last_text}
+use Rattle.tx_script.specs.Output.{moment_text, end_text}
+use Rattle.tx_script.specs.Summaries.{summary_text}
 
 -- EVENT and the number of an event
 abbrev pub number_text : ℕ → List ℕ
@@ -32,7 +36,17 @@ told_moments p echo n (m ∷ ms) = told_moment p echo n m ++ told_moments p echo
 abbrev pub told_events : Plan → (echo : Bool) → State → List Event → List ℕ
 told_events p echo s es = told_moments p echo 1 (run p s es)
 
+abbrev pub if_asked : Bool → List ℕ → List ℕ
+if_asked asked text = if asked then text else []
+
+-- after the last line the summary; after a fault neither
+abbrev pub told_last : Plan → Telling → State
+    → List Event → Option (ℕ × FaultKind ScriptWord) → List ℕ
+told_last p t s es None = end_text (state_after p s es)
+    ++ if_asked t.summary (summary_text p (run p s es) (state_after p s es))
+told_last p t s es (Some x) = []
+
 -- THE OUTPUT of a script from a state on
-abbrev pub told_output : Plan → (echo : Bool) → State → Script → List ℕ
-told_output p echo s script = told_events p echo s script.events
-    ++ last_text (state_after p s script.events) script.fault
+abbrev pub told_output : Plan → Telling → State → Script → List ℕ
+told_output p t s script = told_events p t.echo s script.events
+    ++ told_last p t s script.events script.fault

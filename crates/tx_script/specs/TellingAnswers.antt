@@ -1,5 +1,6 @@
--- What a run answers that tells the lines of events too, and what it wrote.
+-- What a run answers that may tell more than replies and tickets, and what it wrote.
 use Rattle.std.specs.Prelude.{◌≡◌, ◌⊎◌, ℕ, ◌+◌, Bool, true, false, List, [], ◌∷◌, ◌++◌, length, Option, None, Result, Ok, Err}
+use Rattle.std.specs.FinSet as set
 use Rattle.std.specs.Io.KnownBytes.{append_known}
 use Rattle.tx_text.specs.declared.frame.FaultKind.{FaultKind}
 use Rattle.tx_text.specs.declared.frame.FaultKind.TheVariants.{Frame}
@@ -10,7 +11,6 @@ use Rattle.tx_text.specs.Told.{Cut}
 use Rattle.tx_text.specs.Frame.{EndsAs, Stands}
 use Rattle.tx_plan.specs.Plan.{Plan}
 use Rattle.tx_machine.specs.declared.event.Event.{Event}
-use Rattle.tx_machine.specs.Ended.{Ended}
 use Rattle.tx_machine.specs.State.{State}
 use Rattle.tx_machine.specs.Refusals.{refusal}
 use Rattle.tx_machine.specs.Step.{takes_memory}
@@ -24,10 +24,16 @@ use Rattle.tx_script.specs.declared.run_cause.RunCause.TheVariants.{Read, Write,
 use Rattle.tx_script.specs.declared.summary.Summary.{Summary}
 use Rattle.tx_script.specs.Events.{Said}
 use Rattle.tx_script.specs.Script.{Script, whole, faulty, script_of}
-use Rattle.tx_script.specs.Output.{end_text, summary_of, tickets_made}
+use Rattle.tx_script.specs.Output.{summary_of, tickets_made}
 use Rattle.tx_script.specs.Answered.{count_of, IsUndone, IsNoEvent}
 use Rattle.tx_script.specs.Answers.{Moved, settled, next, IsWhole, Begins, is_reader_room}
-use Rattle.tx_script.specs.Telling.{told_moment, told_events, told_output}
+use Rattle.tx_script.specs.declared.telling.Telling.{Telling}
+use Rattle.tx_script.specs.Telling.{echo_text, echo_asked, told_moment, told_events, told_last, told_output}
+use Rattle.tx_script.specs.Untold.{IsUntold}
+
+-- no circuit is still to be released
+abbrev pub NoneReleasing : State → Type 0
+NoneReleasing s = s.releasing ≡ set.empty
 
 -- ---- one event
 
@@ -40,14 +46,17 @@ pub record IsTold (p : Plan) (echo : Bool) (n : ℕ)
   pub wrote : b ≡ append_known a (told_moment p echo n (moment p s e))
   pub network : t ≡ drained (moment p s e).after []
 
--- The event was done, and a write failed in its lines. Of its tickets the first ones were taken.
-pub record StopsInLines (p : Plan) (echo : Bool)
-    (n : ℕ) (m : Moment) (t : State) (a b : Option (List ℕ)) : Type 0 where
-  pub front : StopsIn a b (told_moment p echo n m)
-  pub taken : List Ended
-  pub left : List Ended
-  pub made : tickets_made m ≡ taken ++ left
-  pub network : t ≡ drained m.after left
+-- A write failed in the event's own line, and no ticket was taken.
+pub record StopsAtEcho (p : Plan) (n : ℕ) (m : Moment)
+    (t : State) (a b : Option (List ℕ)) : Type 0 where
+  pub front : StopsIn a b (echo_text p n m.event)
+  pub network : t ≡ drained m.after (tickets_made m)
+
+-- The event was done, and a write failed in its own line, where that is asked for, or after it.
+abbrev pub StopsInLines : Plan → (echo : Bool)
+    → ℕ → Moment → State → Option (List ℕ) → Option (List ℕ) → Type 0
+StopsInLines p echo n m t a b = ((echo ≡ true) × StopsAtEcho p n m t a b)
+    ⊎ IsUntold p m t (append_known a (echo_asked echo p n m.event)) b
 
 abbrev pub Untold : Plan → (echo : Bool) → ℕ → Event
     → State → State → Option (List ℕ) → Option (List ℕ) → RunCause → Type 0
@@ -72,27 +81,27 @@ LineTold p echo n k (Err word) s t a b (Err cause) = IsNoEvent n word s t a b ca
 -- ---- a run
 
 -- All the output of a script was written, and nothing else; the network stands after its events.
-pub record ToldRan (p : Plan) (echo : Bool) (x : Moved) (script : Script) : Type 0 where
-  pub wrote : x.taken_new ≡ append_known x.taken_old (told_output p echo x.state_old script)
+pub record ToldRan (p : Plan) (t : Telling) (x : Moved) (script : Script) : Type 0 where
+  pub wrote : x.taken_new ≡ append_known x.taken_old (told_output p t x.state_old script)
   pub network : x.state_new ≡ settled p x.state_old script.events
 
 -- The whole text is a script, and the summary counts its run.
-pub record ToldWhole (p : Plan) (echo : Bool) (x : Moved) (summary : Summary) : Type 0 where
+pub record ToldWhole (p : Plan) (t : Telling) (x : Moved) (summary : Summary) : Type 0 where
   pub events : List Event
   pub text : IsWhole p x events
-  pub ran : ToldRan p echo x (whole events)
+  pub ran : ToldRan p t x (whole events)
   pub counted : summary ≡ summary_of p x.state_old events
 
 -- The text is faulty after the events before this one.
-pub record ToldToFault (p : Plan) (echo : Bool)
+pub record ToldToFault (p : Plan) (t : Telling)
     (x : Moved) (event line : ℕ) (kind : FaultKind ScriptWord) : Type 0 where
   pub events : List Event
   pub place : event ≡ length events + 1
   pub text : Stands x.rest_old x.rest_new (script_of p) (faulty events line kind)
-  pub ran : ToldRan p echo x (faulty events line kind)
+  pub ran : ToldRan p t x (faulty events line kind)
 
 -- The source failed in a line, or met the bound on calls, after the events before this one.
-pub record ToldToCut (p : Plan) (echo : Bool)
+pub record ToldToCut (p : Plan) (t : Telling)
     (x : Moved) (broken : Type 0) (event : ℕ) : Type 0 where
   pub events : List Event
   pub line : ℕ
@@ -100,60 +109,67 @@ pub record ToldToCut (p : Plan) (echo : Bool)
   pub text : EndsAs x.rest_old x.rest_new (script_of p) Cut
       (faulty events line (Frame (of_line line_read)))
   pub failed : broken
-  pub ran : ToldRan p echo x (faulty events line (Frame (of_line line_read)))
+  pub ran : ToldRan p t x (faulty events line (Frame (of_line line_read)))
 
 -- Memory ran out in this event: the lines of those before it were written, and nothing of it was
 -- done or written.
-pub record ToldOutOfMemory (p : Plan) (echo : Bool) (x : Moved) (event : ℕ) : Type 0 where
+pub record ToldOutOfMemory (p : Plan) (t : Telling) (x : Moved) (event : ℕ) : Type 0 where
   pub events : List Event
   pub hand : Event
   pub place : event ≡ length events + 1
   pub text : Begins p x (events ++ hand ∷ [])
-  pub wrote : x.taken_new ≡ append_known x.taken_old (told_events p echo x.state_old events)
+  pub wrote : x.taken_new ≡ append_known x.taken_old (told_events p t.echo x.state_old events)
   pub network : x.state_new ≡ settled p x.state_old events
   pub asks : takes_memory hand ≡ true
   pub unrefused : refusal p x.state_new hand ≡ None
 
 -- A write failed in the lines of this event, which was done: those of the events before it were
 -- written, and of its own a front and not all.
-pub record StoppedInEvent (p : Plan) (echo : Bool) (x : Moved) (event : ℕ) : Type 0 where
+pub record StoppedInEvent (p : Plan) (t : Telling) (x : Moved) (event : ℕ) : Type 0 where
   pub events : List Event
   pub hand : Event
   pub place : event ≡ length events + 1
   pub text : Begins p x (events ++ hand ∷ [])
-  pub lines : StopsInLines p echo event (next p x.state_old events hand) x.state_new
-      (append_known x.taken_old (told_events p echo x.state_old events)) x.taken_new
+  pub lines : StopsInLines p t.echo event (next p x.state_old events hand) x.state_new
+      (append_known x.taken_old (told_events p t.echo x.state_old events)) x.taken_new
 
--- A write failed in the last line: the lines of all events were written, and of that line a front
--- and not all.
-pub record StoppedAtEnd (p : Plan) (echo : Bool) (x : Moved) (event : ℕ) : Type 0 where
+-- A write failed after the lines of all events: these were written, and of the last line and the
+-- summary a front and not all.
+pub record StoppedAtEnd (p : Plan) (t : Telling) (x : Moved) (event : ℕ) : Type 0 where
   pub events : List Event
   pub place : event ≡ length events + 1
   pub text : IsWhole p x events
-  pub front : StopsIn (append_known x.taken_old (told_events p echo x.state_old events)) x.taken_new
-      (end_text (state_after p x.state_old events))
+  pub front : StopsIn (append_known x.taken_old (told_events p t.echo x.state_old events))
+      x.taken_new (told_last p t x.state_old events None)
   pub network : x.state_new ≡ settled p x.state_old events
 
 -- Without memory for the reader of lines the first event and the first line are told, and nothing
 -- was touched.
-abbrev pub FaultyTold : Plan → (echo : Bool) → Moved
+abbrev pub FaultyTold : Plan → Telling → Moved
     → Type 0 → Bool → ℕ → ℕ → FaultKind ScriptWord → Type 0
-FaultyTold p echo x untouched true event line kind = (event ≡ 1) × (line ≡ 1) × untouched
-FaultyTold p echo x untouched false event line kind = ToldToFault p echo x event line kind
+FaultyTold p t x untouched true event line kind = (event ≡ 1) × (line ≡ 1) × untouched
+FaultyTold p t x untouched false event line kind = ToldToFault p t x event line kind
 
-abbrev pub StoppedTelling : Plan → (echo : Bool)
-    → Moved → (broken untouched : Type 0) → ℕ → RunCause → Type 0
-StoppedTelling p echo x broken untouched event Read = ToldToCut p echo x broken event
-StoppedTelling p echo x broken untouched event Write = StoppedInEvent p echo x event
-    ⊎ StoppedAtEnd p echo x event
-StoppedTelling p echo x broken untouched event (OfScript f) =
-    FaultyTold p echo x untouched (is_reader_room f.kind) event f.line f.kind
-StoppedTelling p echo x broken untouched event NoMemory = ToldOutOfMemory p echo x event
+-- Without memory for what is to be counted the first event is told, and nothing was touched.
+pub record HadNoTable (t : Telling) (untouched : Type 0) (event : ℕ) : Type 0 where
+  pub asked : t.summary ≡ true
+  pub place : event ≡ 1
+  pub none : untouched
+
+abbrev pub StoppedTelling : Plan → Telling → Moved
+    → (broken untouched : Type 0) → ℕ → RunCause → Type 0
+StoppedTelling p t x broken untouched event Read = ToldToCut p t x broken event
+StoppedTelling p t x broken untouched event Write = StoppedInEvent p t x event
+    ⊎ StoppedAtEnd p t x event
+StoppedTelling p t x broken untouched event (OfScript f) =
+    FaultyTold p t x untouched (is_reader_room f.kind) event f.line f.kind
+StoppedTelling p t x broken untouched event NoMemory = ToldOutOfMemory p t x event
+    ⊎ HadNoTable t untouched event
 
 -- WHAT A RUN THAT TELLS MORE ANSWERS. Broken says that the source failed or met the bound on calls,
 -- untouched that nothing was read, written or done.
-abbrev pub TellingAnswers : Plan → (echo : Bool)
-    → Moved → (broken untouched : Type 0) → Result Summary RunFault → Type 0
-TellingAnswers p echo x broken untouched (Ok summary) = ToldWhole p echo x summary
-TellingAnswers p echo x broken untouched (Err f) =
-    StoppedTelling p echo x broken untouched f.event f.cause
+abbrev pub TellingAnswers : Plan → Telling → Moved
+    → (broken untouched : Type 0) → Result Summary RunFault → Type 0
+TellingAnswers p t x broken untouched (Ok summary) = ToldWhole p t x summary
+TellingAnswers p t x broken untouched (Err f) =
+    StoppedTelling p t x broken untouched f.event f.cause

@@ -7,7 +7,7 @@ use crate::script_word::ScriptKind;
 use std::alloc::Allocator;
 use tx_machine::Event;
 use tx_plan::Plan;
-use tx_text::{FaultKind, FrameFault, LineFault, bytes_fault, words};
+use tx_text::{FaultKind, FrameFault, bytes_fault, words};
 
 /// The event that one line of a script says, given without its LF and the CR before it. `Err` is
 /// the first fault: one of its bytes comes before those of its
@@ -19,7 +19,7 @@ pub fn read_event<A: Allocator>(line: &[u8], plan: &Plan<A>) -> Result<Event, Sc
     ensures is_event { IfOk result IsEvent }
 {
     if let Some(fault) = bytes_fault(line) {
-        return Err(FaultKind::Frame(FrameFault::Line(LineFault::Text(fault))));
+        return Err(FaultKind::Frame(FrameFault::from(fault)));
     }
     match event_of(words(line), plan) {
         Ok(event) => Ok(event),

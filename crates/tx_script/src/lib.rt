@@ -21,26 +21,29 @@
 #![tactic(auto)]
 
 mod answer;
-mod answer_line;
+mod counts;
 mod echo;
+mod ending;
 mod event_line;
 mod event_text;
 mod event_words;
+mod group_use;
 mod run_cause;
 mod run_fault;
 mod runner;
 mod script_word;
 mod summary;
+mod summary_text;
 mod tally;
 mod teller;
-mod told;
+mod telling;
 mod verb;
 
 pub use event_line::{event_lines_read_back, read_event};
 pub use event_text::write_event;
 pub use run_cause::RunCause;
 pub use run_fault::RunFault;
-pub use runner::run;
+pub use runner::{run, run_telling};
 pub use script_word::{ScriptFault, ScriptKind, ScriptWord, code_and_name};
 pub use summary::Summary;
-pub use teller::run_telling;
+pub use telling::Telling;

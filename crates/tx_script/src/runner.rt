@@ -1,15 +1,14 @@
 // The run of a script over a network.
-ghost use Rattle.std.specs.Prelude.{◌≡◌, ◌+◌, ◌<◌, ◌^◌, true, OnOk, OnErr, IfOk, IfErr, codes, length, if◌then◌else◌};
-ghost use Rattle.std.specs.Io.KnownBytes.{append_known};
+ghost use Rattle.std.specs.Prelude.{◌≡◌, codes, if◌then◌else◌};
 ghost use Rattle.tx_text.specs.declared.frame.FramePart.TheVariants.{Start};
 ghost use Rattle.tx_text.specs.Calls.{CallsAtMost, Broken, source_calls};
-ghost use Rattle.tx_text.specs.Ends.{StopsIn};
 ghost use Rattle.tx_text.specs.Told.{reading_start};
 ghost use Rattle.tx_text.specs.Frame.{is_read};
 ghost use Rattle.tx_script.specs.Answers.{RunAnswers, IsFresh, mark_after};
-ghost use Rattle.tx_script.specs.Output.{end_line, end_text};
+ghost use Rattle.tx_script.specs.TellingAnswers.{NoneReleasing, TellingAnswers};
+ghost use Rattle.tx_script.specs.inner.Counting.{AreNew, asked_of};
 
-use crate::answer_line::answer_line;
+use crate::ending::finish;
 use crate::event_words::{
     clear_event, confirm_event, event_by, key_event, released_event, route_event, verb_in,
 };
@@ -18,17 +17,17 @@ use crate::run_fault::RunFault;
 use crate::script_word::{ScriptKind, ScriptWord};
 use crate::summary::Summary;
 use crate::tally::Tally;
+use crate::teller::Teller;
+use crate::telling::Telling;
 use crate::verb::Verb;
-use itoa::Buffer;
 use std::alloc::Allocator;
 use tx_machine::Network;
 use tx_plan::Plan;
 use tx_text::{
     FaultAt, FaultKind, FrameFault, FrameReader, FrameStep, FrameStop, LineFault, Sink, Source,
-    WriteFault, write_parts,
 };
 
-pub(crate) const KEY: &[u8] = b"SCRIPT";
+const KEY: &[u8] = b"SCRIPT";
 
 /// Runs the script that comes from a source over a network of the plan that has no open call and no
 /// ticket. Writes the reply and the tickets of each event,
@@ -61,8 +60,83 @@ pub fn run<A: Allocator, B: Allocator, N: Network, R: Source, W: Sink>(
     ensures mark { W.failed sink.new ≡ mark_after (W.failed sink.old) result }
     ensures calls { CallsAtMost R.called source_calls source.old source.new }
 {
+    let mut teller = Teller::silent();
+    let ran = run_script(alloc, &mut teller, plan, net, source, sink);
+    drop(teller);
+    ran
+}
+
+/// Runs a script as `run` does, over a network no circuit of which is releasing. Where the lines of
+/// events are asked for, the line of each stands before
+/// its reply, with its number, as `EVENT 2 ROUTE 1`. Numbers begin at 1, and refused events have
+/// one too. Where the summary is asked for, it stands after
+/// the line END EVENTS.
+pub fn run_telling<A: Allocator + Copy, B: Allocator, N: Network, R: Source, W: Sink>(
+    alloc: A,
+    telling: Telling,
+    plan: &Plan<B>,
+    net: &mut N,
+    source: &mut R,
+    sink: &mut W,
+) -> Result<Summary, RunFault>
+    requires plan { N.plan net.old ≡ plan.now }
+    requires fresh { IsFresh (N.state net.old) }
+    requires released { NoneReleasing (N.state net.old) }
+    ensures plan { N.plan net.new ≡ plan.now }
+    ensures answers { TellingAnswers plan.now telling (record {
+      rest_old = R.rest source.old;
+      rest_new = R.rest source.new;
+      taken_old = W.taken sink.old;
+      taken_new = W.taken sink.new;
+      state_old = N.state net.old;
+      state_new = N.state net.new;
+    })
+        (Broken R.called (R.failed source.new) source_calls source.old source.new)
+        ((source.new ≡ source.old) × (sink.new ≡ sink.old) × (net.new ≡ net.old)) result }
+    ensures mark { W.failed sink.new ≡ mark_after (W.failed sink.old) result }
+    ensures calls { CallsAtMost R.called source_calls source.old source.new }
+{
+    match Teller::new(alloc, telling, plan) {
+        Ok(mut teller) => {
+            let ran = run_script(alloc, &mut teller, plan, net, source, sink);
+            drop(teller);
+            ran
+        }
+        Err(error) => Err(RunFault {
+            event: 1,
+            cause: RunCause::from(error),
+        }),
+    }
+}
+
+/// The same, where a teller says what is asked for, and nothing was counted yet.
+fn run_script<A: Allocator, B: Allocator, N: Network, R: Source, W: Sink>(
+    alloc: A,
+    teller: &mut Teller<A>,
+    plan: &Plan<B>,
+    net: &mut N,
+    source: &mut R,
+    sink: &mut W,
+) -> Result<Summary, RunFault>
+    requires plan { N.plan net.old ≡ plan.now }
+    requires fresh { IsFresh (N.state net.old) }
+    requires counts { AreNew plan.now (N.state net.old) teller.old.counts }
+    ensures plan { N.plan net.new ≡ plan.now }
+    ensures answers { TellingAnswers plan.now (asked_of teller.old.echo teller.old.counts) (record {
+      rest_old = R.rest source.old;
+      rest_new = R.rest source.new;
+      taken_old = W.taken sink.old;
+      taken_new = W.taken sink.new;
+      state_old = N.state net.old;
+      state_new = N.state net.new;
+    })
+        (Broken R.called (R.failed source.new) source_calls source.old source.new)
+        ((source.new ≡ source.old) × (sink.new ≡ sink.old) × (net.new ≡ net.old)) result }
+    ensures mark { W.failed sink.new ≡ mark_after (W.failed sink.old) result }
+    ensures calls { CallsAtMost R.called source_calls source.old source.new }
+{
     match FrameReader::new(alloc, KEY, 1) {
-        Ok(frame) => run_lines(frame, plan, net, source, sink),
+        Ok(frame) => run_lines(frame, teller, plan, net, source, sink),
         Err(fault) => Err(RunFault {
             event: 1,
             cause: script_fault(
@@ -77,6 +151,7 @@ pub fn run<A: Allocator, B: Allocator, N: Network, R: Source, W: Sink>(
 /// here, since a function of its own would not be inlined.
 fn run_lines<A: Allocator, B: Allocator, N: Network, R: Source, W: Sink>(
     frame: FrameReader<'_, A>,
+    teller: &mut Teller<A>,
     plan: &Plan<B>,
     net: &mut N,
     source: &mut R,
@@ -89,8 +164,9 @@ fn run_lines<A: Allocator, B: Allocator, N: Network, R: Source, W: Sink>(
     requires number { frame.number ≡ 1 }
     requires plan { N.plan net.old ≡ plan.now }
     requires fresh { IsFresh (N.state net.old) }
+    requires counts { AreNew plan.now (N.state net.old) teller.old.counts }
     ensures plan { N.plan net.new ≡ plan.now }
-    ensures answers { RunAnswers plan.now (record {
+    ensures answers { TellingAnswers plan.now (asked_of teller.old.echo teller.old.counts) (record {
       rest_old = R.rest source.old;
       rest_new = R.rest source.new;
       taken_old = W.taken sink.old;
@@ -103,6 +179,7 @@ fn run_lines<A: Allocator, B: Allocator, N: Network, R: Source, W: Sink>(
     ensures mark { W.failed sink.new ≡ mark_after (W.failed sink.old) result }
     ensures calls { CallsAtMost R.called source_calls source.old source.new }
 {
+    plan.rules();
     let mut frame = frame;
     let mut tally = Tally::new();
     'lines: loop {
@@ -119,7 +196,8 @@ fn run_lines<A: Allocator, B: Allocator, N: Network, R: Source, W: Sink>(
                     Some(other) => event_by(other, words, plan),
                     None => Err(ScriptWord::UnknownWord),
                 };
-                match answer_line(frame.number(), said, plan, net, sink) {
+                let number = tally.next_number();
+                match teller.answer_line(frame.number(), said, number, plan, net, sink) {
                     Ok(answered) => tally.count(answered),
                     Err(cause) => {
                         drop(frame);
@@ -129,7 +207,7 @@ fn run_lines<A: Allocator, B: Allocator, N: Network, R: Source, W: Sink>(
             }
             Ok(FrameStep::End) => {
                 drop(frame);
-                return finish(&tally, net, sink);
+                return finish(&tally, &teller.counts, plan, net, sink);
             }
             Err(stop) => {
                 drop(frame);
@@ -139,14 +217,14 @@ fn run_lines<A: Allocator, B: Allocator, N: Network, R: Source, W: Sink>(
     }
 }
 
-pub(crate) fn script_fault(line: u64, kind: ScriptKind) -> RunCause
+fn script_fault(line: u64, kind: ScriptKind) -> RunCause
     ensures { result ≡ RunCause.Script (record { line = line; kind = kind }) }
 {
     RunCause::Script(FaultAt { line, kind })
 }
 
 /// A failure to read is a cause of its own.
-pub(crate) fn frame_cause(stop: FrameStop) -> RunCause
+fn frame_cause(stop: FrameStop) -> RunCause
     ensures { result ≡ (if is_read stop.fault then RunCause.Read
         else RunCause.Script (record { line = stop.line; kind = FaultKind.Frame stop.fault })) }
 {
@@ -154,61 +232,4 @@ pub(crate) fn frame_cause(stop: FrameStop) -> RunCause
         FrameFault::Line(LineFault::Read) => RunCause::Read,
         fault => script_fault(stop.line, FaultKind::Frame(fault)),
     }
-}
-
-/// Writes the last line, and returns what was counted.
-pub(crate) fn finish<N: Network, W: Sink>(
-    tally: &Tally,
-    net: &N,
-    sink: &mut W,
-) -> Result<Summary, RunFault>
-    requires { tally.now.answered < 2 ^ 63 }
-    ensures summary { IfOk result
-        (λ s. s ≡ record {
-          events = (N.state net.now).events;
-          refused = tally.now.refused;
-          tickets = tally.now.tickets;
-          open_calls = length (N.state net.now).calls;
-        }) }
-    ensures ok { OnOk result (W.taken sink.new
-        ≡ append_known (W.taken sink.old) (end_text (N.state net.now))) }
-    ensures fault { IfErr result
-        (λ f. f ≡ record { event = tally.now.answered + 1; cause = RunCause.Write }) }
-    ensures err { OnErr result
-        (StopsIn (W.taken sink.old) (W.taken sink.new) (end_text (N.state net.now))) }
-    ensures mark { W.failed sink.new ≡ mark_after (W.failed sink.old) result }
-{
-    let events = net.events();
-    let open_calls = net.open_calls();
-    match write_end(events, open_calls, sink) {
-        Ok(()) => Ok(Summary {
-            events,
-            refused: tally.refused,
-            tickets: tally.tickets,
-            open_calls,
-        }),
-        Err(WriteFault) => Err(tally.stopped(RunCause::Write)),
-    }
-}
-
-fn write_end<W: Sink>(events: u64, open_calls: u64, sink: &mut W) -> Result<(), WriteFault>
-    ensures ok { OnOk result (W.taken sink.new
-        ≡ append_known (W.taken sink.old) (end_line events open_calls)) }
-    ensures err { OnErr result
-        (StopsIn (W.taken sink.old) (W.taken sink.new) (end_line events open_calls)) }
-    ensures mark { OnErr result (W.failed sink.new ≡ true) }
-    ensures unmarked { OnOk result (W.failed sink.new ≡ W.failed sink.old) }
-{
-    let mut accepted = Buffer::new();
-    let mut open = Buffer::new();
-    write_parts(
-        &[
-            b"END EVENTS ",
-            accepted.format(events).as_bytes(),
-            b" OPEN ",
-            open.format(open_calls).as_bytes(),
-            b"\n",
-        ],
-        sink,
-    )
 }

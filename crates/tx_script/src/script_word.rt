@@ -1,9 +1,9 @@
 // What is wrong with a script.
 ghost use Rattle.std.specs.Prelude.{◌≡◌};
-ghost use Rattle.tx_script.specs.ScriptFaults.{frame_row, word_row, fault_row};
+ghost use Rattle.tx_script.specs.ScriptFaults.{word_row, fault_row};
 
 use thiserror::Error;
-use tx_text::{FaultAt, FaultKind, FormFault, FrameFault, LineFault};
+use tx_text::{FaultAt, FaultKind};
 
 /// What is wrong with the words of a script's line. Of several faults the first in this order is
 /// given.
@@ -36,20 +36,8 @@ pub fn code_and_name(kind: ScriptKind) -> (&'static [u8], &'static [u8])
     ensures { (result.0.now, result.1.now) ≡ fault_row kind }
 {
     match kind {
-        FaultKind::Frame(fault) => frame_row(fault),
+        FaultKind::Frame(fault) => fault.code_and_name(b"S5", b"S6", b"S7", b""),
         FaultKind::Word(word) => word_row(word),
-    }
-}
-
-fn frame_row(fault: FrameFault) -> (&'static [u8], &'static [u8])
-    ensures { (result.0.now, result.1.now) ≡ frame_row fault }
-{
-    match fault {
-        FrameFault::Form(FormFault::NoHeader) => (b"S5", b"NoHeader"),
-        FrameFault::Form(FormFault::NoEnd) => (b"S6", b"NoEnd"),
-        FrameFault::Form(FormFault::AfterEnd) => (b"S7", b"AfterEnd"),
-        FrameFault::Line(LineFault::Read) => (b"", b"ReadFault"),
-        FrameFault::Line(LineFault::Text(fault)) => fault.code_and_name(),
     }
 }
 

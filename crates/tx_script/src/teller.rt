@@ -1,115 +1,73 @@
-// The run of a script over a network that tells the lines of events too.
-ghost use Rattle.std.specs.Prelude.{◌≡◌, codes};
-ghost use Rattle.tx_text.specs.declared.frame.FramePart.TheVariants.{Start};
-ghost use Rattle.tx_text.specs.Calls.{CallsAtMost, Broken, source_calls};
-ghost use Rattle.tx_text.specs.Told.{reading_start};
-ghost use Rattle.tx_script.specs.Answers.{IsFresh, mark_after};
-ghost use Rattle.tx_script.specs.TellingAnswers.{TellingAnswers};
+// What is told of events beside replies and tickets.
+ghost use Rattle.std.specs.Prelude.{◌≡◌, ◌+◌, ◌<◌, ◌^◌, IfOk, OnErr, IfSome, None, true, false, option_map};
+ghost use Rattle.tx_script.specs.inner.Counting.{count_for, counts_for, one_counted, uses_counted};
 
-use crate::event_words::event_of;
-use crate::run_fault::RunFault;
-use crate::runner::{KEY, finish, frame_cause, script_fault};
-use crate::summary::Summary;
-use crate::tally::Tally;
-use crate::told::tell_line;
+use crate::counts::Counts;
+use crate::telling::Telling;
 use std::alloc::Allocator;
-use tx_machine::Network;
+use tx_machine::{Cause, Event, Reply};
 use tx_plan::Plan;
-use tx_text::{FaultKind, FrameFault, FrameReader, FrameStep, LineFault, Sink, Source};
+use tx_text::NoMemory;
 
-/// Runs a script as `run` does. Where the lines of events are asked for, the line of each stands
-/// before its reply, with its number, as `EVENT 2 ROUTE 1`.
-/// Numbers begin at 1, and refused events have one too.
-pub fn run_telling<A: Allocator, B: Allocator, N: Network, R: Source, W: Sink>(
-    alloc: A,
-    echo: bool,
-    plan: &Plan<B>,
-    net: &mut N,
-    source: &mut R,
-    sink: &mut W,
-) -> Result<Summary, RunFault>
-    requires plan { N.plan net.old ≡ plan.now }
-    requires fresh { IsFresh (N.state net.old) }
-    ensures plan { N.plan net.new ≡ plan.now }
-    ensures answers { TellingAnswers plan.now echo (record {
-      rest_old = R.rest source.old;
-      rest_new = R.rest source.new;
-      taken_old = W.taken sink.old;
-      taken_new = W.taken sink.new;
-      state_old = N.state net.old;
-      state_new = N.state net.new;
-    })
-        (Broken R.called (R.failed source.new) source_calls source.old source.new)
-        ((source.new ≡ source.old) × (sink.new ≡ sink.old) × (net.new ≡ net.old)) result }
-    ensures mark { W.failed sink.new ≡ mark_after (W.failed sink.old) result }
-    ensures calls { CallsAtMost R.called source_calls source.old source.new }
-{
-    match FrameReader::new(alloc, KEY, 1) {
-        Ok(frame) => tell_lines(frame, echo, plan, net, source, sink),
-        Err(fault) => Err(RunFault {
-            event: 1,
-            cause: script_fault(
-                1,
-                FaultKind::Frame(FrameFault::Line(LineFault::Text(fault))),
-            ),
-        }),
-    }
+/// Whether the line of each event is told, and what is counted for the summary, where that is asked
+/// for.
+#[derive(Drop)]
+pub(crate) struct Teller<A: Allocator> {
+    pub echo: bool,
+    pub counts: Option<Counts<A>>,
 }
 
-/// Answers the lines that the frame leaves to it, one after another.
-fn tell_lines<A: Allocator, B: Allocator, N: Network, R: Source, W: Sink>(
-    frame: FrameReader<'_, A>,
-    echo: bool,
-    plan: &Plan<B>,
-    net: &mut N,
-    source: &mut R,
-    sink: &mut W,
-) -> Result<Summary, RunFault>
-    requires key { frame.key.now ≡ codes "SCRIPT" }
-    requires versions { frame.most ≡ 1 }
-    requires reader { frame.reader ≡ reading_start }
-    requires phase { frame.phase ≡ Start }
-    requires number { frame.number ≡ 1 }
-    requires plan { N.plan net.old ≡ plan.now }
-    requires fresh { IsFresh (N.state net.old) }
-    ensures plan { N.plan net.new ≡ plan.now }
-    ensures answers { TellingAnswers plan.now echo (record {
-      rest_old = R.rest source.old;
-      rest_new = R.rest source.new;
-      taken_old = W.taken sink.old;
-      taken_new = W.taken sink.new;
-      state_old = N.state net.old;
-      state_new = N.state net.new;
-    })
-        (Broken R.called (R.failed source.new) source_calls source.old source.new)
-        ((source.new ≡ source.old) × (sink.new ≡ sink.old) × (net.new ≡ net.old)) result }
-    ensures mark { W.failed sink.new ≡ mark_after (W.failed sink.old) result }
-    ensures calls { CallsAtMost R.called source_calls source.old source.new }
-{
-    let mut frame = frame;
-    let mut tally = Tally::new();
-    'lines: loop {
-        match frame.advance(source) {
-            Ok(FrameStep::Header(_)) => {}
-            Ok(FrameStep::Line) => {
-                let said = event_of(frame.words(), plan);
-                let number = tally.next_number();
-                match tell_line(frame.number(), said, number, echo, plan, net, sink) {
-                    Ok(answered) => tally.count(answered),
-                    Err(cause) => {
-                        drop(frame);
-                        return Err(tally.stopped(cause));
-                    }
-                }
-            }
-            Ok(FrameStep::End) => {
-                drop(frame);
-                return finish(&tally, net, sink);
-            }
-            Err(stop) => {
-                drop(frame);
-                return Err(tally.stopped(frame_cause(stop)));
-            }
+impl<A: Allocator> Teller<A> {
+    /// Nothing more is told.
+    pub(crate) fn silent() -> Teller<A>
+        ensures { result ≡ record { echo = false; counts = None } }
+    {
+        Teller {
+            echo: false,
+            counts: None,
+        }
+    }
+
+    /// Returns what is asked for. Nothing was counted yet.
+    pub(crate) fn new<B: Allocator>(
+        alloc: A,
+        telling: Telling,
+        plan: &Plan<B>,
+    ) -> Result<Teller<A>, NoMemory>
+        ensures ok { IfOk result (λ t. t
+            ≡ record { echo = telling.echo; counts = counts_for plan.now telling.summary }) }
+        ensures err { OnErr result (telling.summary ≡ true) }
+    {
+        let counts = if telling.summary {
+            Some(Counts::new(alloc, plan)?)
+        } else {
+            None
+        };
+        Ok(Teller {
+            echo: telling.echo,
+            counts,
+        })
+    }
+
+    /// A call ended.
+    pub(crate) fn ended(&mut self, cause: Cause)
+        requires { IfSome self.old.counts (λ c. count_for c.calls cause + 1 < 2 ^ 64) }
+        ensures echo { self.new.echo ≡ self.old.echo }
+        ensures counts { self.new.counts ≡ option_map (one_counted cause) self.old.counts }
+    {
+        if let Some(counts) = &mut self.counts {
+            counts.ended(cause);
+        }
+    }
+
+    /// An event was answered.
+    pub(crate) fn answered<B: Allocator>(&mut self, plan: &Plan<B>, event: &Event, reply: &Reply)
+        ensures echo { self.new.echo ≡ self.old.echo }
+        ensures counts { self.new.counts
+            ≡ option_map (uses_counted plan.now event.now reply.now) self.old.counts }
+    {
+        if let Some(counts) = &mut self.counts {
+            counts.answered(plan, event, reply);
         }
     }
 }

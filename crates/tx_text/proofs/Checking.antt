@@ -5,7 +5,7 @@ use Rattle.std.proofs.lemmas.List.{take_all, length-drop, length-append, drop-dr
 use Rattle.std.proofs.lemmas.Bool.{lt-ltb}
 use Rattle.tx_text.specs.declared.text_fault.TextFault.{TextFault}
 use Rattle.tx_text.specs.Text.{Line, is_lf, lines_from, bytes_fault, checked, checked_line}
-use Rattle.tx_text.specs.Feed.{front_of, has_lf}
+use Rattle.tx_text.specs.inner.Feed.{front_of, has_lf}
 use Rattle.tx_text.proofs.TextLines.{ended_line, last_line, lines_at_lf, lines_last, lines_nil}
 use Rattle.tx_text.proofs.Feeding.{front-no_lf, cuts_at_lf, length-front}
 

@@ -14,6 +14,7 @@ pub mod InPieces
 pub mod ReaderFields
 pub mod ReadingOn
 pub mod Framing
+pub mod Advancing
 pub mod NoRoom
 pub mod Checking
 pub mod Saying
@@ -21,9 +22,12 @@ pub mod Wanting
 pub mod Sizes
 pub mod CallCounts
 pub mod Frames
-pub mod PlainLines
+pub mod Headers
 pub mod Numbers
 pub mod WrittenWords
 pub mod ReadBack
 pub mod SliceAnswers
+pub mod Starting
+pub mod Exits
+pub mod Beside
 mod ReadCalls

@@ -1,16 +1,13 @@
 pub mod Text
 pub mod Words
+pub mod Calls
 pub mod Ends
 pub mod Wrote
-pub mod Calls
 pub mod ReadCalls
 pub mod Slices
-pub mod Feed
-pub mod Pieces
 pub mod Told
 pub mod Rows
 pub mod Frame
 pub mod Said
 pub mod Written
-pub mod Framing
 pub mod inner

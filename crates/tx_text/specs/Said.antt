@@ -2,15 +2,16 @@
 use Rattle.std.specs.Prelude.{◌≡◌, ℕ, ◌==◌, Bool, true, false, ◌||◌, List, Option, Result, Ok, Err}
 use Rattle.std.specs.Result.{is_ok}
 use Rattle.std.specs.Io.KnownBytes.{IsAtEnd}
-use Rattle.tx_text.specs.declared.text_fault.TextFault.TheVariants.{NoMemory as TextNoMemory}
-use Rattle.tx_text.specs.declared.line_fault.LineFault.TheVariants.{Text}
 use Rattle.tx_text.specs.declared.frame.FrameFault.{FrameFault}
-use Rattle.tx_text.specs.declared.frame.FrameFault.TheVariants.{Line}
+use Rattle.tx_text.specs.declared.frame.FrameFault.TheVariants.{NoMemory}
+use Rattle.tx_text.specs.declared.frame.FramePart.TheVariants.{Start}
 use Rattle.tx_text.specs.declared.frame.FaultKind.{FaultKind}
 use Rattle.tx_text.specs.declared.frame.FaultAt.{FaultAt}
 use Rattle.tx_text.specs.declared.frame.FaultKind.TheVariants.{Frame, Word}
-use Rattle.tx_text.specs.Told.{Ending, AtEnd}
-use Rattle.tx_text.specs.Frame.{Framed, Done, Stop, Headed, Has, EndsAs, Stands, Stopped, is_read}
+use Rattle.tx_text.specs.Text.{lines_of}
+use Rattle.tx_text.specs.Ends.{Input}
+use Rattle.tx_text.specs.Told.{Ending, AtEnd, told}
+use Rattle.tx_text.specs.Frame.{Framed, Done, Stop, Headed, Has, header_of, framed, ReadsOn, EndsAs, Stands, Stopped, is_read}
 
 module _ {S W : Type 0} (declare : ℕ → S → List (List ℕ) → Result S W) where
   -- A line declared what leads on, or is faulty.
@@ -52,7 +53,7 @@ Declared memory r new (Err x) = DeclaredBy r (memory x) x
 -- In what follows `wanted n` is what is so where memory ran out at line n, and `untouched` says
 -- that nothing was read.
 
--- what the reader answers
+-- a fault of a line's words is the one that the text has, unless memory ran out
 abbrev pub RefusedBy : {S W : Type 0} → Option (List ℕ) → Option (List ℕ)
     → (Ending → List ℕ → Result S (ℕ × FaultKind W)) → (ℕ → Type 0) → Bool → ℕ → W → Type 0
 RefusedBy old new F wanted true n x = wanted n
@@ -60,7 +61,7 @@ RefusedBy old new F wanted false n x = Stands old new F (Err (n, Word x))
 
 -- no memory for the reader itself
 abbrev pub is_no_room : FrameFault → Bool
-is_no_room (Line (Text TextNoMemory)) = true
+is_no_room NoMemory = true
 is_no_room k = false
 
 -- A fault of the frame is the one that the text has, unless the reader had no memory: then it is
@@ -112,3 +113,30 @@ AnswersAs memory x wanted (Err f) = FaultsAs memory x wanted f.0 f.1
 abbrev pub told_fault : {S W : Type 0} → Result S (FaultAt W) → Result S (ℕ × FaultKind W)
 told_fault (Ok s) = Ok s
 told_fault (Err x) = Err (x.line, x.kind)
+
+-- the lines of a text within its frame, whose header is the key and a version of at most so much,
+-- whichever way the text ends
+abbrev pub lines_within : (key : List ℕ) → (most : ℕ) → Ending → List ℕ → Framed
+lines_within key most e text = framed (header_of key most) Start 1 (told e (lines_of text))
+
+module _ {S W : Type 0} (declare : ℕ → S → List (List ℕ) → Result S W)
+    (key : List ℕ) (most : ℕ) (start : S) where
+  -- what a text says, or its first fault, whichever way the text ends
+  abbrev pub text_said : Ending → List ℕ → Result S (ℕ × FaultKind W)
+  text_said e text = said declare 1 start (lines_within key most e text)
+
+  -- line n of a text declares something, and so does each line before it: where memory can run out
+  abbrev pub line_declares : ℕ → Ending → List ℕ → Bool
+  line_declares n e text = declares_at declare n 1 start (lines_within key most e text)
+
+  -- memory ran out at line n, by the bytes that were read: it declares something, whatever follows
+  abbrev pub WantingAt : (old new : Option (List ℕ)) → ℕ → Type 0
+  WantingAt old new n = ReadsOn old new (line_declares n) (λ _ _. true)
+
+-- what a reader answers that reads an input from a state on
+abbrev pub ReadsText : {S W : Type 0} → (declare : ℕ → S → List (List ℕ) → Result S W)
+    → (memory : W → Bool) → (key : List ℕ) → (most : ℕ) → (start : S)
+    → Input → Result S (ℕ × FaultKind W) → Type 0
+ReadsText declare memory key most start text result =
+    Answered memory text.old text.new (text_said declare key most start) text.broken text.unread
+    (WantingAt declare key most start text.old text.new) result

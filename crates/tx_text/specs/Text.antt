@@ -52,6 +52,10 @@ unfoldable pub bytes_fault : List ℕ → Option TextFault
 bytes_fault bytes = if nat_lt 512 (length bytes)
     then Some LineTooLong else (if list_all is_text_byte bytes then None else Some BadByte)
 
+-- what is wrong with the bytes of a line that has begun, whatever bytes follow
+unfoldable pub begun_fault : List ℕ → Option TextFault
+begun_fault bytes = if nat_lt 512 (length (without_cr bytes)) then Some LineTooLong else None
+
 -- the lines of a text up to the first that is faulty, and that fault
 abbrev pub checked_line : Option TextFault → Line
     → List (Result Line TextFault) → List (Result Line TextFault)

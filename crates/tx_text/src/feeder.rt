@@ -1,6 +1,6 @@
 // Lines that come in pieces.
 ghost use Rattle.std.specs.Prelude.{◌≡◌, ◌+◌, ◌-◌, ◌^◌, ◌<◌, ◌≤◌, ◌++◌, true, false, IfOk, IfErr, IfNone, IfSome, IsSome, [], length, vec_len, vec_capacity};
-ghost use Rattle.tx_text.specs.Feed.{feed_gives, feed_leaves, begun_more, ended, faulted, line_fault, finish_gives, finish_leaves, finished};
+ghost use Rattle.tx_text.specs.inner.Feed.{feed_gives, feed_leaves, begun_more, ended, faulted, line_fault, finish_gives, finish_leaves, finished};
 ghost use Rattle.tx_text.specs.Text.{without_cr};
 ghost use Rattle.tx_text.specs.inner.TextLine.{line_of};
 
@@ -11,14 +11,14 @@ use std::alloc::{Allocator, Global};
 use std::marker::Model;
 
 /// What a call of `feed` did: how many bytes of the piece it took, and whether it completed a line.
-#[derive(Clone, Copy, PartialEq, Eq)]
+#[derive(Clone, Copy, Debug, PartialEq, Eq)]
 pub struct Fed {
     pub taken: usize,
     pub line: bool,
 }
 
 /// Cuts a text that comes in pieces into lines.
-#[derive(Drop)]
+#[derive(Debug, Drop)]
 pub struct LineFeeder<A: Allocator = Global> {
     held: Vec<u8, A>,
     number: u64,
@@ -30,7 +30,7 @@ pub struct LineFeeder<A: Allocator = Global> {
 }
 
 impl<A: Allocator> Model for LineFeeder<A> {
-    ghost use Rattle.tx_text.specs.Feed.{Feed};
+    ghost use Rattle.tx_text.specs.inner.Feed.{Feed};
 
     ghost Value = { Feed };
 
@@ -64,8 +64,7 @@ impl<A: Allocator> LineFeeder<A> {
     }
 
     /// Counts a line that stands whole elsewhere, of so many bytes and an LF, and returns where it
-    /// starts. Where a line has begun here or a fault stands, it does
-    /// nothing.
+    /// starts. Where a line has begun here, or one was faulty, it does nothing.
     pub(crate) fn pass(&mut self, len: usize) -> Option<usize>
         requires { self.old.start + len + 1 < 2 ^ 64 - 1 }
         ensures start { IfSome result (λ start. start ≡ self.old.start) }
@@ -144,7 +143,7 @@ impl<A: Allocator> LineFeeder<A> {
     }
 
     /// Adds bytes to the line that has begun, and returns what is wrong with it then.
-    #[tactic(auto, unfolding(crate::specs::Feed::begun_fault))]
+    #[tactic(auto, unfolding(crate::specs::Text::begun_fault))]
     fn add(&mut self, front: &[u8], line: bool) -> Option<TextFault>
         requires begun { self.old.line ≡ None }
         requires fed { self.old.start + length self.old.begun + length front.now < 2 ^ 64 - 1 }

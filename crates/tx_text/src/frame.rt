@@ -1,20 +1,33 @@
 // The frame of a text: its header, its lines and its END.
-ghost use Rattle.std.specs.Prelude.{◌≡◌, ℕ, List, Option, true};
+ghost use Rattle.std.specs.Prelude.{◌≡◌};
 ghost use Rattle.tx_text.specs.Words.{words_of};
+ghost use Rattle.tx_text.specs.Told.{frame_fault};
+ghost use Rattle.tx_text.specs.Rows.{frame_row};
 ghost use Rattle.tx_text.specs.Frame.{is_end, header_of, looked, closing, last_fault};
-ghost use Rattle.tx_text.specs.Framing.{end_as};
-ghost use Rattle.tx_text.specs.declared.frame.FramePart.TheVariants.{Body};
-ghost use Rattle.tx_text.specs.declared.frame.LineForm.TheVariants.{Plain};
+ghost use Rattle.tx_text.specs.inner.Framing.{end_as};
+ghost use Rattle.tx_text.specs.declared.frame.FaultKind.TheVariants.{Frame};
 
-use crate::line_fault::LineFault;
-use crate::line_words::{Words, is_blank};
+use crate::line_words::Words;
 use crate::split::words;
+use crate::text_fault::TextFault;
 use std::fmt::Display;
 use thiserror::Error;
 
-/// What is wrong with the form of a text.
+/// What is wrong with a text beside the words of its lines.
 #[derive(Clone, Copy, Debug, PartialEq, Eq, Error)]
-pub enum FormFault {
+pub enum FrameFault {
+    /// A line has more than 512 bytes.
+    #[error("a line has more than 512 bytes")]
+    LineTooLong,
+    /// A line has a byte that is no tab and not from 0x20 to 0x7E.
+    #[error("a line has a byte that is neither a tab nor printable ASCII")]
+    BadByte,
+    /// No memory was left for the reader's line.
+    #[error("no memory was left for the reader's line")]
+    NoMemory,
+    /// The source failed, or was not at its end after the allowed number of calls.
+    #[error("a read failed")]
+    Read,
     /// The first line with words is not the header, or no line has words.
     #[error("the header is missing")]
     NoHeader,
@@ -27,15 +40,41 @@ pub enum FormFault {
     AfterEnd,
 }
 
-/// What is wrong with a text beside the words of its lines.
-#[derive(Clone, Copy, Debug, PartialEq, Eq, Error)]
-pub enum FrameFault {
-    /// A line could not be read.
-    #[error(transparent)]
-    Line(LineFault),
-    /// Header or END.
-    #[error(transparent)]
-    Form(FormFault),
+impl From<TextFault> for FrameFault {
+    ghost from_gives = { λ fault frame. frame ≡ frame_fault fault };
+
+    fn from(fault: TextFault) -> FrameFault {
+        match fault {
+            TextFault::LineTooLong => FrameFault::LineTooLong,
+            TextFault::BadByte => FrameFault::BadByte,
+            TextFault::NoMemory => FrameFault::NoMemory,
+        }
+    }
+}
+
+impl FrameFault {
+    /// The code and the name of a fault, by the codes that the kind of text has for no header, no
+    /// END, words after END and a failed read.
+    pub fn code_and_name(
+        self,
+        no_header: &'static [u8],
+        no_end: &'static [u8],
+        after_end: &'static [u8],
+        read: &'static [u8],
+    ) -> (&'static [u8], &'static [u8])
+        ensures { (result.0.now, result.1.now)
+            ≡ frame_row no_header.now no_end.now after_end.now read.now self }
+    {
+        match self {
+            FrameFault::LineTooLong => TextFault::LineTooLong.code_and_name(),
+            FrameFault::BadByte => TextFault::BadByte.code_and_name(),
+            FrameFault::NoMemory => TextFault::NoMemory.code_and_name(),
+            FrameFault::NoHeader => (no_header, b"NoHeader"),
+            FrameFault::NoEnd => (no_end, b"NoEnd"),
+            FrameFault::AfterEnd => (after_end, b"AfterEnd"),
+            FrameFault::Read => (read, b"ReadFault"),
+        }
+    }
 }
 
 /// What is wrong with a text: its frame, or the words of a line.
@@ -58,7 +97,7 @@ pub struct FaultAt<W> {
 }
 
 /// Which part of a text is read.
-#[derive(Clone, Copy)]
+#[derive(Clone, Copy, Debug)]
 pub enum FramePart {
     /// Before the header.
     Start,
@@ -76,8 +115,20 @@ pub struct FrameStop {
     pub fault: FrameFault,
 }
 
+impl<W> From<FrameStop> for FaultAt<W> {
+    ghost from_gives = { λ stop fault. fault
+        ≡ record { line = stop.line; kind = Frame stop.fault } };
+
+    fn from(stop: FrameStop) -> FaultAt<W> {
+        FaultAt {
+            line: stop.line,
+            kind: FaultKind::Frame(stop.fault),
+        }
+    }
+}
+
 /// What a call that goes on in a text came to.
-#[derive(Clone, Copy)]
+#[derive(Clone, Copy, Debug)]
 pub enum FrameStep {
     /// The header of this version.
     Header(u8),
@@ -88,7 +139,7 @@ pub enum FrameStep {
 }
 
 /// What a finished line is in the frame.
-#[derive(Clone, Copy)]
+#[derive(Clone, Copy, Debug)]
 pub enum LineForm {
     /// Without words.
     Blank,
@@ -99,7 +150,7 @@ pub enum LineForm {
     /// The line of the one word END.
     End,
     /// A line that cannot stand there.
-    Bad(FormFault),
+    Bad(FrameFault),
 }
 
 /// Whether the words are the one word END.
@@ -113,44 +164,28 @@ pub fn is_end(words: Words<'_>) -> bool
     }
 }
 
+/// The version of the header that the words are, if they are one.
+#[tactic(auto, using(crate::proofs::Headers::header_count))]
 fn header(key: &[u8], most: u8, words: Words<'_>) -> Option<u8>
     ensures { result ≡ header_of key.now most words.entry }
 {
-    let mut words = words;
-    let first = words.next()?;
-    let second = words.next()?;
-    if words.next().is_some() || first != key {
+    let (first, version) = words.two()?;
+    if first != key {
         return None;
     }
-    if second == b"1".as_slice() {
+    if version == b"1".as_slice() {
         return Some(1);
     }
-    if most >= 2 && second == b"2".as_slice() {
+    if most >= 2 && version == b"2".as_slice() {
         return Some(2);
     }
     None
-}
-
-/// Whether the line begins with a word that is not END, by the first byte alone. Of such a line
-/// between the header and END nothing more is to be looked at.
-fn begins_plain(line: &[u8]) -> bool
-    ensures { result ≡ true → (h : List (List ℕ) → Option ℕ)
-        → looked h Body (words_of line.now) ≡ Plain }
-{
-    if line.is_empty() {
-        return false;
-    }
-    let first = line[0];
-    !is_blank(first) && first != b'#' && first != b'E'
 }
 
 /// What a finished line is.
 pub fn look(key: &[u8], most: u8, phase: FramePart, line: &[u8]) -> LineForm
     ensures { result ≡ looked (header_of key.now most) phase (words_of line.now) }
 {
-    if matches!(phase, FramePart::Body) && begins_plain(line) {
-        return LineForm::Plain;
-    }
     let mut all = words(line);
     let Some(first) = all.next() else {
         return LineForm::Blank;
@@ -158,7 +193,7 @@ pub fn look(key: &[u8], most: u8, phase: FramePart, line: &[u8]) -> LineForm
     match phase {
         FramePart::Start => match header(key, most, words(line)) {
             Some(version) => LineForm::Header(version),
-            None => LineForm::Bad(FormFault::NoHeader),
+            None => LineForm::Bad(FrameFault::NoHeader),
         },
         FramePart::Body => {
             if first == b"END".as_slice() && all.next().is_none() {
@@ -167,23 +202,23 @@ pub fn look(key: &[u8], most: u8, phase: FramePart, line: &[u8]) -> LineForm
                 LineForm::Plain
             }
         }
-        FramePart::Ended => LineForm::Bad(FormFault::AfterEnd),
+        FramePart::Ended => LineForm::Bad(FrameFault::AfterEnd),
     }
 }
 
 /// What is wrong where the text ends.
-pub fn closing(phase: FramePart) -> Option<FormFault>
+pub fn closing(phase: FramePart) -> Option<FrameFault>
     ensures { result ≡ closing phase }
 {
     match phase {
-        FramePart::Start => Some(FormFault::NoHeader),
-        FramePart::Body => Some(FormFault::NoEnd),
+        FramePart::Start => Some(FrameFault::NoHeader),
+        FramePart::Body => Some(FrameFault::NoEnd),
         FramePart::Ended => None,
     }
 }
 
 /// What is wrong where the text ends with this unfinished line.
-pub fn last_fault(phase: FramePart, line: &[u8]) -> Option<FormFault>
+pub fn last_fault(phase: FramePart, line: &[u8]) -> Option<FrameFault>
     ensures { result ≡ last_fault phase (words_of line.now) }
 {
     let mut all = words(line);
@@ -194,25 +229,25 @@ pub fn last_fault(phase: FramePart, line: &[u8]) -> Option<FormFault>
     match phase {
         FramePart::Start => {
             if end {
-                Some(FormFault::NoHeader)
+                Some(FrameFault::NoHeader)
             } else {
-                Some(FormFault::NoEnd)
+                Some(FrameFault::NoEnd)
             }
         }
-        FramePart::Body => { if end { None } else { Some(FormFault::NoEnd) } }
-        FramePart::Ended => Some(FormFault::AfterEnd),
+        FramePart::Body => { if end { None } else { Some(FrameFault::NoEnd) } }
+        FramePart::Ended => Some(FrameFault::AfterEnd),
     }
 }
 
 /// What to answer where the text ends.
-pub(crate) fn end_as(number: u64, fault: Option<FormFault>) -> Result<FrameStep, FrameStop>
+pub(crate) fn end_as(number: u64, fault: Option<FrameFault>) -> Result<FrameStep, FrameStop>
     ensures { result ≡ end_as number fault }
 {
     match fault {
         None => Ok(FrameStep::End),
         Some(fault) => Err(FrameStop {
             line: number,
-            fault: FrameFault::Form(fault),
+            fault,
         }),
     }
 }

@@ -1,8 +1,7 @@
 // The lines that the frame of a text leaves to its reader.
-ghost use Rattle.std.specs.Prelude.{◌≡◌, ◌⊎◌, ◌<◌, true, IfOk, IfErr, OnOk, IsSome, None, [], ℕ};
-ghost use Rattle.tx_text.specs.Calls.{Went, CallsAtMost, Broken};
-ghost use Rattle.tx_text.specs.Told.{reading_start, slice_start, reading_size};
-ghost use Rattle.tx_text.specs.Framing.{to_come, GoesOn, number_of_line, words_of_line};
+ghost use Rattle.std.specs.Prelude.{◌≡◌, ◌⊎◌, ◌≤◌, IfOk, IfErr, OnOk, IsSome, None};
+ghost use Rattle.tx_text.specs.Calls.{source_calls, slice_calls, CallsAtMost, Broken};
+ghost use Rattle.tx_text.specs.inner.Framing.{frame_start, line_of_frame, IsSound, to_come, GoesOn, WentOn, number_of_line, words_of_line};
 
 use crate::frame::{
     FrameFault, FramePart, FrameStep, FrameStop, LineForm, closing, end_as, last_fault, look,
@@ -11,8 +10,15 @@ use crate::line_words::Words;
 use crate::reader::TextReader;
 use crate::source::Source;
 use crate::split::words;
-use crate::text_fault::TextFault;
 use std::alloc::{Allocator, Global};
+use std::marker::Model;
+
+/// How many calls a text may take that comes from a source.
+const SOURCE_CALLS: u64 = 4_294_967_295;
+
+/// How many calls a text may take that is in memory: it has fewer than 2^63 bytes, and each call
+/// takes 4,096 of them.
+const SLICE_CALLS: u64 = 2_251_799_813_685_249;
 
 /// Reads a text from a source, and keeps its frame.
 #[derive(Drop)]
@@ -24,68 +30,81 @@ pub struct FrameReader<'k, A: Allocator = Global> {
     number: u64,
 }
 
+impl<'k, A: Allocator> Model for FrameReader<'k, A> {
+    ghost use Rattle.tx_text.specs.inner.Framing.{FrameReading};
+
+    ghost Value = { FrameReading };
+
+    ghost use Rattle.tx_text.specs.inner.FrameFields.{frame_of};
+
+    ghost view = { frame_of };
+}
+
 impl<'k, A: Allocator> FrameReader<'k, A> {
     /// A reader of a text from a source. The header is the key and a version from 1 to `most`, as
     /// `PLAN 2`. `Err` means out of memory, and nothing else.
-    pub fn new(alloc: A, key: &'k [u8], most: u8) -> Result<FrameReader<'k, A>, TextFault>
-        ensures fields { IfOk result (λ r. (r.key.now ≡ key.now) × (r.most ≡ most)
-            × (r.reader ≡ reading_start) × (r.phase ≡ FramePart.Start) × (r.number ≡ 1)) }
-        ensures err { IfErr result (λ e. e ≡ TextFault.NoMemory) }
+    pub fn new(alloc: A, key: &'k [u8], most: u8) -> Result<FrameReader<'k, A>, FrameStop>
+        ensures ok { IfOk result (λ r. r ≡ frame_start key.now most source_calls) }
+        ensures err { IfErr result (λ e. e ≡ record { line = 1; fault = FrameFault.NoMemory }) }
     {
-        let reader = TextReader::new(alloc)?;
-        Ok(FrameReader::of_reader(reader, key, most))
+        FrameReader::of_calls(alloc, key, most, SOURCE_CALLS)
     }
 
     /// The same for a text that is in memory: no such text meets the bound on calls.
-    pub fn for_slice(alloc: A, key: &'k [u8], most: u8) -> Result<FrameReader<'k, A>, TextFault>
-        ensures fields { IfOk result (λ r. (r.key.now ≡ key.now) × (r.most ≡ most)
-            × (r.reader ≡ slice_start) × (r.phase ≡ FramePart.Start) × (r.number ≡ 1)) }
-        ensures err { IfErr result (λ e. e ≡ TextFault.NoMemory) }
+    pub fn for_slice(alloc: A, key: &'k [u8], most: u8) -> Result<FrameReader<'k, A>, FrameStop>
+        ensures ok { IfOk result (λ r. r ≡ frame_start key.now most slice_calls) }
+        ensures err { IfErr result (λ e. e ≡ record { line = 1; fault = FrameFault.NoMemory }) }
     {
-        let reader = TextReader::for_slice(alloc)?;
-        Ok(FrameReader::of_reader(reader, key, most))
+        FrameReader::of_calls(alloc, key, most, SLICE_CALLS)
     }
 
-    fn of_reader(reader: TextReader<A>, key: &'k [u8], most: u8) -> FrameReader<'k, A>
-        ensures key { result.key.now ≡ key.now }
-        ensures most { result.most ≡ most }
-        ensures reader { result.reader ≡ reader }
-        ensures phase { result.phase ≡ FramePart.Start }
-        ensures number { result.number ≡ 1 }
+    /// A reader that has read nothing yet, and may call its source so often.
+    fn of_calls(
+        alloc: A,
+        key: &'k [u8],
+        most: u8,
+        left: u64,
+    ) -> Result<FrameReader<'k, A>, FrameStop>
+        requires { left ≤ slice_calls }
+        ensures ok { IfOk result (λ r. r ≡ frame_start key.now most left) }
+        ensures err { IfErr result (λ e. e ≡ record { line = 1; fault = FrameFault.NoMemory }) }
     {
-        FrameReader {
-            key,
-            most,
-            reader,
-            phase: FramePart::Start,
-            number: 1,
+        match TextReader::new(alloc, left) {
+            Ok(reader) => Ok(FrameReader {
+                key,
+                most,
+                reader,
+                phase: FramePart::Start,
+                number: 1,
+            }),
+            Err(fault) => Err(FrameStop {
+                line: 1,
+                fault: FrameFault::from(fault),
+            }),
         }
     }
 
     /// Goes on to the header, to the next line with words or to the end. `Err` is the first fault,
-    /// with its line. A fault before the end of the source stands
-    /// whatever bytes follow; a read fault means that the source failed, or was not at its end
-    /// after so many calls.
+    /// with its line. A fault before the end of the source stands whatever bytes follow; a read
+    /// fault means that the source failed, or was not at its end after so many calls.
     pub fn advance<R: Source>(&mut self, source: &mut R) -> Result<FrameStep, FrameStop>
-        requires { self.old.reader.feed.fault ≡ None }
-        ensures fault { IfOk result (λ _. self.new.reader.feed.fault ≡ None) }
+        requires { IsSound self.old }
+        ensures sound { IfOk result (λ _. IsSound self.new) }
         ensures gives { GoesOn (R.rest source.old) (R.rest source.new)
-            (to_come self.old) (to_come self.new) self.new.reader.feed.line (Broken R.called
+            (to_come self.old) (to_come self.new) (line_of_frame self.new) (Broken R.called
             (R.failed source.new) self.old.reader.left source.old source.new) result }
-        ensures line { result ≡ Ok FrameStep.Line → IsSome self.new.reader.feed.line }
-        ensures went { IfOk result (λ s. (s ≡ FrameStep.End)
-            ⊎ Went R.called self.old.reader.left self.new.reader.left source.old source.new) }
+        ensures line { result ≡ Ok FrameStep.Line → IsSome (line_of_frame self.new) }
+        ensures went { IfOk result (λ step. (step ≡ FrameStep.End)
+            ⊎ WentOn R.called self.old.reader self.new.reader source.old source.new) }
         ensures calls { CallsAtMost R.called self.old.reader.left source.old source.new }
         ensures unmarked { OnOk result (R.failed source.new ≡ R.failed source.old) }
-        ensures falls { IfOk result (λ s. (s ≡ FrameStep.End)
-            ⊎ (reading_size self.new.reader < reading_size self.old.reader)) }
     {
         'lines: loop {
             match self.reader.advance(source) {
                 Err(fault) => {
                     return Err(FrameStop {
                         line: self.number,
-                        fault: FrameFault::Line(fault),
+                        fault,
                     });
                 }
                 Ok(false) => return end_as(self.number, closing(self.phase)),
@@ -109,7 +128,7 @@ impl<'k, A: Allocator> FrameReader<'k, A> {
                 LineForm::Bad(fault) => {
                     return Err(FrameStop {
                         line: number,
-                        fault: FrameFault::Form(fault),
+                        fault,
                     });
                 }
             }
@@ -118,16 +137,16 @@ impl<'k, A: Allocator> FrameReader<'k, A> {
 
     /// The number of the line that stands, from 1.
     pub fn number(&self) -> u64
-        requires { IsSome self.now.reader.feed.line }
-        ensures { result ≡ number_of_line self.now.reader.feed.line }
+        requires { IsSome (line_of_frame self.now) }
+        ensures { result ≡ number_of_line (line_of_frame self.now) }
     {
         self.reader.line().number
     }
 
     /// The words of the line that stands.
     pub fn words(&self) -> Words<'_>
-        requires { IsSome self.now.reader.feed.line }
-        ensures { result ≡ words_of_line self.now.reader.feed.line }
+        requires { IsSome (line_of_frame self.now) }
+        ensures { result ≡ words_of_line (line_of_frame self.now) }
     {
         words(self.reader.line().text)
     }

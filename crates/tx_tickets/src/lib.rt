@@ -8,3 +8,4 @@ mod words;
 
 pub use reply::{write_circuit, write_reply};
 pub use ticket::write_ticket;
+pub use words::cause_word;

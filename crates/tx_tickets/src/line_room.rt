@@ -5,7 +5,7 @@ ghost use Rattle.tx_text.specs.inner.Padded.{padded_to};
 use itoa::{Buffer, write_digits};
 use std::marker::Model;
 use std::simd::prelude::*;
-use tx_plan::{NameKey, National};
+use tx_plan::National;
 
 /// The bytes of a line so far, in room of at most 255 bytes that is lent. The caller sees that they
 /// have room.
@@ -84,12 +84,13 @@ impl<'a, const N: usize> LineRoom<'a, N> {
     }
 
     /// Appends a name, or the figures of a code.
-    pub(crate) fn put_name(&mut self, name: NameKey)
-        requires { length self.old + 8 ≤ N }
-        ensures text { self.new ≡ self.old ++ name }
+    pub(crate) fn put_name(&mut self, name: &[u8])
+        requires room { length self.old + 8 ≤ N }
+        requires short { length name.now ≤ 8 }
+        ensures text { self.new ≡ self.old ++ name.now }
         ensures width { length self.new ≤ length self.old + 8 }
     {
-        self.put_padded(name.bytes(), name.padded());
+        self.put(name);
     }
 
     /// Appends a national number.
@@ -98,7 +99,7 @@ impl<'a, const N: usize> LineRoom<'a, N> {
         ensures text { self.new ≡ self.old ++ national }
         ensures width { length self.new ≤ length self.old + 9 }
     {
-        self.put_padded(national.bytes(), national.padded());
+        self.put(national.bytes());
     }
 
     /// Appends the figures of a number. At most eight are made in their place.

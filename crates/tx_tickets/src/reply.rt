@@ -75,7 +75,7 @@ fn put_at<A: Allocator>(exchange: ExchangeId, plan: &Plan<A>, line: &mut LineRoo
     ensures { line.new ≡ codes "AT " ++ (exchange_name plan.now exchange ++ codes "\n") }
 {
     line.put(b"AT ");
-    line.put_name(plan.exchange_key(exchange));
+    line.put_name(plan.exchange_name(exchange));
     line.put(b"\n");
 }
 
@@ -95,7 +95,7 @@ fn put_circuit<A: Allocator>(circuit: &Circuit, plan: &Plan<A>, line: &mut LineR
     ensures { line.new ≡ codes "SEIZED " ++ (circuit_text plan.now circuit.now ++ codes "\n") }
 {
     line.put(b"SEIZED ");
-    line.put_name(plan.group_key(circuit.group));
+    line.put_name(plan.group_name(circuit.group));
     line.put(b".");
     line.put_number(u64::from(circuit.number));
     line.put(b"\n");
@@ -106,7 +106,7 @@ fn put_connected<A: Allocator>(called: Line, plan: &Plan<A>, line: &mut LineRoom
     ensures { line.new ≡ codes "CONNECTED " ++ (line_text plan.now called ++ codes "\n") }
 {
     line.put(b"CONNECTED ");
-    line.put_name(plan.code_key(called.code));
+    line.put_name(plan.code_figures(called.code));
     line.put(b" ");
     line.put_national(called.national);
     line.put(b"\n");

@@ -50,7 +50,7 @@ fn put_caller<A: Allocator, B: Allocator>(
     line.put(b"T ");
     line.put_number(u64::from(ticket.number));
     line.put(b" FROM ");
-    line.put_name(plan.code_key(ticket.line.code));
+    line.put_name(plan.code_figures(ticket.line.code));
     line.put(b" ");
     line.put_national(ticket.line.national);
     line.put(b" TO ");
@@ -82,7 +82,7 @@ fn put_why<A: Allocator, B: Allocator>(
 {
     line.put(cause_word(ticket.cause));
     line.put(b" VIA ");
-    line.put_name(plan.exchange_key(ticket.start));
+    line.put_name(plan.exchange_name(ticket.start));
 }
 
 /// Writes a line that has begun, with each hop after it and an LF. Where the next hop may have no
@@ -117,9 +117,9 @@ fn put_hop<A: Allocator>(hop: &Hop, plan: &Plan<A>, line: &mut LineRoom<'_, ROOM
     ensures width { length line.new ≤ 191 }
 {
     line.put(b" ");
-    line.put_name(plan.group_key(hop.circuit.group));
+    line.put_name(plan.group_name(hop.circuit.group));
     line.put(b".");
     line.put_number(u64::from(hop.circuit.number));
     line.put(b" ");
-    line.put_name(plan.exchange_key(hop.far));
+    line.put_name(plan.exchange_name(hop.far));
 }

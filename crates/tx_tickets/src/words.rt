@@ -19,7 +19,8 @@ pub(crate) fn service_word<'a>(service: Service) -> &'a [u8]
     }
 }
 
-pub(crate) fn cause_word<'a>(cause: Cause) -> &'a [u8]
+/// The word that stands for a cause after BY.
+pub fn cause_word<'a>(cause: Cause) -> &'a [u8]
     ensures text { result.now ≡ cause_text cause }
     ensures width { length result.now ≤ 4 }
 {

@@ -1,6 +1,5 @@
 -- How far exchanges are above the home of a code, computed.
-use Rattle.std.specs.Prelude.{ℕ, zero, suc, ◌==◌, if◌then◌else◌, List, [], ◌∷◌, length, map, max}
-use Rattle.std.specs.Prelude.{Option, Some, None, is_some}
+use Rattle.std.specs.Prelude.{ℕ, zero, suc, ◌==◌, if◌then◌else◌, List, [], ◌∷◌, length, map, max, Option, Some, None, is_some}
 use Rattle.std.specs.Option.{option_map}
 use Rattle.tx_plan.specs.Plan.{Plan, home_of}
 use Rattle.tx_trace.specs.Ways.{far_ends}

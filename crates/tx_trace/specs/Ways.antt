@@ -1,6 +1,5 @@
 -- The ways that calls for a code take from an exchange.
-use Rattle.std.specs.Prelude.{ℕ, zero, suc, Bool, ◌==◌, if◌then◌else◌, List, [], ◌∷◌, ◌++◌}
-use Rattle.std.specs.Prelude.{length, slice_get, Option, None, option_and_then}
+use Rattle.std.specs.Prelude.{ℕ, zero, suc, Bool, ◌==◌, if◌then◌else◌, List, [], ◌∷◌, ◌++◌, length, slice_get, Option, None, option_and_then}
 use Rattle.std.specs.List.{list_any, filter_map, fold}
 use Rattle.std.specs.Option.{option_map, option_map_or, option_to_list}
 use Rattle.tx_plan.specs.Plan.{Plan, home_of}

@@ -1,11 +1,13 @@
-// What a height says of ranks and of ways.
+// What a height says of ranks and of ways, and which exchanges are met.
 ghost use Rattle.std.specs.Prelude.{◌≡◌, ◌↔◌, ℕ, ◌<◌, length, Some, IsSome};
 ghost use Rattle.tx_plan.specs.Plan.{Plan};
 ghost use Rattle.tx_plan.specs.Rules.{IsPlan};
-ghost use Rattle.tx_rank.specs.Walks.{net_of};
-ghost use Rattle.tx_rank.specs.Heights.{IsHeight};
+ghost use Rattle.tx_plan.specs.Among.{Among};
+ghost use Rattle.tx_rank.specs.Walks.{net_of, AllDiffer};
+ghost use Rattle.tx_rank.specs.Heights.{IsHeight, IsReached};
 ghost use Rattle.tx_trace.specs.Heights.{height};
-ghost use Rattle.tx_trace.specs.Ranked.{CanBeRankedFrom};
+ghost use Rattle.tx_trace.specs.Ranked.{CanBeRankedFrom, net_from};
+ghost use Rattle.tx_trace.specs.Ways.{all_met};
 
 /// An exchange has a height exactly where some ranks certify the code for calls that start there,
 /// and it is the number of steps of the longest way to the home.
@@ -14,4 +16,11 @@ pub fn heights_are_ranks()
         → IsSome (height p c x) ↔ CanBeRankedFrom p c x }
     ensures longest { (p : Plan) (c x h : ℕ) → IsPlan p → c < length p.codes
         → height p c x ≡ Some h → IsHeight (net_of p c) x h }
+{}
+
+/// The exchanges met are those where a way of a call that starts there ends, and each stands once.
+pub fn met_are_reached()
+    ensures reached { (p : Plan) (c x y : ℕ) → IsPlan p → c < length p.codes
+        → x < length p.exchanges → Among y (all_met p c x) ↔ IsReached (net_from p c x) y }
+    ensures once { (p : Plan) (c x : ℕ) → AllDiffer (all_met p c x) }
 {}

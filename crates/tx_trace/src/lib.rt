@@ -11,6 +11,6 @@ mod routes_from;
 mod trace_text;
 mod tracing;
 
-pub use law::heights_are_ranks;
+pub use law::{heights_are_ranks, met_are_reached};
 pub use trace_text::write_trace;
 pub use tracing::{Trace, trace_calls};

@@ -2,9 +2,7 @@
 ghost use Rattle.std.specs.Prelude.{◌++◌, codes, Option};
 ghost use Rattle.std.specs.List.{flat_map};
 ghost use Rattle.tx_text.specs.Wrote.{Wrote};
-ghost use Rattle.tx_trace.specs.TraceText.{head_line, bar_line, step_text, way_line, home_line};
-ghost use Rattle.tx_trace.specs.TraceText.{rank_text, place_line, list_lines, met_lines};
-ghost use Rattle.tx_trace.specs.TraceText.{trace_text};
+ghost use Rattle.tx_trace.specs.TraceText.{head_line, bar_line, step_text, way_line, home_line, rank_text, place_line, list_lines, met_lines, trace_text};
 ghost use Rattle.tx_trace.specs.Traces.{IsTraceOf, rank_told};
 
 use crate::tracing::Trace;

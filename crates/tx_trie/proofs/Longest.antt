@@ -13,7 +13,7 @@ use Rattle.tx_plan.specs.Codes.{is_prefix, codes_before, longer, longest, code_o
 use Rattle.tx_plan.specs.Rules.{is_code}
 use Rattle.tx_plan.specs.Among.{Among}
 use Rattle.tx_plan.proofs.Among.{among_filter, filter_among, among_places, places_among}
-use Rattle.tx_entries.proofs.Lists.{at_least, same_tests, below}
+use Rattle.tx_plan.proofs.Lists.{at_least, same_tests, below}
 use Rattle.tx_trie.specs.Trie.{plan_of}
 use Rattle.tx_trie.specs.declared.node.Node.{Node}
 use Rattle.tx_trie.specs.inner.Nodes.{IsTrie, child, code_at, walk, look, newer, read_on}

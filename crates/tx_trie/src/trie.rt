@@ -75,7 +75,7 @@ impl<A: Allocator> CodeTrie<A> {
         self.nodes.reserve(3)?;
         let place = reach(&mut self.nodes, figures.bytes());
         let node = &mut self.nodes[place];
-        node.code = Some(CodeId::at(self.codes.len() as u16));
+        node.code = Some(CodeId::of(self.codes.len()));
         self.codes.push_reserved(Row { figures, home });
         Ok(())
     }

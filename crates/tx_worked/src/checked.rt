@@ -129,7 +129,6 @@ fn tell_tickets<A: Allocator>(plan: &Plan<A>, tickets: Vec<Ticket<A>, A>, out: &
 /// Returns how many events an engine accepted and calls are open, and drops it.
 fn tell_and_close<A: Allocator + Copy>(engine: Engine<'_, A>, out: &mut Told) {
     tell_end(&engine, out);
-    engine.close();
 }
 
 /// Returns what events that were played on the engine came to, and drives them again where memory

@@ -82,7 +82,6 @@ fn drives_on_engine<A: Allocator + Copy>(
     match Engine::new(alloc, plan) {
         Ok(mut net) => {
             let keeps = drives_on(alloc, &mut net, events, whole);
-            net.close();
             keeps
         }
         Err(fault) => Err(fault),

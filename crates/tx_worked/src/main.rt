@@ -10,17 +10,19 @@
 //! may have the marks of `spell`. Where a law is broken, a line
 //! with `BROKEN` is printed, so the case differs.
 //!
-//! - `pipe` has a plan and a script in one text, `run` in two, and so has `telling`, which tells
-//! each event and has the status 1 where one was refused; `both` has them in one, which is played
-//! in both ways. `codes`, `grade` and `audit L K` have a plan,
-//! `check L K` a plan and a certificate, `checked L K` (a run after a Yes) these and a script. An
-//! audit writes after its report the certificate that it
-//!   found, or the script of the first finding that has one. `change L K` has an old plan and a
-//!   new one, and writes after its report the certificate, or the mixture of the first finding
-//!   that has a walk, and its script. `mend L K` has a plan, and writes after its report the mended
-//!   plan and its certificate. `trace EXCHANGE CODE` has a plan, and `lint FILE` one that is named
-//!   so. `survive` has a plan and a text of risks, and `survive alone` a plan.
-//!   Each is played by sources of 1, 2, 7 and 4,096 bytes a call, which has to make no difference.
+//! - `pipe` has a plan and a script in one text, and `run` in two. So has `telling`, which tells
+//! each
+//!   event before its reply, and has the status 1 where one was refused; `telling summary` tells a
+//! summary instead, and `telling both` both. `both` has them in one, which is played in both ways.
+//!   `codes`, `grade` and `audit L K` have a plan, `check L K` a plan
+//!   and a certificate, `checked L K` (a run after a Yes) these and a script. An audit writes after
+//!   its report the certificate that it found, or the script of the first finding that has one.
+//! `change L K` has an old plan and a new one, and writes after its report the certificate, or the
+//! mixture of the first finding that has a walk, and its script. `mend L K` has a plan, and writes
+//!   after its report the mended plan and its certificate. `trace EXCHANGE CODE` has a plan, and
+//! `lint FILE` one that is named so. `survive` has a plan and a text of risks, and `survive alone`
+//!   a plan. Each is played by sources of 1, 2, 7 and 4,096 bytes a call, which has to make no
+//!   difference.
 //!   `draw`, `draw CODE` and `draw CODE L K` have a plan.
 //! - `pictures` and `pictures L K` have a plan, which is drawn, and each of its codes, with the
 //! walk of the code's first finding where there are numbers.
@@ -56,8 +58,8 @@ mod cases;
 mod changes;
 mod checked;
 mod driven;
-mod end_cases;
-mod end_play;
+mod ends;
+mod families;
 mod jobs;
 mod mends;
 mod outages;
@@ -65,7 +67,6 @@ mod play;
 mod player;
 mod run_laws;
 mod runs;
-mod stage;
 mod tests;
 mod twins;
 mod walks;

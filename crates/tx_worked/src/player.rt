@@ -4,7 +4,7 @@ use crate::cases::{
     tell_differing,
 };
 use crate::changes::play_pairs;
-use crate::end_cases::{play_arguments, play_program};
+use crate::ends::{play_arguments, play_program};
 use crate::mends::play_mends;
 use crate::outages::play_outages;
 use crate::play::play_texts;

@@ -7,7 +7,7 @@ use tx_plain::Plain;
 use tx_plan::Plan;
 use tx_plantext::read_plan;
 use tx_script::{RunCause, RunFault, Summary, run};
-use tx_text::{FaultKind, FrameFault, LineFault, MemorySink, MemorySource, TextFault};
+use tx_text::{FaultKind, FrameFault, MemorySink, MemorySource};
 
 /// The network that runs a script.
 #[derive(Clone, Copy)]
@@ -100,7 +100,6 @@ fn run_engine<A: Allocator + Copy>(
     match Engine::starting_at(alloc, plan, text.numbers, text.events) {
         Ok(mut net) => {
             let end = run(alloc, plan, &mut net, source, out);
-            net.close();
             end
         }
         Err(_) => Err(NOT_BEGUN),
@@ -181,9 +180,7 @@ pub(crate) fn told_cause(cause: RunCause) -> JobFault {
         RunCause::Write => JobFault::Write,
         RunCause::NoMemory => JobFault::NoMemory,
         RunCause::Script(fault) => match fault.kind {
-            FaultKind::Frame(FrameFault::Line(LineFault::Text(TextFault::NoMemory))) => {
-                JobFault::NoMemory
-            }
+            FaultKind::Frame(FrameFault::NoMemory) => { JobFault::NoMemory }
             _ => JobFault::Script(fault),
         },
     }

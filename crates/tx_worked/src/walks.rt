@@ -4,10 +4,8 @@
 // and judges by the replies whether they show it.
 
 mod compare;
-mod families;
 mod grades;
 mod judge;
-mod lists;
 mod refusals;
 mod replay;
 mod scripts;
@@ -21,9 +19,7 @@ mod walks;
 mod wanted;
 
 pub(crate) use compare::{Difference, findings_differ, ranks_differ, shows};
-pub(crate) use families::{count_plans, count_ways, put_plan};
 pub(crate) use judge::{NUMBERS, play_family};
-pub(crate) use lists::put_words;
 pub(crate) use replay::Replay;
 pub(crate) use scripts::is_right;
 pub(crate) use stop::{WalksDiffer, tell_stop};

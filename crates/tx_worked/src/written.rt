@@ -4,15 +4,14 @@ use std::alloc::{Allocator, Global};
 use tx_cert::{Cert, CertFault, CertWord, read_cert, read_cert_from, write_cert};
 use tx_plan::{CodeId, ExchangeId, Plan};
 use tx_plantext::{read_plan, write_plan};
-use tx_text::{FaultKind, FrameFault, LineFault, MemorySource, TextFault};
+use tx_text::{FaultKind, FrameFault, MemorySource};
 
 /// Whether two certificates of the plan give the same ranks.
 fn same_ranks(plan: &Plan, one: &Cert, other: &Cert) -> bool {
-    plan.rules();
     for code in 0..plan.codes() {
         for exchange in 0..plan.exchanges() {
-            let code = CodeId::at(code as u16);
-            let exchange = ExchangeId::at(exchange as u16);
+            let code = CodeId::of(code);
+            let exchange = ExchangeId::of(exchange);
             if one.rank(code, exchange) != other.rank(code, exchange) {
                 return false;
             }
@@ -90,7 +89,7 @@ const NO_MEMORY: CertFault = CertFault {
 
 const NO_BUFFER: CertFault = CertFault {
     line: 1,
-    kind: FaultKind::Frame(FrameFault::Line(LineFault::Text(TextFault::NoMemory))),
+    kind: FaultKind::Frame(FrameFault::NoMemory),
 };
 
 /// Whether memory runs out for a new certificate.

@@ -44,6 +44,7 @@ unfoldable pub ranks_in : Table → FinMap pair_cmp ℕ
 ranks_in t =
     from_entries (flat_map (λ pair. entry_of pair (rank_in t pair)) (pairs t.codes t.exchanges))
 
+-- the certificate that a table stands for
 abbrev pub certificate_of : Table → Certificate
 certificate_of t = record { codes = t.codes; exchanges = t.exchanges; ranks = ranks_in t }
 

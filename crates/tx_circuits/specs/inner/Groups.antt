@@ -1,16 +1,16 @@
 -- The groups of a plan with the states of their circuits, and how they are kept in one vector.
 use Rattle.std.specs.Prelude.{◌≡◌, ℕ, zero, suc, ◌+◌, ◌<◌, ◌≤◌, Bool, false, ◌&&◌, ◌==◌, if◌then◌else◌, List, [], ◌∷◌, map, length, find, replicate, Option, Some, None, option_and_then, slice_get, slice_set, ◌⊎◌}
 use Rattle.std.specs.List.{between}
-use Rattle.tx_entries.specs.declared.circuit.Circuit.{Circuit}
+use Rattle.tx_plan.specs.declared.group.Circuit.{Circuit}
 use Rattle.tx_plan.specs.Circuits.{is_both}
-use Rattle.tx_circuits.specs.declared.free_lists.End.{End}
-use Rattle.tx_circuits.specs.declared.free_lists.End.TheVariants.{First, Other}
-use Rattle.tx_circuits.specs.declared.free_lists.Way.{Way}
-use Rattle.tx_circuits.specs.declared.free_lists.Way.TheVariants.{Up, Down}
-use Rattle.tx_circuits.specs.declared.state.State.{State}
+use Rattle.tx_circuits.specs.declared.lists.End.{End}
+use Rattle.tx_circuits.specs.declared.lists.End.TheVariants.{First, Other}
+use Rattle.tx_circuits.specs.declared.lists.Way.{Way}
+use Rattle.tx_circuits.specs.declared.lists.Way.TheVariants.{Up, Down}
+use Rattle.tx_circuits.specs.declared.slot.State.{State}
 use Rattle.tx_circuits.specs.declared.slot.Slot.{Slot}
-use Rattle.tx_circuits.specs.declared.group_head.GroupHead.{GroupHead}
-use Rattle.tx_circuits.specs.declared.row.Row.{Row}
+use Rattle.tx_circuits.specs.declared.group.GroupHead.{GroupHead}
+use Rattle.tx_circuits.specs.declared.group.Row.{Row}
 use Rattle.tx_circuits.specs.inner.Slots.{state_of, free_in, in_order, IsSound}
 
 -- a group, with the states of its circuits in order of number
@@ -47,12 +47,15 @@ abbrev pub set_numbered : {A : Type 0} → List A → ℕ → A → List A
 set_numbered xs zero y = xs
 set_numbered xs (suc n) y = slice_set xs n y
 
+-- the group with another state of a circuit
 abbrev pub with_state : Circuit → State → GroupState → GroupState
 with_state x to t = record t { states = set_numbered t.states x.number to }
 
+-- the group, failed or not
 abbrev pub with_failed : Bool → GroupState → GroupState
 with_failed to t = record t { head = record t.head { failed = to } }
 
+-- the group, blocked or not
 abbrev pub with_blocked : Bool → GroupState → GroupState
 with_blocked to t = record t { head = record t.head { blocked = to } }
 
@@ -75,8 +78,7 @@ idle = record {
   out = false;
 }
 
--- ALL CIRCUITS IN ONE VECTOR, GROUP BY GROUP
-
+-- the slots of a group
 abbrev pub group_slots : List Slot → Row → List Slot
 group_slots slots r = between r.start (r.start + r.count) slots
 
@@ -84,6 +86,7 @@ group_slots slots r = between r.start (r.start + r.count) slots
 abbrev pub states_in : List Slot → Row → List State
 states_in slots r = map state_of (group_slots slots r)
 
+-- a group with the states that its slots say
 abbrev pub group_state : List Slot → Row → GroupState
 group_state slots r = record { head = r.head; states = states_in slots r }
 

@@ -13,14 +13,15 @@ use Rattle.tx_commands.specs.declared.refusal.Refusal.TheVariants.{Together, Che
 pub record IsCheckedTelling (name : List ℕ) (found : List Row) : Type 0 where
   pub run : name ≡ codes "run"
   pub checked : has found (codes "cert") ≡ true
-  pub telling : (is_set found (codes "strict") || is_set found (codes "echo")) ≡ true
+  pub telling : (is_set found (codes "strict")
+      || (is_set found (codes "echo") || is_set found (codes "summary"))) ≡ true
 
 -- `draw` has a limit or a spare number, and not both with a code
 pub record IsDrawInPart (name : List ℕ) (found : List Row) : Type 0 where
   pub draw : name ≡ codes "draw"
   pub some : (has found (codes "limit") || has found (codes "spare")) ≡ true
-  pub not_all : (has found (codes "code")
-      && (has found (codes "limit") && has found (codes "spare"))) ≡ false
+  pub not_all :
+      (has found (codes "code") && (has found (codes "limit") && has found (codes "spare"))) ≡ false
 
 -- `explain` has a word that asks for no entry of the table
 pub record IsNoCode (name : List ℕ) (found : List Row) : Type 0 where

@@ -4,7 +4,7 @@ use Rattle.tx_plan.specs.Plan.{Plan}
 use Rattle.tx_machine.specs.Call.{Call}
 use Rattle.tx_machine.specs.Ended.{Ended}
 use Rattle.tx_machine.specs.State.{State}
-use Rattle.tx_machine.specs.Invariant.{Inv}
+use Rattle.tx_machine.specs.inner.Invariant.{Inv}
 use Rattle.tx_lines.specs.Book.{Book}
 use Rattle.tx_circuits.specs.Table.{Table}
 use Rattle.tx_engine.specs.inner.GivenBack.{AreUsed, AreEngaged}

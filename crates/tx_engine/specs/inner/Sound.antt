@@ -1,23 +1,23 @@
 -- What holds of the parts of the engine together, and the state that they stand for.
-use Rattle.std.specs.Prelude.{◌≡◌, ℕ, ◌+◌, ◌-◌, ◌^◌, ◌<◌, ◌≤◌, ◌==◌, Bool, true, List, length, Some}
+use Rattle.std.specs.Prelude.{◌≡◌, ℕ, ◌+◌, ◌<◌, ◌≤◌, ◌==◌, Bool, true, List, length, Some}
 use Rattle.std.specs.VecDeque.{deque_len, deque_capacity}
 use Rattle.tx_plan.specs.Plan.{Plan, Code}
 use Rattle.tx_plan.specs.Rules.{IsPlan}
 use Rattle.tx_plan.specs.Lines.{is_line_at}
 use Rattle.tx_plan.specs.Circuits.{is_circuit, ends_of}
 use Rattle.tx_plan.specs.Among.{Among}
-use Rattle.tx_entries.specs.declared.circuit.Circuit.{Circuit}
+use Rattle.tx_plan.specs.declared.group.Circuit.{Circuit}
 use Rattle.tx_machine.specs.declared.phase.Phase.TheVariants.{Calling}
 use Rattle.tx_machine.specs.Call.{place_of, call_of}
 use Rattle.tx_machine.specs.State.{State}
 use Rattle.tx_machine.specs.InUse.{circuits_carried}
 use Rattle.tx_lines.specs.Book.{Book, is_line_of}
 use Rattle.tx_circuits.specs.Table.{Table}
-use Rattle.tx_calls.specs.Calls.{Kept, Calls, HasRoom, kept_at, calls_in}
+use Rattle.tx_calls.specs.Calls.{Kept, Calls, kept_at, calls_in}
 use Rattle.tx_calls.specs.inner.Keys.{HasKeys, keys_of, pick}
-use Rattle.tx_calls.specs.declared.end_keys.EndKeys.{EndKeys}
+use Rattle.tx_calls.specs.declared.circuit_keys.EndKeys.{EndKeys}
 use Rattle.tx_engine.specs.inner.Seen.{state_seen, AreTogether}
-use Rattle.tx_engine.specs.declared.parts.Parts.{Parts}
+use Rattle.tx_engine.specs.declared.engine_state.EngineState.{EngineState}
 
 -- the exchange is the first end of the circuit's group
 abbrev pub is_first_end : Plan → Circuit → ℕ → Bool
@@ -52,21 +52,16 @@ pub record AreSound (p : Plan) (codes : List Code) (c : Calls)
 
 module _ {A : Type 0} where
   -- the parts are sound
-  abbrev pub IsSound : Parts A → Type 0
+  abbrev pub IsSound : EngineState A → Type 0
   IsSound n = AreSound n.plan.now n.codes n.calls n.keys n.lines n.circuits n.numbers
       (deque_len n.tickets) (deque_capacity n.tickets)
 
   -- there is room for the tickets of the open calls and of one more
-  abbrev pub HasTicketRoom : Parts A → Type 0
+  abbrev pub HasTicketRoom : EngineState A → Type 0
   HasTicketRoom n = deque_len n.tickets + (length (calls_in n.calls) + 1) ≤ deque_capacity n.tickets
 
-  -- a call can be opened at once: neither numbers nor events are spent, and there is room for it
-  -- and for its ticket
-  abbrev pub IsReady : Parts A → Type 0
-  IsReady n = (n.numbers < 2 ^ 32 - 1) × (n.events < 2 ^ 64 - 1) × HasRoom n.calls × HasTicketRoom n
-
   -- the state that the parts stand for
-  abbrev pub state_of : Parts A → State
+  abbrev pub state_of : EngineState A → State
   state_of n = state_seen (calls_in n.calls) n.circuits n.lines n.numbers n.events n.tickets.items
 
 -- the open call of a number is kept under a key

@@ -5,8 +5,8 @@ use Rattle.std.specs.FinSet as set
 use Rattle.indexmap.specs.IndexMap as index
 use Rattle.indexmap.specs.IndexMap.{IndexMap}
 use Rattle.tx_plan.specs.Orders.{same_line, line_cmp}
-use Rattle.tx_entries.specs.declared.line.Line.{Line}
-use Rattle.tx_entries.specs.declared.range.LineRange.{LineRange}
+use Rattle.tx_plan.specs.declared.line.Line.{Line}
+use Rattle.tx_plan.specs.declared.range.LineRange.{LineRange}
 use Rattle.tx_lines.specs.Book.{Book, switched}
 use Rattle.tx_lines.specs.Status.{has, is_unmarked, unmarked}
 use Rattle.tx_lines.specs.declared.status.Status.{Status}

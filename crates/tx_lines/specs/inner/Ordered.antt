@@ -5,7 +5,7 @@ use Rattle.std.specs.declared.cmp.Ordering.{Ordering}
 use Rattle.std.specs.Cmp.Lexicographic.{slice_cmp}
 use Rattle.std.specs.List.Sorted.{IsSortedBy, IsPartitionPoint}
 use Rattle.tx_plan.specs.Lines.{at_most}
-use Rattle.tx_entries.specs.declared.range.LineRange.{LineRange}
+use Rattle.tx_plan.specs.declared.range.LineRange.{LineRange}
 
 -- a code and a national number
 abbrev pub Place : Type 0

@@ -3,7 +3,7 @@ use Rattle.std.specs.Prelude.{ℕ, Bool, ◌||◌, ◌&&◌, ◌==◌, List, is_
 use Rattle.std.specs.List.{list_any}
 use Rattle.tx_cert.specs.Certificate.{Certificate, rank_at}
 use Rattle.tx_plan.specs.Plan.{Plan, Route}
-use Rattle.tx_plan.specs.Rerouted.{rerouted}
+use Rattle.tx_plan.specs.Mixed.{rerouted}
 use Rattle.tx_mend.specs.Lists.{full_list}
 use Rattle.tx_mend.specs.Mended.{routes_of}
 

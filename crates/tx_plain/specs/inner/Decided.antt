@@ -16,12 +16,12 @@ use Rattle.tx_machine.specs.Confirming.{collide}
 use Rattle.tx_plain.specs.inner.Marks.{HasMark}
 use Rattle.tx_plain.specs.inner.Seen.{changed}
 use Rattle.tx_plain.specs.inner.GivenUp.{ends_by}
-use Rattle.tx_plain.specs.declared.change.Change.TheVariants.{Carry}
-use Rattle.tx_plain.specs.declared.ends.Ends.TheVariants.{Collided}
-use Rattle.tx_plain.specs.declared.routing.Routing.{Routing}
-use Rattle.tx_plain.specs.declared.routing.Routing.TheVariants.{Answer, Connect, Seize}
-use Rattle.tx_plain.specs.declared.meeting.Meeting.{Meeting}
-use Rattle.tx_plain.specs.declared.meeting.Meeting.TheVariants.{GoesOn, Collides}
+use Rattle.tx_plain.specs.declared.changing.Change.TheVariants.{Carry}
+use Rattle.tx_plain.specs.declared.ended_calls.Ends.TheVariants.{Collided}
+use Rattle.tx_plain.specs.declared.route.Routing.{Routing}
+use Rattle.tx_plain.specs.declared.route.Routing.TheVariants.{Answer, Connect, Seize}
+use Rattle.tx_plain.specs.declared.confirm.Meeting.{Meeting}
+use Rattle.tx_plain.specs.declared.confirm.Meeting.TheVariants.{GoesOn, Collides}
 
 -- what a routing does with the call of a number
 abbrev pub routing_done : Plan → State → ℕ → Routing → Reply × State

@@ -2,13 +2,13 @@
 use Rattle.std.specs.Prelude.{ℕ, Bool, not, ◌&&◌, ◌||◌, List}
 use Rattle.std.specs.List.{list_any}
 use Rattle.std.specs.FinSet as set
-use Rattle.tx_entries.specs.declared.circuit.Circuit.{Circuit}
+use Rattle.tx_plan.specs.declared.group.Circuit.{Circuit}
 use Rattle.tx_plan.specs.Among.{Among}
 use Rattle.tx_machine.specs.Call.{Call, is_numbered}
 use Rattle.tx_machine.specs.InUse.{seizes, uses_group}
 use Rattle.tx_plain.specs.inner.Marks.{Circuits, HasMark}
-use Rattle.tx_plain.specs.declared.ends.Ends.{Ends}
-use Rattle.tx_plain.specs.declared.ends.Ends.TheVariants.{Numbered, Collided, OnGroup}
+use Rattle.tx_plain.specs.declared.ended_calls.Ends.{Ends}
+use Rattle.tx_plain.specs.declared.ended_calls.Ends.TheVariants.{Numbered, Collided, OnGroup}
 
 -- whether a call is one of those that end
 abbrev pub ends_by : Ends → Call → Bool

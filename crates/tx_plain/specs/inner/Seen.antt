@@ -5,8 +5,8 @@ use Rattle.tx_machine.specs.Call.{Call, is_calling}
 use Rattle.tx_machine.specs.Routing.{in_phase}
 use Rattle.tx_machine.specs.Confirming.{thrown_back}
 use Rattle.tx_machine.specs.declared.open_call.OpenCall.{OpenCall}
-use Rattle.tx_plain.specs.declared.change.Change.{Change}
-use Rattle.tx_plain.specs.declared.change.Change.TheVariants.{To, Carry, ThrowBack}
+use Rattle.tx_plain.specs.declared.changing.Change.{Change}
+use Rattle.tx_plain.specs.declared.changing.Change.TheVariants.{To, Carry, ThrowBack}
 
 -- a call that seizes a circuit has room for a hop
 abbrev pub HasRoom : {A : Type 0} → OpenCall A → Type 0

@@ -1,7 +1,7 @@
 -- What the fields of a line feeder stand for, and what is true of them.
 use Rattle.std.specs.Prelude.{◌+◌, ◌-◌, ◌^◌, ◌<◌, ◌≤◌, [], None, Some, length, vec_capacity, if◌then◌else◌}
 use Rattle.tx_text.specs.Text.{Line}
-use Rattle.tx_text.specs.Feed.{Feed}
+use Rattle.tx_text.specs.inner.Feed.{Feed}
 use Rattle.tx_text.specs.declared.feeder.LineFeeder.TheInside.{Inside}
 
 -- The completed line that the fields hold.

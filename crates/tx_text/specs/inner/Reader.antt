@@ -1,8 +1,8 @@
 -- What the fields of a reader of texts stand for, and what is true of them.
 use Rattle.std.specs.Prelude.{◌≡◌, ◌+◌, ◌-◌, ◌*◌, ◌^◌, ◌<◌, ◌≤◌, true, None, Some, length, take, drop, if◌then◌else◌}
 use Rattle.tx_text.specs.Text.{Line}
-use Rattle.tx_text.specs.Feed.{Feed}
-use Rattle.tx_text.specs.Told.{Reading, IsFeed}
+use Rattle.tx_text.specs.inner.Feed.{Feed}
+use Rattle.tx_text.specs.inner.Reading.{Reading, IsFeed}
 use Rattle.tx_text.specs.declared.reader.TextReader.TheInside.{Inside}
 
 -- The line that stands whole in the buffer, where one is lent.

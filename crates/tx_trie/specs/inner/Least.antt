@@ -3,7 +3,7 @@ use Rattle.std.specs.Prelude.{◌≡◌, ℕ, ◌<◌, false, List, Option, Some
 use Rattle.std.specs.Ordering.{is_lt, nat_cmp}
 use Rattle.std.specs.Cmp.Lexicographic.{slice_cmp}
 use Rattle.tx_plan.specs.Plan.{Code}
-use Rattle.tx_plan.specs.Ambiguous.{IsAmbiguousAt}
+use Rattle.tx_plan.specs.inner.AmbiguousAt.{IsAmbiguousAt}
 
 -- a pair with none before it among those whose longer code stands before n
 pub record IsLeastPair (codes : List Code) (n a b : ℕ) : Type 0 where

@@ -2,6 +2,7 @@
 use crate::cases::case::{named, next_word, number_of};
 use crate::cases::job::Job;
 use crate::tests::{CALLS, CallKind};
+use tx_script::Telling;
 use tx_text::words;
 
 /// What is done with a job.
@@ -205,13 +206,23 @@ fn survival_of<'a>(word: &'a [u8]) -> Job<'a> {
     }
 }
 
+/// What a run is to tell: each event, a summary, or both.
+fn telling_of(word: &[u8]) -> Telling {
+    Telling {
+        echo: word != b"summary".as_slice(),
+        summary: word == b"summary".as_slice() || word == b"both".as_slice(),
+    }
+}
+
 /// The job of a case.
 pub fn job_of<'a>(kind: JobKind, head: Head<'a>) -> Job<'a> {
     let (limit, spare) = limit_and_spare(head);
     match kind {
         JobKind::Pipe => Job::Pipe,
         JobKind::Run => Job::Run,
-        JobKind::Telling => Job::Telling,
+        JobKind::Telling => Job::Telling {
+            telling: telling_of(head.first),
+        },
         JobKind::Codes => Job::Codes,
         JobKind::Grade => Job::Grade,
         JobKind::Lint => Job::Lint { file: head.first },

@@ -1,13 +1,14 @@
 // The job that a case plays, and its texts.
 use crate::cases::case::two_texts;
+use tx_script::Telling;
 
 /// Which job.
 #[derive(Clone, Copy)]
 pub enum Job<'a> {
     Pipe,
     Run,
-    /// A run that tells each event before its reply, and whether one was refused.
-    Telling,
+    /// A run that tells more, and whether an event was refused.
+    Telling { telling: Telling },
     Codes,
     Grade,
     /// What is to be said of the text of a plan, whose file is named so.
@@ -63,7 +64,7 @@ pub fn job_name(job: Job<'_>) -> &'static [u8] {
     match job {
         Job::Pipe => b"pipe",
         Job::Run => b"run",
-        Job::Telling => b"telling",
+        Job::Telling { .. } => b"telling",
         Job::Codes => b"codes",
         Job::Grade => b"grade",
         Job::Lint { .. } => b"lint",
@@ -92,7 +93,7 @@ pub fn sources(job: Job<'_>) -> u8 {
         | Job::Draw
         | Job::DrawCode { .. }
         | Job::DrawFinding { .. } => 1,
-        Job::Run | Job::Telling | Job::Check { .. } | Job::Change { .. } | Job::Survive => 2,
+        Job::Run | Job::Telling { .. } | Job::Check { .. } | Job::Change { .. } | Job::Survive => 2,
         Job::Checked { .. } => 3,
     }
 }

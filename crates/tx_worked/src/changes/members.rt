@@ -2,7 +2,8 @@
 ghost use Rattle.std.specs.Prelude.{◌≤◌};
 
 use crate::cases::Stop;
-use crate::walks::{NUMBERS, Steps, Survey, count_plans, put_plan, survey_codes};
+use crate::families::{count_plans, put_plan};
+use crate::walks::{NUMBERS, Steps, Survey, survey_codes};
 use std::alloc::Global;
 use tx_plan::Plan;
 use tx_plantext::read_plan;

@@ -4,7 +4,7 @@
 // a mixture goes, at each line, the way of the one plan or that of the other, and is a plan of the
 // family too.
 use crate::cases::next_line;
-use crate::walks::count_ways;
+use crate::families::count_ways;
 use tx_change::first_difference;
 use tx_plan::{CodeId, ExchangeId, Plan};
 use tx_text::NoMemory;

@@ -7,7 +7,8 @@ use crate::changes::members::{Member, members_of};
 use crate::changes::mixtures::put_mixtures;
 use crate::changes::shown::{Mixing, Showing};
 use crate::changes::tally::{PairTally, tell_pairs};
-use crate::walks::{NUMBERS, Survey, WalksDiffer, Wanted, put_plan, put_wanted, tell_stop};
+use crate::families::put_plan;
+use crate::walks::{NUMBERS, Survey, WalksDiffer, Wanted, put_wanted, tell_stop};
 use std::alloc::Global;
 use tx_text::NoMemory;
 

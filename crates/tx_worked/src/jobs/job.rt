@@ -131,7 +131,7 @@ fn do_job<A: Allocator + Copy>(
 ) -> Result<u8, JobFault> {
     match job {
         Job::Pipe | Job::Run => status(run_job(alloc, first, second, out)),
-        Job::Telling => match run_telling_job(alloc, true, first, second, out) {
+        Job::Telling { telling } => match run_telling_job(alloc, telling, first, second, out) {
             Ok(summary) => Ok(replies_status(&summary, true)),
             Err(fault) => Err(fault),
         },

@@ -18,9 +18,8 @@ pub(crate) fn play_pictures(alloc: Global, head: Head<'_>, text: &[u8], out: &mu
 }
 
 fn draw_codes(alloc: Global, plan: &Plan, head: Head<'_>, text: &[u8], out: &mut Told) {
-    plan.rules();
     for place in 0..plan.codes() {
-        let code = plan.code_figures(CodeId::at(place as u16));
+        let code = plan.code_figures(CodeId::of(place));
         let job = drawing_of(code, head.first, head.second);
         tell_task(alloc, task_of(job, text, b""), 4096, out);
     }

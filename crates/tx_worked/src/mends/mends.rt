@@ -2,15 +2,14 @@
 ghost use Rattle.std.specs.Prelude.{◌≤◌};
 
 use crate::cases::{Stop, Told};
+use crate::families::{count_plans, put_plan};
 use crate::mends::judge::{Answers, all_are_ranked, mending_differs, put_unserved};
 use crate::mends::lists::Asked;
 use crate::mends::routings::put_network;
 use crate::mends::served::CodeServed;
 use crate::mends::serving::{RoutingWork, serve_codes};
 use crate::mends::tally::{MendTally, tell_mends};
-use crate::walks::{
-    Difference, NUMBERS, Survey, WalksDiffer, count_plans, put_plan, survey_codes, tell_stop,
-};
+use crate::walks::{Difference, NUMBERS, Survey, WalksDiffer, survey_codes, tell_stop};
 use std::alloc::Global;
 use tx_mend::{Mending, mend};
 use tx_plan::Plan;

@@ -1,6 +1,6 @@
 // The routings of a network for one code, as a family of plans.
 use crate::cases::{next_line, next_word};
-use crate::walks::put_words;
+use crate::families::put_words;
 use tx_plan::{CodeId, ExchangeId, Plan};
 use tx_text::{NoMemory, words};
 

@@ -1,9 +1,10 @@
 // The routings of a network, made one after another.
 use crate::cases::Stop;
+use crate::families::{count_plans, put_plan};
 use crate::mends::routings::put_routings;
 use crate::mends::served::CodeServed;
 use crate::mends::starts::put_starts;
-use crate::walks::{Steps, Survey, Wanted, count_plans, put_plan};
+use crate::walks::{Steps, Survey, Wanted};
 use std::alloc::Global;
 use tx_plan::{CodeId, Plan};
 use tx_plantext::read_plan;

@@ -84,7 +84,7 @@ fn read_asked(line: &[u8]) -> Asked<'_> {
     let mut rest = words(line);
     let code = next_number(&mut rest, 65_535).min(65_535) as u16;
     Asked {
-        code: CodeId::at(code),
+        code: CodeId::of(usize::from(code)),
         number: next_word(&mut rest),
         happens: named(&HAPPENS, next_word(&mut rest)),
     }
@@ -127,7 +127,7 @@ pub(crate) fn play_book(book: &mut LineBook, lines: &[u8], out: &mut Told) {
 /// The line of the first code that has a number.
 fn line_of(book: &LineBook, number: u32) -> Option<Line> {
     let mut digits = Buffer::new();
-    book.find(CodeId::at(0), digits.format(number).as_bytes())
+    book.find(CodeId::of(0), digits.format(number).as_bytes())
 }
 
 /// Marks the line of a number away. Returns whether there is such a line, and room for its mark.

@@ -29,7 +29,7 @@ fn apply_line(table: &mut CircuitTable, line: &[u8]) -> bool {
 /// Whether the group is failed or blocked, or one of its circuits seized, carried, releasing or
 /// out.
 fn has_marks(table: &CircuitTable) -> bool {
-    let group = GroupId::at(0);
+    let group = GroupId::of(0);
     for number in 1..241u32 {
         let x = Circuit { group, number };
         if !table.is_unseized(&x)

@@ -6,9 +6,7 @@ use tx_circuits::CircuitTable;
 use tx_lines::{LineAnswer, LineBook};
 use tx_plan::{CodeId, Line, Plan, PlanRefusal};
 use tx_plantext::{PlanFault, PlanWord, read_plan};
-use tx_text::{
-    FaultKind, FrameFault, LineFault, LineFeeder, MemorySink, Sink, TextFault, write_bytes,
-};
+use tx_text::{FaultKind, FrameFault, LineFeeder, MemorySink, Sink, TextFault, write_bytes};
 use tx_trie::CodeTrie;
 
 /// What is made: the last three of them over a plan.
@@ -101,7 +99,7 @@ fn engage_lines<A: Allocator + Copy>(book: &mut LineBook<A>) -> Came {
     let mut all = Came::Right;
     for count in 1..14u8 {
         let number = [b'1', b'0', b'0', b'0' + count / 10, b'0' + count % 10];
-        let Some(line) = book.find(CodeId::at(0), &number) else {
+        let Some(line) = book.find(CodeId::of(0), &number) else {
             return Came::Wrong;
         };
         let mut came = engage(book, &line);
@@ -138,7 +136,7 @@ fn make_over<A: Allocator + Copy>(alloc: A, made: Made, plan: &Plan<A>) -> Came 
 /// What came of a plan that could not be read.
 fn came_of(fault: PlanFault) -> Came {
     match fault.kind {
-        FaultKind::Frame(FrameFault::Line(LineFault::Text(TextFault::NoMemory)))
+        FaultKind::Frame(FrameFault::NoMemory)
         | FaultKind::Word(PlanWord::Refused(PlanRefusal::NoMemory)) => Came::NoPlan,
         _ => Came::Wrong,
     }

@@ -50,16 +50,16 @@ fn tell_sizes(plan: &Plan, out: &mut Told) {
     tell(b"entries\n", out);
 }
 
-const ALFA: u16 = 0;
+const ALFA: usize = 0;
 
-const BETA: u16 = 1;
+const BETA: usize = 1;
 
 fn has_places(plan: &Plan) -> bool {
-    plan.exchange_at(1) == Some(ExchangeId::at(BETA))
-        && plan.code_at(1) == Some(CodeId::at(1))
-        && plan.group_at(0) == Some(GroupId::at(0))
-        && plan.route_at(0) == Some((ExchangeId::at(ALFA), CodeId::at(1)))
-        && plan.bar_at(0) == Some((ExchangeId::at(BETA), CodeId::at(0)))
+    plan.exchange_at(1) == Some(ExchangeId::of(BETA))
+        && plan.code_at(1) == Some(CodeId::of(1))
+        && plan.group_at(0) == Some(GroupId::of(0))
+        && plan.route_at(0) == Some((ExchangeId::of(ALFA), CodeId::of(1)))
+        && plan.bar_at(0) == Some((ExchangeId::of(BETA), CodeId::of(0)))
 }
 
 fn has_range(plan: &Plan) -> bool {
@@ -70,36 +70,36 @@ fn has_range(plan: &Plan) -> bool {
 }
 
 fn has_line(plan: &Plan) -> bool {
-    match plan.line_at(CodeId::at(0), b"007") {
+    match plan.line_at(CodeId::of(0), b"007") {
         Some(line) => line.national.bytes() == b"007".as_slice(),
         None => false,
     }
 }
 
 fn has_names(plan: &Plan) -> bool {
-    plan.exchange_named(b"BETA") == Some(ExchangeId::at(BETA))
-        && plan.code_named(b"51") == Some(CodeId::at(1))
-        && plan.group_named(b"G1") == Some(GroupId::at(0))
+    plan.exchange_named(b"BETA") == Some(ExchangeId::of(BETA))
+        && plan.code_named(b"51") == Some(CodeId::of(1))
+        && plan.group_named(b"G1") == Some(GroupId::of(0))
 }
 
 fn gives_names(plan: &Plan) -> bool {
-    plan.exchange_name(ExchangeId::at(BETA)) == b"BETA".as_slice()
-        && plan.code_figures(CodeId::at(1)) == b"51".as_slice()
-        && plan.group_name(GroupId::at(0)) == b"G1".as_slice()
+    plan.exchange_name(ExchangeId::of(BETA)) == b"BETA".as_slice()
+        && plan.code_figures(CodeId::of(1)) == b"51".as_slice()
+        && plan.group_name(GroupId::of(0)) == b"G1".as_slice()
 }
 
 fn has_routes(plan: &Plan) -> bool {
-    let (alfa, beta) = (ExchangeId::at(ALFA), ExchangeId::at(BETA));
-    plan.home(CodeId::at(1)) == beta
-        && plan.list(alfa, CodeId::at(1)) == [GroupId::at(0)].as_slice()
-        && plan.is_barred(beta, CodeId::at(0))
+    let (alfa, beta) = (ExchangeId::of(ALFA), ExchangeId::of(BETA));
+    plan.home(CodeId::of(1)) == beta
+        && plan.list(alfa, CodeId::of(1)) == [GroupId::of(0)].as_slice()
+        && plan.is_barred(beta, CodeId::of(0))
         && plan.is_origin(alfa)
-        && plan.is_origin_for(alfa, CodeId::at(1))
+        && plan.is_origin_for(alfa, CodeId::of(1))
 }
 
 fn has_groups(plan: &Plan) -> bool {
-    let (alfa, beta) = (ExchangeId::at(ALFA), ExchangeId::at(BETA));
-    let group = GroupId::at(0);
+    let (alfa, beta) = (ExchangeId::of(ALFA), ExchangeId::of(BETA));
+    let group = GroupId::of(0);
     plan.direction(group) == Direction::BothWay
         && plan.group_count(group) == 2
         && plan.ends(group) == (alfa, beta)

@@ -22,7 +22,6 @@ fn play_engine<'m>(
     match Engine::starting_at(memory, engine_plan, script.numbers, script.events) {
         Ok(mut engine) => {
             let played = play(alloc, plan, script, plain, &mut engine, memory, tally);
-            engine.close();
             played
         }
         Err(_) => Err(Stop::NoMemory),

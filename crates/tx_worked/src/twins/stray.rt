@@ -6,9 +6,10 @@ use tx_plan::{Circuit, CodeId, GroupId, Line, National, Plan};
 use tx_text::Figures;
 
 /// A place below a count, or one of the two after it.
-fn place(count: usize, chance: &mut Chance) -> u16 {
-    let place = chance.below(count.saturating_add(2));
-    u16::try_from(place).unwrap_or(u16::MAX)
+fn place(count: usize, chance: &mut Chance) -> usize
+    ensures { result < 65536 }
+{
+    chance.below(count.saturating_add(2)).min(65535)
 }
 
 /// A call number: one of the last that were given, the next one, or any at all.
@@ -21,7 +22,7 @@ fn number(picture: &Picture, chance: &mut Chance) -> u32 {
 }
 
 fn group(plan: &Plan, chance: &mut Chance) -> GroupId {
-    GroupId::at(place(plan.groups(), chance))
+    GroupId::of(place(plan.groups(), chance))
 }
 
 fn circuit(plan: &Plan, chance: &mut Chance) -> Circuit {
@@ -34,7 +35,7 @@ fn circuit(plan: &Plan, chance: &mut Chance) -> Circuit {
 }
 
 fn line(plan: &Plan, chance: &mut Chance) -> Option<Line> {
-    let code = CodeId::at(place(plan.codes(), chance));
+    let code = CodeId::of(place(plan.codes(), chance));
     let range = plan.range_at(chance.below(plan.ranges()))?;
     let national = if chance.one_in(2) {
         range.low

@@ -4,8 +4,8 @@ ghost use Rattle.std.specs.List.{AllByRecursion};
 ghost use Rattle.tx_rank.specs.Findings.{IsTrueOf};
 
 use crate::cases::{Stop, Told};
+use crate::families::{count_plans, put_plan};
 use crate::walks::compare::{Difference, findings_differ, ranks_differ};
-use crate::walks::families::{count_plans, put_plan};
 use crate::walks::grades::grade_agrees;
 use crate::walks::replay::Replay;
 use crate::walks::scripts::{Judged, ScriptTally, scripts_differ};

@@ -1,5 +1,5 @@
 use Rattle.std.proofs.Common.{◌<◌, ◌==◌, ◌∙◌, sym, length, arith}
-use Rattle.tx_entries.specs.declared.range.LineRange.{LineRange}
+use Rattle.tx_plan.specs.declared.range.LineRange.{LineRange}
 use Rattle.tx_plan.proofs.ByPlace.{entry_at}
 use Rattle.tx_audit.proofs.Loops.{find_here, find_past}
 use Rattle.tx_audit.proofs.free_line.first_range.Goals as goal

@@ -15,7 +15,7 @@ returns-in_err-write_parts g c =
     rw (← c.walk.view_is)
     (text_is _ _ _ _ _ _ _ (walk_cut c.args.head.now (figures_of p c.args.code) name rest)
     (wrote_first _ _ _ _ (c.args.head.now ++ (figures_of p c.args.code ++ (codes " VIA " ++ (name ++ [])))) rest _ c.in_err-write_parts.field-0.0
-    (rw (c.code_figures-code.ensures, c.exchange_name.ensures) at c.in_err-write_parts.ensures) c.from_residual.ensures.0))
+    (rw (c.code_figures-code.ensures.value, c.exchange_name.ensures.value) at c.in_err-write_parts.ensures) c.from_residual.ensures.0))
 
 pub returns : goal.returns
 returns g c =
@@ -26,4 +26,4 @@ returns g c =
     rw (← c.walk.view_is)
     (text_is _ _ _ _ _ _ _ (walk_cut c.args.head.now (figures_of p c.args.code) name rest)
     (wrote_then _ _ _ _ _ _ (c.args.head.now ++ (figures_of p c.args.code ++ (codes " VIA " ++ (name ++ [])))) rest _
-    (rw (c.code_figures-code.ensures, c.exchange_name.ensures) at c.in_ok-write_parts.ensures) (rw c.as_slice.ensures at c.write_steps.ensures)))
+    (rw (c.code_figures-code.ensures.value, c.exchange_name.ensures.value) at c.in_ok-write_parts.ensures) (rw c.as_slice.ensures at c.write_steps.ensures)))

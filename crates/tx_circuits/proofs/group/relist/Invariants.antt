@@ -1,5 +1,5 @@
 use Rattle.std.proofs.Common.{◌≡◌, map}
-use Rattle.tx_circuits.specs.declared.free_lists.End.{End}
+use Rattle.tx_circuits.specs.declared.lists.End.{End}
 use Rattle.tx_circuits.specs.inner.Slots.{free_at, state_of, until, list_of, IsListed}
 use Rattle.tx_circuits.proofs.group.relist.Given as goal
 

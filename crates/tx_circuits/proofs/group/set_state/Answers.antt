@@ -1,8 +1,8 @@
 use Rattle.std.proofs.Common.{◌≡◌, ◌∙◌, ◌<◌, ◌≤◌, ℕ, Bool, length, List, sym, ap, subst, slice_set, map, arith, length-set}
 use Rattle.std.proofs.lemmas.List.{length-map, map-set}
-use Rattle.tx_circuits.specs.declared.free_lists.End.{End}
-use Rattle.tx_circuits.specs.declared.free_lists.End.TheVariants.{First, Other}
-use Rattle.tx_circuits.specs.declared.state.State.{State}
+use Rattle.tx_circuits.specs.declared.lists.End.{End}
+use Rattle.tx_circuits.specs.declared.lists.End.TheVariants.{First, Other}
+use Rattle.tx_circuits.specs.declared.slot.State.{State}
 use Rattle.tx_circuits.specs.inner.Linked.{with}
 use Rattle.tx_circuits.specs.inner.Slots.{free_at, is_free, state_of, IsListed}
 use Rattle.tx_circuits.proofs.Places.{each_end}

@@ -2,7 +2,7 @@ use Rattle.std.proofs.Common.{◌≡◌, ◌∙◌, ℕ, ◌+◌, ◌-◌, List,
 use Rattle.std.specs.Prelude.{replicate}
 use Rattle.std.proofs.lemmas.List.{take_at}
 use Rattle.tx_circuits.specs.declared.slot.Slot.{Slot}
-use Rattle.tx_circuits.specs.declared.row.Row.{Row}
+use Rattle.tx_circuits.specs.declared.group.Row.{Row}
 use Rattle.tx_circuits.specs.inner.Slots.{state_of}
 use Rattle.tx_circuits.specs.inner.Groups.{group_slots, AreApart, IsAppended}
 use Rattle.tx_circuits.proofs.Kept.{grown, appended}

@@ -1,4 +1,5 @@
-use Rattle.std.proofs.Common.{take, option_map, Ok}
+use Rattle.std.proofs.Common.{ℕ, List, take, option_map, Ok}
+use Rattle.std.specs.Borrow.{Bor}
 use Rattle.std.specs.List.{flat_map}
 use Rattle.tx_text.specs.Wrote.{WroteBy}
 use Rattle.tx_explain.specs.Entries.{texts}
@@ -7,7 +8,8 @@ use Rattle.tx_explain.proofs.explanation.write_entries.Given as goal
 
 abbrev pub invariant-loop-i : goal.invariant-loop-i
 invariant-loop-i g l =
-    let text = (λ e. told_text (option_map (λ w. w.now) l.word) (texts e)) in
+    let text : List (Bor (List ℕ)) → List ℕ =
+    λ e. told_text (option_map (λ w. w.now) l.word) (texts e) in
     WroteBy (g.W.Sink.taken l.initial.sink) (g.W.Sink.taken l.sink)
     (g.W.Sink.failed l.initial.sink) (g.W.Sink.failed l.sink)
     (flat_map text (take l.i l.entries)) (Ok tt)

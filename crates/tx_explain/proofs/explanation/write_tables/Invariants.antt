@@ -1,13 +1,16 @@
-use Rattle.std.proofs.Common.{take, option_map, Ok}
+use Rattle.std.proofs.Common.{ℕ, List, take, option_map, Ok}
+use Rattle.std.specs.Borrow.{Bor}
 use Rattle.std.specs.List.{flat_map}
 use Rattle.tx_text.specs.Wrote.{WroteBy}
 use Rattle.tx_explain.specs.Entries.{texts}
 use Rattle.tx_explain.specs.Written.{told_text}
+use Rattle.tx_explain.proofs.Found.{Entries}
 use Rattle.tx_explain.proofs.explanation.write_tables.Given as goal
 
 abbrev pub invariant-loop-i : goal.invariant-loop-i
 invariant-loop-i g l =
-    let text = (λ t. flat_map (λ e. told_text (option_map (λ w. w.now) l.word) (texts e)) t.now) in
+    let text : Bor Entries → List ℕ =
+    λ t. flat_map (λ e. told_text (option_map (λ w. w.now) l.word) (texts e)) t.now in
     WroteBy (g.W.Sink.taken l.initial.sink) (g.W.Sink.taken l.sink)
     (g.W.Sink.failed l.initial.sink) (g.W.Sink.failed l.sink)
     (flat_map text (take l.i l.tables)) (Ok tt)

@@ -1,6 +1,6 @@
 use Rattle.std.proofs.Common.{sym, ap, ◌∙◌, refl}
 use Rattle.tx_jobs.specs.JobFaults.{mark_by}
-use Rattle.tx_jobs.specs.JobEnds.{output}
+use Rattle.tx_text.specs.Ends.{output}
 use Rattle.tx_jobs.proofs.RefusedTexts.{audit_marked}
 use Rattle.tx_jobs.proofs.ChangeTold.{change_told, change_stopped, change_network, change_shown}
 use Rattle.tx_jobs.proofs.change.change_into.Goals as goal

@@ -1,5 +1,5 @@
 use Rattle.std.proofs.Common.{Err, ap, inl, inr, refl}
-use Rattle.tx_jobs.specs.JobEnds.{input, output}
+use Rattle.tx_text.specs.Ends.{input, output}
 use Rattle.tx_jobs.proofs.LintTold.{not_read, lint_marked}
 use Rattle.tx_jobs.proofs.lint.lint_job.Goals as goal
 
@@ -12,8 +12,13 @@ returns-in-Ok-clause-answers g c = inl (record {
 
 pub returns-in-Err-clause-answers : goal.returns-in-Err-clause-answers
 returns-in-Err-clause-answers g c =
-    inr (not_read (input g.P.Source.rest g.P.Source.failed g.P.Source.called c.args.plan.now c.read_text.new.source)
-    (output g.W.Sink.taken c.args.out.now c.args.out.now) c.in-Err.fault c.of_lint.result c.of_lint.ensures (λ e. c.in-Err.ensures.fault (ap Err e)) refl)
+    let plan = c.args.plan.now in
+    let out = c.args.out.now in
+    let after = c.read_text.new.source in
+    let read = input g.P.Source.rest g.P.Source.failed g.P.Source.called plan after in
+    inr (not_read read (output g.W.Sink.taken out out) c.in-Err.fault c.of_lint.result
+    c.of_lint.ensures (λ e. c.in-Err.ensures.fault (ap Err e)) refl)
 
 pub returns-in-Err-clause-mark : goal.returns-in-Err-clause-mark
-returns-in-Err-clause-mark g c = lint_marked (g.W.Sink.failed c.args.out.now) c.in-Err.fault c.of_lint.result c.of_lint.ensures
+returns-in-Err-clause-mark g c =
+    lint_marked (g.W.Sink.failed c.args.out.now) c.in-Err.fault c.of_lint.result c.of_lint.ensures

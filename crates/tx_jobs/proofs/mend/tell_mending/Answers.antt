@@ -1,6 +1,6 @@
 use Rattle.std.proofs.Common.{◌∙◌, ap, sym}
 use Rattle.tx_jobs.specs.JobFaults.{mark_by}
-use Rattle.tx_jobs.specs.JobEnds.{output}
+use Rattle.tx_text.specs.Ends.{output}
 use Rattle.tx_jobs.proofs.MendTold.{mend_told, mend_marked}
 use Rattle.tx_jobs.proofs.mend.tell_mending.Goals as goal
 

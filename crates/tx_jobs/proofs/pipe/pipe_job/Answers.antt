@@ -1,5 +1,5 @@
 use Rattle.std.proofs.Common.{◌≡◌, ◌∙◌, [], false, Err, ap, inl, inr, refl, rules}
-use Rattle.tx_jobs.specs.JobEnds.{output}
+use Rattle.tx_text.specs.Ends.{output}
 use Rattle.tx_jobs.specs.PipeJobs.{PipeRan, PipeRefused}
 use Rattle.tx_jobs.proofs.Piping.{refused, ran, subst2}
 use Rattle.tx_jobs.proofs.RefusedTexts.{plan_mark}

@@ -1,5 +1,5 @@
 use Rattle.std.proofs.Common.{◌∙◌, inl}
-use Rattle.tx_jobs.specs.JobEnds.{input}
+use Rattle.tx_text.specs.Ends.{input}
 use Rattle.tx_jobs.proofs.CheckedRun.{told_run_by, told_run_stopped}
 use Rattle.tx_jobs.proofs.RefusedTexts.{run_mark}
 use Rattle.tx_jobs.proofs.run_checked.run_or_tell.Goals as goal

@@ -1,5 +1,5 @@
 use Rattle.std.proofs.Common.{Ok, refl, inl}
-use Rattle.tx_jobs.specs.JobEnds.{input, output}
+use Rattle.tx_text.specs.Ends.{input, output}
 use Rattle.tx_jobs.proofs.RefusedTexts.{run_mark}
 use Rattle.tx_jobs.proofs.Simulating.{told_stop}
 use Rattle.tx_jobs.proofs.simulate.simulate.Goals as goal

@@ -1,6 +1,6 @@
 use Rattle.std.proofs.Common.{Err, ap, inl, inr, refl, sym, subst}
 use Rattle.tx_risk.specs.NamedRisks.{AreRisksFor}
-use Rattle.tx_jobs.specs.JobEnds.{output}
+use Rattle.tx_text.specs.Ends.{output}
 use Rattle.tx_jobs.specs.SurviveJobs.{ToldSurvival}
 use Rattle.tx_jobs.proofs.Surviving.{risks_mark}
 use Rattle.tx_jobs.proofs.survive.tell_named.Goals as goal

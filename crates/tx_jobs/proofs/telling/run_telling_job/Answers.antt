@@ -5,13 +5,26 @@ use Rattle.tx_jobs.proofs.RefusedTexts.{plan_mark}
 use Rattle.tx_jobs.proofs.telling.run_telling_job.Goals as goal
 
 pub returns-in-Ok-clause-answers : goal.returns-in-Ok-clause-answers
-returns-in-Ok-clause-answers g c = inl (record { plan = c.in-Ok.plan; rules = c.rules.ensures; read = c.in-Ok.ensures.answer; goes_on = c.tell_script-told.ensures.answers })
+returns-in-Ok-clause-answers g c = inl (record {
+  plan = c.in-Ok.plan;
+  rules = c.rules.ensures;
+  read = c.in-Ok.ensures.answer;
+  goes_on = c.tell_script-told.ensures.answers;
+})
 
 pub returns-in-Err-clause-answers : goal.returns-in-Err-clause-answers
-returns-in-Err-clause-answers g c = inr (record { fault = c.in-Err.fault; read = c.in-Err.ensures.answer; told = ap Err c.of_plan.ensures; rest = (refl, refl) })
+returns-in-Err-clause-answers g c = inr (record {
+  fault = c.in-Err.fault;
+  read = c.in-Err.ensures.answer;
+  told = ap Err c.of_plan.ensures;
+  rest = (refl, refl);
+})
 
 pub returns-in-Err-clause-mark : goal.returns-in-Err-clause-mark
-returns-in-Err-clause-mark g c = plan_mark (g.W.Sink.failed c.args.out.now) c.in-Err.fault c.of_plan.result c.of_plan.ensures
+returns-in-Err-clause-mark g c =
+    plan_mark (g.W.Sink.failed c.args.out.now) c.in-Err.fault c.of_plan.result c.of_plan.ensures
 
 pub returns-in-Err-clause-script_calls : goal.returns-in-Err-clause-script_calls
-returns-in-Err-clause-script_calls g c = calls_so_far g.R.Source.called source_calls source_calls _ _ (went_none g.R.Source.called source_calls _)
+returns-in-Err-clause-script_calls g c =
+    calls_so_far g.R.Source.called source_calls source_calls _ _
+    (went_none g.R.Source.called source_calls _)

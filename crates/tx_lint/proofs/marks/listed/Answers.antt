@@ -14,7 +14,7 @@ mark_all-requires g c =
     let p = c.args.plan.now in
     let there = route_there p c.groups.ensures.rules c.loop-place.place _ c.in-Some.ensures in
     within_marks p c.groups.ensures.rules c.loop-place.place there.0 there.1 c.deref_mut.result.now c.list.result.now
-    (ap length c.deref_mut.ensures.value ∙ c.loop-place.invariant.long) (c.list.ensures ∙ there.2)
+    (ap length c.deref_mut.ensures.value ∙ c.loop-place.invariant.long) (c.list.ensures.value ∙ there.2)
 
 pub unreachable-requires : goal.unreachable-requires
 unreachable-requires g c =
@@ -22,7 +22,7 @@ unreachable-requires g c =
     let t = c.loop-place-test.true in
     let n = c.routes-place-end.ensures.count in
     let e = entry_at p.routes c.loop-place.place (omega arith) in
-    no_none (λ (r : Route). (r.exchange, r.code)) (slice_get p.routes c.loop-place.place) e.0 e.1 (sym c.in-None.is ∙ c.route_at.ensures)
+    no_none (λ (r : Route). (r.exchange, r.code)) (slice_get p.routes c.loop-place.place) e.0 e.1 (sym c.in-None.is ∙ c.route_at.ensures.value)
 
 pub loop-place-preserved : goal.loop-place-preserved
 loop-place-preserved g c =
@@ -40,5 +40,5 @@ loop-place-preserved g c =
       so_far = listed_more marks.items new p.routes c.loop-place.place there.0 (omega arith)
           (sym (get_or_from_slice_get p.routes c.loop-place.place there.0 there.0 there.1)) c.loop-place.invariant.so_far
           (λ x. c.mark_all.ensures.marks x
-          ∙ (λ j. is_marked (c.deref_mut.ensures.value j) x || list_any (λ (h : ℕ). h == x) ((c.list.ensures ∙ there.2) j)));
+          ∙ (λ j. is_marked (c.deref_mut.ensures.value j) x || list_any (λ (h : ℕ). h == x) ((c.list.ensures.value ∙ there.2) j)));
     })

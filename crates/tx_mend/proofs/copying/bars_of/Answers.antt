@@ -1,7 +1,7 @@
 use Rattle.std.proofs.Common.{◌∙◌, ap, sym, arith}
 use Rattle.std.specs.Prelude.{slice_get}
 use Rattle.std.specs.List.{list_any}
-use Rattle.tx_entries.specs.declared.pair.Pair.{Pair}
+use Rattle.tx_plan.specs.declared.ids.Pair.{Pair}
 use Rattle.tx_plan.proofs.ByPlace.{entry_at}
 use Rattle.tx_mend.proofs.Adding.{no_none}
 use Rattle.tx_mend.proofs.Copied.{none_before, copied_next, bar_got}

@@ -20,7 +20,7 @@ unreachable-requires g c =
     let t = c.loop-place-test.true in
     let n = c.routes-place-end.ensures.count in
     let e = entry_at p.routes c.loop-place.place (omega arith) in
-    no_none pair_of (slice_get p.routes c.loop-place.place) e.0 e.1 (sym c.in-None.is ∙ c.route_at.ensures)
+    no_none pair_of (slice_get p.routes c.loop-place.place) e.0 e.1 (sym c.in-None.is ∙ c.route_at.ensures.value)
 
 pub loop-place-preserved : goal.loop-place-preserved
 loop-place-preserved g c =

@@ -1,10 +1,9 @@
-use Rattle.std.proofs.Common.{◌∙◌, ap, sym, arith}
+use Rattle.std.proofs.Common.{◌∙◌, ap, sym, arith, take, refl, []}
 use Rattle.std.specs.Prelude.{slice_get}
 use Rattle.std.specs.List.{list_any}
 use Rattle.tx_plan.specs.Plan.{Route}
 use Rattle.tx_plan.proofs.ByPlace.{entry_at}
 use Rattle.tx_mend.specs.inner.Full.{stays}
-use Rattle.std.proofs.Common.{take, refl, []}
 use Rattle.tx_mend.proofs.Adding.{pair_of, no_none}
 use Rattle.tx_mend.proofs.Copied.{none_before, none_filtered, stays_next, goes_next, route_got}
 use Rattle.tx_mend.proofs.copying.staying_routes.Goals as goal
@@ -24,7 +23,7 @@ unreachable-requires g c =
     let t = c.loop-place-test.true in
     let n = c.routes-place-end.ensures.count in
     let e = entry_at p.routes c.loop-place.place (omega arith) in
-    no_none pair_of (slice_get p.routes c.loop-place.place) e.0 e.1 (sym c.in-None.is ∙ c.route_at.ensures)
+    no_none pair_of (slice_get p.routes c.loop-place.place) e.0 e.1 (sym c.in-None.is ∙ c.route_at.ensures.value)
 
 pub loop-place-preserved : goal.loop-place-preserved
 loop-place-preserved g c =

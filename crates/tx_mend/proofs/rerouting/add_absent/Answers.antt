@@ -20,7 +20,7 @@ add_route-requires g c =
     let code = c.args.code in
     let e = c.of-exchange.ensures in
     let none = nil_from_length c.list.result.now (eqb-true (length c.list.result.now) 0 (sym c.is_empty.ensures ∙ c.if-is_empty.true)) in
-    let empty : route_list p n code ≡ [] = sym (c.list.ensures ∙ ap (λ (y : ℕ). route_list p y code) e) ∙ none in
+    let empty : route_list p n code ≡ [] = sym (c.list.ensures.value ∙ ap (λ (y : ℕ). route_list p y code) e) ∙ none in
     ap (λ (y : ℕ). list_any (λ (r : Route). (r.exchange == y) && (r.code == code)) c.loop-place.routes) e ∙ ap (list_any (λ (r : Route). (r.exchange == n) && (r.code == code))) c.loop-place.invariant
     ∙ absent_fresh p c.exchanges-place-end.ensures.rules (full_list p b.limit b.spare) code n (is_absent_if p c.exchanges-place-end.ensures.rules n code empty)
 
@@ -32,7 +32,7 @@ loop-place-preserved g c =
     let code = c.args.code in
     let e = c.of-exchange.ensures in
     let f = full_route p b.limit b.spare in
-    let here = c.list.ensures ∙ ap (λ (y : ℕ). route_list p y code) e in
+    let here = c.list.ensures.value ∙ ap (λ (y : ℕ). route_list p y code) e in
     elim c.if-is_empty.branch [
       | then-is_empty+in_ok-add_route w ↦ (
           let none = nil_from_length c.list.result.now (eqb-true (length c.list.result.now) 0 (sym c.is_empty.ensures ∙ w.if-is_empty.true)) in

@@ -3,7 +3,7 @@ use Rattle.tx_plantext.proofs.plan_writer.write_names.Goals as goal
 
 pub returns-in_err-write_parts : goal.returns-in_err-write_parts
 returns-in_err-write_parts g c =
-    names_stopped c.args.plan.now c.args.groups.now c.loop-i.i c.index-groups-i.result _ _ _ _ _ _ _ c.in_err-write_parts.field-0.0 c.loop-i-test.true c.index-groups-i.is c.loop-i.invariant (rw c.group_name.ensures at c.in_err-write_parts.ensures)
+    names_stopped c.args.plan.now c.args.groups.now c.loop-i.i c.index-groups-i.result _ _ _ _ _ _ _ c.in_err-write_parts.field-0.0 c.loop-i-test.true c.index-groups-i.is c.loop-i.invariant (rw c.group_name.ensures.value at c.in_err-write_parts.ensures)
     c.from_residual.ensures.0
 
 pub returns : goal.returns

@@ -19,7 +19,7 @@ returns-in_err-write_parts g c =
     (c.args.head.now ++ (figures ++ (codes " " ++ (name ++ (codes " VIA " ++ (name ++ [])))))) rest
     _
     c.in_err-write_parts.field-0.0
-    (rw (c.code_figures-code.ensures, c.exchange_name-start.ensures, c.exchange_name.ensures)
+    (rw (c.code_figures-code.ensures.value, c.exchange_name-start.ensures.value, c.exchange_name.ensures.value)
     at c.in_err-write_parts.ensures) c.from_residual.ensures.0))
 
 pub returns : goal.returns
@@ -34,5 +34,5 @@ returns g c =
     (wrote_then _ _ _ _ _ _
     (c.args.head.now ++ (figures ++ (codes " " ++ (name ++ (codes " VIA " ++ (name ++ [])))))) rest
     _
-    (rw (c.code_figures-code.ensures, c.exchange_name-start.ensures, c.exchange_name.ensures)
+    (rw (c.code_figures-code.ensures.value, c.exchange_name-start.ensures.value, c.exchange_name.ensures.value)
     at c.in_ok-write_parts.ensures) (rw c.as_slice.ensures at c.write_steps.ensures)))

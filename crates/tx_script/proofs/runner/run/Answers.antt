@@ -1,6 +1,5 @@
-use Rattle.tx_text.specs.Calls.{source_calls}
-use Rattle.tx_text.proofs.CallCounts.{went_none, calls_so_far}
+use Rattle.tx_script.proofs.Silent.{silent_answers}
 use Rattle.tx_script.proofs.runner.run.Goals as goal
 
-pub returns-in-Err-clause-calls : goal.returns-in-Err-clause-calls
-returns-in-Err-clause-calls g c = calls_so_far g.R.Source.called source_calls source_calls _ _ (went_none g.R.Source.called source_calls _)
+pub returns-clause-answers : goal.returns-clause-answers
+returns-clause-answers g c = silent_answers _ _ _ _ _ (rw c.silent-teller.ensures at c.run_script-ran.ensures.answers)

@@ -9,7 +9,8 @@ use Rattle.tx_script.specs.declared.run_cause.RunCause.{RunCause}
 use Rattle.tx_script.specs.Answers.{mark_after}
 use Rattle.tx_script.specs.Events.{event_of}
 use Rattle.tx_script.proofs.EventWords.{said_by}
-use Rattle.tx_script.proofs.Running.{past_header, past_line, start_runs, header_came, line_came, line_halted, end_came, few_answered, few_refused, few_calls, few_told, none_left, stop_answers, whole_answers, line_mark, stop_mark}
+use Rattle.tx_script.proofs.Running.{past_header, past_line, start_runs, few_answered, few_refused, few_calls, few_told, few_counted, none_left, line_mark, stop_mark}
+use Rattle.tx_script.proofs.RunEnds.{header_came, line_came, line_halted, end_came, stop_ends, whole_ends}
 use Rattle.tx_script.proofs.runner.run_lines.Given.{Over}
 use Rattle.tx_script.proofs.runner.run_lines.Goals as goal
 use Rattle.tx_script.proofs.runner.run_lines.Goals.{After-answer_line, in-Some-Key, in-Some-Route, in-Some-Confirm, in-Some-Clear, in-Some-Released, in-Some, in-None}
@@ -32,7 +33,8 @@ lines-init g c =
     let r = c.requires in
     record {
       plan = r.plan;
-      runs = start_runs c.args.plan.now (g.R.Source.rest c.args.source.now) (g.N.Network.state c.args.net.now) (g.W.Sink.taken c.args.sink.now) c.args.frame _ r.key r.versions r.reader r.phase r.number r.fresh c.new-tally.ensures;
+      runs = start_runs c.args.plan.now c.args.teller.now.echo c.args.teller.now.counts (g.R.Source.rest c.args.source.now) (g.N.Network.state c.args.net.now) (g.W.Sink.taken c.args.sink.now) c.args.frame _ r.key r.versions r.reader r.phase r.number r.fresh c.new-tally.ensures;
+      echo = refl;
       mark = refl;
       sound = ap (λ (v : Reading). v.feed.fault) r.reader;
       went = went_same g.R.Source.called _ _ _ _ _ (ap (λ (v : Reading). v.left) r.reader) (went_none g.R.Source.called source_calls c.args.source.now);
@@ -50,7 +52,8 @@ lines-preserved-in-Ok-Header g c =
     let k = c.in-Ok-Header in
     record {
       plan = v.plan;
-      runs = header_came _ _ _ _ _ _ _ _ _ _ v.runs _ _ (to_come c.advance.new.self) c.advance.new.self.reader.feed.line k.ensures.gives _ _ k.field-0-is k.ensures.falls;
+      runs = header_came _ _ _ _ _ _ _ _ _ _ _ _ _ v.runs _ _ (to_come c.advance.new.self) c.advance.new.self.reader.feed.line k.ensures.gives _ _ k.field-0-is k.ensures.falls;
+      echo = v.echo;
       mark = v.mark;
       sound = k.ensures.fault;
       went = went_on g.R.Source.called _ _ _ _ _ _ v.went (past_header _ _ k.field-0-is k.ensures.went);
@@ -62,18 +65,21 @@ words-words-requires g c = c.in-Ok-Line.ensures.line (ap Ok c.in-Ok-Line.field-0
 pub number-requires : goal.number-requires
 number-requires g c = c.in-Ok-Line.ensures.line (ap Ok c.in-Ok-Line.field-0-is)
 
+pub next_number-number-requires : goal.next_number-number-requires
+next_number-number-requires g c = few_answered _ _ _ _ _ _ _ _ _ _ _ _ _ c.lines.invariant.runs
+
 pub answer_line-requires : goal.answer_line-requires
 answer_line-requires g c =
     let v = c.lines.invariant in
-    record { plan = v.plan; taken = none_left _ _ _ _ _ _ _ _ _ _ v.runs; few = few_calls _ _ _ _ _ _ _ _ _ _ v.runs c.requires.fresh }
+    record { plan = v.plan; taken = none_left _ _ _ _ _ _ _ _ _ _ _ _ _ v.runs; few = few_calls _ _ _ _ _ _ _ _ _ _ _ _ _ v.runs c.requires.fresh; counted = few_counted _ _ _ _ _ _ _ _ _ _ _ _ _ v.runs c.rules.ensures c.requires.fresh c.requires.counts }
 
 pub count-requires : goal.count-requires
 count-requires g c =
     let v = c.lines.invariant in
     record {
-      answered = few_answered _ _ _ _ _ _ _ _ _ _ v.runs;
-      refused = few_refused _ _ _ _ _ _ _ _ _ _ v.runs;
-      tickets = few_told _ _ _ _ _ _ _ _ _ _ v.runs c.requires.fresh _ _ _ _ _ c.in-Ok.ensures.answers;
+      answered = few_answered _ _ _ _ _ _ _ _ _ _ _ _ _ v.runs;
+      refused = few_refused _ _ _ _ _ _ _ _ _ _ _ _ _ v.runs;
+      tickets = few_told _ _ _ _ _ _ _ _ _ _ _ _ _ v.runs c.requires.fresh _ _ _ _ _ _ (rw v.echo at c.in-Ok.ensures.answers);
     }
 
 pub lines-smaller : goal.lines-smaller
@@ -87,17 +93,18 @@ lines-preserved g c =
     let a = c.in-Ok.ensures in
     record {
       plan = a.plan;
-      runs = line_came _ _ _ _ _ _ _ _ _ _ v.runs _ _ (to_come frame) frame.reader.feed.line k.ensures.gives k.field-0-is _ c.number.ensures _ _ _ (said g (goal.at.lines-preserved g c).After-answer_line) c.count.new.self _ _ k.ensures.falls a.answers c.count.ensures;
+      runs = line_came _ _ _ _ _ _ _ _ _ _ _ _ _ v.runs _ _ (to_come frame) frame.reader.feed.line k.ensures.gives k.field-0-is _ c.number.ensures _ c.next_number-number.ensures _ _ _ (said g (goal.at.lines-preserved g c).After-answer_line) c.count.new.self _ _ _ k.ensures.falls (rw v.echo at a.answers) a.counts c.count.ensures;
+      echo = a.echo ∙ v.echo;
       mark = a.mark ∙ v.mark;
       sound = k.ensures.fault;
       went = went_on g.R.Source.called _ _ _ _ _ _ v.went (past_line _ k.field-0-is k.ensures.went);
     }
 
 pub finish-requires : goal.finish-requires
-finish-requires g c = few_answered _ _ _ _ _ _ _ _ _ _ c.lines.invariant.runs
+finish-requires g c = few_answered _ _ _ _ _ _ _ _ _ _ _ _ _ c.lines.invariant.runs
 
 pub stopped-requires : goal.stopped-requires
-stopped-requires g c = few_answered _ _ _ _ _ _ _ _ _ _ c.lines.invariant.runs
+stopped-requires g c = few_answered _ _ _ _ _ _ _ _ _ _ _ _ _ c.lines.invariant.runs
 
 pub returns-in-Err-answer_line-clause-plan : goal.returns-in-Err-answer_line-clause-plan
 returns-in-Err-answer_line-clause-plan g c = c.in-Err-answer_line.ensures.plan
@@ -113,13 +120,13 @@ returns-in-Err-answer_line-clause-answers g c =
     let k = c.in-Ok-Line in
     let frame = c.advance.new.self in
     let x = c.in-Err-answer_line in
-    line_halted _ _ _ _ _ _ _ _ _ _ c.lines.invariant.runs _ _ (to_come frame) frame.reader.feed.line k.ensures.gives k.field-0-is _ c.number.ensures _ _ _ (said g (goal.at.returns-in-Err-answer_line-clause-answers g c).After-answer_line) _ _ c.stopped.result x.cause x.ensures.answers c.stopped.ensures
+    line_halted _ _ _ _ _ _ _ _ _ _ _ _ _ c.lines.invariant.runs _ _ (to_come frame) frame.reader.feed.line k.ensures.gives k.field-0-is _ c.number.ensures _ c.next_number-number.ensures _ _ _ (said g (goal.at.returns-in-Err-answer_line-clause-answers g c).After-answer_line) _ _ c.stopped.result x.cause (rw c.lines.invariant.echo at x.ensures.answers) c.stopped.ensures
 
 pub returns-in-Ok-End-clause-answers : goal.returns-in-Ok-End-clause-answers
 returns-in-Ok-End-clause-answers g c =
     let k = c.in-Ok-End in
     let f = c.finish.ensures in
-    whole_answers _ _ _ _ _ _ _ _ _ _ c.lines.invariant.runs _ _ _ _ c.finish.result (end_came _ _ _ _ _ _ _ _ _ _ c.lines.invariant.runs _ _ (to_come c.advance.new.self) c.advance.new.self.reader.feed.line k.ensures.gives k.field-0-is) f.summary f.ok f.fault f.err
+    whole_ends _ _ _ _ _ _ _ _ _ _ _ _ _ c.lines.invariant.runs c.rules.ensures c.requires.fresh c.requires.counts _ _ _ _ c.finish.result (end_came _ _ _ _ _ _ _ _ _ _ _ _ _ c.lines.invariant.runs _ _ (to_come c.advance.new.self) c.advance.new.self.reader.feed.line k.ensures.gives k.field-0-is) f.summary f.ok f.fault f.err
 
 pub returns-in-Err-clause-answers : goal.returns-in-Err-clause-answers
 returns-in-Err-clause-answers g c =
@@ -127,7 +134,7 @@ returns-in-Err-clause-answers g c =
     let called = g.R.Source.called in
     let failed = g.R.Source.failed c.advance.new.source in
     let q = stopped_with _ _ _ _ _ (is_read x.fault) _ (broken_on called failed source_calls c.lines.frame.reader.left _ _ _ c.lines.invariant.went) c.in-Err.ensures.gives in
-    stop_answers _ _ _ _ _ _ _ _ _ _ c.lines.invariant.runs _ _ _ c.stopped-in-Err.result x.line x.fault (come_said c.lines.frame) q (c.stopped-in-Err.ensures ∙ ap (λ (z : RunCause). record { event = c.lines.tally.answered + 1; cause = z }) c.frame_cause.ensures)
+    stop_ends _ _ _ _ _ _ _ _ _ _ _ _ _ c.lines.invariant.runs _ _ _ c.stopped-in-Err.result x.line x.fault (come_said c.lines.frame) q (c.stopped-in-Err.ensures ∙ ap (λ (z : RunCause). record { event = c.lines.tally.answered + 1; cause = z }) c.frame_cause.ensures)
 
 pub returns-in-Err-answer_line-clause-mark : goal.returns-in-Err-answer_line-clause-mark
 returns-in-Err-answer_line-clause-mark g c = line_mark _ _ c.lines.invariant.mark _ _ c.stopped.result c.stopped.ensures _ c.in-Err-answer_line.ensures.mark

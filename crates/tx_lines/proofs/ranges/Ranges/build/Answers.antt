@@ -3,7 +3,7 @@ use Rattle.std.proofs.lemmas.List.{take_more, take_all, length-take-le}
 use Rattle.std.proofs.lemmas.List.Sorted.{ranks_by}
 use Rattle.std.proofs.lemmas.Option.{get_or_from_slice_get}
 use Rattle.std.specs.Prelude.{IsPermutation}
-use Rattle.tx_entries.specs.declared.range.LineRange.{LineRange}
+use Rattle.tx_plan.specs.declared.range.LineRange.{LineRange}
 use Rattle.tx_lines.specs.inner.Ordered.{place_cmp, start_of, IsInOrder, AreFirsts}
 use Rattle.tx_lines.proofs.Order.{places_total}
 use Rattle.tx_lines.proofs.Arranged.{arranged, sorted_from_clause}

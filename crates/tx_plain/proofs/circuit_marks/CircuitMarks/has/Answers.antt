@@ -1,5 +1,6 @@
 use Rattle.std.proofs.Common.{◌≡◌, ◌+◌, ◌*◌, ◌-◌, ◌&&◌, ap, sym, ◌∙◌, get_or, false, arith, inl, inr}
 use Rattle.std.specs.FinSet as set
+use Rattle.std.proofs.lemmas.List.{get_or_read}
 use Rattle.tx_plain.specs.inner.Marks.{Circuits, index_of}
 use Rattle.tx_plain.proofs.Bits.{in_circuits, well, well_within, not_well, not_grouped}
 use Rattle.tx_plain.proofs.circuit_marks.CircuitMarks.has.Goals as goal
@@ -8,7 +9,12 @@ pub returns-then-number-le240 : goal.returns-then-number-le240
 returns-then-number-le240 g c =
     let x = c.args.circuit.now in
     let bits = c.self.inside.bits.items in
-    c.bit_at.ensures ∙ (λ i. get_or (c.as_slice.ensures.value i) (240 * c.index-group.ensures i + (x.number - 1)) false)
+    let long = c.self.invariant in
+    let grouped = c.if-group-self.true in
+    let first = c.if-number-ge1.true in
+    let last = c.if-number-le240.true in
+    get_or_read bits (240 * c.index-group.result + (x.number - 1)) c.index.result.now (omega arith) c.index.ensures false
+    ∙ (λ i. get_or bits (240 * c.index-group.ensures i + (x.number - 1)) false)
     ∙ sym (in_circuits bits x ∙ ap (λ w. w && get_or bits (index_of x) false) (well_within x c.if-number-ge1.true c.if-number-le240.true))
     ∙ ap (λ (v : Circuits). set.contains v.marked x) c.self.view_is
 

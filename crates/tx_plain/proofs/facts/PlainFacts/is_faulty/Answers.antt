@@ -3,7 +3,7 @@ use Rattle.std.specs.List.{list_any}
 use Rattle.std.specs.FinSet as set
 use Rattle.tx_machine.specs.State.{Net}
 use Rattle.tx_plan.specs.Orders.{same_line}
-use Rattle.tx_entries.proofs.Named.{in_lines}
+use Rattle.tx_plan.proofs.Named.{in_lines}
 use Rattle.tx_plain.proofs.facts.PlainFacts.is_faulty.Goals as goal
 
 pub returns : goal.returns

@@ -8,7 +8,7 @@ use Rattle.tx_machine.proofs.Lists.{find_mem}
 use Rattle.tx_machine.specs.Seen.{call_seen}
 use Rattle.tx_plain.specs.inner.Seen.{changed}
 use Rattle.tx_plain.specs.inner.Whole.{net_of}
-use Rattle.tx_plain.specs.declared.change.Change.TheVariants.{Carry}
+use Rattle.tx_plain.specs.declared.changing.Change.TheVariants.{Carry}
 use Rattle.tx_plain.proofs.Whole.{marks_carry, whole_changed, whole_ready, seen_changed}
 use Rattle.tx_plain.proofs.plain.Plain.carry.Goals as goal
 

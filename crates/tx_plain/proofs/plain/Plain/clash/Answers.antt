@@ -5,7 +5,7 @@ use Rattle.tx_machine.specs.declared.service.Service.TheVariants.{Nc}
 use Rattle.tx_machine.specs.State.{Net}
 use Rattle.tx_machine.specs.Ending.{end_calls}
 use Rattle.tx_plain.specs.inner.GivenUp.{ends_by}
-use Rattle.tx_plain.specs.declared.ends.Ends.TheVariants.{Collided}
+use Rattle.tx_plain.specs.declared.ended_calls.Ends.TheVariants.{Collided}
 use Rattle.tx_plain.proofs.plain.Plain.clash.Goals as goal
 
 pub returns-clause-step : goal.returns-clause-step

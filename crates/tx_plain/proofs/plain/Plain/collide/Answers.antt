@@ -8,7 +8,7 @@ use Rattle.tx_machine.specs.Seen.{call_seen}
 use Rattle.tx_plain.specs.inner.Seen.{changed}
 use Rattle.tx_plain.specs.inner.Marks.{Circuits, HasMark}
 use Rattle.tx_plain.specs.inner.Whole.{net_of}
-use Rattle.tx_plain.specs.declared.change.Change.TheVariants.{ThrowBack}
+use Rattle.tx_plain.specs.declared.changing.Change.TheVariants.{ThrowBack}
 use Rattle.tx_plain.proofs.Whole.{whole_changed, whole_marks, marks_back, seen_changed, thrown_twice}
 use Rattle.tx_plain.proofs.plain.Plain.collide.Goals as goal
 

@@ -8,7 +8,7 @@ use Rattle.tx_machine.specs.InUse.{seizes_from}
 use Rattle.tx_machine.specs.Routing.{set_call}
 use Rattle.tx_machine.specs.Seen.{call_seen}
 use Rattle.tx_plain.specs.inner.Seen.{changed}
-use Rattle.tx_plain.specs.declared.change.Change.TheVariants.{Carry}
+use Rattle.tx_plain.specs.declared.changing.Change.TheVariants.{Carry}
 use Rattle.tx_plain.proofs.Routed.{confirms}
 use Rattle.tx_plain.proofs.plain.Plain.meeting.Goals as goal
 

@@ -7,7 +7,7 @@ use Rattle.tx_machine.specs.Routing.{set_call, in_phase}
 use Rattle.tx_plan.specs.Circuits.{is_circuit}
 use Rattle.tx_plan.specs.Among.{Among}
 use Rattle.tx_machine.specs.Seen.{call_seen}
-use Rattle.tx_plain.specs.declared.change.Change.TheVariants.{To}
+use Rattle.tx_plain.specs.declared.changing.Change.TheVariants.{To}
 use Rattle.tx_plain.specs.inner.Whole.{net_of}
 use Rattle.tx_plain.proofs.Whole.{circuit_marked, marks_to, whole_same, whole_changed, seen_same, seen_changed, err_with}
 use Rattle.tx_plain.proofs.plain.Plain.to_phase.Goals as goal

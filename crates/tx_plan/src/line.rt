@@ -1,0 +1,80 @@
+// National numbers, and subscribers' lines.
+ghost use Rattle.std.specs.Prelude.{◌≡◌, ◌≤◌, true, length, if◌then◌else◌, Some, None};
+ghost use Rattle.tx_text.specs.inner.Padded.{padded_to};
+ghost use Rattle.tx_plan.specs.Numbers.{is_national, at_most};
+
+use crate::ids::CodeId;
+use std::hash::{Hash, Hasher};
+use std::marker::Model;
+use tx_text::{InlineBytes, are_figures};
+
+/// A national number: 1 to 9 figures. Leading zeros count.
+#[derive(Clone, Copy, PartialEq, Eq)]
+pub struct National {
+    figures: InlineBytes<9>,
+}
+
+impl Model for National {
+    ghost use Rattle.std.specs.Prelude.{ℕ, List};
+
+    ghost Value = { List ℕ };
+
+    ghost view = { λ n. n.figures };
+
+    ghost use Rattle.std.specs.Prelude.{◌≡◌, true};
+    ghost use Rattle.tx_plan.specs.Numbers.{is_national};
+
+    ghost invariant = { λ n. is_national n.figures ≡ true };
+
+    ghost inverse = { λ t. record { figures = t } };
+}
+
+impl Hash for National {
+    ghost use Rattle.std.specs.Prelude.{[], ◌∷◌};
+    ghost use Rattle.std.proofs.Common.{ap};
+    ghost use Rattle.std.specs.Cmp.Lexicographic.{bytes_decides};
+
+    ghost hash_input = { λ n. padded_to 9 n ∷ [] };
+
+    ghost respects_eq = { λ x y h. ap (λ n. padded_to 9 n ∷ []) ((bytes_decides x y).0 h) };
+
+    fn hash<H: Hasher>(&self, state: &mut H) {
+        state.write(self.figures.padded());
+    }
+}
+
+impl National {
+    /// The number that the text spells, if it is 1 to 9 figures.
+    pub fn read(text: &[u8]) -> Option<National>
+        ensures { result ≡ (if is_national text.now then Some text.now else None) }
+    {
+        if !are_figures(text, 1, 9) {
+            return None;
+        }
+        let figures = InlineBytes::new(text);
+        Some(National { figures })
+    }
+
+    /// Its figures.
+    pub fn bytes(&self) -> &[u8]
+        ensures value { result.now ≡ self.now }
+        ensures width { length result.now ≤ 9 }
+        ensures figures { is_national self.now ≡ true }
+    {
+        self.figures.bytes()
+    }
+}
+
+/// A subscriber's line: a destination code and the national number after it (ITU-T F.69).
+#[derive(Clone, Copy, PartialEq, Eq, Hash)]
+pub struct Line {
+    pub code: CodeId,
+    pub national: National,
+}
+
+/// Whether the one text of figures is not above the other, figure by figure.
+pub fn at_most(low: &[u8], high: &[u8]) -> bool
+    ensures { result ≡ at_most low.now high.now }
+{
+    low.cmp(high).is_le()
+}

@@ -1,0 +1,146 @@
+// What is counted of a run for its summary.
+ghost use Rattle.std.specs.Prelude.{◌≡◌, ◌+◌, ◌<◌, ◌^◌, true, false, IfOk};
+ghost use Rattle.tx_plan.specs.Circuits.{count_of};
+ghost use Rattle.tx_script.specs.Summaries.{place_of};
+ghost use Rattle.tx_script.specs.inner.Counting.{change_at, cleared, count_for, counted, followed, marked, nothing_counted, one_counted, use_at, uses_counted};
+
+use crate::answer::is_refused;
+use crate::group_use::GroupUse;
+use std::alloc::Allocator;
+use std::marker::Model;
+use tx_machine::{Cause, Event, Reply, Service};
+use tx_plan::{Circuit, GroupId, Plan};
+use tx_text::NoMemory;
+
+/// How many calls ended by each cause, and how the circuits of each group were used.
+#[derive(Drop)]
+pub(crate) struct Counts<A: Allocator> {
+    /// By the places of the causes.
+    calls: [u64; 9],
+    groups: Vec<GroupUse, A>,
+}
+
+impl<A: Allocator> Model for Counts<A> {
+    ghost use Rattle.tx_script.specs.inner.Counting.{Counted};
+
+    ghost Value = { Counted };
+
+    ghost view = { λ c. record { calls = c.calls; groups = c.groups.items } };
+}
+
+/// The place of a cause among all causes.
+fn place_of(cause: Cause) -> usize
+    ensures place { result ≡ place_of cause }
+    ensures within { result < 9 }
+{
+    match cause {
+        Cause::Service(Service::Occ) => 0,
+        Cause::Service(Service::Nc) => 1,
+        Cause::Service(Service::Np) => 2,
+        Cause::Service(Service::Der) => 3,
+        Cause::Service(Service::Abs) => 4,
+        Cause::Service(Service::Na) => 5,
+        Cause::ClearedByCaller => 6,
+        Cause::ClearedByCalled => 7,
+        Cause::Lost => 8,
+    }
+}
+
+impl<A: Allocator> Counts<A> {
+    /// Nothing was counted yet.
+    pub(crate) fn new<B: Allocator>(alloc: A, plan: &Plan<B>) -> Result<Counts<A>, NoMemory>
+        ensures { IfOk result (λ c. c ≡ nothing_counted plan.now) }
+    {
+        let groups = Vec::from_elem(alloc, GroupUse::new(), plan.groups())?;
+        Ok(Counts {
+            calls: [0; 9],
+            groups,
+        })
+    }
+
+    /// How many calls ended by a cause.
+    pub(crate) fn ended_by(&self, cause: Cause) -> u64
+        ensures { result ≡ count_for self.now.calls cause }
+    {
+        self.calls[place_of(cause)]
+    }
+
+    /// The most circuits of a group that were taken at once.
+    pub(crate) fn most_of(&self, group: GroupId) -> u32
+        ensures { result ≡ (use_at self.now.groups group).most }
+    {
+        match self.groups.get(group.index()) {
+            Some(group) => group.most,
+            None => 0,
+        }
+    }
+
+    /// A call ended.
+    pub(crate) fn ended(&mut self, cause: Cause)
+        requires { count_for self.old.calls cause + 1 < 2 ^ 64 }
+        ensures { self.new ≡ one_counted cause self.old }
+    {
+        self.calls[place_of(cause)] += 1;
+    }
+
+    /// An event was answered.
+    pub(crate) fn answered<B: Allocator>(&mut self, plan: &Plan<B>, event: &Event, reply: &Reply)
+        ensures { self.new ≡ uses_counted plan.now event.now reply.now self.old }
+    {
+        match event {
+            Event::Route(_) => {
+                if let Reply::Seized(circuit) = reply {
+                    self.seize(plan, circuit);
+                }
+            }
+            Event::Released(circuit) => {
+                if !is_refused(reply) {
+                    self.release(circuit);
+                }
+            }
+            Event::Fail(group) => {
+                if !is_refused(reply) {
+                    self.clear(*group);
+                }
+            }
+            _ => {}
+        }
+    }
+
+    fn seize<B: Allocator>(&mut self, plan: &Plan<B>, circuit: &Circuit)
+        ensures { self.new ≡ record self.old {
+          groups = change_at circuit.now.group
+              (λ u. counted (count_of plan.now circuit.now.group) (marked circuit.now.number true u))
+              self.old.groups;
+        } }
+    {
+        let place = circuit.group.index();
+        if place < self.groups.len() {
+            let group = &mut self.groups[place];
+            group.seize(circuit.number, plan.group_count(circuit.group));
+        }
+    }
+
+    fn release(&mut self, circuit: &Circuit)
+        ensures { self.new ≡ record self.old {
+          groups = change_at circuit.now.group
+              (marked circuit.now.number false) self.old.groups;
+        } }
+    {
+        let place = circuit.group.index();
+        if place < self.groups.len() {
+            let group = &mut self.groups[place];
+            group.mark(circuit.number, false);
+        }
+    }
+
+    fn clear(&mut self, group: GroupId)
+        ensures { self.new ≡ record self.old { groups = change_at group cleared self.old.groups } }
+    {
+        let place = group.index();
+        if place < self.groups.len() {
+            let group = &mut self.groups[place];
+            group.clear();
+        }
+    }
+}

@@ -1,0 +1,121 @@
+// The lines of a summary.
+ghost use Rattle.std.specs.Prelude.{◌≡◌, ◌<◌, codes, length};
+ghost use Rattle.std.specs.List.{flat_map, range_with_len};
+ghost use Rattle.tx_text.specs.Wrote.{Wrote};
+ghost use Rattle.tx_tickets.specs.Texts.{cause_text};
+ghost use Rattle.tx_script.specs.Summaries.{calls_line, causes, peak_line};
+ghost use Rattle.tx_script.specs.inner.Counting.{count_for, counts_text, use_at};
+
+use crate::counts::Counts;
+use itoa::Buffer;
+use std::alloc::Allocator;
+use tx_machine::{Cause, Service};
+use tx_plan::{GroupId, Plan};
+use tx_text::{Sink, WriteFault, write_text};
+use tx_tickets::cause_word;
+
+/// Writes what was counted of a run, and how many calls are open.
+pub(crate) fn write_summary<A: Allocator, B: Allocator, W: Sink>(
+    counts: &Counts<A>,
+    open_calls: u64,
+    plan: &Plan<B>,
+    sink: &mut W,
+) -> Result<(), WriteFault>
+    ensures { Wrote W.taken W.failed sink.old sink.new
+        (counts_text plan.now counts.now open_calls) result }
+{
+    write_ended(counts, sink)?;
+    write_calls(b"OPEN", open_calls, sink)?;
+    write_peaks(counts, plan, sink)?;
+    write_text(&[b"END SUMMARY\n"], sink)
+}
+
+/// All causes, in the order in which they are told.
+fn causes() -> [Cause; 9]
+    ensures { result ≡ causes }
+{
+    [
+        Cause::Service(Service::Occ),
+        Cause::Service(Service::Nc),
+        Cause::Service(Service::Np),
+        Cause::Service(Service::Der),
+        Cause::Service(Service::Abs),
+        Cause::Service(Service::Na),
+        Cause::ClearedByCaller,
+        Cause::ClearedByCalled,
+        Cause::Lost,
+    ]
+}
+
+/// Writes how many calls ended by each cause.
+fn write_ended<A: Allocator, W: Sink>(counts: &Counts<A>, sink: &mut W) -> Result<(), WriteFault>
+    ensures { Wrote W.taken W.failed sink.old sink.new (flat_map
+        (λ cause. calls_line (cause_text cause) (count_for counts.now.calls cause)) causes) result }
+{
+    let causes = causes();
+    for i in 0..causes.len() {
+        let cause = causes[i];
+        write_calls(cause_word(cause), counts.ended_by(cause), sink)?;
+    }
+    Ok(())
+}
+
+/// Writes the peak of each group that was used.
+fn write_peaks<A: Allocator, B: Allocator, W: Sink>(
+    counts: &Counts<A>,
+    plan: &Plan<B>,
+    sink: &mut W,
+) -> Result<(), WriteFault>
+    ensures { Wrote W.taken W.failed sink.old sink.new (flat_map (λ g. peak_line plan.now g
+        (use_at counts.now.groups g).most) (range_with_len 0 (length plan.now.groups))) result }
+{
+    for place in 0..plan.groups() {
+        let group = GroupId::of(place);
+        write_peak(group, counts.most_of(group), plan, sink)?;
+    }
+    Ok(())
+}
+
+/// Writes how many calls there are of a kind, where there are some.
+fn write_calls<W: Sink>(word: &[u8], count: u64, sink: &mut W) -> Result<(), WriteFault>
+    ensures { Wrote W.taken W.failed sink.old sink.new
+        (calls_line word.now count) result }
+{
+    if count == 0 {
+        return Ok(());
+    }
+    let mut digits = Buffer::new();
+    let figures = digits.format(count).as_bytes();
+    write_text(&[b"CALLS ", word, b" ", figures, b"\n"], sink)
+}
+
+/// Writes the most circuits of a group that were taken at once, where it was used.
+fn write_peak<B: Allocator, W: Sink>(
+    group: GroupId,
+    most: u32,
+    plan: &Plan<B>,
+    sink: &mut W,
+) -> Result<(), WriteFault>
+    ensures { Wrote W.taken W.failed sink.old sink.new
+        (peak_line plan.now group most) result }
+{
+    if most == 0 {
+        return Ok(());
+    }
+    let mut digits = Buffer::new();
+    let mut circuits = Buffer::new();
+    let taken = digits.format(most).as_bytes();
+    let all = circuits.format(plan.group_count(group)).as_bytes();
+    write_text(
+        &[
+            b"PEAK ",
+            plan.group_name(group),
+            b" ",
+            taken,
+            b" OF ",
+            all,
+            b"\n",
+        ],
+        sink,
+    )
+}
