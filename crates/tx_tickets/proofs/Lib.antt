@@ -1,3 +1,1 @@
 pub mod Begun
-pub mod Copies
-pub mod Taking
