@@ -1,12 +1,12 @@
-use Rattle.std.proofs.Common.{◌≡◌, ℕ, ◌+◌, ◌<◌, List, [], ◌∷◌, ◌++◌, codes, length, get_or, take, drop, sym, ap, subst, ◌∙◌, append_assoc, append-nil, take-append-drop, rules, arith}
+use Rattle.std.proofs.Common.{◌≡◌, ℕ, ◌+◌, ◌<◌, List, [], ◌∷◌, ◌++◌, Err, codes, length, get_or, take, drop, sym, ap, ◌∙◌, append_assoc, append-nil, take-append-drop, rules, arith}
 use Rattle.std.proofs.Math.Seq.{take-length}
 use Rattle.std.specs.List.{flat_map}
 use Rattle.std.proofs.lemmas.List.{take_more}
 use Rattle.std.proofs.lemmas.List.Concat.{flat_map-append}
 use Rattle.std.specs.Io.KnownBytes.{append_known}
-use Rattle.tx_text.proofs.Wrote.{text_is, wrote_first}
+use Rattle.tx_text.proofs.Wrote.{text_is}
 use Rattle.tx_tickets.specs.Texts.{hop_text}
-use Rattle.tx_tickets.proofs.Begun.{begun_more, begun_out, begun_wrote}
+use Rattle.tx_tickets.proofs.Begun.{begun_more, begun_out, begun_wrote, begun_stopped}
 use Rattle.tx_tickets.proofs.ticket.write_path.Goals as goal
 
 module _ {X : Type 0} (f : X → List ℕ) (xs : List X) (i : ℕ) (x : X) (lt : i < length xs) (is : x ≡ get_or xs i x) where
@@ -47,18 +47,12 @@ loop-hop-preserved g c =
 
 pub returns-in_err-write_bytes : goal.returns-in_err-write_bytes
 returns-in_err-write_bytes g c =
-    let f = hop_text c.args.plan.now in
-    let hop = c.hop-item.result in
-    let i = c.loop-hop.hop-index in
-    let hops = c.args.hops.now in
     let v = c.loop-hop.invariant in
-    let t = whole f hops i hop c.loop-hop-test.true c.hop-item.is c.args.line (codes "\n") in
+    let t = whole (hop_text c.args.plan.now) c.args.hops.now c.loop-hop.hop-index c.hop-item.result c.loop-hop-test.true c.hop-item.is c.args.line (codes "\n") in
     let e = c.bytes.ensures ∙ c.put_hop.ensures.text in
-    text_is _ _ _ _ _ _ _ t
-    (wrote_first _ _ _ _ ((c.args.line ++ flat_map f (take i hops)) ++ f hop)
-    (flat_map f (drop (i + 1) hops) ++ codes "\n") _ c.in_err-write_bytes.field-0.0
-    (begun_wrote (begun_more v.begun (f hop)) v.mark (rw e at c.in_err-write_bytes.ensures))
-    c.from_residual.ensures.0)
+    text_is _ _ _ _ _ _ c.from_residual.result t
+    (begun_stopped (begun_more v.begun (hop_text c.args.plan.now c.hop-item.result)) _ _ _ _ c.in_err-write_bytes.field-0.0 c.from_residual.result
+    (text_is _ _ _ _ _ _ (Err c.in_err-write_bytes.field-0.0) (sym e) c.in_err-write_bytes.ensures) c.from_residual.ensures.0)
 
 pub returns : goal.returns
 returns g c =
@@ -70,4 +64,5 @@ returns g c =
     let e = c.bytes-2.ensures ∙ c.put.ensures.text in
     let t : (c.args.line ++ flat_map f (take c.loop-hop.hop-index hops)) ++ codes "\n" ≡ c.args.line ++ (flat_map f hops ++ codes "\n") =
     ap (λ l. (c.args.line ++ l) ++ codes "\n") all ∙ append_assoc c.args.line (flat_map f hops) (codes "\n") in
-    text_is _ _ _ _ _ _ _ (sym t) (begun_wrote (begun_more v.begun (codes "\n")) v.mark (rw e at c.write_bytes-2.ensures))
+    text_is _ _ _ _ _ _ c.write_bytes-2.result (sym t)
+    (begun_wrote (begun_more v.begun (codes "\n")) _ _ _ c.write_bytes-2.result v.mark (text_is _ _ _ _ _ _ c.write_bytes-2.result (sym e) c.write_bytes-2.ensures))
