@@ -24,7 +24,7 @@ struct CertLines<'p, A: Allocator> {
 }
 
 impl<'p, A: Allocator> Model for CertLines<'p, A> {
-    ghost use Rattle.std.specs.Prelude.{length};
+    ghost use Rattle.std.specs.Prelude.{◌≡◌, length};
     ghost use Rattle.std.specs.Coded.{codes};
     ghost use Rattle.tx_plan.specs.Plan.{Plan};
     ghost use Rattle.tx_cert.specs.Certificate.{Certificate};

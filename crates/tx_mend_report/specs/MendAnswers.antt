@@ -45,12 +45,13 @@ pub record HasNoRouting (p q : Plan) (pairs : List (ℕ × ℕ)) (both : Option 
   pub none : CanBeMended p limit spare → ⊥
 
 module _ {A : Type 0} where
+  -- what is true of a mending, by what it found
   abbrev pub IsRightMending : Plan → (limit spare : ℕ) → Mending A → Type 0
   IsRightMending p limit spare (Mended q before cert) = IsMendedInto p q before cert limit spare
   IsRightMending p limit spare (NoRouting q pairs pair) =
       HasNoRouting p q pairs.items pair limit spare
 
-  -- THE REPORT
+  -- the report of a mending
   abbrev pub mend_report : (limit spare : ℕ) → Mending A → List ℕ
   mend_report limit spare (Mended q before cert) = mended_text before q limit spare
   mend_report limit spare (NoRouting q pairs pair) = unserved_text q limit spare pairs.items pair

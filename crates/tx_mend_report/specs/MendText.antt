@@ -13,8 +13,6 @@ abbrev pub head_line : (limit spare : ℕ) → List ℕ
 head_line limit spare =
     codes "MEND LIMIT " ++ (decimal limit ++ (codes " SPARE " ++ (decimal spare ++ codes "\n")))
 
--- WHERE A PLAN IS MENDED
-
 -- the list of an exchange for a code: the route, as a plan writes it, or that none is needed
 abbrev pub list_line : Plan → (code x : ℕ) → List ℕ → List ℕ
 list_line p code x [] =
@@ -40,12 +38,10 @@ code_changes before p code =
 abbrev pub changes : List Route → Plan → List ℕ
 changes before p = flat_map (code_changes before p) (range_with_len 0 (length p.codes))
 
--- THE REPORT of a plan that was mended, and had these routes before
+-- the report of a plan that was mended, and had these routes before
 abbrev pub mended_text : List Route → Plan → (limit spare : ℕ) → List ℕ
 mended_text before p limit spare =
     head_line limit spare ++ (changes before p ++ codes "VERDICT YES\n")
-
--- WHERE NO ROUTES CAN BE CERTIFIED
 
 -- the ambiguous pair of codes, if there is one
 abbrev pub pair_line : Plan → Option (ℕ × ℕ) → List ℕ
@@ -53,6 +49,7 @@ pair_line p None = []
 pair_line p (Some q) = codes "F1 AMBIGUOUS "
     ++ (figures_of p q.0 ++ (codes " " ++ (figures_of p q.1 ++ codes "\n")))
 
+-- how many lines there are of it
 abbrev pub pair_count : Option (ℕ × ℕ) → ℕ
 pair_count None = 0
 pair_count (Some q) = 1
@@ -66,7 +63,7 @@ unserved_line p k = codes "F5 UNSERVED "
 abbrev pub verdict_line : ℕ → List ℕ
 verdict_line n = codes "VERDICT NO " ++ (decimal n ++ codes "\n")
 
--- THE REPORT of a plan for which no routes can be certified
+-- the report of a plan for which no routes can be certified
 abbrev pub unserved_text : Plan → (limit spare : ℕ) → List (ℕ × ℕ) → Option (ℕ × ℕ) → List ℕ
 unserved_text p limit spare unserved pair = head_line limit spare
     ++ (pair_line p pair ++ (flat_map (unserved_line p) unserved
