@@ -23,11 +23,11 @@ module _ {a b : Option (List ℕ)} {line text : List ℕ} (s : IsBegun a b line 
   begun_out e = record { gone = text; whole = sym (append-nil text); taken = e ∙ ap (λ l. append_known l line) s.taken ∙ append_known_twice a s.gone line ∙ ap (append_known a) (sym s.whole) }
 
   -- the line was written, and so was the text, or the sink failed in it
-  pub begun_wrote : {c : Option (List ℕ)} (f g h : Bool) (r : Result (Unit {0}) WriteFault) → g ≡ f → WroteBy b c g h line r → WroteBy a c f h text r
-  begun_wrote f g h (Ok x) m w = (w.0 ∙ ap (λ l. append_known l line) s.taken ∙ append_known_twice a s.gone line ∙ ap (append_known a) (sym s.whole), w.1 ∙ m)
-  begun_wrote f g h (Err x) m w = (rw s.whole (stops_later s.gone s.taken w.0), w.1)
+  pub begun_wrote : (c : Option (List ℕ)) (f g h : Bool) (r : Result (Unit {0}) WriteFault) → g ≡ f → WroteBy b c g h line r → WroteBy a c f h text r
+  begun_wrote c f g h (Ok x) m w = (w.0 ∙ ap (λ l. append_known l line) s.taken ∙ append_known_twice a s.gone line ∙ ap (append_known a) (sym s.whole), w.1 ∙ m)
+  begun_wrote c f g h (Err x) m w = (rw s.whole (stops_later s.gone s.taken w.0), w.1)
 
   -- the sink failed in the line, and more text was to come
-  pub begun_stopped : {c : Option (List ℕ)} (f g h : Bool) (more : List ℕ) (x : WriteFault) (r : Result (Unit {0}) WriteFault) → WroteBy b c g h line (Err x) → IsErr r → WroteBy a c f h (text ++ more) r
-  begun_stopped f g h more x (Ok y) w bad = absurd (false≢true bad)
-  begun_stopped f g h more x (Err y) w bad = (stops_first more (rw s.whole (stops_later s.gone s.taken w.0)), w.1)
+  pub begun_stopped : (c : Option (List ℕ)) (f g h : Bool) (more : List ℕ) (x : WriteFault) (r : Result (Unit {0}) WriteFault) → WroteBy b c g h line (Err x) → IsErr r → WroteBy a c f h (text ++ more) r
+  begun_stopped c f g h more x (Ok y) w bad = absurd (false≢true bad)
+  begun_stopped c f g h more x (Err y) w bad = (stops_first more (rw s.whole (stops_later s.gone s.taken w.0)), w.1)

@@ -60,7 +60,8 @@ impl<'a, const N: usize> LineRoom<'a, N> {
     {
         let from = self.len;
         let to = from + bytes.len();
-        self.room[from..to].copy_from_slice(bytes);
+        let room = &mut self.room[..];
+        room[from..to].copy_from_slice(bytes);
         self.len = to;
     }
 

@@ -51,7 +51,7 @@ returns-in_err-write_bytes g c =
     let t = whole (hop_text c.args.plan.now) c.args.hops.now c.loop-hop.hop-index c.hop-item.result c.loop-hop-test.true c.hop-item.is c.args.line (codes "\n") in
     let e = c.bytes.ensures ∙ c.put_hop.ensures.text in
     text_is _ _ _ _ _ _ c.from_residual.result t
-    (begun_stopped (begun_more v.begun (hop_text c.args.plan.now c.hop-item.result)) _ _ _ _ c.in_err-write_bytes.field-0.0 c.from_residual.result
+    (begun_stopped (begun_more v.begun (hop_text c.args.plan.now c.hop-item.result)) _ _ _ _ _ c.in_err-write_bytes.field-0.0 c.from_residual.result
     (text_is _ _ _ _ _ _ (Err c.in_err-write_bytes.field-0.0) (sym e) c.in_err-write_bytes.ensures) c.from_residual.ensures.0)
 
 pub returns : goal.returns
@@ -65,4 +65,4 @@ returns g c =
     let t : (c.args.line ++ flat_map f (take c.loop-hop.hop-index hops)) ++ codes "\n" ≡ c.args.line ++ (flat_map f hops ++ codes "\n") =
     ap (λ l. (c.args.line ++ l) ++ codes "\n") all ∙ append_assoc c.args.line (flat_map f hops) (codes "\n") in
     text_is _ _ _ _ _ _ c.write_bytes-2.result (sym t)
-    (begun_wrote (begun_more v.begun (codes "\n")) _ _ _ c.write_bytes-2.result v.mark (text_is _ _ _ _ _ _ c.write_bytes-2.result (sym e) c.write_bytes-2.ensures))
+    (begun_wrote (begun_more v.begun (codes "\n")) _ _ _ _ c.write_bytes-2.result v.mark (text_is _ _ _ _ _ _ c.write_bytes-2.result (sym e) c.write_bytes-2.ensures))
