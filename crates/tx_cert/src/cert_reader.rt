@@ -59,8 +59,8 @@ impl<'p, A: Allocator> CertLines<'p, A> {
 
     /// The certificate.
     fn finish(self) -> Cert<A>
-        ensures cert { result ≡ self.1 }
-        ensures fits { IsCertificateOf self.0 result }
+        ensures cert { result ≡ self.entry.1 }
+        ensures fits { IsCertificateOf self.entry.0 result }
     {
         self.cert.rules();
         self.cert

@@ -51,7 +51,7 @@ returns-in_err-write_bytes g c =
     let t = whole (hop_text c.args.plan.now) c.args.hops.now c.loop-hop.hop-index c.hop-item.result c.loop-hop-test.true c.hop-item.is c.args.line (codes "\n") in
     let e = c.bytes.ensures ∙ c.put_hop.ensures.text in
     text_is _ _ _ _ _ _ c.from_residual.result t
-    (begun_stopped (begun_more v.begun (hop_text c.args.plan.now c.hop-item.result)) _ _ false _ _ c.in_err-write_bytes.field-0.0 c.from_residual.result
+    (begun_stopped (begun_more v.begun (hop_text c.args.plan.now c.hop-item.result)) _ _ false _ _ _ c.in_err-write_bytes.field-0.0 c.from_residual.result
     (text_is _ _ false _ _ _ (Err c.in_err-write_bytes.field-0.0) (sym e) c.in_err-write_bytes.ensures) c.from_residual.ensures.0)
 
 pub returns : goal.returns
