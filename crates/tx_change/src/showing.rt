@@ -109,7 +109,6 @@ fn add_route<A: Allocator>(
     ensures { IfOk result (λ _. routes.new ≡ routes.old
         ++ kept_alone (keeps_route from_new taking.now) (slice_get from.now.routes place)) }
 {
-    from.rules();
     match from.route_at(place) {
         Some((exchange, code)) => {
             if taking.has_list(exchange, code) != from_new {
