@@ -23,7 +23,7 @@ pub fn is_failing(outage: &Outage, exchange: ExchangeId) -> bool
 {
     match outage {
         Outage::Exchange(failing) => exchange == *failing,
-        _ => false,
+        Outage::Group(_) | Outage::Named(_) => false,
     }
 }
 
