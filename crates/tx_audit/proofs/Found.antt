@@ -18,7 +18,8 @@ use Rattle.tx_audit.specs.declared.audited.AuditFault.{AuditFault}
 use Rattle.tx_audit.specs.declared.audited.AuditFault.TheVariants.{Plan as PlanRefused, Write, NoMemory}
 use Rattle.tx_audit.specs.Audits.{IsAllFound, IsCleared, OnUnsound, AuditAnswers}
 use Rattle.tx_audit.specs.CheckedRuns.{IsAllowed}
-use Rattle.tx_audit.specs.Ranked.{audited_of, findings_of, IsRight, RankAnswers}
+use Rattle.tx_audit.specs.Report.{findings_of}
+use Rattle.tx_audit.specs.inner.Ranked.{audited_of, IsRight, RankAnswers}
 
 module _ (A : Type 0) (p : Plan) (limit spare : ℕ) where
   all_found : (findings : List (Finding A)) → findings ≢ [] → AllByRecursion (IsTrueOf p limit spare) findings → AreFindings p limit spare findings → IsAllFound p limit spare findings

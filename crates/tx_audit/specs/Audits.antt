@@ -81,13 +81,13 @@ AuditAnswers limit spare text out (Err (PlanRefused f)) =
 AuditAnswers {A} limit spare text out (Err Write) = ReportedInPart A limit spare text out
 AuditAnswers limit spare text out (Err NoMemory) = ReadAlone text × out.silent
 
--- a write fault is told where the sink's mark is set, and otherwise the mark is as before
+-- the mark of the sink after such a fault: set by a write that failed, and otherwise as before
 abbrev pub mark_by : Bool → AuditFault → Bool
 mark_by old (PlanRefused f) = old
 mark_by old Write = true
 mark_by old NoMemory = old
 
--- the mark of the sink after a call with such a fault
+-- the mark after a call: as before where it answers Ok
 abbrev pub mark_after : {X : Type 0} → Bool → Result X AuditFault → Bool
 mark_after old (Ok x) = old
 mark_after old (Err f) = mark_by old f

@@ -58,7 +58,7 @@ CheckedAnswers p cert limit spare script out (Ok (Denied f)) =
 CheckedAnswers p cert limit spare script out (Err f) =
     IsAllowed p cert limit spare × Simulated p script out (Err f)
 
--- a write fault is told where the sink's mark is set, and otherwise the mark is as before
+-- the mark of the sink after a call: set by a write that failed, and otherwise as before
 abbrev pub mark_after : Bool → Result Checked RunFault → Bool
 mark_after old (Ok checked) = old
 mark_after old (Err f) = mark_by old f.cause

@@ -20,7 +20,7 @@ pub enum Audited<A: Allocator = Global> {
 }
 
 impl<A: Allocator> Audited<A> {
-    ghost use Rattle.tx_audit.specs.Ranked.{audited_of};
+    ghost use Rattle.tx_audit.specs.inner.Ranked.{audited_of};
 
     /// The plan, with what its ranking came to.
     pub(crate) fn of(plan: Plan<A>, ranking: Ranking<A>) -> Audited<A>

@@ -10,8 +10,8 @@ ghost use Rattle.tx_rank.specs.Findings.{IsTrueOf};
 ghost use Rattle.tx_rank.specs.Rankings.{OnFound};
 ghost use Rattle.tx_audit.specs.Audits.{AuditAnswers, OnUnsound, mark_after};
 ghost use Rattle.tx_audit.specs.CheckedRuns.{IsAllowed};
-ghost use Rattle.tx_audit.specs.Ranked.{RankAnswers, findings_of};
-ghost use Rattle.tx_audit.specs.Report.{report};
+ghost use Rattle.tx_audit.specs.Report.{findings_of, report};
+ghost use Rattle.tx_audit.specs.inner.Ranked.{RankAnswers};
 
 use crate::audited::{AuditFault, Audited};
 use crate::report::write_report;

@@ -16,7 +16,7 @@ use Rattle.tx_plan.specs.Mixtures.{EachMixture, AreCommon}
 use Rattle.tx_machine.specs.ChangingRuns.{IsSoundChange, HasFewRoutesMeanwhile, SufficesMeanwhile}
 use Rattle.tx_audit.specs.declared.audited.AuditFault.{AuditFault}
 use Rattle.tx_audit.specs.declared.audited.AuditFault.TheVariants.{Plan as PlanRefused, Write, NoMemory}
-use Rattle.tx_audit.specs.Ranked.{findings_of}
+use Rattle.tx_audit.specs.Report.{findings_of}
 use Rattle.tx_change.specs.ChangeFindings.{AreChangeFindings}
 use Rattle.tx_change.specs.Shown.{IsShown}
 use Rattle.tx_change.specs.ChangeReport.{change_report}

@@ -6,7 +6,7 @@ ghost use Rattle.tx_plan.specs.Mixtures.{SameNetwork, AreCommon};
 ghost use Rattle.tx_cert.specs.Certificate.{IsCertificateOf, ranks_of};
 ghost use Rattle.tx_rank.specs.Rankings.{OnFound};
 ghost use Rattle.tx_audit.specs.Audits.{mark_after};
-ghost use Rattle.tx_audit.specs.Ranked.{findings_of};
+ghost use Rattle.tx_audit.specs.Report.{findings_of};
 ghost use Rattle.tx_change.specs.ChangeReport.{change_report};
 ghost use Rattle.tx_change.specs.ChangeAnswers.{IsCleared, ChangeAnswers};
 

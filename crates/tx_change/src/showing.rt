@@ -59,8 +59,6 @@ fn mix<A: Allocator + Copy>(
     Ok(old.rerouted(routes, bars))
 }
 
-// ROUTES
-
 /// The old routes and the new ones that are in the mixture.
 fn mixed_routes<A: Allocator + Copy>(
     alloc: A,
@@ -132,8 +130,6 @@ fn list_of(groups: &[GroupId]) -> GroupList
     }
     list
 }
-
-// BARS
 
 /// The old bars and the new ones that are in the mixture.
 fn mixed_bars<A: Allocator + Copy>(

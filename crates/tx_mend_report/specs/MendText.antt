@@ -13,8 +13,6 @@ abbrev pub head_line : (limit spare : ℕ) → List ℕ
 head_line limit spare =
     codes "MEND LIMIT " ++ (decimal limit ++ (codes " SPARE " ++ (decimal spare ++ codes "\n")))
 
--- WHERE A PLAN IS MENDED
-
 -- the list of an exchange for a code: the route, as a plan writes it, or that none is needed
 abbrev pub list_line : Plan → (code x : ℕ) → List ℕ → List ℕ
 list_line p code x [] =
@@ -45,14 +43,13 @@ abbrev pub mended_text : List Route → Plan → (limit spare : ℕ) → List �
 mended_text before p limit spare =
     head_line limit spare ++ (changes before p ++ codes "VERDICT YES\n")
 
--- WHERE NO ROUTES CAN BE CERTIFIED
-
 -- the ambiguous pair of codes, if there is one
 abbrev pub pair_line : Plan → Option (ℕ × ℕ) → List ℕ
 pair_line p None = []
 pair_line p (Some q) = codes "F1 AMBIGUOUS "
     ++ (figures_of p q.0 ++ (codes " " ++ (figures_of p q.1 ++ codes "\n")))
 
+-- how many lines that pair has
 abbrev pub pair_count : Option (ℕ × ℕ) → ℕ
 pair_count None = 0
 pair_count (Some q) = 1

@@ -12,18 +12,13 @@ use Rattle.tx_audit.specs.declared.audited.Audited.TheVariants.{Sound, Unsound}
 use Rattle.tx_audit.specs.declared.audited.AuditFault.{AuditFault}
 use Rattle.tx_audit.specs.declared.audited.AuditFault.TheVariants.{Plan as PlanRefused, Write, NoMemory}
 use Rattle.tx_audit.specs.Audits.{IsCleared, IsAllFound}
-use Rattle.tx_audit.specs.Report.{report}
+use Rattle.tx_audit.specs.Report.{findings_of, report}
 
 module _ {A : Type 0} where
   -- a plan with what its ranking came to
   abbrev pub audited_of : Plan → Ranking A → Audited A
   audited_of p (Found cert) = Sound p cert
   audited_of p (Fails findings) = Unsound p findings
-
-  -- what was found: nothing where there is a certificate
-  abbrev pub findings_of : Ranking A → List (Finding A)
-  findings_of (Found cert) = []
-  findings_of (Fails findings) = findings.items
 
   -- a certificate that clears a plan without findings, or the findings of one that no ranks certify
   abbrev pub IsRight : Plan → (limit spare : ℕ) → Ranking A → Type 0
