@@ -8,10 +8,14 @@ use Rattle.tx_rank.specs.declared.finding.Finding.TheVariants.{Ambiguous, Loop, 
 use Rattle.tx_rank.specs.declared.ranking.Ranking.{Ranking}
 use Rattle.tx_rank.specs.declared.ranking.Ranking.TheVariants.{Found, Fails}
 
--- the limit and the spare number
+-- the first line of a report: its word, and the limit and the spare number that were asked
+abbrev pub asked_line : (word : List ℕ) → (limit spare : ℕ) → List ℕ
+asked_line word limit spare = word
+    ++ (codes " LIMIT " ++ (decimal limit ++ (codes " SPARE " ++ (decimal spare ++ codes "\n"))))
+
+-- that of an audit
 abbrev pub head_line : (limit spare : ℕ) → List ℕ
-head_line limit spare = codes "AUDIT LIMIT "
-    ++ (decimal limit ++ (codes " SPARE " ++ (decimal spare ++ codes "\n")))
+head_line = asked_line (codes "AUDIT")
 
 -- a step of a walk: by a group to an exchange
 abbrev pub step_text : Plan → ℕ × ℕ → List ℕ

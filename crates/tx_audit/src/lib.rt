@@ -26,6 +26,6 @@ pub use counters::counter;
 pub use first::first_counter;
 pub use grade_text::write_grade;
 pub use playing::{Played, play};
-pub use report::{write_findings, write_steps, write_verdict};
+pub use report::{write_asked, write_finding, write_findings, write_steps, write_verdict};
 pub use script_writer::write_counter;
 pub use simulating::simulate;
