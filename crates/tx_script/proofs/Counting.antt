@@ -10,7 +10,7 @@ use Rattle.tx_tickets.specs.Texts.{cause_text}
 use Rattle.tx_machine.specs.declared.event.Event.{Event}
 use Rattle.tx_machine.specs.declared.reply.Reply.{Reply}
 use Rattle.tx_machine.specs.Ended.{Ended}
-use Rattle.tx_machine.specs.Invariant.{Inv, Holds}
+use Rattle.tx_machine.specs.inner.Invariant.{Inv, Holds}
 use Rattle.tx_machine.specs.State.{State}
 use Rattle.tx_machine.specs.Step.{step}
 use Rattle.tx_machine.specs.Runs.{Moment, moment, run, state_after}

@@ -1,4 +1,4 @@
-use Rattle.std.proofs.Common.{◌≡◌, ℕ, ◌+◌, ◌<◌, false, List, [], ◌∷◌, ◌++◌, Err, codes, length, get_or, take, drop, sym, ap, ◌∙◌, append_assoc, append-nil, take-append-drop, rules, arith}
+use Rattle.std.proofs.Common.{◌≡◌, ℕ, ◌+◌, ◌<◌, List, [], ◌∷◌, ◌++◌, Err, codes, length, get_or, take, drop, sym, ap, ◌∙◌, append_assoc, append-nil, take-append-drop, rules, arith}
 use Rattle.std.proofs.Math.Seq.{take-length}
 use Rattle.std.specs.List.{flat_map}
 use Rattle.std.proofs.lemmas.List.{take_more}
@@ -50,9 +50,12 @@ returns-in_err-write_bytes g c =
     let v = c.loop-hop.invariant in
     let t = whole (hop_text c.args.plan.now) c.args.hops.now c.loop-hop.hop-index c.hop-item.result c.loop-hop-test.true c.hop-item.is c.args.line (codes "\n") in
     let e = c.bytes.ensures ∙ c.put_hop.ensures.text in
-    text_is _ _ _ _ _ _ c.from_residual.result t
-    (begun_stopped (begun_more v.begun (hop_text c.args.plan.now c.hop-item.result)) _ _ false _ _ _ c.in_err-write_bytes.field-0.0 c.from_residual.result
-    (text_is _ _ false _ _ _ (Err c.in_err-write_bytes.field-0.0) (sym e) c.in_err-write_bytes.ensures) c.from_residual.ensures.0)
+    let x = c.in_err-write_bytes.field-0.0 in
+    let before = g.W.Sink.failed c.loop-hop.sink in
+    let after = g.W.Sink.failed c.write_bytes.new.sink in
+    text_is _ _ (g.W.Sink.failed c.args.sink.now) after _ _ c.from_residual.result t
+    (begun_stopped (begun_more v.begun (hop_text c.args.plan.now c.hop-item.result)) _ (g.W.Sink.failed c.args.sink.now) before after _ x c.from_residual.result
+    (text_is _ _ before after _ _ (Err x) (sym e) c.in_err-write_bytes.ensures) c.from_residual.ensures.0)
 
 pub returns : goal.returns
 returns g c =
