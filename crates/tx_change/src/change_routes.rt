@@ -28,10 +28,12 @@ impl<'a, A: Allocator> Routes for ChangeRoutes<'a, A> {
     ghost net = { λ r. change_net r.old.now r.new.now r.code };
 
     fn exchanges(&self) -> usize {
+        self.new.rules();
         self.old.exchanges()
     }
 
     fn exchange(&self, place: usize) -> ExchangeId {
+        self.old.rules();
         ExchangeId::of(place)
     }
 

@@ -38,6 +38,7 @@ impl<'a, A: Allocator> Routes for CodeRoutes<'a, A> {
     }
 
     fn exchange(&self, place: usize) -> ExchangeId {
+        self.plan.rules();
         ExchangeId::of(place)
     }
 
@@ -58,7 +59,6 @@ impl<'a, A: Allocator> Routes for CodeRoutes<'a, A> {
     }
 
     fn far(&self, group: GroupId, exchange: ExchangeId) -> ExchangeId {
-        self.plan.rules();
         match self.plan.other_end(group, exchange) {
             Some(to) => to,
             None => unreachable!(),
