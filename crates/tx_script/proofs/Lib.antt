@@ -1,4 +1,4 @@
-pub mod EventWords
+pub mod WordCounts
 pub mod EventLines
 pub mod Writable
 pub mod Balance

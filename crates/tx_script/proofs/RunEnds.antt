@@ -1,12 +1,10 @@
 -- The ways in which a run ends, and a step of its frame.
-use Rattle.std.proofs.Common.{◌≡◌, ℕ, ◌+◌, ◌<◌, Bool, true, cond, List, [], ◌∷◌, ◌++◌, length, Option, Some, None, ◌⊎◌, Result, Ok, Err, IfOk, IfErr, OnOk, OnErr, inl, inr, refl, sym, ap, ◌∙◌, subst, append-nil}
+use Rattle.std.proofs.Common.{◌≡◌, ℕ, ◌+◌, ◌<◌, Bool, true, cond, List, [], ◌∷◌, ◌++◌, length, Option, None, ◌⊎◌, Result, Ok, Err, IfOk, IfErr, OnOk, OnErr, inl, inr, refl, sym, ap, ◌∙◌, subst, append-nil}
 use Rattle.std.specs.Prelude.{if◌then◌else◌, option_map}
 use Rattle.std.specs.List.{flat_map, count_by}
 use Rattle.std.specs.Io.KnownBytes.{append_known, IsAtEnd}
-use Rattle.tx_text.specs.declared.text_fault.TextFault.TheVariants.{LineTooLong, BadByte, NoMemory as TextNoMemory}
-use Rattle.tx_text.specs.declared.line_fault.LineFault.TheVariants.{Text, Read as line_read}
+use Rattle.tx_text.specs.declared.frame.FrameFault.TheVariants.{LineTooLong, BadByte, NoMemory as TextNoMemory, Read as line_read, NoHeader, NoEnd, AfterEnd}
 use Rattle.tx_text.specs.declared.frame.FrameFault.{FrameFault}
-use Rattle.tx_text.specs.declared.frame.FrameFault.TheVariants.{Line as of_line, Form as of_form}
 use Rattle.tx_text.specs.declared.frame.FaultKind.{FaultKind}
 use Rattle.tx_text.specs.declared.frame.FaultKind.TheVariants.{Frame, Word}
 use Rattle.tx_text.specs.Ends.{StopsIn}
@@ -15,7 +13,7 @@ use Rattle.tx_text.specs.Frame.{Framed, Done, Stop, Has, ReadsOn, EndsAs, Stoppe
 use Rattle.tx_text.specs.Text.{Line}
 use Rattle.tx_text.specs.declared.frame.FrameStep.{FrameStep}
 use Rattle.tx_text.specs.declared.frame.FrameStep.TheVariants.{Header, Line as LineStep, End}
-use Rattle.tx_text.specs.Framing.{number_of_line, words_of_line, GoesOn}
+use Rattle.tx_text.specs.inner.Framing.{number_of_line, words_of_line, GoesOn}
 use Rattle.tx_text.specs.Said.{is_no_room}
 use Rattle.tx_text.proofs.NoRoom.{IsSaid, none_stops}
 use Rattle.tx_text.proofs.Writing.{append_known_twice}
@@ -24,7 +22,7 @@ use Rattle.tx_plan.specs.Rules.{IsPlan}
 use Rattle.tx_machine.specs.declared.event.Event.{Event}
 use Rattle.tx_machine.specs.State.{State}
 use Rattle.tx_machine.specs.Refusals.{refusal}
-use Rattle.tx_machine.specs.Runs.{Moment, moment, run, state_after}
+use Rattle.tx_machine.specs.Runs.{moment, run, state_after}
 use Rattle.tx_machine.specs.Sound.{is_refused}
 use Rattle.tx_machine.specs.Drained.{drained}
 use Rattle.tx_tickets.specs.Texts.{reply_text, ticket_text}
@@ -42,7 +40,7 @@ use Rattle.tx_script.specs.Output.{end_text}
 use Rattle.tx_script.specs.Untold.{IsUntold}
 use Rattle.tx_script.specs.Answers.{IsFresh, Moved, settled, next, Begins}
 use Rattle.tx_script.specs.Telling.{echo_asked, told_events, told_last}
-use Rattle.tx_script.specs.TellingAnswers.{IsTold, StopsInLines, Untold, LineTold, ToldRan, TellingAnswers}
+use Rattle.tx_script.specs.TellingAnswers.{StopsInLines, Untold, LineTold, ToldRan, TellingAnswers}
 use Rattle.tx_script.specs.inner.Counting.{Counted, AreNew, asked_of, counted_on, last_lines}
 use Rattle.tx_script.proofs.Scripts.{event_said, fault_said, whole_said, stop_said}
 use Rattle.tx_script.proofs.Moments.{reply_same, made_same, after_same}
@@ -103,11 +101,13 @@ module _ (p : Plan) (echo : Bool) (first now : Option Counted) (a b : Option (Li
       -- the frame is faulty, or the source failed
       stop_by : (n : ℕ) (k : FrameFault) → (is_no_room k ≡ true → ⊥) → Stopped a c (script_of p) broken (is_read k) (faulty es n (Frame k))
           → TellingAnswers p tel there broken untouched (Err (record { event = tally.answered + 1; cause = if is_read k then Read else OfScript (record { line = n; kind = Frame k }) }))
-      stop_by n (of_line line_read) none q = record { events = es; line = n; place = place; text = q.0; failed = q.1; ran = ran n (Frame (of_line line_read)) }
-      stop_by n (of_line (Text LineTooLong)) none q = record { events = es; place = place; text = q; ran = ran n (Frame (of_line (Text LineTooLong))) }
-      stop_by n (of_line (Text BadByte)) none q = record { events = es; place = place; text = q; ran = ran n (Frame (of_line (Text BadByte))) }
-      stop_by n (of_line (Text TextNoMemory)) none q = absurd (none refl)
-      stop_by n (of_form x) none q = record { events = es; place = place; text = q; ran = ran n (Frame (of_form x)) }
+      stop_by n line_read none q = record { events = es; line = n; place = place; text = q.0; failed = q.1; ran = ran n (Frame line_read) }
+      stop_by n LineTooLong none q = record { events = es; place = place; text = q; ran = ran n (Frame LineTooLong) }
+      stop_by n BadByte none q = record { events = es; place = place; text = q; ran = ran n (Frame BadByte) }
+      stop_by n TextNoMemory none q = absurd (none refl)
+      stop_by n NoHeader none q = record { events = es; place = place; text = q; ran = ran n (Frame NoHeader) }
+      stop_by n NoEnd none q = record { events = es; place = place; text = q; ran = ran n (Frame NoEnd) }
+      stop_by n AfterEnd none q = record { events = es; place = place; text = q; ran = ran n (Frame AfterEnd) }
 
       pub stop_ends : (n : ℕ) (k : FrameFault) → ((e : Ending) (more : List ℕ) → IsSaid (T e more)) → Stopped b c T broken (is_read k) (Stop n k)
           → f ≡ record { event = tally.answered + 1; cause = if is_read k then Read else OfScript (record { line = n; kind = Frame k }) } → TellingAnswers p tel there broken untouched (Err f)

@@ -1,22 +1,18 @@
 -- What is told of the answer to one line.
-use Rattle.std.specs.Prelude.{◌≡◌, ℕ, Bool, true, List, [], length, Option, None, Result, Ok, Err}
-use Rattle.std.specs.Io.KnownBytes.{append_known}
+use Rattle.std.specs.Prelude.{◌≡◌, ℕ, Bool, true, List, length, Option, None, Result, Ok, Err}
 use Rattle.tx_text.specs.declared.frame.FaultKind.TheVariants.{Word}
 use Rattle.tx_plan.specs.Plan.{Plan}
 use Rattle.tx_machine.specs.declared.event.Event.{Event}
 use Rattle.tx_machine.specs.State.{State}
 use Rattle.tx_machine.specs.Refusals.{refusal}
 use Rattle.tx_machine.specs.Step.{takes_memory}
-use Rattle.tx_machine.specs.Runs.{Moment, moment}
+use Rattle.tx_machine.specs.Runs.{Moment}
 use Rattle.tx_machine.specs.Sound.{is_refused}
 use Rattle.tx_script.specs.declared.answer.Answered.{Answered}
 use Rattle.tx_script.specs.declared.run_cause.RunCause.{RunCause}
-use Rattle.tx_script.specs.declared.run_cause.RunCause.TheVariants.{Read, Write, Script as OfScript, NoMemory}
-use Rattle.tx_machine.specs.Drained.{drained}
+use Rattle.tx_script.specs.declared.run_cause.RunCause.TheVariants.{Script as OfScript}
 use Rattle.tx_script.specs.declared.script_word.ScriptWord.{ScriptWord}
-use Rattle.tx_script.specs.Events.{Said}
-use Rattle.tx_script.specs.Output.{tickets_made, moment_text}
-use Rattle.tx_script.specs.Untold.{IsUntold}
+use Rattle.tx_script.specs.Output.{tickets_made}
 use Rattle.tx_script.specs.Answers.{mark_by}
 
 -- whether it was refused, and how many tickets it made
@@ -32,40 +28,12 @@ pub record IsUndone (p : Plan) (e : Event) (s t : State) (a b : Option (List ℕ
 
 -- In what follows s and a are the state and what was written before, t and b after.
 
--- the event was done and counted, its lines were written, and its tickets were taken
-pub record IsAnswered (p : Plan) (e : Event) (s t : State)
-    (a b : Option (List ℕ)) (count : Answered) : Type 0 where
-  pub counted : count ≡ count_of (moment p s e)
-  pub wrote : b ≡ append_known a (moment_text p (moment p s e))
-  pub network : t ≡ drained (moment p s e).after []
-
--- why an event was not answered whole
-abbrev pub Halted : Plan → Event → State → State
-    → Option (List ℕ) → Option (List ℕ) → RunCause → Type 0
-Halted p e s t a b Read = ⊥
-Halted p e s t a b Write = IsUntold p (moment p s e) t a b
-Halted p e s t a b (OfScript f) = ⊥
-Halted p e s t a b NoMemory = IsUndone p e s t a b
-
--- THE ANSWER TO AN EVENT
-abbrev pub EventAnswers : Plan → Event → State
-    → State → Option (List ℕ) → Option (List ℕ) → Result Answered RunCause → Type 0
-EventAnswers p e s t a b (Ok count) = IsAnswered p e s t a b count
-EventAnswers p e s t a b (Err cause) = Halted p e s t a b cause
-
 -- the line says no event, and nothing was done
 pub record IsNoEvent (n : ℕ) (k : ScriptWord)
     (s t : State) (a b : Option (List ℕ)) (cause : RunCause) : Type 0 where
   pub fault : cause ≡ OfScript (record { line = n; kind = Word k })
   pub network : t ≡ s
   pub written : b ≡ a
-
--- THE ANSWER TO A LINE of this number, whose words say an event or have a fault
-abbrev pub LineAnswers : Plan → ℕ → Said → State
-    → State → Option (List ℕ) → Option (List ℕ) → Result Answered RunCause → Type 0
-LineAnswers p n (Ok e) s t a b r = EventAnswers p e s t a b r
-LineAnswers p n (Err k) s t a b (Ok count) = ⊥
-LineAnswers p n (Err k) s t a b (Err cause) = IsNoEvent n k s t a b cause
 
 -- a write fault is told where the sink's mark is set, and otherwise the mark is as before
 abbrev pub mark_with : Bool → Result Answered RunCause → Bool

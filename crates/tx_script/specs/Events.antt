@@ -218,10 +218,6 @@ unfoldable pub event_of : Plan → List (List ℕ) → Said
 event_of p [] = Err UnknownWord
 event_of p (w ∷ ws) = event_for p (verb_of w) ws
 
--- words that begin with this verb, or with none, and go on with these
-abbrev pub BeginsWith : List (List ℕ) → Option Verb → List (List ℕ) → Type 0
-BeginsWith ws verb rest = (p : Plan) → event_of p ws ≡ event_for p verb rest
-
 -- a fault of a line's bytes comes before those of its words
 abbrev pub event_said : Option TextFault → Said → Result Event (FaultKind ScriptWord)
 event_said (Some f) said = Err (Frame (frame_fault f))

@@ -4,8 +4,7 @@ use Rattle.std.specs.FinSet as set
 use Rattle.std.specs.Io.KnownBytes.{append_known}
 use Rattle.tx_text.specs.declared.frame.FaultKind.{FaultKind}
 use Rattle.tx_text.specs.declared.frame.FaultKind.TheVariants.{Frame}
-use Rattle.tx_text.specs.declared.frame.FrameFault.TheVariants.{Line as of_line}
-use Rattle.tx_text.specs.declared.line_fault.LineFault.TheVariants.{Read as line_read}
+use Rattle.tx_text.specs.declared.frame.FrameFault.TheVariants.{Read as line_read}
 use Rattle.tx_text.specs.Ends.{StopsIn}
 use Rattle.tx_text.specs.Told.{Cut}
 use Rattle.tx_text.specs.Frame.{EndsAs, Stands}
@@ -14,7 +13,7 @@ use Rattle.tx_machine.specs.declared.event.Event.{Event}
 use Rattle.tx_machine.specs.State.{State}
 use Rattle.tx_machine.specs.Refusals.{refusal}
 use Rattle.tx_machine.specs.Step.{takes_memory}
-use Rattle.tx_machine.specs.Runs.{Moment, moment, state_after}
+use Rattle.tx_machine.specs.Runs.{Moment, moment}
 use Rattle.tx_machine.specs.Drained.{drained}
 use Rattle.tx_script.specs.declared.answer.Answered.{Answered}
 use Rattle.tx_script.specs.declared.script_word.ScriptWord.{ScriptWord}
@@ -107,9 +106,9 @@ pub record ToldToCut (p : Plan) (t : Telling)
   pub line : ℕ
   pub place : event ≡ length events + 1
   pub text : EndsAs x.rest_old x.rest_new (script_of p) Cut
-      (faulty events line (Frame (of_line line_read)))
+      (faulty events line (Frame line_read))
   pub failed : broken
-  pub ran : ToldRan p t x (faulty events line (Frame (of_line line_read)))
+  pub ran : ToldRan p t x (faulty events line (Frame line_read))
 
 -- Memory ran out in this event: the lines of those before it were written, and nothing of it was
 -- done or written.

@@ -40,7 +40,7 @@ impl<A: Allocator> Teller<A> {
     pub(crate) fn answer_line<B: Allocator, N: Network, W: Sink>(
         &mut self,
         line: u64,
-        said: Result<Event, ScriptWord>,
+        said: &Result<Event, ScriptWord>,
         number: u64,
         plan: &Plan<B>,
         net: &mut N,
@@ -51,17 +51,17 @@ impl<A: Allocator> Teller<A> {
         requires few { length (N.state net.old).calls < 2 ^ 63 }
         requires counted { AreFew self.old.counts }
         ensures plan { N.plan net.new ≡ plan.now }
-        ensures answers { LineTold plan.now self.old.echo line number said
+        ensures answers { LineTold plan.now self.old.echo line number said.now
             (N.state net.old) (N.state net.new) (W.taken sink.old) (W.taken sink.new) result }
         ensures echo { self.new.echo ≡ self.old.echo }
-        ensures counts { IfOk said (λ e. OnOk result (self.new.counts ≡ option_map
+        ensures counts { IfOk said.now (λ e. OnOk result (self.new.counts ≡ option_map
             (counted_on plan.now (moment plan.now (N.state net.old) e)) self.old.counts)) }
         ensures mark { W.failed sink.new ≡ mark_with (W.failed sink.old) result }
     {
         match said {
             Ok(event) => self.answer(number, event, plan, net, sink),
             Err(word) => {
-                let kind = FaultKind::Word(word);
+                let kind = FaultKind::Word(*word);
                 Err(RunCause::Script(FaultAt { line, kind }))
             }
         }
@@ -72,7 +72,7 @@ impl<A: Allocator> Teller<A> {
     fn answer<B: Allocator, N: Network, W: Sink>(
         &mut self,
         number: u64,
-        event: Event,
+        event: &Event,
         plan: &Plan<B>,
         net: &mut N,
         sink: &mut W,
@@ -82,24 +82,20 @@ impl<A: Allocator> Teller<A> {
         requires few { length (N.state net.old).calls < 2 ^ 63 }
         requires counted { AreFew self.old.counts }
         ensures plan { N.plan net.new ≡ plan.now }
-        ensures answers { EventTold plan.now self.old.echo number event
+        ensures answers { EventTold plan.now self.old.echo number event.now
             (N.state net.old) (N.state net.new) (W.taken sink.old) (W.taken sink.new) result }
         ensures echo { self.new.echo ≡ self.old.echo }
         ensures counts { OnOk result (self.new.counts ≡ option_map
-            (counted_on plan.now (moment plan.now (N.state net.old) event)) self.old.counts) }
+            (counted_on plan.now (moment plan.now (N.state net.old) event.now)) self.old.counts) }
         ensures mark { W.failed sink.new ≡ mark_with (W.failed sink.old) result }
     {
-        // By reference, so that the reply is not copied.
-        let applied = net.apply(event);
-        let Ok(reply) = &applied else {
-            return Err(RunCause::NoMemory);
-        };
-        write_asked_echo(self.echo, number, &event, plan, sink)?;
-        write_reply(reply, plan, sink)?;
-        self.answered(plan, &event, reply);
+        let reply = net.apply(*event)?;
+        write_asked_echo(self.echo, number, event, plan, sink)?;
+        write_reply(&reply, plan, sink)?;
+        self.answered(plan, event, &reply);
         let tickets = self.write_tickets(plan, net, sink)?;
         Ok(Answered {
-            refused: is_refused(reply),
+            refused: is_refused(&reply),
             tickets,
         })
     }

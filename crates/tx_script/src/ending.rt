@@ -17,7 +17,7 @@ use itoa::Buffer;
 use std::alloc::Allocator;
 use tx_machine::Network;
 use tx_plan::Plan;
-use tx_text::{Sink, WriteFault, write_text};
+use tx_text::{Sink, WriteFault, write_parts};
 
 /// Writes the line END EVENTS and, where it is asked for, the summary. Returns what was counted.
 pub(crate) fn finish<A: Allocator, B: Allocator, N: Network, W: Sink>(
@@ -81,5 +81,5 @@ fn write_end<W: Sink>(events: u64, open_calls: u64, sink: &mut W) -> Result<(), 
     let mut open = Buffer::new();
     let events = accepted.format(events).as_bytes();
     let calls = open.format(open_calls).as_bytes();
-    write_text(&[b"END EVENTS ", events, b" OPEN ", calls, b"\n"], sink)
+    write_parts(&[b"END EVENTS ", events, b" OPEN ", calls, b"\n"], sink)
 }

@@ -1,5 +1,5 @@
 // The lines of a summary.
-ghost use Rattle.std.specs.Prelude.{◌≡◌, ◌<◌, codes, length};
+ghost use Rattle.std.specs.Prelude.{◌≡◌, ◌<◌, length};
 ghost use Rattle.std.specs.List.{flat_map, range_with_len};
 ghost use Rattle.tx_text.specs.Wrote.{Wrote};
 ghost use Rattle.tx_tickets.specs.Texts.{cause_text};
@@ -11,7 +11,7 @@ use itoa::Buffer;
 use std::alloc::Allocator;
 use tx_machine::{Cause, Service};
 use tx_plan::{GroupId, Plan};
-use tx_text::{Sink, WriteFault, write_text};
+use tx_text::{Sink, WriteFault, write_parts};
 use tx_tickets::cause_word;
 
 /// Writes what was counted of a run, and how many calls are open.
@@ -27,7 +27,7 @@ pub(crate) fn write_summary<A: Allocator, B: Allocator, W: Sink>(
     write_ended(counts, sink)?;
     write_calls(b"OPEN", open_calls, sink)?;
     write_peaks(counts, plan, sink)?;
-    write_text(&[b"END SUMMARY\n"], sink)
+    write_parts(&[b"END SUMMARY\n"], sink)
 }
 
 /// All causes, in the order in which they are told.
@@ -86,7 +86,7 @@ fn write_calls<W: Sink>(word: &[u8], count: u64, sink: &mut W) -> Result<(), Wri
     }
     let mut digits = Buffer::new();
     let figures = digits.format(count).as_bytes();
-    write_text(&[b"CALLS ", word, b" ", figures, b"\n"], sink)
+    write_parts(&[b"CALLS ", word, b" ", figures, b"\n"], sink)
 }
 
 /// Writes the most circuits of a group that were taken at once, where it was used.
@@ -106,7 +106,7 @@ fn write_peak<B: Allocator, W: Sink>(
     let mut circuits = Buffer::new();
     let taken = digits.format(most).as_bytes();
     let all = circuits.format(plan.group_count(group)).as_bytes();
-    write_text(
+    write_parts(
         &[
             b"PEAK ",
             plan.group_name(group),
