@@ -37,12 +37,7 @@ pub fn draw_job<A: Allocator + Copy, P: Source, W: Sink>(
     ensures calls { CallsAtMost P.called source_calls plan.old plan.new }
 {
     match read_plan_from(alloc, plan) {
-        Ok(plan) => {
-            plan.rules();
-            let drawn = draw_plan(alloc, &plan, code, bounds, out);
-            drop(plan);
-            drawn
-        }
+        Ok(plan) => draw_plan(alloc, &plan, code, bounds, out),
         Err(fault) => Err(JobFault::of_plan(fault)),
     }
 }

@@ -1,7 +1,7 @@
 // What a plan to draw came to.
 
 /// What a plan that was read came to.
-#[derive(Clone, Copy)]
+#[derive(Clone, Copy, Debug)]
 pub enum Drawn {
     /// The picture was written.
     Picture,

@@ -1,6 +1,5 @@
 //! The jobs of the commands that read a plan, over sources and a sink. `explain` reads none, and
-//! has
-//! none.
+//! has none.
 #![tactic(auto)]
 
 mod ahead;
@@ -28,7 +27,6 @@ mod run;
 mod run_checked;
 mod script_part;
 mod seen;
-mod simulate;
 mod survive;
 mod survive_fault;
 mod survive_fault_line;
@@ -36,7 +34,6 @@ mod telling;
 mod trace;
 mod traced;
 
-pub use ahead::Ahead;
 pub use audit::audit_job;
 pub use audit_evidence::evidence_job;
 pub use change::{Changed, change_job};
@@ -55,10 +52,8 @@ pub use lint::lint_job;
 pub use mend::{mend_job, mending_status};
 pub use mixture::{ChangeEvidence, Mixture};
 pub use pipe::pipe_job;
-pub use plan_part::PlanPart;
 pub use run::run_job;
 pub use run_checked::{run_checked_job, run_checked_status};
-pub use script_part::ScriptPart;
 pub use survive::{survival_status, survive_job, survive_risks_job};
 pub use survive_fault::SurviveFault;
 pub use survive_fault_line::write_survive_fault;

@@ -32,12 +32,7 @@ pub fn trace_job<A: Allocator + Copy, P: Source, W: Sink>(
     ensures calls { CallsAtMost P.called source_calls plan.old plan.new }
 {
     match read_plan_from(alloc, plan) {
-        Ok(plan) => {
-            plan.rules();
-            let traced = trace_named(alloc, &plan, exchange, code, out);
-            drop(plan);
-            traced
-        }
+        Ok(plan) => trace_named(alloc, &plan, exchange, code, out),
         Err(fault) => Err(JobFault::of_plan(fault)),
     }
 }

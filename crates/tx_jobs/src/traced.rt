@@ -1,7 +1,7 @@
 // What a plan to trace calls in came to.
 
 /// What a plan that was read came to.
-#[derive(Clone, Copy)]
+#[derive(Clone, Copy, Debug)]
 pub enum Traced {
     /// The trace was written.
     Trace,

@@ -2,7 +2,7 @@ use Rattle.std.proofs.Common.{Ok, refl, inl}
 use Rattle.tx_text.specs.Ends.{input, output}
 use Rattle.tx_jobs.proofs.RefusedTexts.{run_mark}
 use Rattle.tx_jobs.proofs.Simulating.{told_stop}
-use Rattle.tx_jobs.proofs.simulate.simulate.Goals as goal
+use Rattle.tx_jobs.proofs.run.simulated.Goals as goal
 
 pub returns-in-Ok-clause-answers : goal.returns-in-Ok-clause-answers
 returns-in-Ok-clause-answers g c = inl (record { answer = Ok c.in-Ok.summary; ran = c.in-Ok.ensures.answers; told = refl })
