@@ -16,7 +16,6 @@ use Rattle.tx_audit.specs.declared.checked.Checked.{Checked}
 use Rattle.tx_audit.specs.declared.checked.Checked.TheVariants.{Ran, Denied}
 use Rattle.tx_audit.specs.CheckedRuns.{CheckedAnswers}
 use Rattle.tx_jobs.specs.declared.job_fault.JobFault.TheVariants.{Write}
-use Rattle.tx_jobs.specs.JobEnds.{bytes_moved}
 use Rattle.tx_jobs.specs.CheckedJobs.{ToldRun, ToldNo}
 
 -- the verdict after a No, as it was written
@@ -35,7 +34,7 @@ module _ {W : Type 0} (taken : W → Option (List ℕ)) (failed : W → Bool) (p
 
 module _ {W : Type 0} (taken : W → Option (List ℕ)) (p : Plan) (t : Certificate) (limit spare : ℕ) (script : Input) (a b c : W) where
   pub told_run_by : (checked : Checked)
-      → CheckedAnswers p t limit spare (bytes_moved script (output taken a b)) script.broken (script.unread × (b ≡ a)) (Ok checked)
+      → CheckedAnswers p t limit spare script (output taken a b) (Ok checked)
       → ToldNo p checked (output taken b c) (Ok tt) → ToldRun p t limit spare script (output taken a c) (Ok checked)
   told_run_by (Ran summary) h e = (
     h.0,
@@ -51,7 +50,7 @@ module _ {W : Type 0} (taken : W → Option (List ℕ)) (p : Plan) (t : Certific
 
   -- the verdict was not written
   pub told_run_stopped : (checked : Checked) (e : WriteFault)
-      → CheckedAnswers p t limit spare (bytes_moved script (output taken a b)) script.broken (script.unread × (b ≡ a)) (Ok checked)
+      → CheckedAnswers p t limit spare script (output taken a b) (Ok checked)
       → ToldNo p checked (output taken b c) (Err e) → ToldRun p t limit spare script (output taken a c) (Err Write)
   told_run_stopped (Ran summary) e h n = absurd n
   told_run_stopped (Denied f) e h n =

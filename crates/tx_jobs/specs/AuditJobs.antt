@@ -23,5 +23,4 @@ told_audit (Err f) = Err (audit_fault f)
 abbrev pub AuditJobAnswers : {A : Type 0} → (limit spare : ℕ)
     → Input → Output → Result (Audited A) JobFault → Type 0
 AuditJobAnswers {A} limit spare plan out result = (answer : Result (Audited A) AuditFault)
-    × AuditAnswers limit spare plan.old plan.new
-    out.old out.new plan.broken plan.unread out.silent answer × (result ≡ told_audit answer)
+    × AuditAnswers limit spare plan out answer × (result ≡ told_audit answer)

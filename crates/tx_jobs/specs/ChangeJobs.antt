@@ -36,7 +36,7 @@ ToldChange p q limit spare out (Ok (Unsound m n findings)) =
     (m ≡ p) × (n ≡ q) × SameNetwork p q × IsDenied p q limit spare findings.items
     × (out.new ≡ append_known out.old (change_report p limit spare findings.items))
 ToldChange {A} p q limit spare out (Err (Job Write)) =
-    SameNetwork p q × ChangeToldInPart A p q limit spare out.old out.new
+    SameNetwork p q × ChangeToldInPart A p q limit spare out
 ToldChange p q limit spare out (Err (Job NoMemory)) = SameNetwork p q × out.silent
 ToldChange p q limit spare out (Err (TwoNetworks d)) = DifferenceAnswer p q (Some d) × out.silent
 ToldChange p q limit spare out (Err other) = ⊥

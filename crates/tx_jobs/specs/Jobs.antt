@@ -15,7 +15,6 @@ use Rattle.tx_audit.specs.CheckedRuns.{RanFromOpening}
 use Rattle.tx_jobs.specs.declared.job_fault.JobFault.{JobFault}
 use Rattle.tx_jobs.specs.declared.job_fault.JobFault.TheVariants.{Write, NoMemory}
 use Rattle.tx_jobs.specs.JobFaults.{plan_fault, run_fault}
-use Rattle.tx_jobs.specs.JobEnds.{bytes_moved}
 
 -- what a run answers, as a job tells it
 abbrev pub told_run : Result Summary RunFault → Result Summary JobFault
@@ -26,8 +25,7 @@ told_run (Err f) = Err (run_fault f)
 pub record RanPlan (p : Plan) (script : Input)
     (out : Output) (result : Result Summary JobFault) : Type 0 where
   pub answer : Result Summary RunFault
-  pub ran : RanFromOpening p (bytes_moved script out) script.broken
-      (script.unread × out.silent) answer
+  pub ran : RanFromOpening p script out answer
   pub told : result ≡ told_run answer
 
 -- there was no memory for the network, and nothing was read or written

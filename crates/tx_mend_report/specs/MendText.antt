@@ -1,5 +1,5 @@
 -- The report of a mending, as it is written.
-use Rattle.std.specs.Prelude.{ℕ, ◌+◌, if◌then◌else◌, List, [], ◌∷◌, ◌++◌, length, codes, decimal, Option, Some, None}
+use Rattle.std.specs.Prelude.{ℕ, ◌+◌, if◌then◌else◌, List, [], ◌∷◌, ◌++◌, length, codes, Option, Some, None}
 use Rattle.std.specs.List.{flat_map, range_with_len}
 use Rattle.std.specs.Str.{bytes_eq}
 use Rattle.tx_text.specs.Written.{line_written}
@@ -7,13 +7,12 @@ use Rattle.tx_plan.specs.Plan.{Plan, Route, figures_of, exchange_name}
 use Rattle.tx_plan.specs.Routes.{route_list}
 use Rattle.tx_plan.specs.Mixed.{rerouted}
 use Rattle.tx_plantext.specs.PlanWritten.{route_words}
+use Rattle.tx_rank.specs.declared.finding.Finding.TheVariants.{Ambiguous}
+use Rattle.tx_audit.specs.Report.{asked_line, finding_line, verdict_line}
 
 -- what was asked
 abbrev pub head_line : (limit spare : ℕ) → List ℕ
-head_line limit spare =
-    codes "MEND LIMIT " ++ (decimal limit ++ (codes " SPARE " ++ (decimal spare ++ codes "\n")))
-
--- WHERE A PLAN IS MENDED
+head_line = asked_line (codes "MEND")
 
 -- the list of an exchange for a code: the route, as a plan writes it, or that none is needed
 abbrev pub list_line : Plan → (code x : ℕ) → List ℕ → List ℕ
@@ -45,14 +44,12 @@ abbrev pub mended_text : List Route → Plan → (limit spare : ℕ) → List �
 mended_text before p limit spare =
     head_line limit spare ++ (changes before p ++ codes "VERDICT YES\n")
 
--- WHERE NO ROUTES CAN BE CERTIFIED
-
 -- the ambiguous pair of codes, if there is one
 abbrev pub pair_line : Plan → Option (ℕ × ℕ) → List ℕ
 pair_line p None = []
-pair_line p (Some q) = codes "F1 AMBIGUOUS "
-    ++ (figures_of p q.0 ++ (codes " " ++ (figures_of p q.1 ++ codes "\n")))
+pair_line p (Some q) = finding_line {A = Unit {0}} p (Ambiguous q.0 q.1)
 
+-- how many lines that pair has
 abbrev pub pair_count : Option (ℕ × ℕ) → ℕ
 pair_count None = 0
 pair_count (Some q) = 1
@@ -62,11 +59,8 @@ abbrev pub unserved_line : Plan → ℕ × ℕ → List ℕ
 unserved_line p k = codes "F5 UNSERVED "
     ++ (figures_of p k.0 ++ (codes " " ++ (exchange_name p k.1 ++ codes "\n")))
 
--- how many lines stand before
-abbrev pub verdict_line : ℕ → List ℕ
-verdict_line n = codes "VERDICT NO " ++ (decimal n ++ codes "\n")
-
--- THE REPORT of a plan for which no routes can be certified
+-- THE REPORT of a plan for which no routes can be certified: what was asked, a line for the pair and
+-- for each that cannot be served, and how many lines these are
 abbrev pub unserved_text : Plan → (limit spare : ℕ) → List (ℕ × ℕ) → Option (ℕ × ℕ) → List ℕ
 unserved_text p limit spare unserved pair = head_line limit spare
     ++ (pair_line p pair ++ (flat_map (unserved_line p) unserved

@@ -39,6 +39,7 @@ abbrev pub is_same_as : (before : Option Outage) → Outage → Bool
 is_same_as None o = false
 is_same_as (Some q) o = same_outage q o
 
+-- the first word of a cut, and its blank
 abbrev pub cut_word : (stray : Bool) → List ℕ
 cut_word stray = if stray then codes "STRAY " else codes "CUT "
 
@@ -58,11 +59,13 @@ module _ {A : Type 0} where
   cut_text p risks before c =
       (if is_same_as before c.outage then [] else outage_line p risks c.outage) ++ cut_line p c
 
+  -- all cuts, after one of that outage if there is one
   abbrev pub cuts_text : Plan → List NamedRisk → (before : Option Outage) → List (Cut A) → List ℕ
   cuts_text p risks before [] = []
   cuts_text p risks before (c ∷ cuts) =
       cut_text p risks before c ++ cuts_text p risks (Some c.outage) cuts
 
+  -- where all outages were tried
   abbrev pub tried_text : Plan → List NamedRisk → List (Cut A) → List ℕ
   tried_text p risks cuts =
       head_line (outages p risks) ++ (cuts_text p risks None cuts ++ verdict_line (length cuts))
