@@ -7,7 +7,6 @@ mod auditor;
 mod checked;
 mod checked_run;
 mod counters;
-mod event_rules;
 mod first;
 mod free_line;
 mod grade_text;
