@@ -151,6 +151,10 @@ def check_made(program, tell):
             tell("a file that is made by a link has other bytes or permissions")
         if not os.path.islink(link) or sorted(os.listdir(room)) != ["link", "old"]:
             tell(f"a file that is made by a link leaves {sorted(os.listdir(room))}")
+        with open(os.path.join(room, "both"), "wb") as both:
+            subprocess.run(program + audit + ["/dev/stdout"], stdout=both, timeout=60)
+        if read(os.path.join(room, "both")) != read("examples/three-audit.out") + read("examples/three.cert"):
+            tell("a certificate to standard output, which is a file, is not behind the report")
     ran = subprocess.run(program + audit + ["/dev/stdout"], capture_output=True, timeout=60)
     if (ran.returncode, ran.stdout) != (0, read("examples/three-audit.out") + read("examples/three.cert")):
         tell(f"a certificate to a pipe: the status is {ran.returncode}, and standard output has {ran.stdout!r}")

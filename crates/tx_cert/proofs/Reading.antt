@@ -1,5 +1,5 @@
 -- Reading a certificate text.
-use Rattle.std.proofs.Common.{◌≡◌, ℕ, List, [], ◌∷◌, Option, None, Some, Result, Ok, Err, IfOk, IfErr, Bool, true, false, codes, refl, sym, ◌∙◌, ap, subst, inl, inr}
+use Rattle.std.proofs.Common.{◌≡◌, ℕ, List, [], ◌∷◌, Option, None, Some, Result, Ok, Err, IfOk, IfErr, Bool, true, false, codes, refl, ◌∙◌, subst, inl, inr}
 use Rattle.std.specs.Prelude.{if◌then◌else◌}
 use Rattle.std.specs.Str.{bytes_eq}
 use Rattle.tx_text.specs.declared.frame.FaultKind.{FaultKind}
@@ -7,10 +7,10 @@ use Rattle.tx_text.specs.declared.frame.FaultKind.TheVariants.{Frame, Word}
 use Rattle.tx_text.specs.Ends.{Input}
 use Rattle.tx_text.specs.Told.{Ending, AtEnd}
 use Rattle.tx_text.specs.Frame.{Framed, Done, Stop, Headed, Has, Stands}
-use Rattle.tx_text.specs.Said.{said, step_on, Declared, text_said, lines_within, ReadsText, AnswersAs, RefusedBy, FaultsBy, line_declares}
+use Rattle.tx_text.specs.Said.{said, step_on, Declared, lines_within, ReadsText, AnswersAs, RefusedBy, FaultsBy}
 use Rattle.tx_plan.specs.Plan.{Plan}
 use Rattle.tx_cert.specs.declared.fault.CertWord.{CertWord}
-use Rattle.tx_cert.specs.declared.fault.CertWord.TheVariants.{UnknownWord, WrongCount, UnknownName, BadNumber, Duplicate, NoMemory}
+use Rattle.tx_cert.specs.declared.fault.CertWord.TheVariants.{UnknownWord, WrongCount}
 use Rattle.tx_cert.specs.Certificate.{Certificate, no_ranks_for, rank_at}
 use Rattle.tx_cert.specs.CertText.{declare, ranked_by, rank_said, rank_line, cert_of, is_memory, ReadsCert}
 
@@ -34,7 +34,35 @@ ranked_by_none : (t : Certificate) (code exchange : ℕ) (o : Option ℕ) (rank 
 ranked_by_none t code exchange None rank = tt
 ranked_by_none t code exchange (Some r) rank = refl
 
-rank_step_none : (p : Plan) (v n : ℕ) (f : Framed) → ((r : Certificate) → NotMemoryAt (said (declare p) v r f)) → (o : Result Certificate CertWord) → NotMemory o → NotMemoryAt (step_on (declare p) n o (λ r. said (declare p) v r f))
+rank_said_none : (t : Certificate) (code exchange rank : Option ℕ) → NotMemory (rank_said t code exchange rank)
+rank_said_none t None exchange rank = refl
+rank_said_none t (Some code) None rank = refl
+rank_said_none t (Some code) (Some exchange) None = refl
+rank_said_none t (Some code) (Some exchange) (Some rank) = ranked_by_none t code exchange (rank_at t code exchange) rank
+
+rank_line_none : (p : Plan) (t : Certificate) (ws : List (List ℕ)) → NotMemory (rank_line p t ws)
+rank_line_none p t [] = refl
+rank_line_none p t (code ∷ []) = refl
+rank_line_none p t (code ∷ exchange ∷ []) = refl
+rank_line_none p t (code ∷ exchange ∷ rank ∷ []) = rank_said_none t _ _ _
+rank_line_none p t (code ∷ exchange ∷ rank ∷ w ∷ ws) = refl
+
+declare_none : (p : Plan) (v : ℕ) (t : Certificate) (ws : List (List ℕ)) → NotMemory (declare p v t ws)
+unfolding declare
+declare_none p v t [] = refl
+declare_none p v t (w ∷ ws) =
+    elim (bytes_eq w (codes "RANK")) as (λ b. NotMemory (if b then rank_line p t ws else if bytes_eq w (codes "END") then Err WrongCount else Err UnknownWord)) [
+      | true ↦ rank_line_none p t ws
+      | false ↦ elim (bytes_eq w (codes "END")) as (λ b. NotMemory (if b then Err WrongCount else Err UnknownWord)) [ true ↦ refl | false ↦ refl ]
+    ]
+
+-- so no text says that memory ran out
+abbrev NotMemoryAt : Result Certificate (ℕ × FaultKind CertWord) → Type 0
+NotMemoryAt (Ok t) = Unit {0}
+NotMemoryAt (Err (n, Frame k)) = Unit {0}
+NotMemoryAt (Err (n, Word x)) = is_memory x ≡ false
+
+step_none : (p : Plan) (v n : ℕ) (f : Framed) → ((r : Certificate) → NotMemoryAt (said (declare p) v r f)) → (o : Result Certificate CertWord) → NotMemory o → NotMemoryAt (step_on (declare p) n o (λ r. said (declare p) v r f))
 step_none p v n f h (Ok r) k = h r
 step_none p v n f h (Err x) k = k
 

@@ -24,7 +24,7 @@ struct CertLines<'p, A: Allocator> {
 }
 
 impl<'p, A: Allocator> Model for CertLines<'p, A> {
-    ghost use Rattle.std.specs.Prelude.{length};
+    ghost use Rattle.std.specs.Prelude.{◌≡◌, length};
     ghost use Rattle.std.specs.Coded.{codes};
     ghost use Rattle.tx_plan.specs.Plan.{Plan};
     ghost use Rattle.tx_cert.specs.Certificate.{Certificate};
@@ -59,8 +59,8 @@ impl<'p, A: Allocator> CertLines<'p, A> {
 
     /// The certificate.
     fn finish(self) -> Cert<A>
-        ensures cert { result ≡ self.1 }
-        ensures fits { IsCertificateOf self.0 result }
+        ensures cert { result ≡ self.entry.1 }
+        ensures fits { IsCertificateOf self.entry.0 result }
     {
         self.cert.rules();
         self.cert

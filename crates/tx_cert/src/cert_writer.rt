@@ -15,8 +15,7 @@ use tx_plan::{CodeId, ExchangeId, Plan};
 use tx_text::{Sink, WriteFault, write_bytes, write_parts};
 
 /// Writes the certificate: its header, its ranks by codes and then by exchanges, each in the plan's
-/// order, and END. Where the sink fails, a front of the text
-/// was taken.
+/// order, and END. Where the sink fails, a front of the text was taken.
 pub fn write_cert<A: Allocator, W: Sink>(
     cert: &Cert<A>,
     plan: &Plan<A>,
@@ -26,8 +25,7 @@ pub fn write_cert<A: Allocator, W: Sink>(
 {
     write_bytes(b"CERT 1\n", sink)?;
     write_ranks(cert, plan, sink)?;
-    write_bytes(b"END\n", sink)?;
-    Ok(())
+    write_bytes(b"END\n", sink)
 }
 
 /// Writes the lines of all ranks.

@@ -28,6 +28,7 @@ impl<'a, A: Allocator> Routes for ChangeRoutes<'a, A> {
     ghost net = { λ r. change_net r.old.now r.new.now r.code };
 
     fn exchanges(&self) -> usize {
+        self.new.rules();
         self.old.exchanges()
     }
 

@@ -19,7 +19,7 @@ use Rattle.tx_circuits.specs.inner.Slots.{has_seized, opposite, rising}
 use Rattle.tx_circuits.specs.inner.Groups.{GroupState, state_at, numbered, set_numbered, seizing_end, end_at, with_state, change_at}
 use Rattle.tx_circuits.specs.Table.{Seat, seat_cmp}
 use Rattle.tx_circuits.specs.inner.Seen.{those, group_of, circuits_of, seats_of, gathered, is_marked, holds, sits}
-use Rattle.tx_circuits.proofs.Lists.{get-change_here, get-change_there, get-set_here, get-set_there}
+use Rattle.tx_circuits.proofs.FreeLists.{get-change_here, get-change_there, get-set_here, get-set_there}
 use Rattle.tx_circuits.proofs.Members.{Known, holds_in, sits_in, marked_in, end_is}
 use Rattle.tx_circuits.proofs.Seats.{seats_total, exact_seats}
 use Rattle.tx_circuits.proofs.Those.{those_stay, those_inserted, those_removed, those_retained}

@@ -16,7 +16,7 @@ use Rattle.tx_circuits.specs.declared.group.GroupHead.{GroupHead}
 use Rattle.tx_circuits.specs.inner.Slots.{state_of, IsSound}
 use Rattle.tx_circuits.specs.inner.Groups.{GroupState, group_slots, group_state, numbered, set_numbered, change_at, idle, AreKept, AreApart, IsAppended}
 use Rattle.tx_circuits.proofs.Linked.{le_or}
-use Rattle.tx_circuits.proofs.Lists.{get_is, get-set_here, get-set_there, some_is, pushed_is, map-set_change}
+use Rattle.tx_circuits.proofs.FreeLists.{get_is, get-set_here, get-set_there, some_is, pushed_is, map-set_change}
 
 -- THE SLOTS OF A GROUP
 

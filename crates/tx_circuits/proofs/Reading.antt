@@ -21,7 +21,7 @@ use Rattle.tx_circuits.specs.inner.Groups.{GroupState, state_at, numbered, seizi
 use Rattle.tx_circuits.specs.Table.{Seat, seat_cmp, plan_of, is_free_at, is_down, first_free}
 use Rattle.tx_circuits.specs.inner.Seen.{those, group_of, circuits_of, seats_of, gathered, is_marked, holds, sits, table_of}
 use Rattle.tx_circuits.proofs.Columns.{column_at}
-use Rattle.tx_circuits.proofs.Lists.{get_is}
+use Rattle.tx_circuits.proofs.FreeLists.{get_is}
 use Rattle.tx_circuits.proofs.Ordered.{In, below}
 use Rattle.tx_circuits.proofs.Members.{holds_in, sits_in, marked_in}
 use Rattle.tx_circuits.proofs.Those.{contains_those}

@@ -21,7 +21,7 @@ use Rattle.tx_circuits.specs.inner.Seen.{those, group_of, circuits_of, seats_of,
 use Rattle.std.proofs.lemmas.Option.{slice_get-map}
 use Rattle.std.proofs.lemmas.List.{length-map}
 use Rattle.std.proofs.Math.Bool.{and-true, and-false}
-use Rattle.tx_circuits.proofs.Lists.{get-change_here, get-change_there, length-change}
+use Rattle.tx_circuits.proofs.FreeLists.{get-change_here, get-change_there, length-change}
 use Rattle.tx_circuits.proofs.Members.{Known, known, holds_in, sits_in, marked_in}
 use Rattle.tx_circuits.proofs.Those.{those_stay, those_inserted, those_removed, those_retained}
 use Rattle.tx_circuits.proofs.Seats.{seats_total, exact_seats}

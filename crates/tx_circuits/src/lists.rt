@@ -4,7 +4,7 @@ ghost use Rattle.std.specs.Prelude.{◌≡◌, ◌<◌, None, ◌≢◌, ◌≤�
 ghost use Rattle.tx_circuits.specs.declared.lists.End.{End as EndValue};
 ghost use Rattle.tx_circuits.specs.declared.lists.Way.{Way as WayValue};
 ghost use Rattle.tx_circuits.specs.inner.Slots.{ahead, back, begins, list_of, rank_of, free_at, link_at, chain, is_free, state_of, opposite, IsListed, AreNeighbours};
-ghost use Rattle.tx_circuits.specs.inner.Linked.{IsLinked, IsLast, with};
+ghost use Rattle.tx_circuits.specs.inner.Linked.{IsLast, with};
 
 use crate::slot::{Slot, State};
 
@@ -110,7 +110,7 @@ impl FreeLists {
 }
 
 // The links of a circuit in the list of an end.
-fn links(slots: &[Slot], end: End, place: usize) -> Links
+fn links_at(slots: &[Slot], end: End, place: usize) -> Links
     requires { place < length slots.now }
     ensures { (way : WayValue) → ahead way result ≡ link_at end way slots.now place }
 {
@@ -125,7 +125,7 @@ fn follow(slots: &[Slot], list: &FreeList, end: End, way: Way, from: Option<u8>)
     match from {
         None => list.begins(way),
         Some(place) => {
-            let links = links(slots, end, place as usize);
+            let links = links_at(slots, end, place as usize);
             links.ahead(way)
         }
     }
@@ -186,7 +186,7 @@ fn last_before(slots: &[Slot], list: &FreeList, end: End, way: Way, place: usize
             break;
         }
         last = Some(p);
-        rest = links(slots, end, p as usize).ahead(way);
+        rest = links_at(slots, end, p as usize).ahead(way);
     }
     last
 }
@@ -278,7 +278,7 @@ fn take(slots: &mut [Slot], list: &mut FreeList, end: End, place: usize)
         → link_at (opposite end) way slots.new k ≡ link_at (opposite end) way slots.old k }
     ensures states { map state_of slots.new ≡ map state_of slots.old }
 {
-    let links = links(slots, end, place);
+    let links = links_at(slots, end, place);
     lead(slots, list, end, Way::Up, links.below, links.above);
     lead(slots, list, end, Way::Down, links.above, links.below);
 }

@@ -17,6 +17,7 @@ abbrev pub home_text : Bool → List ℕ
 home_text true = codes ", peripheries=\"2\""
 home_text false = []
 
+-- an exchange with its border and its colour
 abbrev pub exchange_line : Plan → ℕ → List Bool → Shown → ℕ → List ℕ
 exchange_line p c reached s x = box p x ++ (codes "\"" ++ (home_text (home_of p c == x)
     ++ (color_text (passes s x) (is_marked reached x) ++ codes "];\n")))

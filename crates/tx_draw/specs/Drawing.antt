@@ -11,8 +11,6 @@ use Rattle.tx_plan.specs.declared.group.Direction.TheVariants.{OneWay, BothWay}
 abbrev pub each_before : ℕ → (ℕ → List ℕ) → List ℕ
 each_before n text = flat_map text (range_with_len 0 n)
 
--- THE PARTS OF A PICTURE
-
 -- the first lines: exchanges are boxes, and what stands at a line between two of them is small
 abbrev pub head : List ℕ
 head = codes "digraph \"plan\" {\n" ++ (codes "graph [fontname=\"Helvetica\"];\n"
@@ -33,8 +31,7 @@ abbrev pub line_between : Plan → ℕ → ℕ → List ℕ
 line_between p x y = codes "\""
     ++ (exchange_name p x ++ (codes "\" -> \"" ++ (exchange_name p y ++ codes "\" [label=")))
 
--- THE PICTURE OF A PLAN
-
+-- an exchange with the codes that are at home there
 abbrev pub exchange_line : Plan → ℕ → List ℕ
 exchange_line p x = box p x ++ codes "\"];\n"
 

@@ -91,7 +91,7 @@ fn write_group_label<A: Allocator, W: Sink>(
 }
 
 /// A both-way group has no arrow.
-fn arrow_text<'a>(direction: Direction) -> &'a [u8]
+fn arrow_text(direction: Direction) -> &'static [u8]
     ensures { result.now ≡ arrow_text direction }
 {
     match direction {

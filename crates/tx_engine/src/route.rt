@@ -161,7 +161,6 @@ fn choice<A: Allocator>(
     requires { circuits.now.groups ≡ map unnamed plan.now.groups }
     ensures { result ≡ first_in (first_free circuits.now place) (route_list plan.now place code) }
 {
-    plan.rules();
     let groups = plan.list(place, code);
     for group in groups {
         let circuit = circuits.first_free(*group, place);

@@ -6,7 +6,7 @@ pub static PLAN_CODES: [Entry; 18] = [
     [
         "A1",
         "NothingToJudge",
-        "No code has LINES, so no call can start, and an audit says YES to anything.",
+        "No code has LINES, so no call can start, and an audit says YES to any lists, if no code begins another.",
         "Declare the lines of the codes: an exchange is an origin where a code with lines is at home.",
     ],
     [
@@ -31,7 +31,7 @@ pub static PLAN_CODES: [Entry; 18] = [
         "A5",
         "NoList",
         "Calls for the code may start at the exchange, and it has neither a list nor a bar for them.",
-        "Write a ROUTE for them, or BAR them.",
+        "Write a ROUTE for them, or BAR them, which needs the header PLAN 2.",
     ],
     [
         "A6",
@@ -97,7 +97,7 @@ pub static PLAN_CODES: [Entry; 18] = [
         "F3",
         "SHORT",
         "An exchange has too few groups for the spare number, or no list for the code at all.",
-        "If the plan has no ROUTE line of the exchange for the code, its list is empty, and no k is small enough: write one, or BAR the exchanges where such calls start. Else add a group to its list, let telexplan mend find one, or ask for a smaller k. In a change it is the old list or the new one that is short.",
+        "If the plan has no ROUTE line of the exchange for the code, its list is empty, and no k is small enough: write one, or BAR the exchanges where such calls start (with the header PLAN 2). Else add a group to its list, let telexplan mend find one, or ask for a smaller k. In a change it is the old list or the new one that is short.",
     ],
     [
         "F4",

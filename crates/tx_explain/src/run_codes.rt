@@ -78,7 +78,7 @@ pub static RUN_CODES: [Entry; 21] = [
     [
         "OCC",
         "Engaged",
-        "The line that was keyed is engaged: it takes part in another call, or called itself.",
+        "The line that was keyed is engaged: it takes part in another call, or is the one that called.",
         "Call again once that call has ended.",
     ],
     [
@@ -109,7 +109,7 @@ pub static RUN_CODES: [Entry; 21] = [
         "NA",
         "NotAdmitted",
         "Correspondence is not admitted: the call has not left the exchange where it started, and that is barred for the code.",
-        "If such calls are to be admitted, drop the BAR line of the exchange and the code, and write a ROUTE line.",
+        "If such calls are to be admitted, drop the BAR line of the exchange and the code, and write a ROUTE line if there is none.",
     ],
     [
         "CLRA",

@@ -55,7 +55,7 @@ pub static TEXT_FAULTS: [Entry; 51] = [
     [
         "P8",
         "Duplicate",
-        "The exchange, code or group is declared already, or the exchange has a list or a bar for this code already.",
+        "The exchange, code or group is declared already, or it is a second list or a second bar of the exchange for this code.",
         "Drop one of the two lines.",
     ],
     [
@@ -109,7 +109,7 @@ pub static TEXT_FAULTS: [Entry; 51] = [
     [
         "P17",
         "NoHeader",
-        "The first line with words is not PLAN 1 or PLAN 2.",
+        "The first line with words is not PLAN 1 or PLAN 2, or no line has words.",
         "Begin the text with it, in capitals, or see whether the files are in the right order: the plan comes first.",
     ],
     [

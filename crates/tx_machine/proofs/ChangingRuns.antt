@@ -9,7 +9,6 @@ use Rattle.tx_machine.specs.declared.event.Event.{Event}
 use Rattle.tx_machine.specs.Call.{Call}
 use Rattle.tx_machine.specs.State.{State, opening}
 use Rattle.tx_machine.specs.Step.{step}
-use Rattle.tx_machine.specs.Safe.{IsSafe}
 use Rattle.tx_machine.specs.Excused.{IsExcused, FewDown, OthersFree, IsNcByCollision}
 use Rattle.tx_machine.specs.Sound.{routes_of}
 use Rattle.tx_machine.specs.inner.Invariant.{Holds, IsRanked}

@@ -2,7 +2,7 @@
 use crate::service::Service;
 
 /// Why a call ended.
-#[derive(Clone, Copy, PartialEq, Eq)]
+#[derive(Clone, Copy, Debug, PartialEq, Eq)]
 pub enum Cause {
     /// It was answered with a service code.
     Service(Service),

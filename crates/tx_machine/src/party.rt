@@ -1,7 +1,7 @@
 // Who clears a call.
 
 /// A party of a call.
-#[derive(Clone, Copy, PartialEq, Eq)]
+#[derive(Clone, Copy, Debug, PartialEq, Eq)]
 pub enum Party {
     /// The subscriber who called.
     Caller,

@@ -1,7 +1,7 @@
 // Service codes.
 
 /// A service code: why a call was not put through.
-#[derive(Clone, Copy, PartialEq, Eq)]
+#[derive(Clone, Copy, Debug, PartialEq, Eq)]
 pub enum Service {
     /// OCC: the subscriber is engaged.
     Occ,

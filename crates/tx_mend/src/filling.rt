@@ -101,7 +101,6 @@ fn kept_below<A: Allocator>(
         → result ≡ filter (λ g. leads_below plan.now of rank exchange g)
         (route_list plan.now exchange code) }
 {
-    plan.rules();
     let mut list = GroupList::new();
     let present = plan.list(exchange, code);
     for group in present {
@@ -116,7 +115,6 @@ fn kept_below<A: Allocator>(
 pub fn present_list<A: Allocator>(plan: &Plan<A>, code: CodeId, exchange: ExchangeId) -> GroupList
     ensures { result ≡ route_list plan.now exchange code }
 {
-    plan.rules();
     let mut list = GroupList::new();
     let present = plan.list(exchange, code);
     for group in present {

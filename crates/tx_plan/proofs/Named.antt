@@ -1,21 +1,20 @@
 -- Circuits and lines: their orders are total and exact, and what their sets contain.
 use Rattle.std.specs.Prelude.{◌≡◌, ℕ, Bool, true, not, ◌||◌, ◌==◌, ◌⊎◌, List, [], ◌∷◌, ◌++◌, refl}
 use Rattle.std.specs.Ordering.{nat_cmp, eq_by_cmp, is_eq}
-use Rattle.std.specs.Cmp.{IsEquivalence, IsTotalOrder, nat_cmp_total, Equal-is}
+use Rattle.std.specs.Cmp.{IsTotalOrder, nat_cmp_total, Equal-is}
 use Rattle.std.specs.Cmp.Lexicographic.{slice_cmp, nat_list_cmp_total}
 use Rattle.std.specs.FinSet.{FinSet, contains, insert, remove, retain, union, from_list, contains-insert, contains-remove, contains-retain, contains-union, contains-from_list, from_list_push}
 use Rattle.std.specs.List.{list_any}
-use Rattle.std.specs.Str.{bytes_eq}
 use Rattle.std.proofs.Common.{ap, sym, ◌∙◌, inl, inr, eqb-true, eq-eqb}
 use Rattle.std.proofs.lemmas.Bool.{and_parts, and_from, or_cases}
 use Rattle.std.proofs.lemmas.Map.Lookups.{exact_pairs, exact_unsigned, exact_bytes}
 use Rattle.std.specs.declared.cmp.Ordering.TheVariants.{Equal}
 use Rattle.std.proofs.lemmas.Cmp.{on_total, then_total, tied_itself}
 use Rattle.std.proofs.lemmas.Bool.Decides.{same_from_decides}
-use Rattle.std.proofs.lemmas.Slice.Eq.{bytes_eq-Decides}
 use Rattle.tx_plan.specs.declared.group.Circuit.{Circuit}
 use Rattle.tx_plan.specs.declared.line.Line.{Line}
 use Rattle.tx_plan.specs.Orders.{same_circuit, same_line, circuit_cmp, line_cmp}
+pub use Rattle.tx_plan.specs.inner.LineLaws.{same_line-is, same_line-itself, same_line_equiv}
 
 pub circuits_total : IsTotalOrder circuit_cmp
 circuits_total = then_total (on_total (λ (x : Circuit). x.group) nat_cmp_total) (on_total (λ (x : Circuit). x.number) nat_cmp_total)
@@ -31,20 +30,6 @@ same_circuit-is x y h = let r = and_parts (x.group == y.group) (x.number == y.nu
 
 pub same_circuit-itself : (x : Circuit) → same_circuit x x ≡ true
 same_circuit-itself x = and_from (x.group == x.group) (x.number == x.number) (eq-eqb x.group x.group refl) (eq-eqb x.number x.number refl)
-
-pub same_line-is : (l m : Line) → same_line l m ≡ true → l ≡ m
-same_line-is l m h = let r = and_parts (l.code == m.code) (bytes_eq l.national m.national) h in λ i. record { code = eqb-true l.code m.code r.0 i; national = (bytes_eq-Decides l.national m.national).0 r.1 i }
-
-pub same_line-itself : (l : Line) → same_line l l ≡ true
-same_line-itself l = and_from (l.code == l.code) (bytes_eq l.national l.national) (eq-eqb l.code l.code refl) ((bytes_eq-Decides l.national l.national).1 refl)
-
-pub same_line_equiv : IsEquivalence same_line
-same_line_equiv = record {
-  refl = same_line-itself;
-  symm = λ l m. same_from_decides {P = same_line m l ≡ true} (same_line l m) (same_line m l)
-      (λ h. ap (λ z. same_line m z) (same_line-is l m h) ∙ same_line-itself m, λ h. ap (λ z. same_line l z) (same_line-is m l h) ∙ same_line-itself l) (λ h. h, λ h. h);
-  congr = λ l m n h. ap (λ z. same_line z n) (same_line-is l m h);
-}
 
 -- what the sets of circuits contain, one way
 pub in_insert : (s : FinSet circuit_cmp) (x y : Circuit) → contains (insert s x) y ≡ true → (y ≡ x) ⊎ (contains s y ≡ true)

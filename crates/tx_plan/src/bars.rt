@@ -10,7 +10,7 @@ use std::marker::Model;
 use tx_text::NoMemory;
 
 /// Pairs of an exchange and a code: calls that start there for that code are not admitted.
-#[derive(Drop)]
+#[derive(Debug, Drop)]
 pub struct Bars<A: Allocator = Global> {
     pairs: IndexSet<Pair, ByWord, A>,
 }

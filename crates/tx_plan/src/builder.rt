@@ -21,7 +21,7 @@ use tx_text::Words;
 ///
 /// Each declaration appends one entry to one list, or changes nothing and tells the first refusal
 /// in the order of `PlanRefusal`. Names are declared before use.
-#[derive(Drop)]
+#[derive(Debug, Drop)]
 pub struct PlanBuilder<A: Allocator = Global> {
     plan: Plan<A>,
 }
@@ -66,8 +66,7 @@ impl<A: Allocator> PlanBuilder<A> {
     }
 
     /// Declares a destination code (ITU-T F.69) of two or three figures, with the exchange where it
-    /// is at home. Refused: `BadName`, `BadCode`, `Duplicate`,
-    /// `Unknown`, `NoMemory`.
+    /// is at home. Refused: `BadName`, `BadCode`, `Duplicate`, `Unknown`, `NoMemory`.
     pub fn code(&mut self, code: &[u8], home: &[u8]) -> Result<(), PlanRefusal>
         ensures { Declares (first_true (code_refusals self.old code.now home.now)) self.old
             (with_code self.old code.now home.now) self.new result }
@@ -79,8 +78,8 @@ impl<A: Allocator> PlanBuilder<A> {
     }
 
     /// Declares subscribers' lines: the national numbers of a code from low to high, both in it.
-    /// Refused: `BadCode`, `BadNumber`, `Unknown`, `RangeOrder`,
-    /// `Overlap`, `TooMany` after 4,096 ranges, `NoMemory`.
+    /// Refused: `BadCode`, `BadNumber`, `Unknown`, `RangeOrder`, `Overlap`, `TooMany` after 4,096
+    /// ranges, `NoMemory`.
     pub fn lines(&mut self, code: &[u8], low: &[u8], high: &[u8]) -> Result<(), PlanRefusal>
         ensures { Declares (first_true (lines_refusals self.old code.now low.now high.now)) self.old
             (with_lines self.old code.now low.now high.now) self.new result }
@@ -92,8 +91,8 @@ impl<A: Allocator> PlanBuilder<A> {
     }
 
     /// Declares a group of 1 to 240 circuits, with `a` as its first end and `b` as the other.
-    /// Refused: `BadName`, `BadNumber`, `Duplicate`, `Unknown`,
-    /// `SameEnds`, `TooMany` after 4,096 groups, `NoMemory`.
+    /// Refused: `BadName`, `BadNumber`, `Duplicate`, `Unknown`, `SameEnds`, `TooMany` after 4,096
+    /// groups, `NoMemory`.
     pub fn group(
         &mut self,
         name: &[u8],
@@ -112,9 +111,8 @@ impl<A: Allocator> PlanBuilder<A> {
     }
 
     /// Declares the list of an exchange for a code: 1 to 16 groups, in the order in which it tries
-    /// them. Refused: `WrongCount`, `BadName`, `BadCode`,
-    /// `Duplicate`, `Unknown`, `NotOutgoing`, `RepeatedGroup`, `RouteAtHome`, `TooMany`,
-    /// `NoMemory`.
+    /// them. Refused: `WrongCount`, `BadName`, `BadCode`, `Duplicate`, `Unknown`, `NotOutgoing`,
+    /// `RepeatedGroup`, `RouteAtHome`, `TooMany`, `NoMemory`.
     pub fn route(
         &mut self,
         exchange: &[u8],

@@ -55,6 +55,13 @@ impl Model for CodeId {
 }
 
 impl CodeId {
+    /// Its place.
+    pub(crate) fn place(self) -> u16
+        ensures { result ≡ self }
+    {
+        self.place
+    }
+
     /// The code at a place.
     pub fn of(place: usize) -> CodeId
         requires { place < 65536 }

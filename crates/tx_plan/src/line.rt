@@ -9,7 +9,7 @@ use std::marker::Model;
 use tx_text::{InlineBytes, are_figures};
 
 /// A national number: 1 to 9 figures. Leading zeros count.
-#[derive(Clone, Copy, PartialEq, Eq)]
+#[derive(Clone, Copy, Debug, PartialEq, Eq)]
 pub struct National {
     figures: InlineBytes<9>,
 }
@@ -27,20 +27,6 @@ impl Model for National {
     ghost invariant = { λ n. is_national n.figures ≡ true };
 
     ghost inverse = { λ t. record { figures = t } };
-}
-
-impl Hash for National {
-    ghost use Rattle.std.specs.Prelude.{[], ◌∷◌};
-    ghost use Rattle.std.proofs.Common.{ap};
-    ghost use Rattle.std.specs.Cmp.Lexicographic.{bytes_decides};
-
-    ghost hash_input = { λ n. padded_to 9 n ∷ [] };
-
-    ghost respects_eq = { λ x y h. ap (λ n. padded_to 9 n ∷ []) ((bytes_decides x y).0 h) };
-
-    fn hash<H: Hasher>(&self, state: &mut H) {
-        state.write(self.figures.padded());
-    }
 }
 
 impl National {
@@ -63,13 +49,54 @@ impl National {
     {
         self.figures.bytes()
     }
+
+    /// Its figures, and zeros after them up to nine bytes.
+    fn padded(&self) -> &[u8; 9]
+        ensures { result.now ≡ padded_to 9 self.now }
+    {
+        self.figures.padded()
+    }
 }
 
 /// A subscriber's line: a destination code and the national number after it (ITU-T F.69).
-#[derive(Clone, Copy, PartialEq, Eq, Hash)]
+#[derive(Clone, Copy, Debug)]
 pub struct Line {
     pub code: CodeId,
     pub national: National,
+}
+
+impl PartialEq for Line {
+    ghost use Rattle.std.specs.Cmp.{partial_equiv_from_equiv};
+    ghost use Rattle.tx_plan.specs.Orders.{same_line};
+    ghost use Rattle.tx_plan.specs.inner.LineLaws.{same_line_equiv};
+
+    ghost eq = { same_line };
+
+    ghost laws = { partial_equiv_from_equiv same_line_equiv };
+
+    fn eq(&self, other: &Line) -> bool {
+        self.code == other.code && self.national == other.national
+    }
+}
+
+impl Eq for Line {
+    ghost use Rattle.tx_plan.specs.inner.LineLaws.{same_line_equiv};
+
+    ghost laws = { same_line_equiv };
+}
+
+impl Hash for Line {
+    ghost use Rattle.std.proofs.Common.{ap};
+    ghost use Rattle.tx_plan.specs.inner.LineLaws.{same_line-is, line_bytes};
+
+    ghost hash_input = { line_bytes };
+
+    ghost respects_eq = { λ l m h. ap line_bytes (same_line-is l m h) };
+
+    fn hash<H: Hasher>(&self, state: &mut H) {
+        state.write_u16(self.code.place());
+        state.write(self.national.padded());
+    }
 }
 
 /// Whether the one text of figures is not above the other, figure by figure.

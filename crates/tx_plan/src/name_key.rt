@@ -7,7 +7,7 @@ use std::marker::Model;
 use tx_text::InlineBytes;
 
 /// A text of at most 8 bytes: a name, or the figures of a code.
-#[derive(Clone, Copy, PartialEq, Eq)]
+#[derive(Clone, Copy, Debug, PartialEq, Eq)]
 pub struct NameKey {
     text: InlineBytes<8>,
 }

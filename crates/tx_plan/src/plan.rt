@@ -27,7 +27,7 @@ use std::marker::Model;
 /// It obeys the rules of a plan.
 ///
 /// Readers by id answer a foreign id with a default, and none takes memory.
-#[derive(Drop)]
+#[derive(Debug, Drop)]
 pub struct Plan<A: Allocator = Global> {
     pub(crate) exchanges: IndexSet<NameKey, ByWord, A>,
     pub(crate) codes: IndexMap<NameKey, ExchangeId, ByWord, A>,

@@ -6,7 +6,7 @@ use crate::line::{National, at_most};
 
 /// The national numbers of a code from low to high, both in it. They have as many figures as its
 /// ends, and are in order figure by figure.
-#[derive(Clone, Copy)]
+#[derive(Clone, Copy, Debug)]
 pub struct LineRange {
     pub code: CodeId,
     pub low: National,

@@ -12,7 +12,7 @@ use std::marker::Model;
 use tx_text::NoMemory;
 
 /// Pairs of an exchange and a code, and the groups that the exchange tries for the code.
-#[derive(Drop)]
+#[derive(Debug, Drop)]
 pub struct Routes<A: Allocator = Global> {
     rows: IndexMap<Pair, GroupList, ByWord, A>,
 }

@@ -13,7 +13,10 @@ use tx_text::{Words, number};
 fn told(answer: Result<(), PlanRefusal>) -> Result<(), PlanWord>
     ensures { result ≡ word_told answer }
 {
-    Ok(answer?)
+    match answer {
+        Ok(()) => Ok(()),
+        Err(refusal) => Err(PlanWord::from(refusal)),
+    }
 }
 
 /// EXCHANGE name.

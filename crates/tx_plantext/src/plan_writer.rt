@@ -233,7 +233,6 @@ fn write_route_at<A: Allocator, W: Sink>(
     ensures { Wrote W.taken W.failed sink.old sink.new
         (line_at (route_words plan.now) plan.now.routes place) result }
 {
-    plan.rules();
     match plan.route_at(place) {
         Some((exchange, code)) => write_route(plan, exchange, code, sink),
         None => Ok(()),

@@ -11,7 +11,7 @@ const TRIES: u32 = 100;
 pub struct Draft {
     file: File,
     /// Where it stands until it is whole. What is no regular file, as a device or a pipe, is
-    /// written to at once.
+    /// written to at once, and so is what the program has open already.
     place: Option<Place>,
 }
 
@@ -24,9 +24,22 @@ struct Place {
     name: String,
 }
 
+/// Whether a name is one of what the program has open, as standard output.
+fn is_open_already(name: &str) -> bool {
+    name == "/dev/stdout"
+        || name == "/dev/stderr"
+        || name.starts_with("/dev/fd/")
+        || name.starts_with("/proc/self/fd/")
+}
+
 impl Draft {
-    /// Begins to make a file. A file that cannot be written to is not replaced.
+    /// Begins to make a file. A file that cannot be written to is not replaced. What the program
+    /// has open already is not replaced either: it is written to at its end.
     pub(crate) fn begin(rt: &HostRuntime, name: &str) -> io::Result<Draft> {
+        if is_open_already(name) {
+            let file = OpenOptions::new().append(true).open(rt, name)?;
+            return Ok(Draft { file, place: None });
+        }
         match OpenOptions::new().write(true).open(rt, name) {
             Ok(old) => Draft::in_place_of(rt, old, name),
             Err(e) if e.kind() == io::ErrorKind::NotFound => Draft::beside(rt, name),

@@ -58,7 +58,6 @@ impl<'a, A: Allocator> Routes for CodeRoutes<'a, A> {
     }
 
     fn far(&self, group: GroupId, exchange: ExchangeId) -> ExchangeId {
-        self.plan.rules();
         match self.plan.other_end(group, exchange) {
             Some(to) => to,
             None => unreachable!(),

@@ -12,7 +12,8 @@ pub trait Routes {
 
     /// How many exchanges there are.
     fn exchanges(&self) -> usize
-        ensures { result ≡ (net self.now).exchanges };
+        ensures count { result ≡ (net self.now).exchanges }
+        ensures rules { IsNet (net self.now) };
 
     /// The exchange at a place.
     fn exchange(&self, place: usize) -> ExchangeId

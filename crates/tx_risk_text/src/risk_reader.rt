@@ -52,8 +52,8 @@ impl<'p, A: Allocator + Copy> RiskLines<'p, A> {
 impl<'p, A: Allocator> RiskLines<'p, A> {
     /// The risks.
     fn finish(self) -> Risks<A>
-        ensures risks { result ≡ self.1 }
-        ensures fits { AreRisksFor self.0 result }
+        ensures risks { result ≡ self.entry.1 }
+        ensures fits { AreRisksFor self.entry.0 result }
     {
         self.risks
     }

@@ -1,5 +1,5 @@
 -- What was counted over a run tells its summary.
-use Rattle.std.proofs.Common.{◌≡◌, ℕ, ◌+◌, ◌^◌, ◌<◌, codes, List, [], ◌∷◌, ◌++◌, length, get_or, Option, Some, None, Bool, true, false, refl, sym, ap, ap₂, ◌∙◌, subst, arith, append_assoc, append-nil}
+use Rattle.std.proofs.Common.{◌≡◌, ℕ, ◌^◌, ◌<◌, codes, List, [], ◌∷◌, ◌++◌, length, get_or, Option, Some, None, Bool, true, false, refl, sym, ap, ap₂, ◌∙◌, subst, arith, append_assoc, append-nil}
 use Rattle.std.specs.Prelude.{option_map}
 use Rattle.std.specs.List.{flat_map, range_with_len}
 use Rattle.std.specs.FinSet as set
@@ -10,7 +10,7 @@ use Rattle.tx_tickets.specs.Texts.{cause_text}
 use Rattle.tx_machine.specs.declared.event.Event.{Event}
 use Rattle.tx_machine.specs.declared.reply.Reply.{Reply}
 use Rattle.tx_machine.specs.Ended.{Ended}
-use Rattle.tx_machine.specs.Invariant.{Inv, Holds}
+use Rattle.tx_machine.specs.inner.Invariant.{Inv, Holds}
 use Rattle.tx_machine.specs.State.{State}
 use Rattle.tx_machine.specs.Step.{step}
 use Rattle.tx_machine.specs.Runs.{Moment, moment, run, state_after}

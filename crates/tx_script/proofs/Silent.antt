@@ -1,5 +1,5 @@
 -- A run that tells no more than replies and tickets answers what a run does.
-use Rattle.std.proofs.Common.{◌≡◌, ◌⊎◌, ℕ, ◌+◌, Bool, true, false, List, [], ◌∷◌, ◌++◌, Option, Some, None, Result, Ok, Err, inl, inr, sym, ap, ap₂, refl, ◌∙◌, subst, append-nil}
+use Rattle.std.proofs.Common.{◌≡◌, ℕ, ◌+◌, Bool, true, false, List, [], ◌∷◌, ◌++◌, Option, Some, None, Result, Ok, Err, inl, inr, sym, ap, ap₂, refl, ◌∙◌, subst, append-nil}
 use Rattle.std.proofs.lemmas.Bool.{false≢true}
 use Rattle.std.specs.List.{flat_map}
 use Rattle.std.specs.Io.KnownBytes.{append_known}
@@ -17,10 +17,10 @@ use Rattle.tx_script.specs.declared.script_word.ScriptWord.{ScriptWord}
 use Rattle.tx_script.specs.declared.summary.Summary.{Summary}
 use Rattle.tx_script.specs.declared.telling.Telling.{Telling}
 use Rattle.tx_script.specs.Script.{Script}
-use Rattle.tx_script.specs.Output.{moment_text, events_text, end_text, last_text, output}
+use Rattle.tx_script.specs.Output.{moment_text, events_text, end_text, last_text}
 use Rattle.tx_script.specs.Untold.{IsUntold}
 use Rattle.tx_script.specs.Answers.{Moved, next, Ran, Stopped, FaultyBy, RunAnswers, is_reader_room}
-use Rattle.tx_script.specs.Telling.{told_moments, told_events, told_last, told_output}
+use Rattle.tx_script.specs.Telling.{told_moments, told_events, told_last}
 use Rattle.tx_script.specs.TellingAnswers.{ToldRan, StopsInLines, FaultyTold, StoppedTelling, TellingAnswers}
 
 abbrev pub nothing : Telling

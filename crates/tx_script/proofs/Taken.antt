@@ -10,7 +10,7 @@ use Rattle.tx_plan.specs.Orders.{circuit_cmp, same_circuit}
 use Rattle.tx_plan.specs.Plan.{Plan}
 use Rattle.tx_plan.specs.Among.{Among}
 use Rattle.tx_plan.proofs.Among.{among_cases, among_left, among_right, among_map, map_among, among_flat, flat_among, among_filter, filter_among}
-use Rattle.tx_plan.specs.declared.circuit.Circuit.{Circuit}
+use Rattle.tx_plan.specs.declared.group.Circuit.{Circuit}
 use Rattle.tx_plan.specs.declared.line.Line.{Line}
 use Rattle.tx_plan.proofs.Named.{circuits_total, same_circuit-is, same_circuit-itself, circuit_tie, exact_circuits, in_insert, in_union}
 use Rattle.tx_machine.specs.declared.cause.Cause.{Cause}
@@ -21,7 +21,7 @@ use Rattle.tx_machine.specs.declared.phase.Phase.TheVariants.{Standing, Calling,
 use Rattle.tx_machine.specs.Call.{Call, circuit_called, is_numbered}
 use Rattle.tx_machine.specs.State.{State}
 use Rattle.tx_machine.specs.InUse.{circuits_used, circuits_carried, seizes, uses_group}
-use Rattle.tx_machine.specs.Invariant.{Holds}
+use Rattle.tx_machine.specs.inner.Invariant.{Holds}
 use Rattle.tx_machine.specs.Routing.{set_call, in_phase}
 use Rattle.tx_machine.specs.Ending.{given_up, end_calls}
 use Rattle.tx_machine.specs.Confirming.{carried_on, thrown_back, collide}

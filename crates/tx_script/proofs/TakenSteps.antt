@@ -1,5 +1,5 @@
 -- Each event does to the circuits that are taken what its reply tells.
-use Rattle.std.proofs.Common.{◌≡◌, ℕ, ◌==◌, Bool, true, false, not, ◌&&◌, ◌||◌, List, [], ◌∷◌, ◌++◌, ◌⊎◌, inl, inr, Option, Some, None, refl, sym, ap, ◌∙◌, subst, eqb-true}
+use Rattle.std.proofs.Common.{◌≡◌, ℕ, ◌==◌, Bool, true, false, not, ◌&&◌, ◌||◌, [], ◌∷◌, ◌++◌, ◌⊎◌, inl, inr, Option, Some, None, refl, sym, ap, ◌∙◌, subst}
 use Rattle.std.proofs.lemmas.Bool.{or_cases, and_parts, and_from, not-false}
 use Rattle.std.specs.Prelude.{if◌then◌else◌}
 use Rattle.std.specs.Cmp.{both_ways}
@@ -10,7 +10,7 @@ use Rattle.tx_plan.specs.Codes.{code_of}
 use Rattle.tx_plan.specs.Circuits.{is_circuit}
 use Rattle.tx_plan.specs.Routes.{is_barred}
 use Rattle.tx_plan.specs.Among.{Among}
-use Rattle.tx_plan.specs.declared.circuit.Circuit.{Circuit}
+use Rattle.tx_plan.specs.declared.group.Circuit.{Circuit}
 use Rattle.tx_plan.specs.declared.line.Line.{Line}
 use Rattle.tx_plan.proofs.Named.{same_circuit-is, same_circuit-itself}
 use Rattle.tx_machine.specs.declared.event.Event.{Event}
@@ -34,7 +34,7 @@ use Rattle.tx_machine.specs.Ending.{end_calls, answered}
 use Rattle.tx_machine.specs.Routing.{at_line, at_trunk, line_of, routed_for}
 use Rattle.tx_machine.specs.Confirming.{far_of, collide, second_time, confirmed_by, rival, confirmed}
 use Rattle.tx_machine.specs.Step.{with_call, accepted, counted, unless_refused, step, cause_by}
-use Rattle.tx_machine.specs.Invariant.{Holds}
+use Rattle.tx_machine.specs.inner.Invariant.{Holds}
 use Rattle.tx_machine.proofs.Lists.{find_mem}
 use Rattle.tx_machine.proofs.Uses.{calling_on}
 use Rattle.tx_machine.proofs.Steps.{tests_false, stands}

@@ -35,7 +35,7 @@ impl<const N: usize> PartialEq for InlineBytes<N> {
     ghost laws = { partial_equiv_from_equiv nat_list_eq_equiv };
 
     fn eq(&self, other: &InlineBytes<N>) -> bool {
-        self.bytes() == other.bytes()
+        self.len == other.len && self.bytes == other.bytes
     }
 }
 

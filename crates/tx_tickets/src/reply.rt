@@ -1,7 +1,5 @@
 // The line of a reply.
-ghost use Rattle.std.specs.Prelude.{◌≡◌, ◌+◌, ◌≤◌, ◌++◌, Bool, ℕ, [], true, OnOk, OnErr, codes, decimal, length};
-ghost use Rattle.std.specs.Io.KnownBytes.{append_known};
-ghost use Rattle.tx_text.specs.Ends.{StopsIn};
+ghost use Rattle.std.specs.Prelude.{◌≡◌, ◌+◌, ◌≤◌, ◌++◌, [], codes, decimal, length};
 ghost use Rattle.tx_text.specs.Wrote.{Wrote};
 ghost use Rattle.tx_plan.specs.Plan.{exchange_name};
 ghost use Rattle.tx_machine.specs.declared.reply.Reply.TheVariants.{Lost};
@@ -52,7 +50,7 @@ fn put_reply<A: Allocator>(reply: &Reply, plan: &Plan<A>, line: &mut LineRoom<'_
         } => put_head_on(*a, *a_stands, *b, *b_stands, line),
         Reply::Cleared => line.put(b"CLEARED\n"),
         Reply::Done => line.put(b"DONE\n"),
-        Reply::Lost(_) => put_lost(*reply, line),
+        Reply::Lost(n) => put_count(b"LOST ", *n, line),
         Reply::Refused(refusal) => put_word(b"REFUSED ", refusal_word(*refusal), line),
     }
 }
@@ -75,7 +73,7 @@ fn put_at<A: Allocator>(exchange: ExchangeId, plan: &Plan<A>, line: &mut LineRoo
     ensures { line.new ≡ codes "AT " ++ (exchange_name plan.now exchange ++ codes "\n") }
 {
     line.put(b"AT ");
-    line.put_name(plan.exchange_name(exchange));
+    line.put(plan.exchange_name(exchange));
     line.put(b"\n");
 }
 
@@ -95,7 +93,7 @@ fn put_circuit<A: Allocator>(circuit: &Circuit, plan: &Plan<A>, line: &mut LineR
     ensures { line.new ≡ codes "SEIZED " ++ (circuit_text plan.now circuit.now ++ codes "\n") }
 {
     line.put(b"SEIZED ");
-    line.put_name(plan.group_name(circuit.group));
+    line.put(plan.group_name(circuit.group));
     line.put(b".");
     line.put_number(u64::from(circuit.number));
     line.put(b"\n");
@@ -106,21 +104,10 @@ fn put_connected<A: Allocator>(called: Line, plan: &Plan<A>, line: &mut LineRoom
     ensures { line.new ≡ codes "CONNECTED " ++ (line_text plan.now called ++ codes "\n") }
 {
     line.put(b"CONNECTED ");
-    line.put_name(plan.code_figures(called.code));
+    line.put(plan.code_figures(called.code));
     line.put(b" ");
-    line.put_national(called.national);
+    line.put(called.national.bytes());
     line.put(b"\n");
-}
-
-/// Puts how many calls were lost. The reply comes by value, since the count of every reply would
-/// else be read before it is known which one it is.
-fn put_lost(reply: Reply, line: &mut LineRoom<'_, ROOM>)
-    requires { line.old ≡ [] }
-    ensures { (n : ℕ) → reply ≡ Lost n → line.new ≡ codes "LOST " ++ (decimal n ++ codes "\n") }
-{
-    if let Reply::Lost(n) = reply {
-        put_count(b"LOST ", n, line);
-    }
 }
 
 /// Puts the two calls of a head-on collision.

@@ -1,8 +1,6 @@
 // The line of a ticket.
-ghost use Rattle.std.specs.Prelude.{◌≡◌, ◌≤◌, ◌++◌, [], true, OnOk, OnErr, codes, length};
+ghost use Rattle.std.specs.Prelude.{◌≡◌, ◌≤◌, ◌++◌, [], codes, length};
 ghost use Rattle.std.specs.List.{flat_map};
-ghost use Rattle.std.specs.Io.KnownBytes.{append_known};
-ghost use Rattle.tx_text.specs.Ends.{StopsIn};
 ghost use Rattle.tx_text.specs.Wrote.{Wrote};
 ghost use Rattle.tx_tickets.specs.Texts.{hop_text, caller_text, events_text, why_text, ticket_text};
 
@@ -50,11 +48,11 @@ fn put_caller<A: Allocator, B: Allocator>(
     line.put(b"T ");
     line.put_number(u64::from(ticket.number));
     line.put(b" FROM ");
-    line.put_name(plan.code_figures(ticket.line.code));
+    line.put(plan.code_figures(ticket.line.code));
     line.put(b" ");
-    line.put_national(ticket.line.national);
+    line.put(ticket.line.national.bytes());
     line.put(b" TO ");
-    line.put_padded(ticket.keyed.bytes(), ticket.keyed.padded());
+    line.put(ticket.keyed.bytes());
     line.put(b" EV ");
 }
 
@@ -82,7 +80,7 @@ fn put_why<A: Allocator, B: Allocator>(
 {
     line.put(cause_word(ticket.cause));
     line.put(b" VIA ");
-    line.put_name(plan.exchange_name(ticket.start));
+    line.put(plan.exchange_name(ticket.start));
 }
 
 /// Writes a line that has begun, with each hop after it and an LF. Where the next hop may have no
@@ -117,9 +115,9 @@ fn put_hop<A: Allocator>(hop: &Hop, plan: &Plan<A>, line: &mut LineRoom<'_, ROOM
     ensures width { length line.new ≤ 191 }
 {
     line.put(b" ");
-    line.put_name(plan.group_name(hop.circuit.group));
+    line.put(plan.group_name(hop.circuit.group));
     line.put(b".");
     line.put_number(u64::from(hop.circuit.number));
     line.put(b" ");
-    line.put_name(plan.exchange_name(hop.far));
+    line.put(plan.exchange_name(hop.far));
 }

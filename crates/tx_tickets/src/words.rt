@@ -5,7 +5,7 @@ ghost use Rattle.tx_tickets.specs.Texts.{service_text, cause_text, refusal_text,
 use tx_machine::{Cause, Refusal, Service};
 
 /// A service code, as it is printed.
-pub(crate) fn service_word<'a>(service: Service) -> &'a [u8]
+pub(crate) fn service_word(service: Service) -> &'static [u8]
     ensures text { result.now ≡ service_text service }
     ensures width { length result.now ≤ 4 }
 {
@@ -20,7 +20,7 @@ pub(crate) fn service_word<'a>(service: Service) -> &'a [u8]
 }
 
 /// The word that stands for a cause after BY.
-pub fn cause_word<'a>(cause: Cause) -> &'a [u8]
+pub fn cause_word(cause: Cause) -> &'static [u8]
     ensures text { result.now ≡ cause_text cause }
     ensures width { length result.now ≤ 4 }
 {
@@ -32,7 +32,7 @@ pub fn cause_word<'a>(cause: Cause) -> &'a [u8]
     }
 }
 
-pub(crate) fn refusal_word<'a>(refusal: Refusal) -> &'a [u8]
+pub(crate) fn refusal_word(refusal: Refusal) -> &'static [u8]
     ensures text { result.now ≡ refusal_text refusal }
     ensures width { length result.now ≤ 4 }
 {
@@ -52,7 +52,7 @@ pub(crate) fn refusal_word<'a>(refusal: Refusal) -> &'a [u8]
     }
 }
 
-pub(crate) fn stands_word<'a>(stands: bool) -> &'a [u8]
+pub(crate) fn stands_word(stands: bool) -> &'static [u8]
     ensures text { result.now ≡ stands_text stands }
     ensures width { length result.now ≤ 7 }
 {

@@ -46,6 +46,7 @@ place_text p ranks y place g z =
     ++ (group_name p g ++ (codes " " ++ (exchange_name p z
     ++ (rank_text (ranks z) ++ codes "\n"))))))))
 
+-- the same by its group alone; nothing for a group of which y is no end
 abbrev pub place_line : Plan → (ranks : ℕ → Option ℕ) → (y place g : ℕ) → List ℕ
 place_line p ranks y place g = option_map_or (place_text p ranks y place g) (other_end p g y) []
 

@@ -16,8 +16,6 @@ abbrev pub far_ends : Plan → (c y : ℕ) → List ℕ
 far_ends p c y =
     if y == home_of p c then [] else filter_map (λ g. other_end p g y) (route_list p y c)
 
--- THE FIRST WAY
-
 -- the step by the group g from y
 abbrev pub step_by : Plan → (y g : ℕ) → Option (ℕ × ℕ)
 step_by p y g = option_map (λ z. (g, z)) (other_end p g y)
@@ -46,8 +44,6 @@ way_within p c x (suc k) = one_on p c x (way_within p c x k)
 -- where it comes back. It has no more steps than there are exchanges.
 abbrev pub first_way : Plan → (c x : ℕ) → List (ℕ × ℕ)
 first_way p c x = way_within p c x (length p.exchanges)
-
--- THE EXCHANGES MET
 
 -- an exchange is added, if it was not met yet
 abbrev pub meet : List ℕ → ℕ → List ℕ

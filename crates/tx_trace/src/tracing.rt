@@ -11,7 +11,7 @@ use tx_plan::{CodeId, ExchangeId, GroupId, Plan};
 use tx_text::NoMemory;
 
 /// How calls for a code go from an exchange.
-#[derive(Drop)]
+#[derive(Debug, Drop)]
 pub struct Trace<A: Allocator = Global> {
     /// The code.
     pub code: CodeId,

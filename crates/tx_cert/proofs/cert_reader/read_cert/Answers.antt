@@ -1,12 +1,18 @@
-use Rattle.std.proofs.Common.{Ok, Err, codes, false, refl, subst}
+use Rattle.std.proofs.Common.{◌≡◌, ℕ, List, Ok, Err, codes, true, false, refl, subst}
 use Rattle.tx_text.specs.Told.{AtEnd}
+use Rattle.tx_text.specs.Said.{line_declares}
 use Rattle.tx_text.proofs.Beside.{answers_beside, kept_beside}
 use Rattle.tx_text.proofs.Exits.{exits_with}
+use Rattle.tx_plan.specs.Plan.{Plan}
 use Rattle.tx_cert.specs.declared.fault.CertWord.{CertWord}
 use Rattle.tx_cert.specs.Certificate.{no_ranks_for, IsCertificateOf}
 use Rattle.tx_cert.specs.CertText.{declare}
 use Rattle.tx_cert.proofs.Reading.{slice_says}
 use Rattle.tx_cert.proofs.cert_reader.read_cert.Goals as goal
+
+-- a line of the text declares something
+abbrev wanted : Plan → List ℕ → ℕ → Type 0
+wanted p text n = line_declares (declare p) (codes "CERT") 1 (no_ranks_for p) n AtEnd text ≡ true
 
 pub returns-in_err-start-clause-gives : goal.returns-in_err-start-clause-gives
 returns-in_err-start-clause-gives g c =
@@ -18,7 +24,7 @@ returns-in_err-lines-clause-gives g c =
     let x = c.in_err-lines.field-0.0 in
     let a = rw c.in_ok-start.ensures.ok at c.in_err-lines.ensures in
     rw (exits_with c.from_residual-in_err-lines.result x c.from_residual-in_err-lines.ensures.1)
-    (slice_says p c.args.text.now _ (Err (x.line, x.kind)) (answers_beside declare p (codes "CERT") 1 (no_ranks_for p) (λ (w : CertWord). false) c.args.text.now (Err (x.line, x.kind)) a))
+    (slice_says p c.args.text.now (wanted p c.args.text.now) (Err (x.line, x.kind)) (answers_beside declare p (codes "CERT") 1 (no_ranks_for p) (λ (w : CertWord). false) c.args.text.now (Err (x.line, x.kind)) a))
 
 pub returns-clause-gives : goal.returns-clause-gives
 returns-clause-gives g c =
@@ -26,7 +32,7 @@ returns-clause-gives g c =
     let s = c.in_ok-lines.lines in
     let a = rw c.in_ok-start.ensures.ok at c.in_ok-lines.ensures in
     rw c.finish.ensures.cert
-    (slice_says p c.args.text.now _ (Ok s.1) (answers_beside declare p (codes "CERT") 1 (no_ranks_for p) (λ (w : CertWord). false) c.args.text.now (Ok s) a))
+    (slice_says p c.args.text.now (wanted p c.args.text.now) (Ok s.1) (answers_beside declare p (codes "CERT") 1 (no_ranks_for p) (λ (w : CertWord). false) c.args.text.now (Ok s) a))
 
 pub returns-clause-fits : goal.returns-clause-fits
 returns-clause-fits g c =

@@ -20,8 +20,8 @@ rank-requires c =
     let short = c.requires.short in
     omega (arith, within, short)
 
-pub links-requires : goal.links-requires
-links-requires c =
+pub links_at-requires : goal.links_at-requires
+links_at-requires c =
     let free = free_at c.args.end c.args.slots.now in
     let rank = rank_of c.args.way in
     let reached = subst (Reached free rank c.rank-limit.result c.loop-rest.last) c.in-Some.is c.loop-rest.invariant in
@@ -33,7 +33,7 @@ loop-rest-preserved c =
     let rank = rank_of c.args.way in
     let p = c.in-Some.p in
     let reached = subst (Reached free rank c.rank-limit.result c.loop-rest.last) c.in-Some.is c.loop-rest.invariant in
-    let next = subst (IsFirst free rank (rank p + 1)) (sym (c.ahead-rest.ensures ∙ c.links.ensures c.args.way)) ((c.requires.listed c.args.way).goes_on p reached.2.0) in
+    let next = subst (IsFirst free rank (rank p + 1)) (sym (c.ahead-rest.ensures ∙ c.links_at.ensures c.args.way)) ((c.requires.listed c.args.way).goes_on p reached.2.0) in
     reached_next free rank c.rank-limit.result p c.loop-rest.last c.ahead-rest.result reached (subst (λ n. n < c.rank-limit.result) c.rank.ensures c.if-rank-limit.false) next
 
 pub loop-rest-smaller : goal.loop-rest-smaller
@@ -42,7 +42,7 @@ loop-rest-smaller c =
     let rank = rank_of c.args.way in
     let p = c.in-Some.p in
     let reached = subst (Reached free rank c.rank-limit.result c.loop-rest.last) c.in-Some.is c.loop-rest.invariant in
-    let next = subst (IsFirst free rank (rank p + 1)) (sym (c.ahead-rest.ensures ∙ c.links.ensures c.args.way)) ((c.requires.listed c.args.way).goes_on p reached.2.0) in
+    let next = subst (IsFirst free rank (rank p + 1)) (sym (c.ahead-rest.ensures ∙ c.links_at.ensures c.args.way)) ((c.requires.listed c.args.way).goes_on p reached.2.0) in
     let within = free_within c.args.end c.args.slots.now p reached.2.0 in
     let short = c.requires.short in
     subst (λ r. left_from rank c.ahead-rest.result < left_from rank r) (sym c.in-Some.is) (left_falls free rank p c.ahead-rest.result next (rank_below c.args.way p (omega (arith, within, short))))

@@ -19,12 +19,12 @@ module _ (end : End) (slots : List Slot) (list : FreeList) (listed : IsListed (f
       (first_within (free_at end slots) (rank_of way) (rank_of way i + 1) (length slots) (free_within end slots) (link_at end way slots i) ((listed way).goes_on i free))
 
 pub lead-requires : goal.lead-requires
-lead-requires c = next_within c.args.end c.args.slots.now c.args.list.now c.requires.listed c.args.place c.requires.free Down _ (c.links-links.ensures Down)
+lead-requires c = next_within c.args.end c.args.slots.now c.args.list.now c.requires.listed c.args.place c.requires.free Down _ (c.links_at-links.ensures Down)
 
 pub lead-requires-2 : goal.lead-requires-2
 lead-requires-2 c =
-    subst (λ (n : ℕ). IfSome c.links-links.result.above (λ k. k < n)) (sym c.lead.auto.slots)
-    (next_within c.args.end c.args.slots.now c.args.list.now c.requires.listed c.args.place c.requires.free Up _ (c.links-links.ensures Up))
+    subst (λ (n : ℕ). IfSome c.links_at-links.result.above (λ k. k < n)) (sym c.lead.auto.slots)
+    (next_within c.args.end c.args.slots.now c.args.list.now c.requires.listed c.args.place c.requires.free Up _ (c.links_at-links.ensures Up))
 
 pub returns-clause-listed : goal.returns-clause-listed
 returns-clause-listed c =
@@ -35,13 +35,13 @@ returns-clause-listed c =
     let i_in : i < 240 = (let a : i < length slots = c.requires.place in omega arith) in
     let free = free_at end slots in
     let inside = free_below end slots short in
-    let one = λ (w : Way) (joined : chain end w c.lead-2.new.slots c.lead-2.new.list (ahead (back w) c.links-links.result) ≡ link_at end w slots i)
-    (rest : (k : Option ℕ) → k ≢ ahead (back w) c.links-links.result → chain end w c.lead-2.new.slots c.lead-2.new.list k ≡ chain end w slots c.args.list.now k).
+    let one = λ (w : Way) (joined : chain end w c.lead-2.new.slots c.lead-2.new.list (ahead (back w) c.links_at-links.result) ≡ link_at end w slots i)
+    (rest : (k : Option ℕ) → k ≢ ahead (back w) c.links_at-links.result → chain end w c.lead-2.new.slots c.lead-2.new.list k ≡ chain end w slots c.args.list.now k).
     take free (with free i false) (rank_of w) (are_ranked w free inside) i (with_here free i false) c.requires.free (λ k ne. with_there free i k false ne)
-    (chain end w slots c.args.list.now) (chain end w c.lead-2.new.slots c.lead-2.new.list) (c.requires.listed w) (ahead (back w) c.links-links.result)
-    (to_last free inside i i_in w (ahead (back w) c.links-links.result)
-    (subst (IsFirst free (rank_of (back w)) (rank_of (back w) i + 1)) (sym (c.links-links.ensures (back w))) ((c.requires.listed (back w)).goes_on i c.requires.free)))
+    (chain end w slots c.args.list.now) (chain end w c.lead-2.new.slots c.lead-2.new.list) (c.requires.listed w) (ahead (back w) c.links_at-links.result)
+    (to_last free inside i i_in w (ahead (back w) c.links_at-links.result)
+    (subst (IsFirst free (rank_of (back w)) (rank_of (back w) i + 1)) (sym (c.links_at-links.ensures (back w))) ((c.requires.listed (back w)).goes_on i c.requires.free)))
     joined rest in
     each_way _
-    (one Up (c.lead-2.ensures.turned c.links-links.result.below ∙ c.lead.ensures.here ∙ c.links-links.ensures Up) (λ k ne. c.lead-2.ensures.turned k ∙ c.lead.ensures.apart k ne))
-    (one Down (c.lead-2.ensures.here ∙ c.links-links.ensures Down) (λ k ne. c.lead-2.ensures.apart k ne ∙ c.lead.ensures.turned k))
+    (one Up (c.lead-2.ensures.turned c.links_at-links.result.below ∙ c.lead.ensures.here ∙ c.links_at-links.ensures Up) (λ k ne. c.lead-2.ensures.turned k ∙ c.lead.ensures.apart k ne))
+    (one Down (c.lead-2.ensures.here ∙ c.links_at-links.ensures Down) (λ k ne. c.lead-2.ensures.apart k ne ∙ c.lead.ensures.turned k))

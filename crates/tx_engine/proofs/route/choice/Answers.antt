@@ -12,7 +12,7 @@ pub first_free-circuit-requires : goal.first_free-circuit-requires
 first_free-circuit-requires g c =
     let x = c.group-item.result in
     let there = subst (λ gs. Among x gs) c.list-groups.ensures.value (among_at c.list-groups.result.now c.loop-group.group-index x c.loop-group-test.true c.group-item.is) in
-    may_seize-same c.args.plan.now c.args.circuits.now c.requires x c.args.place ∙ listed_may c.args.plan.now c.rules.ensures c.args.place c.args.code x there
+    may_seize-same c.args.plan.now c.args.circuits.now c.requires x c.args.place ∙ listed_may c.args.plan.now c.list-groups.ensures.rules c.args.place c.args.code x there
 
 pub loop-group-preserved : goal.loop-group-preserved
 loop-group-preserved g c =

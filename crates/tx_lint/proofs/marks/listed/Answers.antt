@@ -12,7 +12,7 @@ use Rattle.tx_lint.proofs.marks.listed.Goals as goal
 pub mark_all-requires : goal.mark_all-requires
 mark_all-requires g c =
     let p = c.args.plan.now in
-    let there = route_there p c.groups.ensures.rules c.loop-place.place _ c.in-Some.ensures in
+    let there = route_there p c.groups.ensures.rules c.loop-place.place _ c.in-Some.ensures.value in
     within_marks p c.groups.ensures.rules c.loop-place.place there.0 there.1 c.deref_mut.result.now c.list.result.now
     (ap length c.deref_mut.ensures.value ∙ c.loop-place.invariant.long) (c.list.ensures.value ∙ there.2)
 
@@ -29,7 +29,7 @@ loop-place-preserved g c =
     let p = c.args.plan.now in
     let marks = c.loop-place.marks in
     let new = c.mark_all.new.marks in
-    let there = route_there p c.groups.ensures.rules c.loop-place.place _ c.in-Some.ensures in
+    let there = route_there p c.groups.ensures.rules c.loop-place.place _ c.in-Some.ensures.value in
     let long : length new ≡ length marks.items = c.mark_all.ensures.long ∙ ap length c.deref_mut.ensures.value in
     let k = marks.ok.0 in
     let fits : length new ≡ marks.len = omega arith in

@@ -1,10 +1,5 @@
-use Rattle.std.proofs.Common.{◌≡◌, Some, false, is_some, sym, ap, subst, ◌∙◌}
-use Rattle.tx_machine.specs.declared.event.Event.TheVariants.{Confirm}
-use Rattle.tx_machine.specs.Call.{is_calling}
-use Rattle.tx_machine.specs.Confirming.{far_of}
-use Rattle.tx_machine.specs.Refusals.{is_other}
-use Rattle.tx_machine.proofs.Unrefused.{can_count, can_confirm}
-use Rattle.tx_calls.specs.Calls.{Kept, kept_of}
+use Rattle.std.proofs.Common.{is_some, ap}
+use Rattle.tx_machine.proofs.Unrefused.{can_confirm}
 use Rattle.tx_engine.specs.inner.Sound.{state_of}
 use Rattle.tx_engine.proofs.engine_state.EngineState.confirm.Goals as goal
 

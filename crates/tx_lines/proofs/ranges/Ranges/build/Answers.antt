@@ -28,7 +28,7 @@ invariant_of-result g c =
     let past : length ranges ≤ c.loop-place.place = (let e = c.ranges-place-end.ensures.count in omega arith) in
     let all : c.loop-place.ranges.items ≡ ranges = c.loop-place.invariant.items ∙ take_all c.loop-place.place ranges past in
     let P : List LineRange → Type 0 = λ l. IsPermutation l c.sort_unstable_by.new.self.items in (
-      arranged c.args.plan.now c.ranges.ensures.rules c.sort_unstable_by.new.self.items (subst P all c.sort_unstable_by.ensures.permutation)
+      arranged c.args.plan.now c.ranges-place-end.ensures.rules c.sort_unstable_by.new.self.items (subst P all c.sort_unstable_by.ensures.permutation)
           (sorted_from_clause (λ r q. place_cmp (start_of r) (start_of q)) c.sort_unstable_by.new.self.items (ranks_by places_total start_of) c.sort_unstable_by.ensures.sorted (λ a r q k. search rules)),
       subst (λ l. AreFirsts l c.in_ok-firsts.firsts.items) c.deref.ensures.value c.in_ok-firsts.ensures,
     )
@@ -39,7 +39,7 @@ firsts_of-requires-clause-order g c =
     let past : length ranges ≤ c.loop-place.place = (let e = c.ranges-place-end.ensures.count in omega arith) in
     let all : c.loop-place.ranges.items ≡ ranges = c.loop-place.invariant.items ∙ take_all c.loop-place.place ranges past in
     let P : List LineRange → Type 0 = λ l. IsPermutation l c.sort_unstable_by.new.self.items in
-    subst IsInOrder (sym c.deref.ensures.value) (arranged c.args.plan.now c.ranges.ensures.rules c.sort_unstable_by.new.self.items (subst P all c.sort_unstable_by.ensures.permutation)
+    subst IsInOrder (sym c.deref.ensures.value) (arranged c.args.plan.now c.ranges-place-end.ensures.rules c.sort_unstable_by.new.self.items (subst P all c.sort_unstable_by.ensures.permutation)
     (sorted_from_clause (λ r q. place_cmp (start_of r) (start_of q)) c.sort_unstable_by.new.self.items (ranks_by places_total start_of) c.sort_unstable_by.ensures.sorted (λ a r q k. search rules)))
 
 pub loop-place-init : goal.loop-place-init

@@ -5,7 +5,7 @@ use Rattle.tx_plan.proofs.Named.{line_put}
 use Rattle.tx_machine.specs.declared.event.Event.TheVariants.{Released, Restore, Block, Unblock, CircuitOut, CircuitIn, LineFault, LineMend, LineAway, LineBack}
 use Rattle.tx_machine.specs.declared.reply.Reply.TheVariants.{Done}
 use Rattle.tx_machine.specs.Refusals.{refusal}
-use Rattle.tx_machine.specs.State.{Net, State}
+use Rattle.tx_machine.specs.State.{Net}
 use Rattle.tx_machine.specs.Step.{accepted, counted}
 use Rattle.tx_machine.proofs.Unrefused.{can_count, can_key, can_route, can_confirm, can_fail}
 use Rattle.tx_plain.specs.inner.Whole.{net_of}

@@ -83,6 +83,6 @@ returns-clause-counts g c =
     let e = c.args.event.now in
     let a = is_answer p (g.N.Network.plan c.args.net.now) s e c.in_ok-reply.reply _ c.requires.plan c.requires.taken
     c.in_ok-reply.ensures.step in
-    let t = g.N.Network.state c.apply-reply.new.self in
+    let t = g.N.Network.state c.apply.new.self in
     c.in_ok-tickets.ensures.counts ∙ ap (option_map (ends_counted t.tickets)) c.answered.ensures.counts
     ∙ counted_twice p (moment p s e) c.in_ok-reply.reply t.tickets a.replied a.made c.args.self.now.counts
