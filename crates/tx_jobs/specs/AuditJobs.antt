@@ -15,6 +15,7 @@ audit_fault (Plan f) = plan_fault f
 audit_fault AuditWrite = Write
 audit_fault AuditNoMemory = NoMemory
 
+-- what an audit answers, as a job tells it
 abbrev pub told_audit : {A : Type 0} → Result (Audited A) AuditFault → Result (Audited A) JobFault
 told_audit (Ok audited) = Ok audited
 told_audit (Err f) = Err (audit_fault f)

@@ -53,6 +53,7 @@ ToldRun p t limit spare script out (Ok (Denied f)) = (verdict_for p t limit spar
 ToldRun p t limit spare script out (Err fault) = RunStopped p t limit spare script out fault
     ⊎ VerdictStopped p t limit spare script out fault
 
+-- the certificate was read and the script run after a Yes, or the certificate was refused
 abbrev pub CertAnswers : Plan → (limit spare : ℕ)
     → (cert script : Input) → Output → Result Checked JobFault → Type 0
 CertAnswers p limit spare cert script out result =
@@ -71,6 +72,7 @@ abbrev pub status_of_run : Checked → ℕ
 status_of_run (Ran summary) = 0
 status_of_run (Denied fault) = 1
 
+-- what a checked run came to, told as an exit status
 abbrev pub told_status : Result Checked JobFault → Result ℕ JobFault
 told_status (Ok checked) = Ok (status_of_run checked)
 told_status (Err fault) = Err fault

@@ -64,6 +64,7 @@ ToldCodes p out (Err Write) = StopsIn out.old out.new (codes_text p)
 ToldCodes p out (Err NoMemory) = out.silent
 ToldCodes p out (Err other) = ⊥
 
+-- `codes PLAN`: the plan was read and its codes told, or it was refused
 abbrev pub CodesJobAnswers : Input → Output → Result (Option (ℕ × ℕ)) JobFault → Type 0
 CodesJobAnswers plan out result = PlanRead plan (λ p. ToldCodes p out result)
     ⊎ PlanRefused plan out.silent result
@@ -73,6 +74,7 @@ abbrev pub status_of_codes : Option (ℕ × ℕ) → ℕ
 status_of_codes None = 0
 status_of_codes (Some pair) = 1
 
+-- a pair of codes, told as an exit status
 abbrev pub told_codes_status : Result (Option (ℕ × ℕ)) JobFault → Result ℕ JobFault
 told_codes_status (Ok pair) = Ok (status_of_codes pair)
 told_codes_status (Err fault) = Err fault

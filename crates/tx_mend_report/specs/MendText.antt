@@ -39,7 +39,7 @@ code_changes before p code =
 abbrev pub changes : List Route → Plan → List ℕ
 changes before p = flat_map (code_changes before p) (range_with_len 0 (length p.codes))
 
--- the report of a plan that was mended, and had these routes before
+-- THE REPORT of a plan that was mended, and had these routes before
 abbrev pub mended_text : List Route → Plan → (limit spare : ℕ) → List ℕ
 mended_text before p limit spare =
     head_line limit spare ++ (changes before p ++ codes "VERDICT YES\n")
