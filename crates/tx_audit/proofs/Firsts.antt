@@ -40,10 +40,10 @@ module _ {A : Type 0} (p : Plan) where
         at (Some es) q e r = let same : es ≡ events = cc in record { finding = f; listed = inl refl; shows = counters_show A p limit spare f events ok h.0 (q ∙ ap Some same) }
         at None q e r = let s = r e in record { finding = s.finding; listed = inr s.listed; shows = s.shows }
 
-    pub first_writable : (fs : List (Finding A)) (events : List Event) → first_counter_of p fs ≡ Some events → AllByRecursion (IsWritable p) events
-    first_writable [] events e = let bad : ⊥ = cc in absurd bad
-    first_writable (f ∷ fs) events e = at (counter_of p f) refl e (first_writable fs events)
+    pub first_writable : (fs : List (Finding A)) (events : List Event) → AllByRecursion (IsTrueOf p limit spare) fs → first_counter_of p fs ≡ Some events → AllByRecursion (IsWritable p) events
+    first_writable [] events h e = let bad : ⊥ = cc in absurd bad
+    first_writable (f ∷ fs) events h e = at (counter_of p f) refl e (first_writable fs events h.1)
       where
         at : (o : Option (List Event)) → counter_of p f ≡ o → or_else o (first_counter_of p fs) ≡ Some events → (first_counter_of p fs ≡ Some events → AllByRecursion (IsWritable p) events) → AllByRecursion (IsWritable p) events
-        at (Some es) q e r = let same : es ≡ events = cc in counter_writable p ok f events (q ∙ ap Some same)
+        at (Some es) q e r = let same : es ≡ events = cc in counter_writable p ok limit spare f events h.0 (q ∙ ap Some same)
         at None q e r = r e

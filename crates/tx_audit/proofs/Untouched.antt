@@ -1,6 +1,7 @@
 -- What a run from the opening state answers, where less is said of what it left untouched.
 use Rattle.std.proofs.Common.{◌≡◌, ◌∙◌, Bool, true, false, ℕ, Result, Ok, Err, subst, inl}
 use Rattle.tx_text.specs.declared.frame.FaultKind.{FaultKind}
+use Rattle.tx_text.specs.Ends.{Input, Output}
 use Rattle.tx_plan.specs.Plan.{Plan}
 use Rattle.tx_script.specs.declared.script_word.ScriptWord.{ScriptWord}
 use Rattle.tx_script.specs.declared.summary.Summary.{Summary}
@@ -9,7 +10,7 @@ use Rattle.tx_script.specs.declared.run_cause.RunCause.{RunCause}
 use Rattle.tx_script.specs.declared.run_cause.RunCause.TheVariants.{Read, Write, Script as OfScript, NoMemory}
 use Rattle.tx_machine.specs.State.{State, opening}
 use Rattle.tx_script.specs.Answers.{Moved, FaultyBy, Stopped, RunAnswers, is_reader_room}
-use Rattle.tx_audit.specs.CheckedRuns.{Bytes, RanFromOpening, Simulated}
+use Rattle.tx_audit.specs.CheckedRuns.{IsUntouched, RanFromOpening, Simulated}
 
 module _ (p : Plan) (x : Moved) (broken D E : Type 0) (f : D → E) where
   faulty_with : (room : Bool) (event line : ℕ) (kind : FaultKind ScriptWord) → FaultyBy p x D room event line kind → FaultyBy p x E room event line kind
@@ -26,15 +27,17 @@ module _ (p : Plan) (x : Moved) (broken D E : Type 0) (f : D → E) where
   answers_with (Ok s) h = h
   answers_with (Err q) h = stopped_with q.event q.cause h
 
-pub ran_from_opening : {p : Plan} {x : Bytes} {broken D U : Type 0} {old new : State} (given answer : Result Summary RunFault)
-    → RunAnswers p (record { rest_old = x.rest_old; rest_new = x.rest_new; taken_old = x.taken_old; taken_new = x.taken_new; state_old = old; state_new = new }) broken D given
-    → old ≡ opening 0 0 → (D → U × (new ≡ old)) → given ≡ answer → RanFromOpening p x broken U answer
-ran_from_opening {p} {x} {broken} {D} {U} {old} {new} given answer ran opened quiet is =
-    let same : D → U × (new ≡ opening 0 0) = λ d. ((quiet d).0, (quiet d).1 ∙ opened) in
-    let moved : State → Moved = λ s. record { rest_old = x.rest_old; rest_new = x.rest_new; taken_old = x.taken_old; taken_new = x.taken_new; state_old = s; state_new = new } in
-    let all = subst (λ s. RunAnswers p (moved s) broken (U × (new ≡ opening 0 0)) given) opened (answers_with p (moved old) broken D (U × (new ≡ opening 0 0)) same given ran) in
-    record { state = new; ran = subst (λ r. RunAnswers p (moved (opening 0 0)) broken (U × (new ≡ opening 0 0)) r) is all }
+module _ (p : Plan) (script : Input) (out : Output) where
+  moved : (old new : State) → Moved
+  moved old new = record { rest_old = script.old; rest_new = script.new; taken_old = out.old; taken_new = out.new; state_old = old; state_new = new }
 
-pub simulated_by : {p : Plan} {x : Bytes} {broken U : Type 0} (answer : Result Summary RunFault) → RanFromOpening p x broken U answer → Simulated p x broken U answer
-simulated_by (Ok summary) h = h
-simulated_by (Err f) h = inl h
+  pub ran_from_opening : {D : Type 0} {old new : State} (answer : Result Summary RunFault) → RunAnswers p (moved old new) script.broken D answer
+      → old ≡ opening 0 0 → (D → IsUntouched script out × (new ≡ old)) → RanFromOpening p script out answer
+  ran_from_opening {D} {old} {new} answer ran opened quiet =
+      let E : Type 0 = IsUntouched script out × (new ≡ opening 0 0) in
+      let same : D → E = λ d. ((quiet d).0, (quiet d).1 ∙ opened) in
+      record { state = new; ran = subst (λ s. RunAnswers p (moved s new) script.broken E answer) opened (answers_with p (moved old new) script.broken D E same answer ran) }
+
+  pub simulated_by : (answer : Result Summary RunFault) → RanFromOpening p script out answer → Simulated p script out answer
+  simulated_by (Ok summary) h = h
+  simulated_by (Err f) h = inl h

@@ -14,8 +14,6 @@ use Rattle.tx_rank.specs.declared.finding.Finding.{Finding}
 use Rattle.tx_rank.specs.declared.finding.Finding.TheVariants.{Ambiguous, Loop, Short, Long}
 use Rattle.tx_rank.specs.Walks.{Walk, end_of}
 
--- THE LINE THAT CALLS
-
 -- the first range of a code
 abbrev pub first_range : Plan → ℕ → Option LineRange
 first_range p code = find (λ r. r.code == code) p.ranges
@@ -36,8 +34,6 @@ low_line code r = record { code = code; national = r.low }
 abbrev pub first_line : Plan → ℕ → Option Line
 first_line p x = option_and_then (λ code. option_map (low_line code) (first_range p code))
     (first_code p x)
-
--- THE WAY OF THE CALL
 
 -- the groups that a list has before g
 abbrev pub listed_before : ℕ → List ℕ → List ℕ
@@ -65,9 +61,7 @@ walked_by p c w last line = Key line (figures_of p c) ∷ (walk_events p c w.sta
 abbrev pub walked : Plan → ℕ → Walk → List Event → Option (List Event)
 walked p c w last = option_map (walked_by p c w last) (first_line p w.start)
 
--- TURNS THAT NO CALL CAN MAKE
-
--- both are one both-way group of a single circuit
+-- Both are one both-way group of a single circuit: no call can go back by it.
 abbrev pub is_single : Plan → ℕ → ℕ → Bool
 is_single p g h = (g == h) && (is_both (direction_of p g) && (count_of p g == 1))
 
@@ -78,8 +72,7 @@ turns_on_one p (s ∷ []) = false
 turns_on_one p (s ∷ t ∷ []) = is_single p s.0 t.0
 turns_on_one p (s ∷ t ∷ u ∷ steps) = turns_on_one p (t ∷ u ∷ steps)
 
--- THE EVENTS OF A FINDING
-
+-- THE EVENTS OF A FINDING: none for an ambiguous pair, and for a loop that turns so
 abbrev pub counter_of : {A : Type 0} → Plan → Finding A → Option (List Event)
 counter_of p (Ambiguous a b) = None
 counter_of p (Loop c w) = if turns_on_one p w.steps then None else walked p c w []
@@ -93,6 +86,7 @@ has_counter p (Loop c w) = not (turns_on_one p w.steps)
 has_counter p (Short c w) = true
 has_counter p (Long c w) = true
 
+-- the first of both that there is
 abbrev pub or_else : Option (List Event) → Option (List Event) → Option (List Event)
 or_else (Some events) other = Some events
 or_else None other = other

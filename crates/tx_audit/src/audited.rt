@@ -1,5 +1,6 @@
 // What an audit comes to.
 ghost use Rattle.std.specs.Prelude.{◌≡◌};
+ghost use Rattle.tx_audit.specs.declared.audited.AuditFault.TheVariants.{Plan as PlanRefused, Write as WriteFailed, NoMemory as OutOfMemory};
 
 use std::alloc::{Allocator, Global};
 use thiserror::Error;
@@ -7,6 +8,7 @@ use tx_cert::Cert;
 use tx_plan::Plan;
 use tx_plantext::PlanFault;
 use tx_rank::{Finding, Ranking};
+use tx_text::{NoMemory, WriteFault};
 
 /// The plan that was read, and what was found of it.
 #[derive(Drop)]
@@ -18,7 +20,7 @@ pub enum Audited<A: Allocator = Global> {
 }
 
 impl<A: Allocator> Audited<A> {
-    ghost use Rattle.tx_audit.specs.Ranked.{audited_of};
+    ghost use Rattle.tx_audit.specs.inner.Ranked.{audited_of};
 
     /// The plan, with what its ranking came to.
     pub(crate) fn of(plan: Plan<A>, ranking: Ranking<A>) -> Audited<A>
@@ -34,7 +36,7 @@ impl<A: Allocator> Audited<A> {
 /// Why an audit stopped.
 #[derive(Clone, Copy, Debug, Error)]
 pub enum AuditFault {
-    /// The plan's text is refused, its source failed, or its reader wanted memory. Nothing was
+    /// The plan's text is refused, its source failed, or its reader had no memory. Nothing was
     /// written.
     #[error("plan {0}")]
     Plan(PlanFault),
@@ -44,4 +46,28 @@ pub enum AuditFault {
     /// No memory was left to rank the plan. Nothing was written.
     #[error("no memory")]
     NoMemory,
+}
+
+impl From<PlanFault> for AuditFault {
+    ghost from_gives = { λ plan fault. fault ≡ PlanRefused plan };
+
+    fn from(plan: PlanFault) -> AuditFault {
+        AuditFault::Plan(plan)
+    }
+}
+
+impl From<WriteFault> for AuditFault {
+    ghost from_gives = { λ _ fault. fault ≡ WriteFailed };
+
+    fn from(_: WriteFault) -> AuditFault {
+        AuditFault::Write
+    }
+}
+
+impl From<NoMemory> for AuditFault {
+    ghost from_gives = { λ _ fault. fault ≡ OutOfMemory };
+
+    fn from(_: NoMemory) -> AuditFault {
+        AuditFault::NoMemory
+    }
 }

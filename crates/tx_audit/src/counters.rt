@@ -83,9 +83,8 @@ fn events_of<A: Allocator + Copy>(
 }
 
 /// The events that show a true finding to whoever applies them from the opening state: none of them
-/// is refused, and they break what a plan that is
-/// sound for the limit and the spare number keeps. A loop passes an exchange twice, a short list
-/// gives an NC that is not excused, and a long walk has
+/// is refused, and they break what a plan that is sound for the limit and the spare number keeps. A
+/// loop passes an exchange twice, a short list gives an NC that is not excused, and a long walk has
 /// more transits than the limit. None for an ambiguous pair, and for a loop whose last two steps go
 /// by one both-way group of a single circuit.
 pub fn counter<A: Allocator + Copy>(

@@ -2,7 +2,7 @@
 ghost use Rattle.std.specs.Prelude.{◌++◌, codes};
 ghost use Rattle.std.specs.List.{flat_map};
 ghost use Rattle.tx_text.specs.Wrote.{Wrote};
-ghost use Rattle.tx_audit.specs.Report.{head_line, step_text, walk_text, finding_line, verdict_line, report};
+ghost use Rattle.tx_audit.specs.Report.{asked_line, step_text, walk_text, finding_line, verdict_line, report};
 
 use itoa::Buffer;
 use std::alloc::Allocator;
@@ -21,19 +21,25 @@ pub(crate) fn write_report<A: Allocator, W: Sink>(
     ensures { Wrote W.taken W.failed sink.old sink.new
         (report plan.now limit spare findings.now) result }
 {
-    write_head(limit, spare, sink)?;
+    write_asked(b"AUDIT", limit, spare, sink)?;
     write_findings(plan, findings, sink)?;
     write_verdict(findings.len(), sink)
 }
 
-fn write_head<W: Sink>(limit: u8, spare: u8, sink: &mut W) -> Result<(), WriteFault>
-    ensures { Wrote W.taken W.failed sink.old sink.new (head_line limit spare) result }
+/// Writes the first line of a report: its word, and the limit and the spare number that were asked.
+pub fn write_asked<W: Sink>(
+    word: &[u8],
+    limit: u8,
+    spare: u8,
+    sink: &mut W,
+) -> Result<(), WriteFault>
+    ensures { Wrote W.taken W.failed sink.old sink.new (asked_line word.now limit spare) result }
 {
     let mut transits = Buffer::new();
     let mut groups = Buffer::new();
     let limit = transits.format(limit).as_bytes();
     let spare = groups.format(spare).as_bytes();
-    write_parts(&[b"AUDIT LIMIT ", limit, b" SPARE ", spare, b"\n"], sink)
+    write_parts(&[word, b" LIMIT ", limit, b" SPARE ", spare, b"\n"], sink)
 }
 
 /// Writes YES, or NO with the number of findings.
@@ -63,7 +69,8 @@ pub fn write_findings<A: Allocator, W: Sink>(
     Ok(())
 }
 
-fn write_finding<A: Allocator, W: Sink>(
+/// Writes the line of a finding.
+pub fn write_finding<A: Allocator, W: Sink>(
     plan: &Plan<A>,
     finding: &Finding<A>,
     sink: &mut W,

@@ -7,7 +7,6 @@ ghost use Rattle.tx_script.specs.Events.{IsWritable, event_text};
 ghost use Rattle.tx_script.specs.Script.{script_of, whole};
 ghost use Rattle.tx_audit.specs.Scripts.{script_written};
 
-use crate::event_rules::all_event_rules;
 use std::alloc::Allocator;
 use tx_machine::Event;
 use tx_plan::Plan;
@@ -15,8 +14,8 @@ use tx_script::write_event;
 use tx_text::{Sink, WriteFault, write_bytes};
 
 /// Writes a script of the events: the header, a line for each event, and END. The plan has the
-/// events' ids, and their circuits have numbers from 1 to
-/// 240. The script says these events again. Stops where the sink fails.
+/// events' ids, and their circuits have numbers from 1 to 240. The script says these events again.
+/// Stops where the sink fails.
 pub fn write_counter<A: Allocator, W: Sink>(
     plan: &Plan<A>,
     events: &[Event],
@@ -29,7 +28,6 @@ pub fn write_counter<A: Allocator, W: Sink>(
         ≡ whole events.now }
 {
     plan.rules();
-    all_event_rules(events);
     write_bytes(b"SCRIPT 1\n", sink)?;
     write_events(plan, events, sink)?;
     write_bytes(b"END\n", sink)

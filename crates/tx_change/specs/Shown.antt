@@ -35,10 +35,11 @@ abbrev pub at_end_of : Plan → ℕ → Option ℕ → ℕ → Bool
 at_end_of old c None x = false
 at_end_of old c (Some spare) x = is_long_before old c spare x
 
--- the exchanges of which a walk takes the new list, and those of which it takes the new bar
+-- the exchanges of which a walk takes the new list
 abbrev pub listed_by : Plan → ℕ → Option ℕ → Walk → ℕ → Bool
 listed_by old c spare w = takes_new old c (at_end_of old c spare) w.start w.steps
 
+-- those of which it takes the new bar
 abbrev pub barred_by : Plan → ℕ → Walk → ℕ → Bool
 barred_by old c w = bars_new old c w.start
 

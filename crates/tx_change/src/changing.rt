@@ -52,7 +52,7 @@ fn change_code<A: Allocator + Copy>(
     rank_code(alloc, &net, code, limit, spare, cert, findings)
 }
 
-/// The same for each code, into a certificate without ranks.
+/// Ranks the exchanges for each code, into a certificate without ranks, or adds what is wrong.
 fn change_each<A: Allocator + Copy>(
     alloc: A,
     old: &Plan<A>,
@@ -77,7 +77,7 @@ fn change_each<A: Allocator + Copy>(
     Ok(())
 }
 
-/// The same, into a certificate of its own.
+/// A certificate with the ranks for all codes; what is wrong is added to the findings.
 fn change_codes<A: Allocator + Copy>(
     alloc: A,
     old: &Plan<A>,

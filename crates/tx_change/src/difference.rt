@@ -1,7 +1,7 @@
 // In what two plans are not of one network.
 ghost use Rattle.std.specs.Prelude.{◌≡◌, ◌<◌, ◌↔◌, true};
-ghost use Rattle.tx_change.specs.Difference.{SameAt, entries_in, DifferenceAnswer};
-ghost use Rattle.tx_change.specs.inner.Apart.{ApartAnswer};
+ghost use Rattle.tx_change.specs.Difference.{SameAt, DifferenceAnswer};
+ghost use Rattle.tx_change.specs.inner.Apart.{entries_in, ApartAnswer};
 
 use crate::entries::{is_same_code, is_same_exchange, is_same_group, is_same_range};
 use std::alloc::Allocator;

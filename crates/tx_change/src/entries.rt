@@ -61,14 +61,5 @@ pub fn is_same_group<A: Allocator>(old: &Plan<A>, new: &Plan<A>, place: usize) -
 fn is_same_direction(a: Direction, b: Direction) -> bool
     ensures { result ≡ true ↔ a ≡ b }
 {
-    match a {
-        Direction::OneWay => match b {
-            Direction::OneWay => true,
-            Direction::BothWay => false,
-        },
-        Direction::BothWay => match b {
-            Direction::OneWay => false,
-            Direction::BothWay => true,
-        },
-    }
+    a == b
 }

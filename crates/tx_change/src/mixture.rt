@@ -43,10 +43,7 @@ pub fn first_mixture<A: Allocator + Copy>(
             let mixture = show_mixture(alloc, old, new, finding, limit, spare)?;
             Ok(Some(mixture))
         }
-        None => {
-            drop(old);
-            Ok(None)
-        }
+        None => Ok(None),
     }
 }
 

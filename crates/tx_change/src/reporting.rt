@@ -1,11 +1,12 @@
 // The report of a change.
 ghost use Rattle.std.specs.Prelude.{◌≡◌, ◌≤◌, []};
+ghost use Rattle.tx_text.specs.Ends.{output};
 ghost use Rattle.tx_text.specs.Wrote.{Wrote};
 ghost use Rattle.tx_plan.specs.Mixtures.{SameNetwork, AreCommon};
 ghost use Rattle.tx_cert.specs.Certificate.{IsCertificateOf, ranks_of};
 ghost use Rattle.tx_rank.specs.Rankings.{OnFound};
 ghost use Rattle.tx_audit.specs.Audits.{mark_after};
-ghost use Rattle.tx_audit.specs.Ranked.{findings_of};
+ghost use Rattle.tx_audit.specs.Report.{findings_of};
 ghost use Rattle.tx_change.specs.ChangeReport.{change_report};
 ghost use Rattle.tx_change.specs.ChangeAnswers.{IsCleared, ChangeAnswers};
 
@@ -35,17 +36,13 @@ pub fn report_change<A: Allocator + Copy, W: Sink>(
     requires network { SameNetwork old.now new.now }
     requires limit { limit ≤ 62 }
     requires spare { spare ≤ 15 }
-    ensures answers { ChangeAnswers old.now new.now limit spare (W.taken out.old) (W.taken out.new)
-        (out.new ≡ out.old) result }
+    ensures answers { ChangeAnswers old.now new.now limit spare
+        (output W.taken out.old out.new) result }
     ensures mark { W.failed out.new ≡ mark_after (W.failed out.old) result }
 {
-    match change(alloc, old, new, limit, spare) {
-        Ok(ranking) => match report_ranking(old, new, &ranking, limit, spare, out) {
-            Ok(()) => Ok(ranking),
-            Err(WriteFault) => Err(AuditFault::Write),
-        },
-        Err(_) => Err(AuditFault::NoMemory),
-    }
+    let ranking = change(alloc, old, new, limit, spare)?;
+    report_ranking(old, new, &ranking, limit, spare, out)?;
+    Ok(ranking)
 }
 
 /// Reports what a ranking came to; a certificate after the checker said Yes to it for both plans.

@@ -59,8 +59,6 @@ fn mix<A: Allocator + Copy>(
     Ok(old.rerouted(routes, bars))
 }
 
-// ROUTES
-
 /// The old routes and the new ones that are in the mixture.
 fn mixed_routes<A: Allocator + Copy>(
     alloc: A,
@@ -109,7 +107,6 @@ fn add_route<A: Allocator>(
     ensures { IfOk result (λ _. routes.new ≡ routes.old
         ++ kept_alone (keeps_route from_new taking.now) (slice_get from.now.routes place)) }
 {
-    from.rules();
     match from.route_at(place) {
         Some((exchange, code)) => {
             if taking.has_list(exchange, code) != from_new {
@@ -133,8 +130,6 @@ fn list_of(groups: &[GroupId]) -> GroupList
     }
     list
 }
-
-// BARS
 
 /// The old bars and the new ones that are in the mixture.
 fn mixed_bars<A: Allocator + Copy>(

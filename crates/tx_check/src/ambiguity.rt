@@ -30,12 +30,13 @@ fn least_with<A: Allocator>(
     requires least { IsLeastBelow plan.now first least }
     ensures { IsLeastBelow plan.now (first + 1) result }
 {
+    let codes = plan.codes();
     // No code is longer than three figures.
     if plan.code_figures(first).len() >= 3 {
         return least;
     }
     let mut least = least;
-    for place in 0..plan.codes() {
+    for place in 0..codes {
         least = with_pair(plan, first, CodeId::of(place), least);
     }
     least

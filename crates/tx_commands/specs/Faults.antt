@@ -16,6 +16,7 @@ status_of_kind DisplayVersion = 0
 status_of_kind OutOfMemory = 4
 status_of_kind other = 64
 
+-- the exit status of words that give no command
 abbrev pub status_of : WordsFault → ℕ
 status_of (Clap e) = status_of_kind (kind_of e)
 status_of Together = 64
@@ -26,6 +27,7 @@ abbrev pub fault_by : Error → ErrorKind → WordsFault
 fault_by e OutOfMemory = NoMemory
 fault_by e kind = Clap e
 
+-- what clap tells of the words; its lack of memory is told as such
 abbrev pub fault_of_clap : Error → WordsFault
 fault_of_clap e = fault_by e (kind_of e)
 

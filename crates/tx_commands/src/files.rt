@@ -61,7 +61,17 @@ fn files_made(command: &Command) -> [Option<&str>; 3]
             counter,
             ..
         } => [cert.as_deref(), mixture.as_deref(), counter.as_deref()],
-        _ => [None, None, None],
+        Command::Pipe
+        | Command::Run { .. }
+        | Command::RunTelling { .. }
+        | Command::Check { .. }
+        | Command::Lint { .. }
+        | Command::Codes { .. }
+        | Command::Grade { .. }
+        | Command::Survive { .. }
+        | Command::Trace { .. }
+        | Command::Draw { .. }
+        | Command::Explain { .. } => [None, None, None],
     }
 }
 

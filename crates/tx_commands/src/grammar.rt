@@ -296,19 +296,7 @@ fn with_command<'a>(
     ensures { IfOk result (λ c. (top : Command) × (words : Command)
         × (program.entry ≡ Ok top) × (command.entry ≡ Ok words) × AddsSubcommand top words c) }
 {
-    match program {
-        Ok(top) => match command {
-            Ok(words) => top.subcommand(words),
-            Err(error) => {
-                drop(top);
-                Err(error)
-            }
-        },
-        Err(error) => {
-            drop(command);
-            Err(error)
-        }
-    }
+    program?.subcommand(command?)
 }
 
 /// The program with the commands that judge a plan.

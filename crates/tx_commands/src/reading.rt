@@ -126,9 +126,7 @@ fn command_in<'a>(
         Ok(matches) => matches,
         Err(e) => return Err(WordsFault::of_clap(e)),
     };
-    let found = found_command(alloc, &matches);
-    drop(matches);
-    match found {
+    match found_command(alloc, &matches) {
         Ok(command) => Ok(command),
         Err(refusal) => Err(words_fault(grammar, refusal)?),
     }
@@ -147,12 +145,6 @@ pub fn read_command(alloc: Global, words: &[&str]) -> Result<Command, WordsFault
     if words.is_empty() {
         return Ok(Command::Pipe);
     }
-    match grammar(alloc) {
-        Ok(mut grammar) => {
-            let command = command_in(alloc, &mut grammar, words);
-            drop(grammar);
-            command
-        }
-        Err(error) => Err(WordsFault::from(error)),
-    }
+    let mut grammar = grammar(alloc)?;
+    command_in(alloc, &mut grammar, words)
 }

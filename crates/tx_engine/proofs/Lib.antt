@@ -8,7 +8,6 @@ pub mod Ended
 pub mod Confirming
 pub mod HeadOn
 pub mod Lost
-pub mod Taken
 pub mod AfterCode
 pub mod Found
 pub mod Choosing

@@ -1,8 +1,8 @@
 //! The indexed network: the engine that runs play on.
 //!
 //! An `Engine` keeps the open calls under keys, by number and by circuit, and the states of lines
-//! and circuits by index. It replies as the definitions of
-//! tx_machine do, event by event, as every `Network`. `play` takes a list of events.
+//! and circuits by index. It replies as the definitions of tx_machine do, event by event, as every
+//! `Network`.
 //!
 //! ```
 //! /// The reply where the first group of a plan fails before any call: that none was lost.
@@ -22,8 +22,6 @@ mod facts;
 mod failing;
 mod head_on;
 mod keying;
-mod playing;
 mod route;
 
 pub use engine::Engine;
-pub use playing::{Played, play};

@@ -39,12 +39,15 @@ pub record BeginsExplained (line : List ℕ) : Type 0 where
   pub explained : IsExplained row
   pub begins : line ≡ row.0 ++ (codes " " ++ (row.1 ++ (codes " " ++ rest)))
 
+-- each fault of a plan has its entry
 abbrev pub PlanFaultsAreExplained : Type 0
 PlanFaultsAreExplained = (kind : FaultKind PlanWord) → IsExplained (plan_row kind)
 
+-- each warning has its entry
 abbrev pub WarningsAreExplained : Type 0
 WarningsAreExplained = (warning : Warning) → IsExplained (warning_row warning)
 
+-- each fault of a certificate has its entry
 abbrev pub CertFaultsAreExplained : Type 0
 CertFaultsAreExplained = (kind : FaultKind CertWord) → IsExplained (cert_row kind)
 
@@ -53,9 +56,11 @@ abbrev pub ScriptFaultsAreExplained : Type 0
 ScriptFaultsAreExplained =
     (kind : FaultKind ScriptWord) → kind ≢ Frame Read → IsExplained (script_row kind)
 
+-- each fault of a text of risks has its entry
 abbrev pub RiskFaultsAreExplained : Type 0
 RiskFaultsAreExplained = (kind : FaultKind RiskWord) → IsExplained (risk_row kind)
 
+-- each refusal of an event is known
 abbrev pub RefusalsAreExplained : Type 0
 RefusalsAreExplained = (refusal : Refusal) → is_known (refusal_text refusal) ≡ true
 
@@ -69,6 +74,7 @@ CheckFaultsAreExplained = (p : Plan) (fault : CheckFault)
     → (code : List ℕ) × (rest : List (List ℕ)) × (is_known code ≡ true)
     × (fault_words p fault ≡ code ∷ rest)
 
+-- each line of a finding begins with the code and the name of an entry
 abbrev pub FindingsAreExplained : Type 0 → Type 0
 FindingsAreExplained A = (p : Plan) (finding : Finding A) → BeginsExplained (finding_line p finding)
 

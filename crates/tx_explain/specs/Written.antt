@@ -19,6 +19,6 @@ abbrev pub told_text : Option (List ℕ) → Texts → List ℕ
 told_text None t = entry_line t
 told_text (Some word) t = if is_asked word t then entry_text t else []
 
--- WHAT IS WRITTEN: of each entry that the word asks for, or of all
+-- what is written: of each entry that the word asks for, or of all
 abbrev pub explanation_text : Option (List ℕ) → List ℕ
 explanation_text word = flat_map (told_text word) table

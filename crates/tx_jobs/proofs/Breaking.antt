@@ -24,7 +24,9 @@ module _ (B D U V : Type 0) (f : B → D) (g : U → V) where
   unread_with old new F true n k h = (h.0, g h.1)
   unread_with old new F false n k h = h
 
-  pub refused_with : (old new : Option (List ℕ)) (n : ℕ) (k : FaultKind PlanWord) → ReadsPlan old new B U (Err (n, k)) → ReadsPlan old new D V (Err (n, k))
+  pub refused_with : (old new : Option (List ℕ)) (n : ℕ) (k : FaultKind PlanWord)
+      → ReadsPlan (record { old = old; new = new; broken = B; unread = U }) (Err (n, k))
+      → ReadsPlan (record { old = old; new = new; broken = D; unread = V }) (Err (n, k))
   refused_with old new n (Frame k) h = stopped_by_with old new plan_of B D V (is_no_room k) n k f (unread_with old new plan_of (is_no_room k) n k h)
   refused_with old new n (Word w) h = h
 

@@ -25,7 +25,7 @@ use Rattle.tx_jobs.proofs.RefusedTexts.{plan_mark}
 
 module _ {A : Type 0} (old new : Plan) (limit spare : ℕ) (same : SameNetwork old new) where
   -- the report was written
-  pub change_told : (out : Output) (r : Ranking A) → ChangeAnswers old new limit spare out.old out.new out.silent (Ok r) → ToldChange old new limit spare out (Ok (changed_of old new r))
+  pub change_told : (out : Output) (r : Ranking A) → ChangeAnswers old new limit spare out (Ok r) → ToldChange old new limit spare out (Ok (changed_of old new r))
   change_told out (Found cert) h = (refl, same, h.0, h.1)
   change_told out (Fails findings) h = (refl, refl, same, h.0, h.1)
 
@@ -39,7 +39,7 @@ module _ {A : Type 0} (old new : Plan) (limit spare : ℕ) (same : SameNetwork o
   change_shown (Fails findings) h = h.shown
 
 -- the report stopped
-pub change_stopped : (A : Type 0) (old new : Plan) (limit spare : ℕ) (same : SameNetwork old new) (out : Output) (f : AuditFault) → ChangeAnswers {A = A} old new limit spare out.old out.new out.silent (Err f)
+pub change_stopped : (A : Type 0) (old new : Plan) (limit spare : ℕ) (same : SameNetwork old new) (out : Output) (f : AuditFault) → ChangeAnswers {A = A} old new limit spare out (Err f)
     → ToldChange {A = A} old new limit spare out (Err (Job (audit_fault f)))
 change_stopped A old new limit spare same out (AuditPlan f) h = absurd h
 change_stopped A old new limit spare same out AuditWrite h = (same, h)

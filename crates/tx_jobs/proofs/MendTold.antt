@@ -10,11 +10,11 @@ use Rattle.tx_text.specs.Ends.{Output}
 use Rattle.tx_jobs.specs.MendJobs.{mend_fault, ToldMending}
 
 module _ (A : Type 0) (p : Plan) (limit spare : ℕ) (out : Output) where
-  told_by : (f : MendFault) → MendAnswers {A = A} p limit spare out.old out.new out.silent (Err f) → ToldMending {A = A} p limit spare out (Err (mend_fault f))
+  told_by : (f : MendFault) → MendAnswers {A = A} p limit spare out (Err f) → ToldMending {A = A} p limit spare out (Err (mend_fault f))
   told_by Write h = h
   told_by NoMemory h = h
 
-  pub mend_told : (f : MendFault) (j : JobFault) → j ≡ mend_fault f → MendAnswers {A = A} p limit spare out.old out.new out.silent (Err f) → ToldMending {A = A} p limit spare out (Err j)
+  pub mend_told : (f : MendFault) (j : JobFault) → j ≡ mend_fault f → MendAnswers {A = A} p limit spare out (Err f) → ToldMending {A = A} p limit spare out (Err j)
   mend_told f j e h = subst (λ (k : JobFault). ToldMending {A = A} p limit spare out (Err k)) (sym e) (told_by f h)
 
 -- a fault leaves the same mark, whatever an answer would have been

@@ -93,7 +93,8 @@ module _ {R : Type 0} (rest : R → Option (List ℕ)) (failed : R → Bool) (ca
     plan_broken (inr g) = inr (calls.gave_empty rest failed called taken_from over_of (PlanCall rest failed called) of_plan source_calls a c none g).0
 
     -- It was refused.
-    pub refused : (out : Output) (told : JobFault) (f : FaultAt PlanWord) → ReadsPlan (plan_rest rest a) (plan_rest rest c) (Broken (PlanCall rest failed called) c.ahead.now.failed source_calls a c) (c ≡ a) (Err (f.line, f.kind))
+    pub refused : (out : Output) (told : JobFault) (f : FaultAt PlanWord)
+        → ReadsPlan (input (plan_rest rest) (λ p. p.ahead.now.failed) (PlanCall rest failed called) a c) (Err (f.line, f.kind))
         → told ≡ plan_fault f → out.silent → PipeRefused rest failed called old mid out (Err told)
     refused out told f h by silent =
         record {
@@ -102,7 +103,9 @@ module _ {R : Type 0} (rest : R → Option (List ℕ)) (failed : R → Bool) (ca
               record {
                 fault = f;
                 read =
-                    subst2 (λ x y. ReadsPlan x y (Broken called (failed mid) source_calls old mid) (mid ≡ old) (Err (f.line, f.kind))) plan_is plan_new
+                    subst2
+                    (λ x y. ReadsPlan (record { old = x; new = y; broken = Broken called (failed mid) source_calls old mid; unread = mid ≡ old }) (Err (f.line, f.kind)))
+                    plan_is plan_new
                     (refused_with _ _ _ _ plan_broken (λ e. ap (λ (p : PlanPart R). p.input.now) e) (plan_rest rest a) (plan_rest rest c) f.line f.kind h);
                 told = ap Err by;
                 rest = silent;
@@ -138,7 +141,8 @@ module _ {R : Type 0} (rest : R → Option (List ℕ)) (failed : R → Bool) (ca
       lent : left rest b ≡ left rest (as_script c)
       lent i = prepend_known (kept i).held (rest (same i))
 
-      pub ran : (p : Plan) → IsPlan p → (out : Output) (result : Result Summary JobFault) → SaysPlan (plan_rest rest a) (plan_rest rest c) p
+      pub ran : (p : Plan) → IsPlan p → (out : Output) (result : Result Summary JobFault)
+          → SaysPlan (input (plan_rest rest) (λ t. t.ahead.now.failed) (PlanCall rest failed called) a c) p
           → ScriptRan p (input (left rest) (λ t. t.ahead.now.failed) (ScriptCall rest failed called) b e) out result → PipeRan rest failed called old new out result
       ran p rules out result says h =
           let script : left rest b ≡ option_map script_part (rest old) = lent ∙ all_script c.seen (left rest (as_script c)) says.1 ∙ script_is in
@@ -155,7 +159,10 @@ module _ {R : Type 0} (rest : R → Option (List ℕ)) (failed : R → Bool) (ca
                 record {
                   plan = p;
                   rules = rules;
-                  read = subst2 (λ x y. SaysPlan x y p) plan_is (plan_new ∙ ap (λ m. left_of_plan (rest old) (rest m)) (sym same)) says;
+                  read =
+                      subst2
+                      (λ x y. SaysPlan (record { old = x; new = y; broken = Broken called (failed from) source_calls old from; unread = from ≡ old }) p)
+                      plan_is (plan_new ∙ ap (λ m. left_of_plan (rest old) (rest m)) (sym same)) says;
                   goes_on =
                       subst
                       (λ x. ScriptRan p (record { old = x; new = left rest e; broken = (failed new ≡ true) ⊎ Gave called (calls_behind b.ahead.now.held source_calls) from new; unread = new ≡ from }) out result)

@@ -12,7 +12,7 @@ use Rattle.tx_script.specs.declared.run_cause.RunCause.TheVariants.{Read, Write,
 use Rattle.tx_script.specs.Answers.{Moved, is_reader_room}
 use Rattle.tx_script.specs.TellingAnswers.{FaultyTold, StoppedTelling, TellingAnswers}
 use Rattle.tx_jobs.specs.declared.job_fault.JobFault.{JobFault}
-use Rattle.tx_jobs.specs.JobEnds.{Input, Output}
+use Rattle.tx_text.specs.Ends.{Input, Output}
 use Rattle.tx_jobs.specs.Jobs.{told_run}
 use Rattle.tx_jobs.specs.TellingJobs.{ToldPlan}
 

@@ -15,6 +15,7 @@ audit_fault (Plan f) = plan_fault f
 audit_fault AuditWrite = Write
 audit_fault AuditNoMemory = NoMemory
 
+-- what an audit answers, as a job tells it
 abbrev pub told_audit : {A : Type 0} → Result (Audited A) AuditFault → Result (Audited A) JobFault
 told_audit (Ok audited) = Ok audited
 told_audit (Err f) = Err (audit_fault f)
@@ -23,5 +24,4 @@ told_audit (Err f) = Err (audit_fault f)
 abbrev pub AuditJobAnswers : {A : Type 0} → (limit spare : ℕ)
     → Input → Output → Result (Audited A) JobFault → Type 0
 AuditJobAnswers {A} limit spare plan out result = (answer : Result (Audited A) AuditFault)
-    × AuditAnswers limit spare plan.old plan.new
-    out.old out.new plan.broken plan.unread out.silent answer × (result ≡ told_audit answer)
+    × AuditAnswers limit spare plan out answer × (result ≡ told_audit answer)

@@ -27,6 +27,7 @@ module _ {A : Type 0} where
   mixture_plan (Scripted script) = script.plan
   mixture_plan (Unscripted plan) = plan
 
+  -- the events of its script, if it has one
   abbrev pub mixture_events : Mixture A → Option (List Event)
   mixture_events (Scripted script) = Some script.events.items
   mixture_events (Unscripted plan) = None
@@ -64,7 +65,7 @@ module _ {A : Type 0} where
       IsChangeEvidenceOf with_mixture limit spare changed result
   TellsChangeEvidence with_mixture limit spare (Err fault) result = result ≡ Err fault
 
-  -- THE CHANGE WAS JUDGED, and then what shows the verdict was made.
+  -- The change was judged, and then what shows the verdict was made.
   abbrev pub ChangeEvidenceAnswers : (with_mixture : Bool) → (limit spare : ℕ)
       → (old new : Input) → Output → Result (ChangeEvidence A) ChangeFault → Type 0
   ChangeEvidenceAnswers with_mixture limit spare old new out result =

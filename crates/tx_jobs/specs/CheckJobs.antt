@@ -45,6 +45,7 @@ pub record CertRefused {X : Type 0} (p : Plan)
   pub told : result ≡ Err (cert_fault fault)
   pub rest : untouched
 
+-- the certificate was read and checked, or it was refused
 abbrev pub CheckAnswers : Plan → (limit spare : ℕ)
     → Input → Output → Result Verdict JobFault → Type 0
 CheckAnswers p limit spare cert out result = CertRead p cert
@@ -61,6 +62,7 @@ abbrev pub status_for : Verdict → ℕ
 status_for Yes = 0
 status_for (No fault) = 1
 
+-- a verdict, told as an exit status
 abbrev pub told_status : Result Verdict JobFault → Result ℕ JobFault
 told_status (Ok v) = Ok (status_for v)
 told_status (Err f) = Err f

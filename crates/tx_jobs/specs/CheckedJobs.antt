@@ -15,7 +15,6 @@ use Rattle.tx_audit.specs.CheckedRuns.{RanFromOpening, HadNoRoom, IsAllowed}
 use Rattle.tx_jobs.specs.declared.job_fault.JobFault.{JobFault}
 use Rattle.tx_jobs.specs.declared.job_fault.JobFault.TheVariants.{Write}
 use Rattle.tx_jobs.specs.JobFaults.{run_fault}
-use Rattle.tx_jobs.specs.JobEnds.{bytes_moved}
 use Rattle.tx_jobs.specs.Jobs.{PlanRead, PlanRefused}
 use Rattle.tx_jobs.specs.CheckJobs.{CertRead, CertRefused, verdict_for}
 
@@ -24,8 +23,7 @@ pub record RunStopped (p : Plan) (t : Certificate)
     (limit spare : ℕ) (script : Input) (out : Output) (fault : JobFault) : Type 0 where
   pub allowed : IsAllowed p t limit spare
   pub answer : RunFault
-  pub stopped : RanFromOpening p (bytes_moved script out) script.broken
-      (script.unread × out.silent) (Err answer) ⊎ HadNoRoom (script.unread × out.silent) answer
+  pub stopped : RanFromOpening p script out (Err answer) ⊎ HadNoRoom script out answer
   pub told : fault ≡ run_fault answer
 
 -- The checker said No, and the verdict could not be written.
@@ -48,13 +46,14 @@ ToldNo p (Denied f) out (Err e) = StopsIn out.old out.new (verdict_written p (No
 -- read.
 abbrev pub ToldRun : Plan → Certificate → (limit spare : ℕ)
     → Input → Output → Result Checked JobFault → Type 0
-ToldRun p t limit spare script out (Ok (Ran summary)) = IsAllowed p t limit spare × RanFromOpening p
-    (bytes_moved script out) script.broken (script.unread × out.silent) (Ok summary)
+ToldRun p t limit spare script out (Ok (Ran summary)) =
+    IsAllowed p t limit spare × RanFromOpening p script out (Ok summary)
 ToldRun p t limit spare script out (Ok (Denied f)) = (verdict_for p t limit spare ≡ No f)
     × (out.new ≡ append_known out.old (verdict_written p (No f))) × script.unread
 ToldRun p t limit spare script out (Err fault) = RunStopped p t limit spare script out fault
     ⊎ VerdictStopped p t limit spare script out fault
 
+-- the certificate was read and the script run after a Yes, or the certificate was refused
 abbrev pub CertAnswers : Plan → (limit spare : ℕ)
     → (cert script : Input) → Output → Result Checked JobFault → Type 0
 CertAnswers p limit spare cert script out result =
@@ -73,6 +72,7 @@ abbrev pub status_of_run : Checked → ℕ
 status_of_run (Ran summary) = 0
 status_of_run (Denied fault) = 1
 
+-- what a checked run came to, told as an exit status
 abbrev pub told_status : Result Checked JobFault → Result ℕ JobFault
 told_status (Ok checked) = Ok (status_of_run checked)
 told_status (Err fault) = Err fault

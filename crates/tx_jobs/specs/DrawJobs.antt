@@ -12,8 +12,8 @@ use Rattle.tx_draw.specs.CodeDrawing.{code_drawing}
 use Rattle.tx_audit.specs.Audits.{IsAllFound}
 use Rattle.tx_jobs.specs.declared.job_fault.JobFault.{JobFault}
 use Rattle.tx_jobs.specs.declared.job_fault.JobFault.TheVariants.{Write, NoMemory}
-use Rattle.tx_jobs.specs.declared.drawn.Drawn.{Drawn}
-use Rattle.tx_jobs.specs.declared.drawn.Drawn.TheVariants.{Picture, NoSuchCode}
+use Rattle.tx_jobs.specs.declared.draw.Drawn.{Drawn}
+use Rattle.tx_jobs.specs.declared.draw.Drawn.TheVariants.{Picture, NoSuchCode}
 use Rattle.tx_jobs.specs.Jobs.{PlanRead, PlanRefused}
 
 -- the findings of which one may be shown: those of an audit for a limit and a spare number, and
@@ -58,7 +58,7 @@ abbrev pub DrewNamed : (A : Type 0) → Plan → Option ℕ
 DrewNamed A p (Some c) bounds out result = DrewCode A p c bounds out result
 DrewNamed A p None bounds out result = (result ≡ Ok NoSuchCode) × out.silent
 
--- THE PICTURE of a plan, or of the code of some figures
+-- the picture of a plan, or of the code of some figures
 abbrev pub Drew : (A : Type 0) → Plan → Option (List ℕ)
     → Option (ℕ × ℕ) → Output → Result Drawn JobFault → Type 0
 Drew A p None bounds out result = ToldText (drawing p) out result

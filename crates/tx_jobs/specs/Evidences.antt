@@ -53,7 +53,7 @@ TellsEvidence with_script limit spare (Ok audited) result =
     IsEvidenceOf with_script limit spare audited result
 TellsEvidence with_script limit spare (Err fault) result = result ≡ Err fault
 
--- THE PLAN WAS AUDITED, and then what shows the verdict was made.
+-- The plan was audited, and then what shows the verdict was made.
 abbrev pub EvidenceJobAnswers : {A : Type 0} → (with_script : Bool)
     → (limit spare : ℕ) → Input → Output → Result (Evidence A) JobFault → Type 0
 EvidenceJobAnswers {A} with_script limit spare plan out result =

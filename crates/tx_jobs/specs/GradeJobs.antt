@@ -30,7 +30,7 @@ IsGradeOfPlan p (Some b) findings =
     AreBounds (CanBeCertified p) b × AreBounds (IsSound p) b × (findings ≡ [])
 IsGradeOfPlan p None findings = IsUngraded p findings
 
--- THE GRADE OF A PLAN, and those of its codes
+-- the grade of a plan, and those of its codes
 abbrev pub IsGradeOf : {A : Type 0} → Plan → Grade A → Type 0
 IsGradeOf p g = IsGradeOfPlan p g.plan g.findings.items × AreCodeGrades p g.codes.items
 
@@ -57,6 +57,7 @@ GradeJobAnswers plan out result = PlanRead plan (λ p. ToldGrade p out result)
 abbrev pub status_of_grade : {A : Type 0} → Grade A → ℕ
 status_of_grade g = if is_some g.plan then 0 else 1
 
+-- a grade, told as an exit status
 abbrev pub told_grade_status : {A : Type 0} → Result (Grade A) JobFault → Result ℕ JobFault
 told_grade_status (Ok grade) = Ok (status_of_grade grade)
 told_grade_status (Err fault) = Err fault

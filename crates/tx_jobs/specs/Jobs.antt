@@ -15,7 +15,6 @@ use Rattle.tx_audit.specs.CheckedRuns.{RanFromOpening}
 use Rattle.tx_jobs.specs.declared.job_fault.JobFault.{JobFault}
 use Rattle.tx_jobs.specs.declared.job_fault.JobFault.TheVariants.{Write, NoMemory}
 use Rattle.tx_jobs.specs.JobFaults.{plan_fault, run_fault}
-use Rattle.tx_jobs.specs.JobEnds.{bytes_moved}
 
 -- what a run answers, as a job tells it
 abbrev pub told_run : Result Summary RunFault → Result Summary JobFault
@@ -26,8 +25,7 @@ told_run (Err f) = Err (run_fault f)
 pub record RanPlan (p : Plan) (script : Input)
     (out : Output) (result : Result Summary JobFault) : Type 0 where
   pub answer : Result Summary RunFault
-  pub ran : RanFromOpening p (bytes_moved script out) script.broken
-      (script.unread × out.silent) answer
+  pub ran : RanFromOpening p script out answer
   pub told : result ≡ told_run answer
 
 -- there was no memory for the network, and nothing was read or written
@@ -66,6 +64,7 @@ ToldCodes p out (Err Write) = StopsIn out.old out.new (codes_text p)
 ToldCodes p out (Err NoMemory) = out.silent
 ToldCodes p out (Err other) = ⊥
 
+-- `codes PLAN`: the plan was read and its codes told, or it was refused
 abbrev pub CodesJobAnswers : Input → Output → Result (Option (ℕ × ℕ)) JobFault → Type 0
 CodesJobAnswers plan out result = PlanRead plan (λ p. ToldCodes p out result)
     ⊎ PlanRefused plan out.silent result
@@ -75,6 +74,7 @@ abbrev pub status_of_codes : Option (ℕ × ℕ) → ℕ
 status_of_codes None = 0
 status_of_codes (Some pair) = 1
 
+-- a pair of codes, told as an exit status
 abbrev pub told_codes_status : Result (Option (ℕ × ℕ)) JobFault → Result ℕ JobFault
 told_codes_status (Ok pair) = Ok (status_of_codes pair)
 told_codes_status (Err fault) = Err fault

@@ -1,5 +1,4 @@
 pub mod JobFaults
-pub mod JobEnds
 pub mod Jobs
 pub mod PipeJobs
 pub mod CheckJobs

@@ -22,7 +22,7 @@ abbrev pub ToldMending : {A : Type 0} → Plan → (limit spare : ℕ) → Outpu
     → Result (Mending A) JobFault → Type 0
 ToldMending p limit spare out (Ok m) = IsRightMending p limit spare m
     × (out.new ≡ append_known out.old (mend_report limit spare m))
-ToldMending {A} p limit spare out (Err Write) = MendToldInPart A p limit spare out.old out.new
+ToldMending {A} p limit spare out (Err Write) = MendToldInPart A p limit spare out
 ToldMending p limit spare out (Err NoMemory) = out.silent
 ToldMending p limit spare out (Err other) = ⊥
 

@@ -13,7 +13,7 @@ plan_end size (last ∷ []) = size
 plan_end size (line ∷ next ∷ lines) = if is_end (words_of line.bytes)
     then next.start else plan_end size (next ∷ lines)
 
--- THE CUT
+-- where a text is cut: how many of its bytes are of the plan
 abbrev pub cut_of : List ℕ → ℕ
 cut_of text = plan_end (length text) (lines_of text)
 

@@ -56,6 +56,6 @@ module _ {R : Type 0} (rest : R → Option (List ℕ)) (failed : R
     pub calls : CallsAtMost called source_calls old new
     pub answers : PlanRefused (plan_in (input rest failed called old new)) out.silent result
 
-  -- THE PROGRAM WITHOUT WORDS
+  -- the program without words: the script was run, or the plan was refused
   abbrev pub PipeJobAnswers : (old new : R) → Output → Result Summary JobFault → Type 0
   PipeJobAnswers old new out result = PipeRan old new out result ⊎ PipeRefused old new out result

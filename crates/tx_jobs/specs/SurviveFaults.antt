@@ -24,19 +24,21 @@ risks_fault_by f (Frame TextNoMemory) = Job NoMemory
 risks_fault_by f (Word RiskNoMemory) = Job NoMemory
 risks_fault_by f k = Risks f
 
+-- a fault of the text of risks
 abbrev pub risks_fault : FaultAt RiskWord → SurviveFault
 risks_fault f = risks_fault_by f f.kind
 
--- THE SINK'S MARK
+-- the sink's mark after a fault: set where a write fault is told, and otherwise as before
 abbrev pub survive_mark_by : Bool → SurviveFault → Bool
 survive_mark_by old (Job f) = mark_by old f
 survive_mark_by old (Risks f) = old
 
+-- the sink's mark after the job
 abbrev pub survive_mark_after : {X : Type 0} → Bool → Result X SurviveFault → Bool
 survive_mark_after old (Ok x) = old
 survive_mark_after old (Err f) = survive_mark_by old f
 
--- THE LINE that tells a fault
+-- the line that tells why the job of outages stopped
 abbrev pub survive_fault_line : SurviveFault → List ℕ
 survive_fault_line (Job f) = fault_line f
 survive_fault_line (Risks f) = text_fault_line (codes "risks") f.line (fault_row f.kind)

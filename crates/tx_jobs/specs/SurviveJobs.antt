@@ -22,7 +22,7 @@ use Rattle.tx_jobs.specs.SurviveFaults.{risks_fault}
 use Rattle.tx_jobs.specs.Jobs.{PlanRead, PlanRefused}
 use Rattle.tx_jobs.specs.GradeJobs.{IsGradeOf}
 
--- WHAT OUTAGES COME TO: what each group, each exchange and each named risk cuts off alone; or its
+-- what outages come to: what each group, each exchange and each named risk cuts off alone; or its
 -- grade, where the plan has none
 abbrev pub IsSurvivalOf : {A : Type 0} → Plan → List NamedRisk → Survival A → Type 0
 IsSurvivalOf p risks (Tried cuts) = AreAllCuts p risks cuts.items
@@ -50,8 +50,6 @@ abbrev pub SurviveJobAnswers : {A : Type 0} → Input → Output → Result (Sur
 SurviveJobAnswers plan out result =
     PlanRead plan (λ p. ToldSurvival p [] out result) ⊎ PlanRefused plan out.silent result
 
--- WITH A TEXT OF RISKS
-
 -- the same, once the text was read
 abbrev pub ToldOfRisks : {A : Type 0} → Plan → List NamedRisk → Output
     → Result (Survival A) SurviveFault → Type 0
@@ -74,6 +72,7 @@ pub record RisksRefused {X : Type 0} (p : Plan) (text : Input) (untouched : Type
   pub told : result ≡ Err (risks_fault fault)
   pub rest : untouched
 
+-- the text of risks was read and the outages tried, or the text was refused
 abbrev pub RisksAnswers : {A : Type 0} → Plan → Input → Output → Result (Survival A) SurviveFault
     → Type 0
 RisksAnswers p risks out result =
@@ -94,11 +93,12 @@ SurviveRisksJobAnswers plan risks out result =
     PlanRead plan (λ p. RisksAnswers p risks out result)
     ⊎ RefusedFirst plan (risks.unread × out.silent) result
 
--- THE EXIT STATUS: 0 where nothing is cut off, else 1; 1 too where the plan has no grade
+-- the exit status: 0 where nothing is cut off, else 1; 1 too where the plan has no grade
 abbrev pub status_of_cuts : {A : Type 0} → List A → ℕ
 status_of_cuts [] = 0
 status_of_cuts (cut ∷ cuts) = 1
 
+-- the exit status of what was found
 abbrev pub status_of_survival : {A : Type 0} → Survival A → ℕ
 status_of_survival (Tried cuts) = status_of_cuts cuts.items
 status_of_survival (Ungraded grade) = 1

@@ -8,14 +8,14 @@ use tx_text::{ReadFault, Source};
 
 /// What was read ahead of an input, which its two sources share, and whether the input has failed.
 #[derive(Drop)]
-pub struct Ahead {
+pub(crate) struct Ahead {
     pub(crate) held: Held,
     pub(crate) failed: bool,
 }
 
 impl Ahead {
     /// Nothing was read ahead yet.
-    pub fn new() -> Ahead
+    pub(crate) fn new() -> Ahead
         ensures held { result.held ≡ [] }
         ensures failed { result.failed ≡ false }
     {

@@ -60,8 +60,6 @@ fn evidence_of<A: Allocator + Copy>(
             if with_script {
                 script_of(alloc, plan, findings, limit, spare)
             } else {
-                drop(findings);
-                drop(plan);
                 Ok(Evidence::Unsound(None))
             }
         }
@@ -79,17 +77,9 @@ fn script_of<A: Allocator + Copy>(
     requires { AllByRecursion (IsTrueOf plan limit spare) findings.items }
     ensures { IsScriptOf plan limit spare findings.items result }
 {
-    let events = first_counter(alloc, &plan, findings.as_slice(), limit, spare);
-    drop(findings);
-    match events {
+    match first_counter(alloc, &plan, findings.as_slice(), limit, spare) {
         Ok(Some(events)) => Ok(Evidence::Unsound(Some(CounterScript { plan, events }))),
-        Ok(None) => {
-            drop(plan);
-            Ok(Evidence::Unsound(None))
-        }
-        Err(_) => {
-            drop(plan);
-            Err(JobFault::NoMemory)
-        }
+        Ok(None) => Ok(Evidence::Unsound(None)),
+        Err(_) => Err(JobFault::NoMemory),
     }
 }

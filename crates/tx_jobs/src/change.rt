@@ -38,10 +38,7 @@ impl<A: Allocator> Changed<A> {
         ensures { result ≡ changed_of old new ranking }
     {
         match ranking {
-            Ranking::Found(cert) => {
-                drop(new);
-                Changed::Sound(old, cert)
-            }
+            Ranking::Found(cert) => Changed::Sound(old, cert),
             Ranking::Fails(findings) => Changed::Unsound(old, new, findings),
         }
     }
@@ -70,10 +67,7 @@ pub fn change_job<A: Allocator + Copy, P: Source, Q: Source, W: Sink>(
     ensures new_calls { CallsAtMost Q.called source_calls new.old new.new }
 {
     match read_plan_from(alloc, old) {
-        Ok(plan) => {
-            plan.rules();
-            change_from(alloc, plan, new, limit, spare, out)
-        }
+        Ok(plan) => change_from(alloc, plan, new, limit, spare, out),
         Err(fault) => Err(ChangeFault::Job(JobFault::of_plan(fault))),
     }
 }
@@ -98,14 +92,8 @@ fn change_from<A: Allocator + Copy, Q: Source, W: Sink>(
     ensures calls { CallsAtMost Q.called source_calls new.old new.new }
 {
     match read_plan_from(alloc, new) {
-        Ok(plan) => {
-            plan.rules();
-            change_into(alloc, old, plan, limit, spare, out)
-        }
-        Err(fault) => {
-            drop(old);
-            Err(ChangeFault::of_new_plan(fault))
-        }
+        Ok(plan) => change_into(alloc, old, plan, limit, spare, out),
+        Err(fault) => Err(ChangeFault::of_new_plan(fault)),
     }
 }
 
@@ -127,16 +115,10 @@ fn change_into<A: Allocator + Copy, W: Sink>(
     ensures mark { W.failed out.new ≡ change_mark_after (W.failed out.old) result }
 {
     if let Some(difference) = first_difference(&old, &new) {
-        drop(new);
-        drop(old);
         return Err(ChangeFault::TwoNetworks(difference));
     }
     match report_change(alloc, &old, &new, limit, spare, out) {
         Ok(ranking) => Ok(Changed::of(old, new, ranking)),
-        Err(fault) => {
-            drop(new);
-            drop(old);
-            Err(ChangeFault::Job(JobFault::of_audit(fault)))
-        }
+        Err(fault) => Err(ChangeFault::Job(JobFault::of_audit(fault))),
     }
 }

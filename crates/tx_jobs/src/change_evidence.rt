@@ -67,9 +67,6 @@ fn change_evidence_of<A: Allocator + Copy>(
             if with_mixture {
                 mixture_of(alloc, old, new, findings, limit, spare)
             } else {
-                drop(findings);
-                drop(new);
-                drop(old);
                 Ok(ChangeEvidence::Unsound(None))
             }
         }
@@ -89,10 +86,7 @@ fn mixture_of<A: Allocator + Copy>(
     requires each { AllByRecursion (IsShown old new limit spare) findings.items }
     ensures { IsMixtureOf old new limit spare findings.items result }
 {
-    let mixture = first_mixture(alloc, old, &new, findings.as_slice(), limit, spare);
-    drop(findings);
-    drop(new);
-    match mixture {
+    match first_mixture(alloc, old, &new, findings.as_slice(), limit, spare) {
         Ok(Some(shown)) => Ok(ChangeEvidence::Unsound(Some(Mixture::of(shown)))),
         Ok(None) => Ok(ChangeEvidence::Unsound(None)),
         Err(_) => Err(ChangeFault::Job(JobFault::NoMemory)),

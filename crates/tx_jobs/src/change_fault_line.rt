@@ -1,7 +1,5 @@
 // The line that tells why the job of a change stopped.
-ghost use Rattle.std.specs.Prelude.{◌≡◌, true, OnOk, OnErr};
-ghost use Rattle.std.specs.Io.KnownBytes.{append_known};
-ghost use Rattle.tx_text.specs.Ends.{StopsIn};
+ghost use Rattle.std.specs.Prelude.{◌≡◌};
 ghost use Rattle.tx_text.specs.Wrote.{Wrote};
 ghost use Rattle.tx_jobs.specs.ChangeFaults.{change_fault_line, old_fault_line, difference_line, list_word};
 
@@ -36,7 +34,11 @@ fn write_old_fault<W: Sink>(fault: &JobFault, sink: &mut W) -> Result<(), WriteF
             let row = code_and_name(fault.kind);
             write_text_fault(b"old plan", fault.line, row, sink)
         }
-        _ => write_fault(fault, sink),
+        JobFault::Cert(_)
+        | JobFault::Script(_)
+        | JobFault::Read
+        | JobFault::Write
+        | JobFault::NoMemory => write_fault(fault, sink),
     }
 }
 

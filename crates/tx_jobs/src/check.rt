@@ -33,17 +33,12 @@ pub fn check_job<A: Allocator + Copy, P: Source, R: Source, W: Sink>(
     ensures cert_calls { CallsAtMost R.called source_calls cert.old cert.new }
 {
     match read_plan_from(alloc, plan) {
-        Ok(plan) => {
-            plan.rules();
-            let checked = check_cert(alloc, &plan, cert, limit, spare, out);
-            drop(plan);
-            checked
-        }
+        Ok(plan) => check_cert(alloc, &plan, cert, limit, spare, out),
         Err(fault) => Err(JobFault::of_plan(fault)),
     }
 }
 
-/// The same, and answers the exit status: 0 after a Yes, 1 after a No.
+/// Does the job of `check_job`, and answers the exit status: 0 after a Yes, 1 after a No.
 pub fn check_status<A: Allocator + Copy, P: Source, R: Source, W: Sink>(
     alloc: A,
     plan: &mut P,

@@ -26,17 +26,13 @@ pub fn codes_job<A: Allocator + Copy, P: Source, W: Sink>(
     ensures calls { CallsAtMost P.called source_calls plan.old plan.new }
 {
     match read_plan_from(alloc, plan) {
-        Ok(plan) => {
-            plan.rules();
-            let told = tell_codes(alloc, &plan, out);
-            drop(plan);
-            told
-        }
+        Ok(plan) => tell_codes(alloc, &plan, out),
         Err(fault) => Err(JobFault::of_plan(fault)),
     }
 }
 
-/// The same, and answers the exit status: 0 where no code begins another, else 1.
+/// Does the job of `codes_job`, and answers the exit status: 0 where no code begins another, else
+/// 1.
 pub fn codes_status<A: Allocator + Copy, P: Source, W: Sink>(
     alloc: A,
     plan: &mut P,

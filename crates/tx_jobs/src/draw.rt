@@ -6,7 +6,6 @@ ghost use Rattle.tx_jobs.specs.JobFaults.{mark_after};
 ghost use Rattle.tx_text.specs.Ends.{input, output};
 ghost use Rattle.tx_jobs.specs.DrawJobs.{AreToShow, ToldText, DrewCode, Drew, DrawJobAnswers};
 
-use crate::drawn::Drawn;
 use crate::job_fault::JobFault;
 use std::alloc::Allocator;
 use tx_draw::{write_code_drawing, write_drawing};
@@ -14,6 +13,15 @@ use tx_plan::{CodeId, Plan};
 use tx_plantext::read_plan_from;
 use tx_rank::{Finding, Ranking, rank, reached};
 use tx_text::{NoMemory, Sink, Source, WriteFault};
+
+/// What a plan to draw came to.
+#[derive(Clone, Copy, Debug)]
+pub enum Drawn {
+    /// The picture was written.
+    Picture,
+    /// The plan has no code of the figures that were asked for.
+    NoSuchCode,
+}
 
 /// Reads a plan, and writes its picture; with the figures of a code that of the routes for the
 /// code, and with a limit and a spare number too that with the
@@ -37,12 +45,7 @@ pub fn draw_job<A: Allocator + Copy, P: Source, W: Sink>(
     ensures calls { CallsAtMost P.called source_calls plan.old plan.new }
 {
     match read_plan_from(alloc, plan) {
-        Ok(plan) => {
-            plan.rules();
-            let drawn = draw_plan(alloc, &plan, code, bounds, out);
-            drop(plan);
-            drawn
-        }
+        Ok(plan) => draw_plan(alloc, &plan, code, bounds, out),
         Err(fault) => Err(JobFault::of_plan(fault)),
     }
 }

@@ -28,17 +28,12 @@ pub fn grade_job<A: Allocator + Copy, P: Source, W: Sink>(
     ensures calls { CallsAtMost P.called source_calls plan.old plan.new }
 {
     match read_plan_from(alloc, plan) {
-        Ok(plan) => {
-            plan.rules();
-            let told = tell_grade(alloc, &plan, out);
-            drop(plan);
-            told
-        }
+        Ok(plan) => tell_grade(alloc, &plan, out),
         Err(fault) => Err(JobFault::of_plan(fault)),
     }
 }
 
-/// The same, and answers the exit status: 0 where there is a grade, else 1.
+/// Does the job of `grade_job`, and answers the exit status: 0 where there is a grade, else 1.
 pub fn grade_status<A: Allocator + Copy, P: Source, W: Sink>(
     alloc: A,
     plan: &mut P,

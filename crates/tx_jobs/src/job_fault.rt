@@ -59,7 +59,16 @@ impl JobFault {
             FaultKind::Frame(FrameFault::Read) => JobFault::Read,
             FaultKind::Frame(FrameFault::NoMemory)
             | FaultKind::Word(PlanWord::Refused(PlanRefusal::NoMemory)) => JobFault::NoMemory,
-            _ => JobFault::Plan(fault),
+            FaultKind::Frame(
+                FrameFault::LineTooLong
+                | FrameFault::BadByte
+                | FrameFault::NoHeader
+                | FrameFault::NoEnd
+                | FrameFault::AfterEnd,
+            )
+            | FaultKind::Word(PlanWord::UnknownWord | PlanWord::Refused(_)) => JobFault::Plan(
+                fault,
+            ),
         }
     }
 
@@ -70,7 +79,20 @@ impl JobFault {
             FaultKind::Frame(FrameFault::Read) => JobFault::Read,
             FaultKind::Frame(FrameFault::NoMemory) | FaultKind::Word(CertWord::NoMemory) =>
                 JobFault::NoMemory,
-            _ => JobFault::Cert(fault),
+            FaultKind::Frame(
+                FrameFault::LineTooLong
+                | FrameFault::BadByte
+                | FrameFault::NoHeader
+                | FrameFault::NoEnd
+                | FrameFault::AfterEnd,
+            )
+            | FaultKind::Word(
+                CertWord::UnknownWord
+                | CertWord::WrongCount
+                | CertWord::UnknownName
+                | CertWord::BadNumber
+                | CertWord::Duplicate,
+            ) => JobFault::Cert(fault),
         }
     }
 
@@ -117,8 +139,16 @@ impl JobFault {
         ensures { result ≡ script_fault fault }
     {
         match fault.kind {
-            FaultKind::Frame(FrameFault::NoMemory) => { JobFault::NoMemory }
-            _ => JobFault::Script(fault),
+            FaultKind::Frame(FrameFault::NoMemory) => JobFault::NoMemory,
+            FaultKind::Frame(
+                FrameFault::LineTooLong
+                | FrameFault::BadByte
+                | FrameFault::Read
+                | FrameFault::NoHeader
+                | FrameFault::NoEnd
+                | FrameFault::AfterEnd,
+            )
+            | FaultKind::Word(_) => JobFault::Script(fault),
         }
     }
 }

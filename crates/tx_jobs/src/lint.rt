@@ -28,11 +28,7 @@ pub fn lint_job<A: Allocator + Copy, P: Source, W: Sink>(
     ensures calls { CallsAtMost P.called source_calls plan.old plan.new }
 {
     match read_text(alloc, plan) {
-        Ok(text) => {
-            let linted = lint_text(alloc, &text, file, out);
-            drop(text);
-            linted
-        }
+        Ok(text) => lint_text(alloc, &text, file, out),
         Err(fault) => Err(JobFault::of_lint(fault)),
     }
 }
@@ -48,11 +44,7 @@ fn lint_text<A: Allocator + Copy, W: Sink>(
     ensures mark { W.failed out.new ≡ mark_after (W.failed out.old) result }
 {
     match lint_plan(alloc, text) {
-        Ok(lint) => {
-            let told = tell_lint(&lint, file, out);
-            drop(lint);
-            told
-        }
+        Ok(lint) => tell_lint(&lint, file, out),
         Err(_) => Err(JobFault::NoMemory),
     }
 }

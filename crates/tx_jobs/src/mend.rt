@@ -33,10 +33,7 @@ pub fn mend_job<A: Allocator + Copy, P: Source, W: Sink>(
     ensures calls { CallsAtMost P.called source_calls plan.old plan.new }
 {
     match read_plan_from(alloc, plan) {
-        Ok(plan) => {
-            plan.rules();
-            tell_mending(alloc, plan, limit, spare, out)
-        }
+        Ok(plan) => tell_mending(alloc, plan, limit, spare, out),
         Err(fault) => Err(JobFault::of_plan(fault)),
     }
 }

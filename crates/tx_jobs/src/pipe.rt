@@ -1,7 +1,8 @@
 // The job of the program without words.
-ghost use Rattle.std.specs.Prelude.{◌≡◌};
-ghost use Rattle.tx_text.specs.Calls.{Broken, CallsAtMost, source_calls};
+ghost use Rattle.std.specs.Prelude.{◌≡◌, IfOk};
+ghost use Rattle.tx_text.specs.Calls.{CallsAtMost, source_calls};
 ghost use Rattle.tx_text.specs.Said.{told_fault};
+ghost use Rattle.tx_plan.specs.Rules.{IsPlan};
 ghost use Rattle.tx_plantext.specs.PlanText.{ReadsPlan};
 ghost use Rattle.tx_jobs.specs.inner.Reading.{left, plan_rest, PlanCall, ScriptCall};
 ghost use Rattle.tx_jobs.specs.JobFaults.{mark_after};
@@ -9,9 +10,11 @@ ghost use Rattle.tx_text.specs.Ends.{input, output};
 ghost use Rattle.tx_jobs.specs.Jobs.{ScriptRan};
 ghost use Rattle.tx_jobs.specs.PipeJobs.{PipeJobAnswers};
 
+use crate::ahead::Ahead;
 use crate::job_fault::JobFault;
-use crate::simulate::simulate;
-use crate::{Ahead, PlanPart, ScriptPart};
+use crate::plan_part::PlanPart;
+use crate::run::simulated;
+use crate::script_part::ScriptPart;
 use std::alloc::Allocator;
 use tx_plan::Plan;
 use tx_plantext::{PlanFault, read_plan_from};
@@ -34,11 +37,8 @@ pub fn pipe_job<A: Allocator + Copy, R: Source, W: Sink>(
     let mut part = PlanPart::new(input, &mut ahead);
     match read_plan_part(alloc, &mut part) {
         Ok(plan) => {
-            plan.rules();
             let mut script = ScriptPart::new(input, &mut ahead);
-            let ran = run_script_part(alloc, &plan, &mut script, out);
-            drop(plan);
-            ran
+            run_script_part(alloc, &plan, &mut script, out)
         }
         Err(fault) => Err(JobFault::of_plan(fault)),
     }
@@ -51,10 +51,11 @@ fn read_plan_part<A: Allocator + Copy, R: Source>(
 ) -> Result<Plan<A>, PlanFault>
     ensures same_input { part.new.input.ghost_name ≡ part.old.input.ghost_name }
     ensures same_ahead { part.new.ahead.ghost_name ≡ part.old.ahead.ghost_name }
-    ensures answer { ReadsPlan (plan_rest R.rest part.old) (plan_rest R.rest part.new)
-        (Broken (PlanCall R.rest R.failed R.called) part.new.ahead.now.failed source_calls
+    ensures answer { ReadsPlan
+        (input (plan_rest R.rest) (λ s. s.ahead.now.failed) (PlanCall R.rest R.failed R.called)
         part.old part.new)
-        (part.new ≡ part.old) (told_fault result) }
+        (told_fault result) }
+    ensures rules { IfOk result IsPlan }
     ensures calls { CallsAtMost (PlanCall R.rest R.failed R.called) source_calls part.old part.new }
 {
     read_plan_from(alloc, part)
@@ -77,5 +78,5 @@ fn run_script_part<A: Allocator + Copy, R: Source, W: Sink>(
     ensures calls { CallsAtMost (ScriptCall R.rest R.failed R.called) source_calls
         script.old script.new }
 {
-    simulate(alloc, plan, script, out)
+    simulated(alloc, plan, script, out)
 }

@@ -8,7 +8,7 @@ use tx_text::{ReadFault, Source};
 
 /// The plan of an input, as a source that ends after the first line whose one word is END.
 #[derive(Drop)]
-pub struct PlanPart<'a, R> {
+pub(crate) struct PlanPart<'a, R> {
     input: &'a mut R,
     ahead: &'a mut Ahead,
     seen: Seen,
@@ -16,7 +16,7 @@ pub struct PlanPart<'a, R> {
 
 impl<'a, R: Source> PlanPart<'a, R> {
     /// The plan of an input, where nothing of it was given yet.
-    pub fn new(input: &'a mut R, ahead: &'a mut Ahead) -> PlanPart<'a, R>
+    pub(crate) fn new(input: &'a mut R, ahead: &'a mut Ahead) -> PlanPart<'a, R>
         ensures input { result.input ≡ input.entry }
         ensures ahead { result.ahead ≡ ahead.entry }
         ensures seen { result.seen ≡ Blanks }

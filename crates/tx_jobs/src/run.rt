@@ -3,11 +3,12 @@ ghost use Rattle.std.specs.Prelude.{◌≡◌};
 ghost use Rattle.tx_text.specs.Calls.{CallsAtMost, source_calls};
 ghost use Rattle.tx_jobs.specs.JobFaults.{mark_after};
 ghost use Rattle.tx_text.specs.Ends.{input, output};
-ghost use Rattle.tx_jobs.specs.Jobs.{RunJobAnswers};
+ghost use Rattle.tx_jobs.specs.Jobs.{RunJobAnswers, ScriptRan};
 
 use crate::job_fault::JobFault;
-use crate::simulate::simulate;
 use std::alloc::Allocator;
+use tx_audit::simulate;
+use tx_plan::Plan;
 use tx_plantext::read_plan_from;
 use tx_script::Summary;
 use tx_text::{Sink, Source};
@@ -23,19 +24,30 @@ pub fn run_job<A: Allocator + Copy, P: Source, R: Source, W: Sink>(
     script: &mut R,
     out: &mut W,
 ) -> Result<Summary, JobFault>
-    ensures answers { RunJobAnswers (input P.rest P.failed P.called plan.old plan.new) (input
-        R.rest R.failed R.called script.old script.new) (output W.taken out.old out.new) result }
+    ensures answers { RunJobAnswers (input P.rest P.failed P.called plan.old plan.new)
+        (input R.rest R.failed R.called script.old script.new)
+        (output W.taken out.old out.new) result }
     ensures mark { W.failed out.new ≡ mark_after (W.failed out.old) result }
     ensures plan_calls { CallsAtMost P.called source_calls plan.old plan.new }
     ensures script_calls { CallsAtMost R.called source_calls script.old script.new }
 {
     match read_plan_from(alloc, plan) {
-        Ok(plan) => {
-            plan.rules();
-            let ran = simulate(alloc, &plan, script, out);
-            drop(plan);
-            ran
-        }
+        Ok(plan) => simulated(alloc, &plan, script, out),
         Err(fault) => Err(JobFault::of_plan(fault)),
     }
+}
+
+/// Runs a script over a network of the plan, from its opening state.
+pub(crate) fn simulated<A: Allocator + Copy, R: Source, W: Sink>(
+    alloc: A,
+    plan: &Plan<A>,
+    script: &mut R,
+    out: &mut W,
+) -> Result<Summary, JobFault>
+    ensures answers { ScriptRan plan.now (input R.rest R.failed R.called script.old script.new)
+        (output W.taken out.old out.new) result }
+    ensures mark { W.failed out.new ≡ mark_after (W.failed out.old) result }
+    ensures calls { CallsAtMost R.called source_calls script.old script.new }
+{
+    simulate(alloc, plan, script, out).map_err(JobFault::of_run)
 }

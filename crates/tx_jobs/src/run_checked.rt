@@ -29,26 +29,23 @@ pub fn run_checked_job<A: Allocator + Copy, P: Source, C: Source, R: Source, W: 
 ) -> Result<Checked, JobFault>
     requires limit { limit ≤ 62 }
     requires spare { spare ≤ 15 }
-    ensures answers { CheckedJobAnswers limit spare (input P.rest P.failed
-        P.called plan.old plan.new) (input C.rest C.failed C.called cert.old cert.new) (input
-        R.rest R.failed R.called script.old script.new) (output W.taken out.old out.new) result }
+    ensures answers { CheckedJobAnswers limit spare
+        (input P.rest P.failed P.called plan.old plan.new)
+        (input C.rest C.failed C.called cert.old cert.new)
+        (input R.rest R.failed R.called script.old script.new)
+        (output W.taken out.old out.new) result }
     ensures mark { W.failed out.new ≡ mark_after (W.failed out.old) result }
     ensures plan_calls { CallsAtMost P.called source_calls plan.old plan.new }
     ensures cert_calls { CallsAtMost C.called source_calls cert.old cert.new }
     ensures script_calls { CallsAtMost R.called source_calls script.old script.new }
 {
     match read_plan_from(alloc, plan) {
-        Ok(plan) => {
-            plan.rules();
-            let ran = read_and_run(alloc, &plan, cert, limit, spare, script, out);
-            drop(plan);
-            ran
-        }
+        Ok(plan) => read_and_run(alloc, &plan, cert, limit, spare, script, out),
         Err(fault) => Err(JobFault::of_plan(fault)),
     }
 }
 
-/// The same, and answers the exit status: 0 after a Yes, 1 after a No.
+/// Does the job of `run_checked_job`, and answers the exit status: 0 after a Yes, 1 after a No.
 pub fn run_checked_status<A: Allocator + Copy, P: Source, C: Source, R: Source, W: Sink>(
     alloc: A,
     plan: &mut P,
@@ -60,9 +57,11 @@ pub fn run_checked_status<A: Allocator + Copy, P: Source, C: Source, R: Source, 
 ) -> Result<u8, JobFault>
     requires limit { limit ≤ 62 }
     requires spare { spare ≤ 15 }
-    ensures answers { CheckedStatusAnswers limit spare (input P.rest P.failed
-        P.called plan.old plan.new) (input C.rest C.failed C.called cert.old cert.new) (input
-        R.rest R.failed R.called script.old script.new) (output W.taken out.old out.new) result }
+    ensures answers { CheckedStatusAnswers limit spare
+        (input P.rest P.failed P.called plan.old plan.new)
+        (input C.rest C.failed C.called cert.old cert.new)
+        (input R.rest R.failed R.called script.old script.new)
+        (output W.taken out.old out.new) result }
     ensures mark { W.failed out.new ≡ mark_after (W.failed out.old) result }
     ensures plan_calls { CallsAtMost P.called source_calls plan.old plan.new }
     ensures cert_calls { CallsAtMost C.called source_calls cert.old cert.new }
@@ -88,8 +87,9 @@ fn read_and_run<A: Allocator + Copy, C: Source, R: Source, W: Sink>(
     requires limit { limit ≤ 62 }
     requires spare { spare ≤ 15 }
     ensures answers { CertAnswers plan.now limit spare
-        (input C.rest C.failed C.called cert.old cert.new) (input
-        R.rest R.failed R.called script.old script.new) (output W.taken out.old out.new) result }
+        (input C.rest C.failed C.called cert.old cert.new)
+        (input R.rest R.failed R.called script.old script.new)
+        (output W.taken out.old out.new) result }
     ensures mark { W.failed out.new ≡ mark_after (W.failed out.old) result }
     ensures cert_calls { CallsAtMost C.called source_calls cert.old cert.new }
     ensures script_calls { CallsAtMost R.called source_calls script.old script.new }
@@ -112,8 +112,9 @@ fn run_or_tell<A: Allocator + Copy, R: Source, W: Sink>(
 ) -> Result<Checked, JobFault>
     requires limit { limit ≤ 62 }
     requires spare { spare ≤ 15 }
-    ensures told { ToldRun plan.now cert.now limit spare (input
-        R.rest R.failed R.called script.old script.new) (output W.taken out.old out.new) result }
+    ensures told { ToldRun plan.now cert.now limit spare
+        (input R.rest R.failed R.called script.old script.new)
+        (output W.taken out.old out.new) result }
     ensures mark { W.failed out.new ≡ mark_after (W.failed out.old) result }
     ensures calls { CallsAtMost R.called source_calls script.old script.new }
 {

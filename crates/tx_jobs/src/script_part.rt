@@ -7,13 +7,13 @@ use tx_text::{ReadFault, Source};
 /// The script of an input whose plan was read, as a source: the rest of the piece that was read,
 /// and then the input.
 #[derive(Drop)]
-pub struct ScriptPart<'a, R> {
+pub(crate) struct ScriptPart<'a, R> {
     input: &'a mut R,
     ahead: &'a mut Ahead,
 }
 
 impl<'a, R: Source> ScriptPart<'a, R> {
-    pub fn new(input: &'a mut R, ahead: &'a mut Ahead) -> ScriptPart<'a, R>
+    pub(crate) fn new(input: &'a mut R, ahead: &'a mut Ahead) -> ScriptPart<'a, R>
         ensures input { result.input ≡ input.entry }
         ensures ahead { result.ahead ≡ ahead.entry }
     {

@@ -14,7 +14,7 @@ pub(crate) enum Seen {
     En,
     /// The word END, and blanks.
     End,
-    /// The same, and a comment.
+    /// The word END, blanks and a comment.
     Comment,
     /// The word END, blanks and a CR.
     Cr,

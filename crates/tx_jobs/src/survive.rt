@@ -32,17 +32,13 @@ pub fn survive_job<A: Allocator + Copy, P: Source, W: Sink>(
     ensures calls { CallsAtMost P.called source_calls plan.old plan.new }
 {
     match read_plan_from(alloc, plan) {
-        Ok(plan) => {
-            plan.rules();
-            let told = tell_unnamed(alloc, &plan, out);
-            drop(plan);
-            told
-        }
+        Ok(plan) => tell_unnamed(alloc, &plan, out),
         Err(fault) => Err(JobFault::of_plan(fault)),
     }
 }
 
-/// The same with the named risks of a text, which is read after the plan.
+/// Reads a plan and then a text of named risks, and writes whom each group, each exchange and each
+/// of these risks cuts off; or why the plan has no grade. Answers what was found.
 ///
 /// Nothing is written where one of the texts is refused or memory runs out.
 pub fn survive_risks_job<A: Allocator + Copy, P: Source, R: Source, W: Sink>(
@@ -60,12 +56,7 @@ pub fn survive_risks_job<A: Allocator + Copy, P: Source, R: Source, W: Sink>(
     ensures risks_calls { CallsAtMost R.called source_calls risks.old risks.new }
 {
     match read_plan_from(alloc, plan) {
-        Ok(plan) => {
-            plan.rules();
-            let told = tell_named(alloc, &plan, risks, out);
-            drop(plan);
-            told
-        }
+        Ok(plan) => tell_named(alloc, &plan, risks, out),
         Err(fault) => Err(SurviveFault::Job(JobFault::of_plan(fault))),
     }
 }
@@ -91,9 +82,7 @@ fn tell_unnamed<A: Allocator + Copy, W: Sink>(
     ensures mark { W.failed out.new ≡ mark_after (W.failed out.old) result }
 {
     let risks = Risks::none(alloc);
-    let told = tell_survival(alloc, plan, risks.as_slice(), out);
-    drop(risks);
-    told
+    tell_survival(alloc, plan, risks.as_slice(), out)
 }
 
 /// Reads the named risks of the plan, and reports outages with them.
@@ -109,14 +98,10 @@ fn tell_named<A: Allocator + Copy, R: Source, W: Sink>(
     ensures calls { CallsAtMost R.called source_calls risks.old risks.new }
 {
     match read_risks_from(alloc, risks, plan) {
-        Ok(risks) => {
-            let told = tell_survival(alloc, plan, risks.as_slice(), out);
-            drop(risks);
-            match told {
-                Ok(survival) => Ok(survival),
-                Err(fault) => Err(SurviveFault::Job(fault)),
-            }
-        }
+        Ok(risks) => match tell_survival(alloc, plan, risks.as_slice(), out) {
+            Ok(survival) => Ok(survival),
+            Err(fault) => Err(SurviveFault::Job(fault)),
+        },
         Err(fault) => Err(SurviveFault::of_risks(fault)),
     }
 }

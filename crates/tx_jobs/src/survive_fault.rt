@@ -34,10 +34,24 @@ impl SurviveFault {
         ensures { result ≡ risks_fault fault }
     {
         match fault.kind {
-            FaultKind::Frame(FrameFault::Read) => { SurviveFault::Job(JobFault::Read) }
+            FaultKind::Frame(FrameFault::Read) => SurviveFault::Job(JobFault::Read),
             FaultKind::Frame(FrameFault::NoMemory) | FaultKind::Word(RiskWord::NoMemory) =>
                 SurviveFault::Job(JobFault::NoMemory),
-            _ => SurviveFault::Risks(fault),
+            FaultKind::Frame(
+                FrameFault::LineTooLong
+                | FrameFault::BadByte
+                | FrameFault::NoHeader
+                | FrameFault::NoEnd
+                | FrameFault::AfterEnd,
+            )
+            | FaultKind::Word(
+                RiskWord::UnknownWord
+                | RiskWord::WrongCount
+                | RiskWord::BadName
+                | RiskWord::Duplicate
+                | RiskWord::UnknownName
+                | RiskWord::RepeatedGroup,
+            ) => SurviveFault::Risks(fault),
         }
     }
 }

@@ -32,12 +32,7 @@ pub fn run_telling_job<A: Allocator + Copy, P: Source, R: Source, W: Sink>(
     ensures script_calls { CallsAtMost R.called source_calls script.old script.new }
 {
     match read_plan_from(alloc, plan) {
-        Ok(plan) => {
-            plan.rules();
-            let told = tell_script(alloc, telling, &plan, script, out);
-            drop(plan);
-            told
-        }
+        Ok(plan) => tell_script(alloc, telling, &plan, script, out),
         Err(fault) => Err(JobFault::of_plan(fault)),
     }
 }
@@ -58,13 +53,10 @@ fn tell_script<A: Allocator + Copy, R: Source, W: Sink>(
 {
     match Engine::new(alloc, plan) {
         Err(_) => Err(JobFault::NoMemory),
-        Ok(mut network) => {
-            let told = run_telling(alloc, telling, plan, &mut network, script, out);
-            match told {
-                Ok(summary) => Ok(summary),
-                Err(fault) => Err(JobFault::of_run(fault)),
-            }
-        }
+        Ok(mut network) => match run_telling(alloc, telling, plan, &mut network, script, out) {
+            Ok(summary) => Ok(summary),
+            Err(fault) => Err(JobFault::of_run(fault)),
+        },
     }
 }
 

@@ -8,12 +8,22 @@ ghost use Rattle.tx_text.specs.Ends.{input, output};
 ghost use Rattle.tx_jobs.specs.TraceJobs.{ToldTrace, TracedNamed, TraceJobAnswers};
 
 use crate::job_fault::JobFault;
-use crate::traced::Traced;
 use std::alloc::Allocator;
 use tx_plan::{CodeId, ExchangeId, Plan};
 use tx_plantext::read_plan_from;
 use tx_text::{Sink, Source, WriteFault};
 use tx_trace::{trace_calls, write_trace};
+
+/// What a plan to trace calls in came to.
+#[derive(Clone, Copy, Debug)]
+pub enum Traced {
+    /// The trace was written.
+    Trace,
+    /// The plan has no exchange of the name that was asked for.
+    NoSuchExchange,
+    /// The plan has no code of the figures that were asked for.
+    NoSuchCode,
+}
 
 /// Reads a plan, and writes how calls for the code of some figures go from the exchange of a name.
 ///
@@ -32,12 +42,7 @@ pub fn trace_job<A: Allocator + Copy, P: Source, W: Sink>(
     ensures calls { CallsAtMost P.called source_calls plan.old plan.new }
 {
     match read_plan_from(alloc, plan) {
-        Ok(plan) => {
-            plan.rules();
-            let traced = trace_named(alloc, &plan, exchange, code, out);
-            drop(plan);
-            traced
-        }
+        Ok(plan) => trace_named(alloc, &plan, exchange, code, out),
         Err(fault) => Err(JobFault::of_plan(fault)),
     }
 }

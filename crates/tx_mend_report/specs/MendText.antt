@@ -1,5 +1,5 @@
 -- The report of a mending, as it is written.
-use Rattle.std.specs.Prelude.{ℕ, ◌+◌, if◌then◌else◌, List, [], ◌∷◌, ◌++◌, length, codes, decimal, Option, Some, None}
+use Rattle.std.specs.Prelude.{ℕ, ◌+◌, if◌then◌else◌, List, [], ◌∷◌, ◌++◌, length, codes, Option, Some, None}
 use Rattle.std.specs.List.{flat_map, range_with_len}
 use Rattle.std.specs.Str.{bytes_eq}
 use Rattle.tx_text.specs.Written.{line_written}
@@ -7,11 +7,12 @@ use Rattle.tx_plan.specs.Plan.{Plan, Route, figures_of, exchange_name}
 use Rattle.tx_plan.specs.Routes.{route_list}
 use Rattle.tx_plan.specs.Mixed.{rerouted}
 use Rattle.tx_plantext.specs.PlanWritten.{route_words}
+use Rattle.tx_rank.specs.declared.finding.Finding.TheVariants.{Ambiguous}
+use Rattle.tx_audit.specs.Report.{asked_line, finding_line, verdict_line}
 
 -- what was asked
 abbrev pub head_line : (limit spare : ℕ) → List ℕ
-head_line limit spare =
-    codes "MEND LIMIT " ++ (decimal limit ++ (codes " SPARE " ++ (decimal spare ++ codes "\n")))
+head_line = asked_line (codes "MEND")
 
 -- the list of an exchange for a code: the route, as a plan writes it, or that none is needed
 abbrev pub list_line : Plan → (code x : ℕ) → List ℕ → List ℕ
@@ -38,7 +39,7 @@ code_changes before p code =
 abbrev pub changes : List Route → Plan → List ℕ
 changes before p = flat_map (code_changes before p) (range_with_len 0 (length p.codes))
 
--- the report of a plan that was mended, and had these routes before
+-- THE REPORT of a plan that was mended, and had these routes before
 abbrev pub mended_text : List Route → Plan → (limit spare : ℕ) → List ℕ
 mended_text before p limit spare =
     head_line limit spare ++ (changes before p ++ codes "VERDICT YES\n")
@@ -46,10 +47,9 @@ mended_text before p limit spare =
 -- the ambiguous pair of codes, if there is one
 abbrev pub pair_line : Plan → Option (ℕ × ℕ) → List ℕ
 pair_line p None = []
-pair_line p (Some q) = codes "F1 AMBIGUOUS "
-    ++ (figures_of p q.0 ++ (codes " " ++ (figures_of p q.1 ++ codes "\n")))
+pair_line p (Some q) = finding_line {A = Unit {0}} p (Ambiguous q.0 q.1)
 
--- how many lines there are of it
+-- how many lines that pair has
 abbrev pub pair_count : Option (ℕ × ℕ) → ℕ
 pair_count None = 0
 pair_count (Some q) = 1
@@ -59,11 +59,8 @@ abbrev pub unserved_line : Plan → ℕ × ℕ → List ℕ
 unserved_line p k = codes "F5 UNSERVED "
     ++ (figures_of p k.0 ++ (codes " " ++ (exchange_name p k.1 ++ codes "\n")))
 
--- how many lines stand before
-abbrev pub verdict_line : ℕ → List ℕ
-verdict_line n = codes "VERDICT NO " ++ (decimal n ++ codes "\n")
-
--- the report of a plan for which no routes can be certified
+-- the report of a plan for which no routes can be certified: what was asked, a line for the pair
+-- and one for each that cannot be served, and the verdict with their number
 abbrev pub unserved_text : Plan → (limit spare : ℕ) → List (ℕ × ℕ) → Option (ℕ × ℕ) → List ℕ
 unserved_text p limit spare unserved pair = head_line limit spare
     ++ (pair_line p pair ++ (flat_map (unserved_line p) unserved

@@ -2,25 +2,13 @@
 ghost use Rattle.std.specs.Prelude.{◌<◌, codes};
 ghost use Rattle.tx_text.specs.Wrote.{Wrote};
 ghost use Rattle.tx_plan.specs.Routes.{route_list};
-ghost use Rattle.tx_mend_report.specs.MendText.{head_line, list_line, change_line, code_changes, changes, mended_text};
+ghost use Rattle.tx_mend_report.specs.MendText.{list_line, change_line, code_changes, changes, mended_text};
 
-use itoa::Buffer;
 use std::alloc::Allocator;
+use tx_audit::write_asked;
 use tx_plan::{CodeId, ExchangeId, Pair, Plan, Routes};
 use tx_plantext::write_route;
 use tx_text::{Sink, WriteFault, write_parts};
-
-/// Writes what was asked.
-pub fn write_head<W: Sink>(limit: u8, spare: u8, sink: &mut W) -> Result<(), WriteFault>
-    ensures { Wrote W.taken W.failed sink.old sink.new
-        (head_line limit spare) result }
-{
-    let mut transits = Buffer::new();
-    let mut groups = Buffer::new();
-    let limit = transits.format(limit).as_bytes();
-    let spare = groups.format(spare).as_bytes();
-    write_parts(&[b"MEND LIMIT ", limit, b" SPARE ", spare, b"\n"], sink)
-}
 
 /// Writes what was asked, each list of a plan that is another one than before, and YES.
 pub fn write_mended<A: Allocator, W: Sink>(
@@ -33,7 +21,7 @@ pub fn write_mended<A: Allocator, W: Sink>(
     ensures { Wrote W.taken W.failed sink.old sink.new
         (mended_text before.now plan.now limit spare) result }
 {
-    write_head(limit, spare, sink)?;
+    write_asked(b"MEND", limit, spare, sink)?;
     write_changes(before, plan, sink)?;
     write_parts(&[b"VERDICT YES\n"], sink)
 }

@@ -1,13 +1,13 @@
 // The report of a plan for which no routes can be certified.
-ghost use Rattle.std.specs.Prelude.{◌≡◌, ◌+◌, Some};
+ghost use Rattle.std.specs.Prelude.{◌≡◌, ◌+◌};
 ghost use Rattle.std.specs.List.{flat_map};
 ghost use Rattle.tx_text.specs.Wrote.{Wrote};
-ghost use Rattle.tx_mend_report.specs.MendText.{pair_line, pair_count, unserved_line, verdict_line, unserved_text};
+ghost use Rattle.tx_mend_report.specs.MendText.{pair_line, pair_count, unserved_line, unserved_text};
 
-use crate::changed_lists::write_head;
-use itoa::Buffer;
 use std::alloc::Allocator;
+use tx_audit::{write_asked, write_finding, write_verdict};
 use tx_plan::{CodeId, ExchangeId, Plan};
+use tx_rank::Finding;
 use tx_text::{Sink, WriteFault, write_parts};
 
 /// Writes what was asked, the ambiguous pair of codes, each code with the origins that cannot be
@@ -23,7 +23,7 @@ pub fn write_unserved<A: Allocator, W: Sink>(
     ensures { Wrote W.taken W.failed sink.old sink.new
         (unserved_text plan.now limit spare unserved.now pair.now) result }
 {
-    write_head(limit, spare, sink)?;
+    write_asked(b"MEND", limit, spare, sink)?;
     write_pair(plan, pair, sink)?;
     write_each(plan, unserved, sink)?;
     write_verdict(pair_count(pair) + unserved.len(), sink)
@@ -38,22 +38,12 @@ fn write_pair<A: Allocator, W: Sink>(
         (pair_line plan.now pair.now) result }
 {
     match pair {
-        Some(pair) => write_both(plan, *pair, sink),
+        Some((shorter, longer)) => {
+            let finding: Finding<A> = Finding::Ambiguous(*shorter, *longer);
+            write_finding(plan, &finding, sink)
+        }
         None => Ok(()),
     }
-}
-
-fn write_both<A: Allocator, W: Sink>(
-    plan: &Plan<A>,
-    pair: (CodeId, CodeId),
-    sink: &mut W,
-) -> Result<(), WriteFault>
-    ensures { Wrote W.taken W.failed sink.old sink.new
-        (pair_line plan.now (Some pair)) result }
-{
-    let shorter = plan.code_figures(pair.0);
-    let longer = plan.code_figures(pair.1);
-    write_parts(&[b"F1 AMBIGUOUS ", shorter, b" ", longer, b"\n"], sink)
 }
 
 fn write_each<A: Allocator, W: Sink>(
@@ -91,13 +81,4 @@ fn pair_count(pair: &Option<(CodeId, CodeId)>) -> usize
         Some(_) => 1,
         None => 0,
     }
-}
-
-fn write_verdict<W: Sink>(count: usize, sink: &mut W) -> Result<(), WriteFault>
-    ensures { Wrote W.taken W.failed sink.old sink.new
-        (verdict_line count) result }
-{
-    let mut buffer = Buffer::new();
-    let count = buffer.format(count).as_bytes();
-    write_parts(&[b"VERDICT NO ", count, b"\n"], sink)
 }

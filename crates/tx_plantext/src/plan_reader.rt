@@ -1,10 +1,11 @@
 // The readers of plan texts.
-ghost use Rattle.std.specs.Prelude.{◌≡◌, true};
+ghost use Rattle.std.specs.Prelude.{◌≡◌, true, IfOk};
 ghost use Rattle.tx_text.specs.Calls.{CallsAtMost, source_calls};
 ghost use Rattle.tx_text.specs.Ends.{input};
 ghost use Rattle.tx_text.specs.Said.{AnswersAs, told_fault};
 ghost use Rattle.tx_text.specs.Told.{AtEnd};
 ghost use Rattle.tx_plan.specs.Plan.{no_plan};
+ghost use Rattle.tx_plan.specs.Rules.{IsPlan};
 ghost use Rattle.tx_plantext.specs.PlanText.{declare, plan_of, is_memory, declares_line, ReadsPlan};
 
 use crate::declaring::declare;
@@ -64,10 +65,13 @@ pub fn read_plan_from<R: Source, A: Allocator + Copy>(
 ) -> Result<Plan<A>, PlanFault>
     ensures answer { ReadsPlan (input R.rest R.failed R.called source.old source.new)
         (told_fault result) }
+    ensures rules { IfOk result IsPlan }
     ensures calls { CallsAtMost R.called source_calls source.old source.new }
 {
     let lines = read_text(alloc, KEY, VERSIONS, PlanLines::new(alloc), source)?;
-    Ok(lines.plan.finish())
+    let plan = lines.plan.finish();
+    plan.rules();
+    Ok(plan)
 }
 
 /// Reads a plan text that is in memory. `Err` is the first fault, with its line.

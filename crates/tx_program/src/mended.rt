@@ -1,8 +1,8 @@
 // The mending of a file, and the files of the mended plan and of its certificate.
 use crate::ends::Output;
 use crate::folder::Folder;
-use crate::kept::{Keep, Kept, keep_file};
 use crate::opened::Bounds;
+use crate::output_files::{Content, OutputFiles, write_file};
 use std::alloc::Allocator;
 use std::io::{Read, Write};
 use tx_jobs::{JobFault, mend_job, mending_status};
@@ -13,15 +13,13 @@ pub(crate) fn mend_file<A: Allocator + Copy, R: Read + Drop, F: Folder, O: Write
     alloc: A,
     plan: R,
     bounds: Bounds,
-    files: Keep<'_>,
+    files: OutputFiles<'_>,
     folder: &F,
     output: &Output<O, A>,
 ) -> Result<u8, JobFault> {
     let mending = report(alloc, plan, bounds, output)?;
-    let status = mending_status(&mending);
-    let kept = keep_mended(alloc, &mending, files, folder, output);
-    drop(mending);
-    kept.and(Ok(status))
+    write_mended(alloc, &mending, files, folder, output)?;
+    Ok(mending_status(&mending))
 }
 
 /// Writes the report of the mending, and answers what it came to.
@@ -41,18 +39,18 @@ fn report<A: Allocator + Copy, R: Read + Drop, O: Write + Drop>(
     )
 }
 
-/// Keeps the mended plan, and then its certificate.
-fn keep_mended<A: Allocator + Copy, F: Folder, O: Write + Drop>(
+/// Makes the file of the mended plan, and then that of its certificate.
+fn write_mended<A: Allocator + Copy, F: Folder, O: Write + Drop>(
     alloc: A,
     mending: &Mending<A>,
-    files: Keep<'_>,
+    files: OutputFiles<'_>,
     folder: &F,
     report: &Output<O, A>,
 ) -> Result<(), JobFault> {
     match mending {
         Mending::Mended(plan, _, cert) => {
-            keep_file(alloc, Kept::Plan(plan), files.plan, folder, report)?;
-            keep_file(alloc, Kept::Cert(plan, cert), files.cert, folder, report)
+            write_file(alloc, Content::Plan(plan), files.plan, folder, report)?;
+            write_file(alloc, Content::Cert(plan, cert), files.cert, folder, report)
         }
         Mending::NoRouting(_, _, _) => Ok(()),
     }

@@ -1,11 +1,10 @@
 // Commands whose files are open.
-ghost use Rattle.std.specs.Prelude.{◌≡◌, ◌≤◌};
-ghost use Rattle.tx_commands.specs.declared.command.Command.TheVariants.{Run, Draw};
+ghost use Rattle.std.specs.Prelude.{◌≡◌, ◌≤◌, IfSome};
 ghost use Rattle.tx_commands.specs.Commands.{IsInRange};
 
 use crate::folder::Folder;
 use crate::input::{Input, Inputs};
-use crate::kept::Keep;
+use crate::output_files::OutputFiles;
 use std::io::Read;
 use tx_commands::Command;
 use tx_jobs::JobFault;
@@ -86,18 +85,18 @@ pub(crate) enum Opened<'a, I: Read + Drop, R: Read + Drop> {
     Audit {
         plan: Input<I, R>,
         bounds: Bounds,
-        keep: Keep<'a>,
+        files: OutputFiles<'a>,
     },
     Mend {
         plan: Input<I, R>,
         bounds: Bounds,
-        keep: Keep<'a>,
+        files: OutputFiles<'a>,
     },
     Change {
         old: Input<I, R>,
         new: Input<I, R>,
         bounds: Bounds,
-        keep: Keep<'a>,
+        files: OutputFiles<'a>,
     },
     Survive {
         plan: Input<I, R>,
@@ -112,14 +111,6 @@ pub(crate) enum Opened<'a, I: Read + Drop, R: Read + Drop> {
     },
 }
 
-/// The name of a file or a code, if one is named.
-fn name_of(file: &Option<String>) -> Option<&str> {
-    match file {
-        Some(name) => Some(name.as_str()),
-        None => None,
-    }
-}
-
 impl<'a, I: Read + Drop, R: Read + Drop> Opened<'a, I, R> {
     /// Opens the files of a command, in the order plan, certificate, script; of a change, the old
     /// plan and then the new one; of outages, the plan and then the risks.
@@ -130,7 +121,9 @@ impl<'a, I: Read + Drop, R: Read + Drop> Opened<'a, I, R> {
         requires { IsInRange command.now }
     {
         match command {
-            Command::Pipe => Opened::pipe(inputs),
+            Command::Pipe => Ok(Opened::Pipe {
+                input: inputs.take_standard()?,
+            }),
             Command::Run {
                 plan,
                 script,
@@ -166,7 +159,7 @@ impl<'a, I: Read + Drop, R: Read + Drop> Opened<'a, I, R> {
             } => Opened::trace(inputs, plan, exchange, code),
             Command::Draw { plan, routes } => Opened::draw(inputs, plan, routes),
             Command::Explain { word } => Ok(Opened::Explain {
-                word: name_of(word),
+                word: word.as_deref(),
             }),
             Command::Audit {
                 plan,
@@ -197,24 +190,18 @@ impl<'a, I: Read + Drop, R: Read + Drop> Opened<'a, I, R> {
         }
     }
 
-    fn pipe<F: Folder<Input = R>>(
-        inputs: &mut Inputs<'_, F, I>,
-    ) -> Result<Opened<'a, I, R>, JobFault> {
-        let input = inputs.take_standard()?;
-        Ok(Opened::Pipe { input })
-    }
-
     fn run<F: Folder<Input = R>>(
         inputs: &mut Inputs<'_, F, I>,
-        plan: &String,
-        script: &String,
+        plan: &str,
+        script: &str,
         checked: &Option<(String, u8, u8)>,
     ) -> Result<Opened<'a, I, R>, JobFault>
-        requires { IsInRange (Run plan.now script.now checked.now) }
+        requires limit { IfSome checked.now (λ c. c.1 ≤ 62) }
+        requires spare { IfSome checked.now (λ c. c.2 ≤ 15) }
     {
         match checked {
             None => {
-                let (plan, script) = inputs.open_both(plan.as_str(), script.as_str())?;
+                let (plan, script) = inputs.open_both(plan, script)?;
                 Ok(Opened::Run { plan, script })
             }
             Some((cert, limit, spare)) => {
@@ -225,12 +212,12 @@ impl<'a, I: Read + Drop, R: Read + Drop> Opened<'a, I, R> {
 
     fn run_telling<F: Folder<Input = R>>(
         inputs: &mut Inputs<'_, F, I>,
-        plan: &String,
-        script: &String,
+        plan: &str,
+        script: &str,
         strict: bool,
         telling: Telling,
     ) -> Result<Opened<'a, I, R>, JobFault> {
-        let (plan, script) = inputs.open_both(plan.as_str(), script.as_str())?;
+        let (plan, script) = inputs.open_both(plan, script)?;
         Ok(Opened::RunTelling {
             plan,
             script,
@@ -241,49 +228,43 @@ impl<'a, I: Read + Drop, R: Read + Drop> Opened<'a, I, R> {
 
     fn checked<F: Folder<Input = R>>(
         inputs: &mut Inputs<'_, F, I>,
-        plan: &String,
-        cert: &String,
-        script: &String,
+        plan: &str,
+        cert: &str,
+        script: &str,
         bounds: Bounds,
     ) -> Result<Opened<'a, I, R>, JobFault> {
-        let (plan, cert) = inputs.open_both(plan.as_str(), cert.as_str())?;
-        match inputs.open(script.as_str()) {
-            Ok(script) => Ok(Opened::Checked {
-                plan,
-                cert,
-                script,
-                bounds,
-            }),
-            Err(fault) => {
-                drop(cert);
-                drop(plan);
-                Err(fault)
-            }
-        }
+        let (plan, cert) = inputs.open_both(plan, cert)?;
+        let script = inputs.open(script)?;
+        Ok(Opened::Checked {
+            plan,
+            cert,
+            script,
+            bounds,
+        })
     }
 
     fn check<F: Folder<Input = R>>(
         inputs: &mut Inputs<'_, F, I>,
-        plan: &String,
-        cert: &String,
+        plan: &str,
+        cert: &str,
         bounds: Bounds,
     ) -> Result<Opened<'a, I, R>, JobFault> {
-        let (plan, cert) = inputs.open_both(plan.as_str(), cert.as_str())?;
+        let (plan, cert) = inputs.open_both(plan, cert)?;
         Ok(Opened::Check { plan, cert, bounds })
     }
 
     fn over_plan<F: Folder<Input = R>>(
         inputs: &mut Inputs<'_, F, I>,
-        plan: &String,
+        plan: &str,
         job: PlanJob<'a>,
     ) -> Result<Opened<'a, I, R>, JobFault> {
-        let plan = inputs.open(plan.as_str())?;
+        let plan = inputs.open(plan)?;
         Ok(Opened::Plan { plan, job })
     }
 
     fn lint<F: Folder<Input = R>>(
         inputs: &mut Inputs<'_, F, I>,
-        plan: &'a String,
+        plan: &'a str,
     ) -> Result<Opened<'a, I, R>, JobFault> {
         let file = plan.as_bytes();
         Opened::over_plan(inputs, plan, PlanJob::Lint { file })
@@ -291,10 +272,11 @@ impl<'a, I: Read + Drop, R: Read + Drop> Opened<'a, I, R> {
 
     fn draw<F: Folder<Input = R>>(
         inputs: &mut Inputs<'_, F, I>,
-        plan: &String,
+        plan: &str,
         routes: &'a Option<(String, Option<(u8, u8)>)>,
     ) -> Result<Opened<'a, I, R>, JobFault>
-        requires { IsInRange (Draw plan.now routes.now) }
+        requires limit { IfSome routes.now (λ r. IfSome r.1 (λ b. b.0 ≤ 62)) }
+        requires spare { IfSome routes.now (λ r. IfSome r.1 (λ b. b.1 ≤ 15)) }
     {
         let (code, bounds) = match routes {
             None => (None, None),
@@ -308,13 +290,13 @@ impl<'a, I: Read + Drop, R: Read + Drop> Opened<'a, I, R> {
 
     fn survive<F: Folder<Input = R>>(
         inputs: &mut Inputs<'_, F, I>,
-        plan: &String,
+        plan: &str,
         risks: &Option<String>,
     ) -> Result<Opened<'a, I, R>, JobFault> {
         match risks {
             None => Opened::over_plan(inputs, plan, PlanJob::Survive),
             Some(risks) => {
-                let (plan, risks) = inputs.open_both(plan.as_str(), risks.as_str())?;
+                let (plan, risks) = inputs.open_both(plan, risks)?;
                 Ok(Opened::Survive { plan, risks })
             }
         }
@@ -322,9 +304,9 @@ impl<'a, I: Read + Drop, R: Read + Drop> Opened<'a, I, R> {
 
     fn trace<F: Folder<Input = R>>(
         inputs: &mut Inputs<'_, F, I>,
-        plan: &String,
-        exchange: &'a String,
-        code: &'a String,
+        plan: &str,
+        exchange: &'a str,
+        code: &'a str,
     ) -> Result<Opened<'a, I, R>, JobFault> {
         let job = PlanJob::Trace {
             exchange: exchange.as_bytes(),
@@ -335,56 +317,64 @@ impl<'a, I: Read + Drop, R: Read + Drop> Opened<'a, I, R> {
 
     fn audit<F: Folder<Input = R>>(
         inputs: &mut Inputs<'_, F, I>,
-        plan: &String,
+        plan: &str,
         bounds: Bounds,
         cert: &'a Option<String>,
         counter: &'a Option<String>,
     ) -> Result<Opened<'a, I, R>, JobFault> {
-        let plan = inputs.open(plan.as_str())?;
-        let keep = Keep {
-            cert: name_of(cert),
+        let plan = inputs.open(plan)?;
+        let files = OutputFiles {
+            cert: cert.as_deref(),
             plan: None,
-            counter: name_of(counter),
+            counter: counter.as_deref(),
         };
-        Ok(Opened::Audit { plan, bounds, keep })
+        Ok(Opened::Audit {
+            plan,
+            bounds,
+            files,
+        })
     }
 
     fn mend<F: Folder<Input = R>>(
         inputs: &mut Inputs<'_, F, I>,
-        plan: &String,
+        plan: &str,
         bounds: Bounds,
         mended: &'a Option<String>,
         cert: &'a Option<String>,
     ) -> Result<Opened<'a, I, R>, JobFault> {
-        let plan = inputs.open(plan.as_str())?;
-        let keep = Keep {
-            cert: name_of(cert),
-            plan: name_of(mended),
+        let plan = inputs.open(plan)?;
+        let files = OutputFiles {
+            cert: cert.as_deref(),
+            plan: mended.as_deref(),
             counter: None,
         };
-        Ok(Opened::Mend { plan, bounds, keep })
+        Ok(Opened::Mend {
+            plan,
+            bounds,
+            files,
+        })
     }
 
     fn change<F: Folder<Input = R>>(
         inputs: &mut Inputs<'_, F, I>,
-        old: &String,
-        new: &String,
+        old: &str,
+        new: &str,
         bounds: Bounds,
         cert: &'a Option<String>,
         mixture: &'a Option<String>,
         counter: &'a Option<String>,
     ) -> Result<Opened<'a, I, R>, JobFault> {
-        let (old, new) = inputs.open_both(old.as_str(), new.as_str())?;
-        let keep = Keep {
-            cert: name_of(cert),
-            plan: name_of(mixture),
-            counter: name_of(counter),
+        let (old, new) = inputs.open_both(old, new)?;
+        let files = OutputFiles {
+            cert: cert.as_deref(),
+            plan: mixture.as_deref(),
+            counter: counter.as_deref(),
         };
         Ok(Opened::Change {
             old,
             new,
             bounds,
-            keep,
+            files,
         })
     }
 }

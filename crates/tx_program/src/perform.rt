@@ -20,7 +20,7 @@ use tx_jobs::{
     survive_job, survive_risks_job, trace_job,
 };
 use tx_script::Telling;
-use tx_text::Source;
+use tx_text::WriteFault;
 
 /// Opens the files of a command, does its job, and lets its output out. Answers the exit status. An
 /// output that fails is told before any other fault.
@@ -33,21 +33,11 @@ pub(crate) fn perform<A: Allocator + Copy, F: Folder, I: Read + Drop, O: Write +
 ) -> Result<u8, CommandFault>
     requires { IsInRange command.now }
 {
-    let mut inputs = Inputs::new(folder, input);
-    let opened = Opened::new(command, &mut inputs);
-    drop(inputs);
-    let opened = opened?;
-    match Output::new(alloc, output) {
-        Ok(output) => {
-            let done = do_job(alloc, opened, folder, &output);
-            output.let_out()?;
-            done
-        }
-        Err(fault) => {
-            drop(opened);
-            Err(CommandFault::Job(fault))
-        }
-    }
+    let opened = Opened::new(command, &mut Inputs::new(folder, input))?;
+    let output = Output::new(alloc, output)?;
+    let done = do_job(alloc, opened, folder, &output);
+    output.let_out()?;
+    done
 }
 
 fn do_job<A: Allocator + Copy, F: Folder, I: Read + Drop, O: Write + Drop>(
@@ -72,20 +62,24 @@ fn do_job<A: Allocator + Copy, F: Folder, I: Read + Drop, O: Write + Drop>(
             bounds,
         } => run_checked_files(alloc, plan, cert, bounds, script, output)?,
         Opened::Check { plan, cert, bounds } => check_files(alloc, plan, cert, bounds, output)?,
-        Opened::Plan { plan, job } => do_over_plan(alloc, plan, job, output)?,
-        Opened::Audit { plan, bounds, keep } => {
-            audit_file(alloc, plan, bounds, keep, folder, output)?
-        }
-        Opened::Mend { plan, bounds, keep } => {
-            mend_file(alloc, plan, bounds, keep, folder, output)?
-        }
+        Opened::Plan { plan, job } => do_plan_job(alloc, plan, job, output)?,
+        Opened::Audit {
+            plan,
+            bounds,
+            files,
+        } => { audit_file(alloc, plan, bounds, files, folder, output)? }
+        Opened::Mend {
+            plan,
+            bounds,
+            files,
+        } => { mend_file(alloc, plan, bounds, files, folder, output)? }
         Opened::Survive { plan, risks } => survive_files(alloc, plan, risks, output)?,
         Opened::Change {
             old,
             new,
             bounds,
-            keep,
-        } => change_files(alloc, old, new, bounds, keep, folder, output)?,
+            files,
+        } => change_files(alloc, old, new, bounds, files, folder, output)?,
         Opened::Explain { word } => explain(word, output)?,
     };
     Ok(status)
@@ -109,18 +103,8 @@ fn run_files<A: Allocator + Copy, P: Read + Drop, R: Read + Drop, O: Write + Dro
     output: &Output<O, A>,
 ) -> Result<u8, JobFault> {
     let mut plan = output.source(alloc, plan)?;
-    run_script(alloc, &mut plan, script, output)
-}
-
-/// Runs the script over the plan. A function of its own, since each exit drops what is open there.
-fn run_script<A: Allocator + Copy, P: Source, R: Read + Drop, O: Write + Drop>(
-    alloc: A,
-    plan: &mut P,
-    script: R,
-    output: &Output<O, A>,
-) -> Result<u8, JobFault> {
     let mut script = output.source(alloc, script)?;
-    run_job(alloc, plan, &mut script, &mut output.sink()).and(Ok(0))
+    run_job(alloc, &mut plan, &mut script, &mut output.sink()).and(Ok(0))
 }
 
 /// `run PLAN SCRIPT` with `--strict`, `--echo` or `--summary`.
@@ -133,21 +117,9 @@ fn run_telling_files<A: Allocator + Copy, P: Read + Drop, R: Read + Drop, O: Wri
     output: &Output<O, A>,
 ) -> Result<u8, JobFault> {
     let mut plan = output.source(alloc, plan)?;
-    tell_script(alloc, &mut plan, script, strict, telling, output)
-}
-
-/// Runs the script over the plan, and returns what is asked for. A function of its own, since each
-/// exit drops what is open there.
-fn tell_script<A: Allocator + Copy, P: Source, R: Read + Drop, O: Write + Drop>(
-    alloc: A,
-    plan: &mut P,
-    script: R,
-    strict: bool,
-    telling: Telling,
-    output: &Output<O, A>,
-) -> Result<u8, JobFault> {
     let mut script = output.source(alloc, script)?;
-    let summary = run_telling_job(alloc, telling, plan, &mut script, &mut output.sink())?;
+    let mut sink = output.sink();
+    let summary = run_telling_job(alloc, telling, &mut plan, &mut script, &mut sink)?;
     Ok(replies_status(&summary, strict))
 }
 
@@ -161,24 +133,11 @@ fn run_checked_files<A: Allocator + Copy, P: Read + Drop, R: Read + Drop, O: Wri
     output: &Output<O, A>,
 ) -> Result<u8, JobFault> {
     let mut plan = output.source(alloc, plan)?;
-    run_after_yes(alloc, &mut plan, cert, bounds, script, output)
-}
-
-/// Runs the script over the plan after a Yes to the certificate. A function of its own, since each
-/// exit drops what is open there.
-fn run_after_yes<A: Allocator + Copy, P: Source, C: Read + Drop, R: Read + Drop, O: Write + Drop>(
-    alloc: A,
-    plan: &mut P,
-    cert: C,
-    bounds: Bounds,
-    script: R,
-    output: &Output<O, A>,
-) -> Result<u8, JobFault> {
     let mut cert = output.source(alloc, cert)?;
     let mut script = output.source(alloc, script)?;
     run_checked_status(
         alloc,
-        plan,
+        &mut plan,
         &mut cert,
         bounds.limit,
         bounds.spare,
@@ -187,45 +146,30 @@ fn run_after_yes<A: Allocator + Copy, P: Source, C: Read + Drop, R: Read + Drop,
     )
 }
 
-/// Opens the plan, and does a job over it.
-fn do_over_plan<A: Allocator + Copy, R: Read + Drop, O: Write + Drop>(
+/// `lint PLAN`, `codes PLAN`, `grade PLAN`, `survive PLAN`, `trace PLAN EXCHANGE CODE`, or
+/// `draw PLAN [--code C [--limit L --spare K]]`.
+fn do_plan_job<A: Allocator + Copy, R: Read + Drop, O: Write + Drop>(
     alloc: A,
     plan: R,
     job: PlanJob<'_>,
     output: &Output<O, A>,
 ) -> Result<u8, CommandFault> {
     let mut plan = output.source(alloc, plan)?;
-    do_plan_job(alloc, &mut plan, job, output)
-}
-
-/// `lint PLAN`, `codes PLAN`, `grade PLAN`, `survive PLAN`, `trace PLAN EXCHANGE CODE`, or
-/// `draw PLAN [--code C [--limit L --spare K]]`.
-fn do_plan_job<A: Allocator + Copy, P: Source, O: Write + Drop>(
-    alloc: A,
-    plan: &mut P,
-    job: PlanJob<'_>,
-    output: &Output<O, A>,
-) -> Result<u8, CommandFault> {
     let mut sink = output.sink();
     match job {
-        PlanJob::Lint { file } => Ok(lint_job(alloc, plan, file, &mut sink)?),
-        PlanJob::Codes => Ok(codes_status(alloc, plan, &mut sink)?),
-        PlanJob::Grade => Ok(grade_status(alloc, plan, &mut sink)?),
-        PlanJob::Survive => {
-            let survival = survive_job(alloc, plan, &mut sink)?;
-            let status = survival_status(&survival);
-            drop(survival);
-            Ok(status)
-        }
+        PlanJob::Lint { file } => Ok(lint_job(alloc, &mut plan, file, &mut sink)?),
+        PlanJob::Codes => Ok(codes_status(alloc, &mut plan, &mut sink)?),
+        PlanJob::Grade => Ok(grade_status(alloc, &mut plan, &mut sink)?),
+        PlanJob::Survive => Ok(survival_status(&survive_job(alloc, &mut plan, &mut sink)?)),
         PlanJob::Trace { exchange, code } => {
-            match trace_job(alloc, plan, exchange, code, &mut sink)? {
+            match trace_job(alloc, &mut plan, exchange, code, &mut sink)? {
                 Traced::Trace => Ok(0),
                 Traced::NoSuchExchange => Err(CommandFault::NoSuchExchange),
                 Traced::NoSuchCode => Err(CommandFault::NoSuchCode),
             }
         }
         PlanJob::Draw { code, bounds } => {
-            match draw_job(alloc, plan, code, numbers(bounds), &mut sink)? {
+            match draw_job(alloc, &mut plan, code, numbers(bounds), &mut sink)? {
                 Drawn::Picture => Ok(0),
                 Drawn::NoSuchCode => Err(CommandFault::NoSuchCode),
             }
@@ -263,9 +207,7 @@ fn survive_files<A: Allocator + Copy, R: Read + Drop, O: Write + Drop>(
     let mut plan = output.source(alloc, plan)?;
     let mut risks = output.source(alloc, risks)?;
     let survival = survive_risks_job(alloc, &mut plan, &mut risks, &mut output.sink())?;
-    let status = survival_status(&survival);
-    drop(survival);
-    Ok(status)
+    Ok(survival_status(&survival))
 }
 
 /// A limit and a spare number, if there are any.
@@ -287,6 +229,6 @@ fn explain<A: Allocator, O: Write + Drop>(
 ) -> Result<u8, JobFault> {
     match write_explanation(word, &mut output.sink()) {
         Ok(()) => Ok(0),
-        Err(_) => Err(JobFault::Write),
+        Err(WriteFault) => Err(JobFault::Write),
     }
 }

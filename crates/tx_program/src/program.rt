@@ -28,11 +28,10 @@ pub struct Ends<'a, F, I: Drop, O: Drop, E: Drop> {
 /// a No (of `codes`: where codes are ambiguous; of `grade` and `survive`: where there is no grade
 /// too; of `lint`: after warnings), 2 for a refused text (of `lint`: after faults), 3 for a failed
 /// read or write (of help too), 4 when memory runs out, 64 for refused words, and for a code to
-/// draw,
-/// or an exchange or a code to trace, that the plan does not have. Without words, on a terminal, it
-/// prints its help. A fault is told by one line on standard error, and refused words by what the
-/// library of command lines says. The words are read with `alloc`, and what they ask for is done
-/// with `memory`.
+/// draw, or an exchange or a code to trace, that the plan does not have. Without words, on a
+/// terminal, it prints its help. A fault is told by one line on standard error, and refused words
+/// by what the library of command lines says. The words are read with `alloc`, and what they ask
+/// for is done with `memory`.
 pub fn run_words<
     A: Allocator + Copy,
     F: Folder,
@@ -49,7 +48,7 @@ pub fn run_words<
     }
 }
 
-/// The same, whatever the input is.
+/// Does what the words ask for, whatever the input is, and answers the exit status.
 fn do_words<A: Allocator + Copy, F: Folder, I: Read + Drop, O: Write + Drop, E: Write + Drop>(
     alloc: Global,
     memory: A,
@@ -59,16 +58,8 @@ fn do_words<A: Allocator + Copy, F: Folder, I: Read + Drop, O: Write + Drop, E: 
     ensures { AskNothing words.now → IsRefusedWith words.now result }
 {
     match read_command(alloc, words) {
-        Ok(command) => {
-            let status = run_command(memory, &command, ends);
-            drop(command);
-            status
-        }
-        Err(fault) => {
-            let status = refuse_words(&fault, ends);
-            drop(fault);
-            status
-        }
+        Ok(command) => run_command(memory, &command, ends),
+        Err(fault) => refuse_words(&fault, ends),
     }
 }
 
@@ -87,7 +78,6 @@ fn refuse_words<F: Folder, I: Read + Drop, O: Write + Drop, E: Write + Drop>(
         mut errors,
     } = ends;
     let told = tell_words(fault, &mut output, &mut errors);
-    drop(output);
     let status = fault.status();
     if told.is_err() && status == 0 {
         return tell_fault(&CommandFault::Job(JobFault::Write), errors);

@@ -41,6 +41,7 @@ module _ {A : Type 0} where
         → length c.walk.steps ≤ length steps
     pub stray : c.stray ≡ true ↔ LeadsHome n c.walk.start
 
+  -- where the calls start that are cut off
   abbrev pub start_at : Cut A → ℕ
   start_at c = c.walk.start
 

@@ -1,5 +1,6 @@
 // From where a risk cuts off a code.
 ghost use Rattle.std.specs.Prelude.{◌≡◌, ◌<◌, ◌+◌, List, length, IfOk};
+ghost use Rattle.tx_plan.specs.Rules.{IsPlan};
 ghost use Rattle.tx_rank.specs.Judged.{AreOrigins};
 ghost use Rattle.tx_risk.specs.Outages.{AreCutsOfCode, is_asked, fails_at};
 ghost use Rattle.tx_risk.specs.declared.cut.Cut.{Cut};
@@ -23,7 +24,7 @@ pub fn is_failing(outage: &Outage, exchange: ExchangeId) -> bool
 {
     match outage {
         Outage::Exchange(failing) => exchange == *failing,
-        _ => false,
+        Outage::Group(_) | Outage::Named(_) => false,
     }
 }
 
@@ -38,6 +39,7 @@ fn add_cut<A: Allocator + Copy>(
     place: usize,
     cuts: &mut Vec<Cut<A>, A>,
 ) -> Result<(), NoMemory>
+    requires rules { IsPlan left.now.plan.now }
     requires code { left.now.code < length left.now.plan.now.codes }
     requires place { place < length left.now.plan.now.exchanges }
     requires origins { AreOrigins left.now.plan.now origins.now }

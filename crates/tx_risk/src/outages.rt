@@ -1,7 +1,8 @@
 // What the outages of a plan cut off.
 ghost use Rattle.std.specs.Prelude.{◌≡◌, ◌<◌, ◌==◌, ℕ, length, true, IfOk};
-ghost use Rattle.tx_rank.specs.Judged.{AreOrigins};
 ghost use Rattle.std.specs.List.{list_any};
+ghost use Rattle.tx_plan.specs.Rules.{IsPlan};
+ghost use Rattle.tx_rank.specs.Judged.{AreOrigins};
 ghost use Rattle.tx_risk.specs.NamedRisks.{AreRisksFor, named_groups};
 ghost use Rattle.tx_risk.specs.Outages.{risk_of, outage_at, AreCutsOfCode, AreCutsOf, AreAllCuts};
 ghost use Rattle.tx_rank.specs.Grades.{CanBeCertified};
@@ -76,6 +77,7 @@ fn add_code<A: Allocator + Copy>(
     code: CodeId,
     cuts: &mut Vec<Cut<A>, A>,
 ) -> Result<(), NoMemory>
+    requires rules { IsPlan plan.now }
     requires origins { AreOrigins plan.now origins.now }
     requires code { code < length plan.now.codes }
     requires certified { (limit : ℕ) × (spare : ℕ) × CanBeCertified plan.now limit spare }
@@ -84,7 +86,6 @@ fn add_code<A: Allocator + Copy>(
     ensures { IfOk result (λ _. Adds (AreCutsOfCode plan.now (marked gone.now) outage.now code)
         cuts.old.items cuts.new.items) }
 {
-    plan.rules();
     if !is_hit(plan, gone, ends, outage, code) {
         return Ok(());
     }

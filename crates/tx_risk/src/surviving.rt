@@ -27,8 +27,7 @@ pub enum Survival<A: Allocator = Global> {
 }
 
 /// Returns what each group, each exchange and each named risk cuts off if it fails alone; or why
-/// the
-/// plan has no grade. `Err` means out of memory.
+/// the plan has no grade. `Err` means out of memory.
 pub fn survive<A: Allocator + Copy>(
     alloc: A,
     plan: &Plan<A>,
@@ -50,10 +49,7 @@ pub fn survive<A: Allocator + Copy>(
 {
     let grade = grade(alloc, plan)?;
     match grade.plan {
-        Some(_) => {
-            drop(grade);
-            Ok(Survival::Tried(all_cuts(alloc, plan, risks)?))
-        }
+        Some(_) => Ok(Survival::Tried(all_cuts(alloc, plan, risks)?)),
         None => Ok(Survival::Ungraded(grade)),
     }
 }

@@ -40,7 +40,7 @@ abbrev pub is_same_as : (before : Option Outage) → Outage → Bool
 is_same_as None o = false
 is_same_as (Some q) o = same_outage q o
 
--- a start from which a way is left, or none
+-- the first word of a cut, and its blank
 abbrev pub cut_word : (stray : Bool) → List ℕ
 cut_word stray = if stray then codes "STRAY " else codes "CUT "
 

@@ -21,7 +21,7 @@ use Rattle.tx_machine.specs.declared.event.Event.TheVariants.{Key, Route, Confir
 use Rattle.tx_machine.specs.declared.party.Party.{Party}
 use Rattle.tx_machine.specs.declared.party.Party.TheVariants.{Caller, Called}
 use Rattle.tx_tickets.specs.Texts.{circuit_text}
-use Rattle.tx_script.specs.Events.{is_dot, cut_at_dot, from_one, line_of, circuit_of, call_in, group_in, party_word, event_of, event_in, event_words, IsWritableCircuit, IsWritable, IsEvent, EventsReadBack}
+use Rattle.tx_script.specs.Events.{is_dot, cut_at_dot, from_one, line_of, circuit_of, call_in, group_in, party_word, event_of, event_in, event_words, IsWritableCircuit, FitsPlan, IsEvent, EventsReadBack}
 use Rattle.tx_plan.proofs.NamesBack.{code_back, figures_are_code, group_back, group_is_name}
 
 -- ---- what each word says
@@ -105,7 +105,7 @@ module _ (p : Plan) (h : IsPlan p) where
   clear_back n Caller h = let e = number_back (2 ^ 32 - 1) n (omega arith) (omega arith) in rw e refl
   clear_back n Called h = let e = number_back (2 ^ 32 - 1) n (omega arith) (omega arith) in rw e refl
 
-  pub words_back : (e : Event) → IsWritable p e → IsEvent e → SaysEvent e (event_words p e)
+  pub words_back : (e : Event) → FitsPlan p e → IsEvent e → SaysEvent e (event_words p e)
   unfolding event_of
   words_back (Key l keyed) w k = record {
     says = key_back l keyed w k.0 k.1;
@@ -139,4 +139,4 @@ module _ (p : Plan) (h : IsPlan p) where
       rw (f, j, k) refl
 
 pub events_back : EventsReadBack
-events_back p e h w k = line_says p h e (event_words p e) (words_back p h e w k)
+events_back p e h w = line_says p h e (event_words p e) (words_back p h e w.0 w.1)

@@ -268,22 +268,22 @@ pub record IsWritableCircuit (p : Plan) (x : Circuit) : Type 0 where
   pub few : x.number ≤ 240
 
 -- the plan has the event's ids, and a circuit's number is 1 to 240
-abbrev pub IsWritable : Plan → Event → Type 0
-IsWritable p (Key l keyed) = l.code < length p.codes
-IsWritable p (Route n) = Unit {0}
-IsWritable p (Confirm n) = Unit {0}
-IsWritable p (Clear n party) = Unit {0}
-IsWritable p (Released x) = IsWritableCircuit p x
-IsWritable p (Fail g) = g < length p.groups
-IsWritable p (Restore g) = g < length p.groups
-IsWritable p (Block g) = g < length p.groups
-IsWritable p (Unblock g) = g < length p.groups
-IsWritable p (CircuitOut x) = IsWritableCircuit p x
-IsWritable p (CircuitIn x) = IsWritableCircuit p x
-IsWritable p (LineFault l) = l.code < length p.codes
-IsWritable p (LineMend l) = l.code < length p.codes
-IsWritable p (LineAway l) = l.code < length p.codes
-IsWritable p (LineBack l) = l.code < length p.codes
+abbrev pub FitsPlan : Plan → Event → Type 0
+FitsPlan p (Key l keyed) = l.code < length p.codes
+FitsPlan p (Route n) = Unit {0}
+FitsPlan p (Confirm n) = Unit {0}
+FitsPlan p (Clear n party) = Unit {0}
+FitsPlan p (Released x) = IsWritableCircuit p x
+FitsPlan p (Fail g) = g < length p.groups
+FitsPlan p (Restore g) = g < length p.groups
+FitsPlan p (Block g) = g < length p.groups
+FitsPlan p (Unblock g) = g < length p.groups
+FitsPlan p (CircuitOut x) = IsWritableCircuit p x
+FitsPlan p (CircuitIn x) = IsWritableCircuit p x
+FitsPlan p (LineFault l) = l.code < length p.codes
+FitsPlan p (LineMend l) = l.code < length p.codes
+FitsPlan p (LineAway l) = l.code < length p.codes
+FitsPlan p (LineBack l) = l.code < length p.codes
 
 -- what the type of an event keeps: a national number is 1 to 9 figures, what is keyed 1 to 12, and
 -- a call's number below 2^32
@@ -304,7 +304,11 @@ IsEvent (LineMend l) = is_national l.national ≡ true
 IsEvent (LineAway l) = is_national l.national ≡ true
 IsEvent (LineBack l) = is_national l.national ≡ true
 
+-- both: the line of the event names what the plan has, by words of the right width
+abbrev pub IsWritable : Plan → Event → Type 0
+IsWritable p e = FitsPlan p e × IsEvent e
+
 -- THE ROUND TRIP: the line that is written for an event says that event
 abbrev pub EventsReadBack : Type 0
-EventsReadBack = (p : Plan) (e : Event) → IsPlan p
-    → IsWritable p e → IsEvent e → event_in p (event_line p e) ≡ Ok e
+EventsReadBack =
+    (p : Plan) (e : Event) → IsPlan p → IsWritable p e → event_in p (event_line p e) ≡ Ok e

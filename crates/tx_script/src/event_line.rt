@@ -1,6 +1,6 @@
 // The event of one line of a script.
 ghost use Rattle.std.specs.Prelude.{◌≡◌, IfOk};
-ghost use Rattle.tx_script.specs.Events.{event_in, IsWritable, IsEvent, EventsReadBack};
+ghost use Rattle.tx_script.specs.Events.{event_in, IsWritable, EventsReadBack};
 
 use crate::event_words::event_of;
 use crate::script_word::ScriptKind;
@@ -16,7 +16,6 @@ use tx_text::{FaultKind, FrameFault, bytes_fault, words};
 pub fn read_event<A: Allocator>(line: &[u8], plan: &Plan<A>) -> Result<Event, ScriptKind>
     ensures event { result ≡ event_in plan.now line.now }
     ensures writable { IfOk result (IsWritable plan.now) }
-    ensures is_event { IfOk result IsEvent }
 {
     if let Some(fault) = bytes_fault(line) {
         return Err(FaultKind::Frame(FrameFault::from(fault)));

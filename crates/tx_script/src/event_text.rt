@@ -5,7 +5,7 @@ ghost use Rattle.tx_text.specs.Wrote.{Wrote};
 ghost use Rattle.tx_plan.specs.Plan.{Plan as PlanValue, group_name};
 ghost use Rattle.tx_plan.specs.Rules.{is_national};
 ghost use Rattle.tx_tickets.specs.Texts.{line_text};
-ghost use Rattle.tx_script.specs.Events.{IsWritable, IsEvent, event_in, event_line, event_text, event_words, party_word};
+ghost use Rattle.tx_script.specs.Events.{IsWritable, event_in, event_line, event_text, event_words, party_word};
 
 use itoa::Buffer;
 use std::alloc::Allocator;
@@ -37,8 +37,7 @@ pub(crate) fn write_said<A: Allocator, W: Sink>(
     plan: &Plan<A>,
     sink: &mut W,
 ) -> Result<(), WriteFault>
-    ensures event { IsEvent event.now }
-    ensures wrote { Wrote W.taken W.failed sink.old sink.new
+    ensures { Wrote W.taken W.failed sink.old sink.new
         (event_text plan.now event.now) result }
 {
     let first = first_word(event);

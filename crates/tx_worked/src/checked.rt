@@ -6,9 +6,10 @@ use crate::cases::{
 use crate::driven::try_drives;
 use crate::runs::Over;
 use std::alloc::{Allocator, Global};
+use tx_audit::{Played, play};
 use tx_cert::read_cert;
 use tx_check::{Verdict, check};
-use tx_engine::{Engine, Played, play};
+use tx_engine::Engine;
 use tx_machine::{Event, Network, Reply, Ticket, drive};
 use tx_plain::Plain;
 use tx_plan::Plan;

@@ -8,8 +8,8 @@
 // sources of 1, 2, 7 and 4,096 bytes a call, which has to make
 //   no difference. `frame-calls PIECE` tells the same where each call of the source fails in turn.
 // - `source PIECE` tells eight calls of a source, of which each fails in turn, `slice` three calls
-// of a slice, and `two-texts PIECE FAILS ROOM` calls of
-// an input before and after the plan's end. `sink` writes the text to each room, whole and in
+// of a slice. `two-texts PIECE FAILS` runs a plan and a script of one input, of which a call may
+// fail. `sink` writes the text to each room, whole and in
 // parts. `ends` has no text: it moves bytes by std's readers and writers, which fail,
 //   or are interrupted where its head says `interrupted`.
 // - `declared` has no text: it declares a small plan, and returns what its readers answer, how much

@@ -19,6 +19,7 @@ pub record IsWayTo (n : Net) (goal : Goal) (x d : ℕ) : Type 0 where
   pub ends : IsGoal n goal (end_of x steps)
   pub count : length steps ≡ d
 
+-- the distance of x, if it has one
 abbrev pub distance_in : List (Option ℕ) → ℕ → Option ℕ
 distance_in distances x = option_and_then (λ d. d) (slice_get distances x)
 

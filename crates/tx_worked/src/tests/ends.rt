@@ -3,7 +3,7 @@ use crate::cases::{Told, tell, tell_broken, tell_count, tell_parts};
 use crate::tests::flaky::Flaky;
 use std::alloc::Global;
 use std::io::ErrorKind;
-use tx_jobs::{Ahead, PlanPart, ScriptPart};
+use tx_jobs::pipe_job;
 use tx_text::{
     FromRead, MemorySink, MemorySource, Sink, Source, ToWrite, WriteFault, write_bytes, write_parts,
 };
@@ -33,16 +33,16 @@ pub(crate) fn tell_sources(text: &[u8], piece: usize, out: &mut Told) {
     }
 }
 
-/// Calls before and after the end of the plan of an input, of which that of a number fails, where
-/// it is not 0.
-pub(crate) fn tell_two_texts(text: &[u8], piece: usize, fails: u64, room: usize, out: &mut Told) {
+/// Runs the job of an input of two texts, which gives pieces of so many bytes, and of which the call
+/// of a number fails, where it is not 0.
+pub(crate) fn tell_two_texts(alloc: Global, text: &[u8], piece: usize, fails: u64, out: &mut Told) {
     let fails_at = if fails > 0 { Some(fails) } else { None };
     let mut source = MemorySource::new(text, piece.max(1), fails_at);
-    let mut ahead = Ahead::new();
-    let mut plan = PlanPart::new(&mut source, &mut ahead);
-    tell_reads(&mut plan, 5, room, out);
-    let mut script = ScriptPart::new(&mut source, &mut ahead);
-    tell_reads(&mut script, 3, room, out);
+    let status = match pipe_job(alloc, &mut source, out) {
+        Ok(_) => 0,
+        Err(fault) => fault.status(),
+    };
+    tell_count(b"status ", u64::from(status), b"\n", out);
 }
 
 /// Returns what a sink took, and whether it took all that it was given.

@@ -30,7 +30,7 @@ fn circuit(plan: &Plan, chance: &mut Chance) -> Circuit {
     let number = place(plan.group_count(group) as usize, chance);
     Circuit {
         group,
-        number: u32::from(number),
+        number: number as u32,
     }
 }
 

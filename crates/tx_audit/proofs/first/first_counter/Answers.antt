@@ -22,4 +22,4 @@ pub returns-clause-writable : goal.returns-clause-writable
 returns-clause-writable g c =
     let p = c.args.plan.now in
     let fs = c.args.findings.now in
-    on_made (λ v. v.items) (first_counter_of p fs) (λ es. AllByRecursion (IsWritable p) es) c.first_events.result c.first_events.ensures (λ es e. first_writable p c.rules.ensures c.args.limit c.args.spare fs es e)
+    on_made (λ v. v.items) (first_counter_of p fs) (λ es. AllByRecursion (IsWritable p) es) c.first_events.result c.first_events.ensures (λ es e. first_writable p c.rules.ensures c.args.limit c.args.spare fs es c.requires e)

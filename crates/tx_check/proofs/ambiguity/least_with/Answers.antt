@@ -13,4 +13,4 @@ pub returns : goal.returns
 returns g c = row_end c.args.plan.now c.args.first c.loop-place.place c.loop-place.least (omega arith) c.loop-place.invariant
 
 pub returns-then-code_figures-ge3 : goal.returns-then-code_figures-ge3
-returns-then-code_figures-ge3 g c = row_skip c.args.plan.now c.codes-place-end.ensures.rules c.args.first c.args.least (let t = c.if-code_figures-ge3.true in let e = ap length c.code_figures.ensures.value in omega arith) c.requires.least
+returns-then-code_figures-ge3 g c = row_skip c.args.plan.now c.codes-codes.ensures.rules c.args.first c.args.least (let t = c.if-code_figures-ge3.true in let e = ap length c.code_figures.ensures.value in omega arith) c.requires.least

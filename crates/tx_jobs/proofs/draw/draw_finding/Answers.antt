@@ -9,5 +9,5 @@ returns-in-Ok-clause-drew g c =
     inl (record {
       text = code_drawing c.args.plan.now c.args.code c.in-Ok.marks.items (first_shown c.args.code findings);
       picture = record { marks = c.in-Ok.marks.items; reached = c.in-Ok.ensures; findings = findings; found = c.requires.found; is = refl };
-      told = rw c.deref.ensures.value at c.in-Err-write_code_drawing.ensures.err;
+      told = rw c.deref.ensures.value at c.in-Err-write_code_drawing.ensures.0;
     })

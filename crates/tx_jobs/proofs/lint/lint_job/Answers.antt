@@ -7,7 +7,7 @@ pub returns-in-Ok-clause-answers : goal.returns-in-Ok-clause-answers
 returns-in-Ok-clause-answers g c = inl (record {
   text = c.in-Ok.text.items;
   whole = c.in-Ok.ensures.text;
-  goes_on = rw c.deref.ensures.value at c.lint_text-linted.ensures.linted;
+  goes_on = rw c.deref.ensures.value at c.lint_text.ensures.linted;
 })
 
 pub returns-in-Err-clause-answers : goal.returns-in-Err-clause-answers

@@ -11,17 +11,17 @@ returns-in-Ok-clause-answers g c =
     let begun = c.new-part.result in
     let read = c.read_plan_part.new.part in
     let script = c.new-script.result in
-    let end = c.run_script_part-ran.new.script in
-    let out = output g.W.Sink.taken c.args.out.now c.run_script_part-ran.new.out in
-    let result = c.run_script_part-ran.result in
+    let end = c.run_script_part.new.script in
+    let out = output g.W.Sink.taken c.args.out.now c.run_script_part.new.out in
+    let result = c.run_script_part.result in
     let none : begun.ahead.now.held ≡ [] = ap (λ b. b.now.held) c.new-part.ensures.ahead ∙ c.new-ahead.ensures.held in
     let sound : begun.ahead.now.failed ≡ false = ap (λ b. b.now.failed) c.new-part.ensures.ahead ∙ c.new-ahead.ensures.failed in
     let same : script.input.now ≡ read.input.now = search rules in
     let kept : script.ahead.now ≡ read.ahead.now = search rules in
     inl
     (subst2 (λ a b. PipeRan s.rest s.failed s.called a b out result) (ap (λ b. b.now) c.new-part.ensures.input) (search rules)
-    (ran s.rest s.failed s.called begun read none sound c.new-part.ensures.seen c.read_plan_part.ensures.calls script end same kept c.run_script_part-ran.ensures.calls c.in-Ok.plan c.rules.ensures out result
-    c.in-Ok.ensures.answer c.run_script_part-ran.ensures.answers))
+    (ran s.rest s.failed s.called begun read none sound c.new-part.ensures.seen c.read_plan_part.ensures.calls script end same kept c.run_script_part.ensures.calls c.in-Ok.plan c.in-Ok.ensures.rules out result
+    c.in-Ok.ensures.answer c.run_script_part.ensures.answers))
 
 pub returns-in-Err-clause-answers : goal.returns-in-Err-clause-answers
 returns-in-Err-clause-answers g c =

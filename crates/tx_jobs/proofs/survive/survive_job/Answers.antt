@@ -5,9 +5,9 @@ use Rattle.tx_jobs.proofs.survive.survive_job.Goals as goal
 pub returns-in-Ok-clause-answers : goal.returns-in-Ok-clause-answers
 returns-in-Ok-clause-answers g c = inl (record {
   plan = c.in-Ok.plan;
-  rules = c.rules.ensures;
+  rules = c.in-Ok.ensures.rules;
   read = c.in-Ok.ensures.answer;
-  goes_on = c.tell_unnamed-told.ensures.told;
+  goes_on = c.tell_unnamed.ensures.told;
 })
 
 pub returns-in-Err-clause-answers : goal.returns-in-Err-clause-answers

@@ -5,24 +5,24 @@ use Rattle.tx_jobs.specs.SurviveJobs.{ToldSurvival}
 use Rattle.tx_jobs.proofs.Surviving.{risks_mark}
 use Rattle.tx_jobs.proofs.survive.tell_named.Goals as goal
 
-pub tell_survival-told-requires : goal.tell_survival-told-requires
-tell_survival-told-requires g c =
+pub tell_survival-requires : goal.tell_survival-requires
+tell_survival-requires g c =
     subst (AreRisksFor c.args.plan.now) (sym c.as_slice.ensures) c.in-Ok.ensures.fits
 
-pub returns-in-Ok-told-clause-answers : goal.returns-in-Ok-told-clause-answers
-returns-in-Ok-told-clause-answers g c = inl (record {
+pub returns-in-Ok-tell_survival-clause-answers : goal.returns-in-Ok-tell_survival-clause-answers
+returns-in-Ok-tell_survival-clause-answers g c = inl (record {
   risks = c.in-Ok.risks;
   fit = c.in-Ok.ensures.fits;
   read = c.in-Ok.ensures.answer;
-  goes_on = rw c.as_slice.ensures at c.in-Ok-told.ensures.told;
+  goes_on = rw c.as_slice.ensures at c.in-Ok-tell_survival.ensures.told;
 })
 
-pub returns-in-Err-told-clause-answers : goal.returns-in-Err-told-clause-answers
-returns-in-Err-told-clause-answers g c = inl (record {
+pub returns-in-Err-tell_survival-clause-answers : goal.returns-in-Err-tell_survival-clause-answers
+returns-in-Err-tell_survival-clause-answers g c = inl (record {
   risks = c.in-Ok.risks;
   fit = c.in-Ok.ensures.fits;
   read = c.in-Ok.ensures.answer;
-  goes_on = subst (λ risks. ToldSurvival c.args.plan.now risks (output g.W.Sink.taken c.args.out.now c.tell_survival-told.new.out) (Err c.in-Err-told.fault)) c.as_slice.ensures c.in-Err-told.ensures.told;
+  goes_on = subst (λ risks. ToldSurvival c.args.plan.now risks (output g.W.Sink.taken c.args.out.now c.tell_survival.new.out) (Err c.in-Err-tell_survival.fault)) c.as_slice.ensures c.in-Err-tell_survival.ensures.told;
 })
 
 pub returns-in-Err-clause-answers : goal.returns-in-Err-clause-answers

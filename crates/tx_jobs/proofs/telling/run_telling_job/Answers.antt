@@ -7,9 +7,9 @@ use Rattle.tx_jobs.proofs.telling.run_telling_job.Goals as goal
 pub returns-in-Ok-clause-answers : goal.returns-in-Ok-clause-answers
 returns-in-Ok-clause-answers g c = inl (record {
   plan = c.in-Ok.plan;
-  rules = c.rules.ensures;
+  rules = c.in-Ok.ensures.rules;
   read = c.in-Ok.ensures.answer;
-  goes_on = c.tell_script-told.ensures.answers;
+  goes_on = c.tell_script.ensures.answers;
 })
 
 pub returns-in-Err-clause-answers : goal.returns-in-Err-clause-answers

@@ -3,7 +3,7 @@ use Rattle.tx_jobs.proofs.RefusedTexts.{plan_mark}
 use Rattle.tx_jobs.proofs.trace.trace_job.Goals as goal
 
 pub returns-in-Ok-clause-answers : goal.returns-in-Ok-clause-answers
-returns-in-Ok-clause-answers g c = inl (record { plan = c.in-Ok.plan; rules = c.rules.ensures; read = c.in-Ok.ensures.answer; goes_on = c.trace_named-traced.ensures.traced })
+returns-in-Ok-clause-answers g c = inl (record { plan = c.in-Ok.plan; rules = c.in-Ok.ensures.rules; read = c.in-Ok.ensures.answer; goes_on = c.trace_named.ensures.traced })
 
 pub returns-in-Err-clause-answers : goal.returns-in-Err-clause-answers
 returns-in-Err-clause-answers g c = inr (record { fault = c.in-Err.fault; read = c.in-Err.ensures.answer; told = ap Err c.of_plan.ensures; rest = refl })

@@ -4,8 +4,8 @@ ghost use Rattle.tx_machine.specs.Drained.{drained};
 ghost use Rattle.tx_machine.specs.Runs.{replies as replies_to, state_after};
 ghost use Rattle.tx_machine.specs.State.{opening};
 
-use crate::engine::Engine;
 use std::alloc::{Allocator, Global};
+use tx_engine::Engine;
 use tx_machine::{Event, Network, Reply, Ticket, drive};
 use tx_plan::Plan;
 use tx_text::NoMemory;
@@ -22,9 +22,8 @@ pub struct Played<'p, A: Allocator = Global> {
 }
 
 /// Plays events on the engine of a plan, from the opening state with so many numbers given and so
-/// many events accepted. The replies, the tickets and the
-/// state after them are those of the run, whatever the plan, the two numbers and the events are.
-/// `Err` means out of memory.
+/// many events accepted. The replies, the tickets and the state after them are those of the run,
+/// whatever the plan, the two numbers and the events are. `Err` means out of memory.
 pub fn play<'p, A: Allocator + Copy>(
     alloc: A,
     plan: &'p Plan<A>,

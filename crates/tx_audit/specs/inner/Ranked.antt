@@ -1,7 +1,7 @@
 -- What an audit answers of a plan that was read.
-use Rattle.std.specs.Prelude.{◌≡◌, ◌≢◌, ℕ, List, [], Option, Result, Ok, Err}
+use Rattle.std.specs.Prelude.{◌≡◌, ◌≢◌, ℕ, List, [], Result, Ok, Err}
 use Rattle.std.specs.Io.KnownBytes.{append_known}
-use Rattle.tx_text.specs.Ends.{StopsIn}
+use Rattle.tx_text.specs.Ends.{StopsIn, Output}
 use Rattle.tx_plan.specs.Plan.{Plan}
 use Rattle.tx_rank.specs.declared.finding.Finding.{Finding}
 use Rattle.tx_rank.specs.declared.ranking.Ranking.{Ranking}
@@ -12,17 +12,13 @@ use Rattle.tx_audit.specs.declared.audited.Audited.TheVariants.{Sound, Unsound}
 use Rattle.tx_audit.specs.declared.audited.AuditFault.{AuditFault}
 use Rattle.tx_audit.specs.declared.audited.AuditFault.TheVariants.{Plan as PlanRefused, Write, NoMemory}
 use Rattle.tx_audit.specs.Audits.{IsCleared, IsAllFound}
-use Rattle.tx_audit.specs.Report.{report}
+use Rattle.tx_audit.specs.Report.{findings_of, report}
 
 module _ {A : Type 0} where
+  -- a plan with what its ranking came to
   abbrev pub audited_of : Plan → Ranking A → Audited A
   audited_of p (Found cert) = Sound p cert
   audited_of p (Fails findings) = Unsound p findings
-
-  -- what was found: nothing where there is a certificate
-  abbrev pub findings_of : Ranking A → List (Finding A)
-  findings_of (Found cert) = []
-  findings_of (Fails findings) = findings.items
 
   -- a certificate that clears a plan without findings, or the findings of one that no ranks certify
   abbrev pub IsRight : Plan → (limit spare : ℕ) → Ranking A → Type 0
@@ -32,19 +28,16 @@ module _ {A : Type 0} where
       × (findings.items ≢ []) × (CanBeCertified p limit spare → ⊥)
 
 -- a ranking that is right, whose report was written in part
-pub record ToldInPart (A : Type 0) (p : Plan)
-    (limit spare : ℕ) (taken_old taken_new : Option (List ℕ)) : Type 0 where
+pub record ToldInPart (A : Type 0) (p : Plan) (limit spare : ℕ) (out : Output) : Type 0 where
   pub ranking : Ranking A
   pub right : IsRight p limit spare ranking
-  pub wrote : StopsIn taken_old taken_new (report p limit spare (findings_of ranking))
+  pub wrote : StopsIn out.old out.new (report p limit spare (findings_of ranking))
 
--- The ranking is right, and its report was written. Silent says that nothing was written.
-abbrev pub RankAnswers : {A : Type 0} → Plan → (limit spare : ℕ)
-    → (taken_old taken_new : Option (List ℕ))
-    → (silent : Type 0) → Result (Ranking A) AuditFault → Type 0
-RankAnswers p limit spare taken_old taken_new silent (Ok r) = IsRight p limit spare r
-    × (taken_new ≡ append_known taken_old (report p limit spare (findings_of r)))
-RankAnswers {A} p limit spare taken_old taken_new silent (Err Write) =
-    ToldInPart A p limit spare taken_old taken_new
-RankAnswers p limit spare taken_old taken_new silent (Err NoMemory) = silent
-RankAnswers p limit spare taken_old taken_new silent (Err (PlanRefused f)) = ⊥
+-- the ranking is right, and its report was written
+abbrev pub RankAnswers : {A : Type 0} → Plan → (limit spare : ℕ) → (out : Output)
+    → Result (Ranking A) AuditFault → Type 0
+RankAnswers p limit spare out (Ok r) = IsRight p limit spare r
+    × (out.new ≡ append_known out.old (report p limit spare (findings_of r)))
+RankAnswers {A} p limit spare out (Err Write) = ToldInPart A p limit spare out
+RankAnswers p limit spare out (Err NoMemory) = out.silent
+RankAnswers p limit spare out (Err (PlanRefused f)) = ⊥

@@ -1,4 +1,4 @@
-// The files of what shows a verdict.
+// The files that a command makes.
 use crate::ends::Output;
 use crate::folder::Folder;
 use crate::new_file::NewFile;
@@ -10,9 +10,9 @@ use tx_jobs::{CounterScript, JobFault};
 use tx_plan::Plan;
 use tx_plantext::write_plan;
 
-/// Where what shows a verdict is to be kept.
+/// The files that a command makes of what shows its verdict, where they are named.
 #[derive(Clone, Copy)]
-pub(crate) struct Keep<'a> {
+pub(crate) struct OutputFiles<'a> {
     /// The file of the certificate.
     pub cert: Option<&'a str>,
     /// The file of the mixture of a change, or of the plan that was mended.
@@ -21,9 +21,9 @@ pub(crate) struct Keep<'a> {
     pub counter: Option<&'a str>,
 }
 
-/// What shows a verdict.
+/// What a file holds that a command makes.
 #[derive(Clone, Copy)]
-pub(crate) enum Kept<'a, A: Allocator> {
+pub(crate) enum Content<'a, A: Allocator> {
     /// The certificate of a plan.
     Cert(&'a Plan<A>, &'a Cert<A>),
     /// A mixture of two plans, or a plan that was mended.
@@ -32,11 +32,10 @@ pub(crate) enum Kept<'a, A: Allocator> {
     Script(&'a CounterScript<A>),
 }
 
-/// Once the report is out, makes the file of what is to be kept, if one is named: whole, or not at
-/// all.
-pub(crate) fn keep_file<A: Allocator + Copy, F: Folder, O: Write + Drop>(
+/// Once the report is out, makes the file of this name, if there is one: whole, or not at all.
+pub(crate) fn write_file<A: Allocator + Copy, F: Folder, O: Write + Drop>(
     alloc: A,
-    kept: Kept<'_, A>,
+    content: Content<'_, A>,
     name: Option<&str>,
     folder: &F,
     report: &Output<O, A>,
@@ -45,7 +44,7 @@ pub(crate) fn keep_file<A: Allocator + Copy, F: Folder, O: Write + Drop>(
         Some(name) => {
             report.let_out()?;
             let mut file = NewFile::new(folder, name);
-            match write_kept(alloc, kept, &mut file) {
+            match write_content(alloc, content, &mut file) {
                 Ok(()) => file.finish().or(Err(JobFault::Write)),
                 Err(fault) => {
                     file.give_up();
@@ -57,18 +56,20 @@ pub(crate) fn keep_file<A: Allocator + Copy, F: Folder, O: Write + Drop>(
     }
 }
 
-/// Writes it to a file, once there is room for its output.
-fn write_kept<A: Allocator + Copy, W: Write + Drop>(
+/// Writes what a file holds, once there is room for its output.
+fn write_content<A: Allocator + Copy, W: Write + Drop>(
     alloc: A,
-    kept: Kept<'_, A>,
+    content: Content<'_, A>,
     file: W,
 ) -> Result<(), JobFault> {
     let output = Output::new(alloc, file)?;
     let mut sink = output.sink();
-    let written = match kept {
-        Kept::Cert(plan, cert) => write_cert(cert, plan, &mut sink),
-        Kept::Plan(plan) => write_plan(plan, &mut sink),
-        Kept::Script(script) => { write_counter(&script.plan, script.events.as_slice(), &mut sink) }
+    let written = match content {
+        Content::Cert(plan, cert) => write_cert(cert, plan, &mut sink),
+        Content::Plan(plan) => write_plan(plan, &mut sink),
+        Content::Script(script) => {
+            write_counter(&script.plan, script.events.as_slice(), &mut sink)
+        }
     };
     output.let_out().and(written.or(Err(JobFault::Write)))
 }
