@@ -5,7 +5,7 @@ ghost use Rattle.tx_machine.specs.Call.{is_standing, is_calling, is_connected};
 use tx_plan::{Circuit, Line};
 
 /// What an open call waits for, by the phases of ITU-T U.1.
-#[derive(Clone, Copy, PartialEq, Eq)]
+#[derive(Clone, Copy, Debug, PartialEq, Eq)]
 pub enum Phase {
     /// It stands at an exchange and waits to be routed there.
     Standing,
