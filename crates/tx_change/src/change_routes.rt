@@ -33,6 +33,7 @@ impl<'a, A: Allocator> Routes for ChangeRoutes<'a, A> {
     }
 
     fn exchange(&self, place: usize) -> ExchangeId {
+        self.old.rules();
         ExchangeId::of(place)
     }
 

@@ -59,7 +59,7 @@ abbrev pub unserved_line : Plan → ℕ × ℕ → List ℕ
 unserved_line p k = codes "F5 UNSERVED "
     ++ (figures_of p k.0 ++ (codes " " ++ (exchange_name p k.1 ++ codes "\n")))
 
--- THE REPORT of a plan for which no routes can be certified: what was asked, a line for the pair
+-- the report of a plan for which no routes can be certified: what was asked, a line for the pair
 -- and one for each that cannot be served, and the verdict with their number
 abbrev pub unserved_text : Plan → (limit spare : ℕ) → List (ℕ × ℕ) → Option (ℕ × ℕ) → List ℕ
 unserved_text p limit spare unserved pair = head_line limit spare

@@ -38,6 +38,7 @@ impl<'a, A: Allocator> Routes for CodeRoutes<'a, A> {
     }
 
     fn exchange(&self, place: usize) -> ExchangeId {
+        self.plan.rules();
         ExchangeId::of(place)
     }
 

@@ -35,6 +35,7 @@ same_outage (Exchange x) (Exchange y) = x == y
 same_outage (Named i) (Named j) = i == j
 same_outage o q = false
 
+-- the same fails as in the line before, if there is one
 abbrev pub is_same_as : (before : Option Outage) → Outage → Bool
 is_same_as None o = false
 is_same_as (Some q) o = same_outage q o
@@ -59,18 +60,18 @@ module _ {A : Type 0} where
   cut_text p risks before c =
       (if is_same_as before c.outage then [] else outage_line p risks c.outage) ++ cut_line p c
 
-  -- all cuts, after one of that outage if there is one
+  -- all cuts, one after another
   abbrev pub cuts_text : Plan → List NamedRisk → (before : Option Outage) → List (Cut A) → List ℕ
   cuts_text p risks before [] = []
   cuts_text p risks before (c ∷ cuts) =
       cut_text p risks before c ++ cuts_text p risks (Some c.outage) cuts
 
-  -- where all outages were tried
+  -- how many outages were tried, the cuts, and the verdict
   abbrev pub tried_text : Plan → List NamedRisk → List (Cut A) → List ℕ
   tried_text p risks cuts =
       head_line (outages p risks) ++ (cuts_text p risks None cuts ++ verdict_line (length cuts))
 
-  -- THE REPORT: how many outages were tried, what each cuts off, and the verdict; or the text of
+  -- the report: how many outages were tried, what each cuts off, and the verdict; or the text of
   -- the grade, where the plan has none
   abbrev pub survival_text : Plan → List NamedRisk → Survival A → List ℕ
   survival_text p risks (Tried cuts) = tried_text p risks cuts.items

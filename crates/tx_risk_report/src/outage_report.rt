@@ -85,20 +85,7 @@ fn write_outage<A: Allocator, W: Sink>(
 fn is_same(before: &Outage, outage: &Outage) -> bool
     ensures { result ≡ same_outage before.now outage.now }
 {
-    match before {
-        Outage::Group(group) => match outage {
-            Outage::Group(other) => *group == *other,
-            _ => false,
-        },
-        Outage::Exchange(exchange) => match outage {
-            Outage::Exchange(other) => *exchange == *other,
-            _ => false,
-        },
-        Outage::Named(place) => match outage {
-            Outage::Named(other) => *place == *other,
-            _ => false,
-        },
-    }
+    *before == *outage
 }
 
 /// Whether the cut at a place is of the same outage as the one before it.

@@ -25,6 +25,7 @@ impl<'a, A: Allocator> Routes for RoutesFrom<'a, A> {
     }
 
     fn exchange(&self, place: usize) -> ExchangeId {
+        self.plan.rules();
         ExchangeId::of(place)
     }
 
