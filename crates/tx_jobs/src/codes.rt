@@ -9,7 +9,7 @@ use crate::job_fault::JobFault;
 use std::alloc::Allocator;
 use tx_plan::{CodeId, Plan};
 use tx_plantext::read_plan_from;
-use tx_text::{Sink, Source, WriteFault};
+use tx_text::{Sink, Source};
 use tx_trie::{CodeTrie, write_codes};
 
 /// Reads a plan, and writes its codes and then the least pair of a code and a longer one that
@@ -58,11 +58,7 @@ fn tell_codes<A: Allocator + Copy, W: Sink>(
     ensures told { ToldCodes plan.now (output W.taken out.old out.new) result }
     ensures mark { W.failed out.new ≡ mark_after (W.failed out.old) result }
 {
-    match CodeTrie::build(alloc, plan) {
-        Err(_) => Err(JobFault::NoMemory),
-        Ok(trie) => match write_codes(plan, &trie, out) {
-            Ok(()) => Ok(trie.ambiguous()),
-            Err(WriteFault) => Err(JobFault::Write),
-        },
-    }
+    let trie = CodeTrie::build(alloc, plan)?;
+    write_codes(plan, &trie, out)?;
+    Ok(trie.ambiguous())
 }

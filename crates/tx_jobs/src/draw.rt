@@ -77,10 +77,8 @@ fn draw_whole<A: Allocator, W: Sink>(plan: &Plan<A>, out: &mut W) -> Result<Draw
     ensures told { ToldText (drawing plan.now) (output W.taken out.old out.new) result }
     ensures mark { W.failed out.new ≡ mark_after (W.failed out.old) result }
 {
-    match write_drawing(plan, out) {
-        Ok(()) => Ok(Drawn::Picture),
-        Err(WriteFault) => Err(JobFault::Write),
-    }
+    write_drawing(plan, out)?;
+    Ok(Drawn::Picture)
 }
 
 fn draw_code<A: Allocator + Copy, W: Sink>(

@@ -1,5 +1,6 @@
 // Why a job stopped.
 ghost use Rattle.std.specs.Prelude.{◌≡◌};
+ghost use Rattle.tx_jobs.specs.declared.job_fault.JobFault.TheVariants.{NoMemory as OutOfMemory, Write as WriteFailed};
 ghost use Rattle.tx_jobs.specs.JobFaults.{status_of, plan_fault, cert_fault, script_fault, run_fault};
 ghost use Rattle.tx_jobs.specs.AuditJobs.{audit_fault};
 ghost use Rattle.tx_jobs.specs.LintJobs.{lint_fault};
@@ -13,7 +14,7 @@ use tx_mend_report::MendFault;
 use tx_plan::PlanRefusal;
 use tx_plantext::{PlanFault, PlanWord};
 use tx_script::{RunCause, RunFault, ScriptFault};
-use tx_text::{FaultKind, FrameFault};
+use tx_text::{FaultKind, FrameFault, NoMemory, WriteFault};
 
 /// Why a job stopped before its end. `write_fault` says it in full.
 #[derive(Clone, Copy, Debug, PartialEq, Eq, Error)]
@@ -36,6 +37,22 @@ pub enum JobFault {
     /// No memory was left.
     #[error("no memory")]
     NoMemory,
+}
+
+impl From<NoMemory> for JobFault {
+    ghost from_gives = { λ _ fault. fault ≡ OutOfMemory };
+
+    fn from(_: NoMemory) -> JobFault {
+        JobFault::NoMemory
+    }
+}
+
+impl From<WriteFault> for JobFault {
+    ghost from_gives = { λ _ fault. fault ≡ WriteFailed };
+
+    fn from(_: WriteFault) -> JobFault {
+        JobFault::Write
+    }
 }
 
 impl JobFault {

@@ -9,7 +9,7 @@ ghost use Rattle.tx_jobs.specs.LintJobs.{ToldLint, LintedInRoom, LintJobAnswers}
 use crate::job_fault::JobFault;
 use std::alloc::Allocator;
 use tx_lint::{Lint, lint_plan, read_text, write_lint};
-use tx_text::{Sink, Source, WriteFault};
+use tx_text::{Sink, Source};
 
 /// Reads a plan's text to its end, and writes all its faults; or where it has none, the warnings of
 /// its plan. Each line begins with the words for the file of the text. Answers the exit status: 0
@@ -58,8 +58,6 @@ fn tell_lint<A: Allocator, W: Sink>(
     ensures told { ToldLint file.now (lint_held lint.now) (output W.taken out.old out.new) result }
     ensures mark { W.failed out.new ≡ mark_after (W.failed out.old) result }
 {
-    match write_lint(lint, file, out) {
-        Ok(()) => Ok(lint.status()),
-        Err(WriteFault) => Err(JobFault::Write),
-    }
+    write_lint(lint, file, out)?;
+    Ok(lint.status())
 }

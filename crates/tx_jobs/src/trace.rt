@@ -11,7 +11,7 @@ use crate::job_fault::JobFault;
 use std::alloc::Allocator;
 use tx_plan::{CodeId, ExchangeId, Plan};
 use tx_plantext::read_plan_from;
-use tx_text::{Sink, Source, WriteFault};
+use tx_text::{Sink, Source};
 use tx_trace::{trace_calls, write_trace};
 
 /// What a plan to trace calls in came to.
@@ -81,11 +81,7 @@ fn trace_code<A: Allocator + Copy, W: Sink>(
         result }
     ensures mark { W.failed out.new ≡ mark_after (W.failed out.old) result }
 {
-    match trace_calls(alloc, plan, code, exchange) {
-        Ok(trace) => match write_trace(plan, &trace, out) {
-            Ok(()) => Ok(Traced::Trace),
-            Err(WriteFault) => Err(JobFault::Write),
-        },
-        Err(_) => Err(JobFault::NoMemory),
-    }
+    let trace = trace_calls(alloc, plan, code, exchange)?;
+    write_trace(plan, &trace, out)?;
+    Ok(Traced::Trace)
 }

@@ -20,7 +20,6 @@ use tx_jobs::{
     survive_job, survive_risks_job, trace_job,
 };
 use tx_script::Telling;
-use tx_text::WriteFault;
 
 /// Opens the files of a command, does its job, and lets its output out. Answers the exit status. An
 /// output that fails is told before any other fault.
@@ -227,8 +226,6 @@ fn explain<A: Allocator, O: Write + Drop>(
     word: Option<&str>,
     output: &Output<O, A>,
 ) -> Result<u8, JobFault> {
-    match write_explanation(word, &mut output.sink()) {
-        Ok(()) => Ok(0),
-        Err(WriteFault) => Err(JobFault::Write),
-    }
+    write_explanation(word, &mut output.sink())?;
+    Ok(0)
 }
