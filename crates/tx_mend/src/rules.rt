@@ -72,6 +72,7 @@ impl<'a, A: Allocator> Rule for AnyRoutes<'a, A> {
     }
 
     fn follows(&self, ranks: &[Option<u8>], place: usize) -> bool {
+        self.plan.rules();
         let groups = groups_at(self.seizable, place);
         count_on(self.plan, ranks, ExchangeId::of(place), groups) > usize::from(self.spare)
     }
@@ -119,6 +120,7 @@ impl<'a, A: Allocator> Rule for PresentRoutes<'a, A> {
     }
 
     fn follows(&self, ranks: &[Option<u8>], place: usize) -> bool {
+        self.plan.rules();
         let exchange = ExchangeId::of(place);
         let list = self.plan.list(exchange, self.code);
         list.len() > usize::from(self.spare) && all_on(self.plan, ranks, exchange, list)

@@ -19,6 +19,7 @@ fn is_start<A: Allocator>(plan: &Plan<A>, origins: &[bool], code: CodeId, place:
     requires place { place < length plan.now.exchanges }
     ensures { result ≡ is_origin_for plan.now place code }
 {
+    plan.rules();
     origins[place] && !plan.is_barred(ExchangeId::of(place), code)
 }
 

@@ -23,3 +23,6 @@ returns-else-origins-place g c =
     let h = c.requires.place in
     let start = c.requires.origins.each c.args.place (get_or c.args.origins.now c.args.place false) (slice_get-get_or c.args.origins.now c.args.place false (omega arith)) in
     c.if-origins-place.false ∙ sym (ap (λ b. b && not (is_barred p c.args.place c.args.code)) (sym start ∙ c.if-origins-place.false))
+
+pub of-requires : goal.of-requires
+of-requires g c = let few = c.rules.ensures.few_exchanges in let within = c.requires.place in omega arith
