@@ -28,7 +28,7 @@ module _ (p : Plan) (x : Moved) (broken D E : Type 0) (f : D → E) where
   answers_with (Err q) h = stopped_with q.event q.cause h
 
 module _ (p : Plan) (script : Input) (out : Output) where
-  moved : (old new : State) → Moved
+  abbrev moved : (old new : State) → Moved
   moved old new = record { rest_old = script.old; rest_new = script.new; taken_old = out.old; taken_new = out.new; state_old = old; state_new = new }
 
   pub ran_from_opening : {D : Type 0} {old new : State} (answer : Result Summary RunFault) → RunAnswers p (moved old new) script.broken D answer
