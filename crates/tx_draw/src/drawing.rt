@@ -76,22 +76,12 @@ fn write_group_label<A: Allocator, W: Sink>(
     let mut buffer = Buffer::new();
     let count = buffer.format(plan.group_count(group)).as_bytes();
     let name = plan.group_name(group);
-    write_parts(
-        &[
-            b"\"",
-            name,
-            b" ",
-            count,
-            b"\"",
-            arrow_text(plan.direction(group)),
-            b"];\n",
-        ],
-        sink,
-    )
+    let arrow = arrow_text(plan.direction(group));
+    write_parts(&[b"\"", name, b" ", count, b"\"", arrow, b"];\n"], sink)
 }
 
 /// A both-way group has no arrow.
-fn arrow_text(direction: Direction) -> &'static [u8]
+fn arrow_text<'a>(direction: Direction) -> &'a [u8]
     ensures { result.now ≡ arrow_text direction }
 {
     match direction {
