@@ -58,6 +58,7 @@ pub fn first_difference<A: Allocator>(old: &Plan<A>, new: &Plan<A>) -> Option<Di
 fn first_apart<A: Allocator>(list: NetworkList, old: &Plan<A>, new: &Plan<A>) -> Option<u16>
     ensures { ApartAnswer list old.now new.now result }
 {
+    old.rules();
     let before = entries(list, old);
     let after = entries(list, new);
     let shorter = before.min(after);

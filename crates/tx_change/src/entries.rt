@@ -11,6 +11,7 @@ pub fn is_same_exchange<A: Allocator>(old: &Plan<A>, new: &Plan<A>, place: usize
     ensures { result ≡ true
         ↔ slice_get old.now.exchanges place ≡ slice_get new.now.exchanges place }
 {
+    old.rules();
     let exchange = ExchangeId::of(place);
     old.exchange_name(exchange) == new.exchange_name(exchange)
 }
@@ -21,6 +22,7 @@ pub fn is_same_code<A: Allocator>(old: &Plan<A>, new: &Plan<A>, place: usize) ->
     requires new { place < length new.now.codes }
     ensures { result ≡ true ↔ slice_get old.now.codes place ≡ slice_get new.now.codes place }
 {
+    old.rules();
     let code = CodeId::of(place);
     old.home(code) == new.home(code) && old.code_figures(code) == new.code_figures(code)
 }
@@ -43,6 +45,7 @@ pub fn is_same_group<A: Allocator>(old: &Plan<A>, new: &Plan<A>, place: usize) -
     requires new { place < length new.now.groups }
     ensures { result ≡ true ↔ slice_get old.now.groups place ≡ slice_get new.now.groups place }
 {
+    old.rules();
     let group = GroupId::of(place);
     let (a, b) = old.ends(group);
     let (c, d) = new.ends(group);
