@@ -70,7 +70,7 @@ module _ (p : Plan) (x : Moved) (broken untouched : Type 0) where
     place = told.place;
     text = told.text;
     front = subst (λ l. StopsIn (append_known x.taken_old l) x.taken_new (end_text (state_after p x.state_old told.events))) (events_silent p x.state_old told.events)
-    (subst (λ l. StopsIn (append_known x.taken_old (told_events p false x.state_old told.events)) x.taken_new l) (end_silent p x.state_old told.events) told.front);
+        (subst (λ l. StopsIn (append_known x.taken_old (told_events p false x.state_old told.events)) x.taken_new l) (end_silent p x.state_old told.events) told.front);
     network = told.network;
   })
   stopped_silent event (OfScript f) told = faulty_silent (is_reader_room f.kind) event f.line f.kind told

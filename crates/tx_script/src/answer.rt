@@ -36,7 +36,8 @@ pub(crate) fn is_refused(reply: &Reply) -> bool
 }
 
 impl<A: Allocator> Teller<A> {
-    /// Answers a line of this number, whose words say an event or have a fault, over a network whose tickets were taken. The event has a number of its own.
+    /// Answers a line of this number, whose words say an event or have a fault, over a network
+    /// whose tickets were taken. The event has a number of its own.
     #[inline(always)]
     pub(crate) fn answer_line<B: Allocator, N: Network, W: Sink>(
         &mut self,
@@ -52,9 +53,11 @@ impl<A: Allocator> Teller<A> {
         requires few { length (N.state net.old).calls < 2 ^ 63 }
         requires counted { AreFew self.old.counts }
         ensures plan { N.plan net.new ≡ plan.now }
-        ensures answers { LineTold plan.now self.old.echo line number said (N.state net.old) (N.state net.new) (W.taken sink.old) (W.taken sink.new) result }
+        ensures answers { LineTold plan.now self.old.echo line number said
+            (N.state net.old) (N.state net.new) (W.taken sink.old) (W.taken sink.new) result }
         ensures echo { self.new.echo ≡ self.old.echo }
-        ensures counts { IfOk said (λ e. OnOk result (self.new.counts ≡ option_map (counted_on plan.now (moment plan.now (N.state net.old) e)) self.old.counts)) }
+        ensures counts { IfOk said (λ e. OnOk result (self.new.counts ≡ option_map
+            (counted_on plan.now (moment plan.now (N.state net.old) e)) self.old.counts)) }
         ensures mark { W.failed sink.new ≡ mark_with (W.failed sink.old) result }
     {
         match said {
@@ -66,7 +69,8 @@ impl<A: Allocator> Teller<A> {
         }
     }
 
-    /// Applies the event of this number to a network whose tickets were taken. Then writes its line, if that is asked for, the reply and the tickets.
+    /// Applies the event of this number to a network whose tickets were taken. Then writes its
+    /// line, if that is asked for, the reply and the tickets.
     #[inline(always)]
     fn answer<B: Allocator, N: Network, W: Sink>(
         &mut self,
@@ -81,9 +85,11 @@ impl<A: Allocator> Teller<A> {
         requires few { length (N.state net.old).calls < 2 ^ 63 }
         requires counted { AreFew self.old.counts }
         ensures plan { N.plan net.new ≡ plan.now }
-        ensures answers { EventTold plan.now self.old.echo number event (N.state net.old) (N.state net.new) (W.taken sink.old) (W.taken sink.new) result }
+        ensures answers { EventTold plan.now self.old.echo number event
+            (N.state net.old) (N.state net.new) (W.taken sink.old) (W.taken sink.new) result }
         ensures echo { self.new.echo ≡ self.old.echo }
-        ensures counts { OnOk result (self.new.counts ≡ option_map (counted_on plan.now (moment plan.now (N.state net.old) event)) self.old.counts) }
+        ensures counts { OnOk result (self.new.counts ≡ option_map
+            (counted_on plan.now (moment plan.now (N.state net.old) event)) self.old.counts) }
         ensures mark { W.failed sink.new ≡ mark_with (W.failed sink.old) result }
     {
         // By reference, so that the reply is not copied.
@@ -101,7 +107,8 @@ impl<A: Allocator> Teller<A> {
         })
     }
 
-    /// Takes the tickets out of a network and writes them, the oldest first. Tells how many there were.
+    /// Takes the tickets out of a network and writes them, the oldest first. Tells how many there
+    /// were.
     #[inline(always)]
     fn write_tickets<B: Allocator, N: Network, W: Sink>(
         &mut self,
@@ -114,10 +121,13 @@ impl<A: Allocator> Teller<A> {
         ensures plan { N.plan net.new ≡ N.plan net.old }
         ensures count { IfOk result (λ n. n ≡ length (N.state net.old).tickets) }
         ensures echo { self.new.echo ≡ self.old.echo }
-        ensures counts { OnOk result (self.new.counts ≡ option_map (ends_counted (N.state net.old).tickets) self.old.counts) }
-        ensures ok { OnOk result (W.taken sink.new ≡ append_known (W.taken sink.old) (flat_map (ticket_text plan.now) (N.state net.old).tickets)) }
+        ensures counts { OnOk result (self.new.counts
+            ≡ option_map (ends_counted (N.state net.old).tickets) self.old.counts) }
+        ensures ok { OnOk result (W.taken sink.new ≡ append_known
+            (W.taken sink.old) (flat_map (ticket_text plan.now) (N.state net.old).tickets)) }
         ensures taken { OnOk result (N.state net.new ≡ drained (N.state net.old) []) }
-        ensures err { OnErr result (StopsAtTicket plan.now (N.state net.old).tickets (N.state net.old) (N.state net.new) (W.taken sink.old) (W.taken sink.new)) }
+        ensures err { OnErr result (StopsAtTicket plan.now (N.state net.old).tickets
+            (N.state net.old) (N.state net.new) (W.taken sink.old) (W.taken sink.new)) }
         ensures mark { OnErr result (W.failed sink.new ≡ true) }
         ensures unmarked { OnOk result (W.failed sink.new ≡ W.failed sink.old) }
     {

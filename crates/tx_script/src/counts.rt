@@ -108,7 +108,11 @@ impl<A: Allocator> Counts<A> {
     }
 
     fn seize<B: Allocator>(&mut self, plan: &Plan<B>, circuit: &Circuit)
-        ensures { self.new ≡ record self.old { groups = change_at circuit.now.group (λ u. counted (count_of plan.now circuit.now.group) (marked circuit.now.number true u)) self.old.groups } }
+        ensures { self.new ≡ record self.old {
+          groups = change_at circuit.now.group
+              (λ u. counted (count_of plan.now circuit.now.group) (marked circuit.now.number true u))
+              self.old.groups;
+        } }
     {
         let place = circuit.group.index();
         if place < self.groups.len() {
@@ -118,7 +122,10 @@ impl<A: Allocator> Counts<A> {
     }
 
     fn release(&mut self, circuit: &Circuit)
-        ensures { self.new ≡ record self.old { groups = change_at circuit.now.group (marked circuit.now.number false) self.old.groups } }
+        ensures { self.new ≡ record self.old {
+          groups = change_at circuit.now.group
+              (marked circuit.now.number false) self.old.groups;
+        } }
     {
         let place = circuit.group.index();
         if place < self.groups.len() {
@@ -128,7 +135,9 @@ impl<A: Allocator> Counts<A> {
     }
 
     fn clear(&mut self, group: GroupId)
-        ensures { self.new ≡ record self.old { groups = change_at group cleared self.old.groups } }
+        ensures { self.new ≡ record self.old {
+          groups = change_at group cleared self.old.groups;
+        } }
     {
         let place = group.index();
         if place < self.groups.len() {

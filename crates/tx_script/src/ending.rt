@@ -28,10 +28,19 @@ pub(crate) fn finish<A: Allocator, B: Allocator, N: Network, W: Sink>(
     sink: &mut W,
 ) -> Result<Summary, RunFault>
     requires { tally.now.answered < 2 ^ 63 }
-    ensures summary { IfOk result (λ s. s ≡ record { events = (N.state net.now).events; refused = tally.now.refused; tickets = tally.now.tickets; open_calls = length (N.state net.now).calls }) }
-    ensures ok { OnOk result (W.taken sink.new ≡ append_known (W.taken sink.old) (last_lines plan.now counts.now (N.state net.now))) }
-    ensures fault { IfErr result (λ f. f ≡ record { event = tally.now.answered + 1; cause = RunCause.Write }) }
-    ensures err { OnErr result (StopsIn (W.taken sink.old) (W.taken sink.new) (last_lines plan.now counts.now (N.state net.now))) }
+    ensures summary { IfOk result
+        (λ s. s ≡ record {
+          events = (N.state net.now).events;
+          refused = tally.now.refused;
+          tickets = tally.now.tickets;
+          open_calls = length (N.state net.now).calls;
+        }) }
+    ensures ok { OnOk result (W.taken sink.new
+        ≡ append_known (W.taken sink.old) (last_lines plan.now counts.now (N.state net.now))) }
+    ensures fault { IfErr result
+        (λ f. f ≡ record { event = tally.now.answered + 1; cause = RunCause.Write }) }
+    ensures err { OnErr result (StopsIn (W.taken sink.old)
+        (W.taken sink.new) (last_lines plan.now counts.now (N.state net.now))) }
     ensures mark { W.failed sink.new ≡ mark_after (W.failed sink.old) result }
 {
     let events = net.events();

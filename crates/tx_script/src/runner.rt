@@ -29,10 +29,13 @@ use tx_text::{
 
 const KEY: &[u8] = b"SCRIPT";
 
-/// Runs the script that comes from a source over a network of the plan that has no open call and no ticket. Writes the reply and the tickets of each event,
-/// and at the script's end the line END EVENTS. `Err` tells at which event the run stopped, and why.
+/// Runs the script that comes from a source over a network of the plan that has no open call and no
+/// ticket. Writes the reply and the tickets of each event,
+/// and at the script's end the line END EVENTS. `Err` tells at which event the run stopped, and
+/// why.
 ///
-/// Each event is answered before the source is asked for a line that is not yet there: no clause says so, and the worked examples, which count the reads,
+/// Each event is answered before the source is asked for a line that is not yet there: no clause
+/// says so, and the worked examples, which count the reads,
 /// show it.
 pub fn run<A: Allocator, B: Allocator, N: Network, R: Source, W: Sink>(
     alloc: A,
@@ -44,8 +47,16 @@ pub fn run<A: Allocator, B: Allocator, N: Network, R: Source, W: Sink>(
     requires plan { N.plan net.old ≡ plan.now }
     requires fresh { IsFresh (N.state net.old) }
     ensures plan { N.plan net.new ≡ plan.now }
-    ensures answers { RunAnswers plan.now (record { rest_old = R.rest source.old; rest_new = R.rest source.new; taken_old = W.taken sink.old; taken_new = W.taken sink.new; state_old = N.state net.old; state_new = N.state net.new })
-        (Broken R.called (R.failed source.new) source_calls source.old source.new) ((source.new ≡ source.old) × (sink.new ≡ sink.old) × (net.new ≡ net.old)) result }
+    ensures answers { RunAnswers plan.now (record {
+      rest_old = R.rest source.old;
+      rest_new = R.rest source.new;
+      taken_old = W.taken sink.old;
+      taken_new = W.taken sink.new;
+      state_old = N.state net.old;
+      state_new = N.state net.new;
+    })
+        (Broken R.called (R.failed source.new) source_calls source.old source.new)
+        ((source.new ≡ source.old) × (sink.new ≡ sink.old) × (net.new ≡ net.old)) result }
     ensures mark { W.failed sink.new ≡ mark_after (W.failed sink.old) result }
     ensures calls { CallsAtMost R.called source_calls source.old source.new }
 {
@@ -55,8 +66,10 @@ pub fn run<A: Allocator, B: Allocator, N: Network, R: Source, W: Sink>(
     ran
 }
 
-/// Runs a script as `run` does, over a network no circuit of which is releasing. Where the lines of events are asked for, the line of each stands before
-/// its reply, with its number, as `EVENT 2 ROUTE 1`. Numbers begin at 1, and refused events have one too. Where the summary is asked for, it stands behind
+/// Runs a script as `run` does, over a network no circuit of which is releasing. Where the lines of
+/// events are asked for, the line of each stands before
+/// its reply, with its number, as `EVENT 2 ROUTE 1`. Numbers begin at 1, and refused events have
+/// one too. Where the summary is asked for, it stands behind
 /// the line END EVENTS.
 pub fn run_telling<A: Allocator + Copy, B: Allocator, N: Network, R: Source, W: Sink>(
     alloc: A,
@@ -70,8 +83,16 @@ pub fn run_telling<A: Allocator + Copy, B: Allocator, N: Network, R: Source, W: 
     requires fresh { IsFresh (N.state net.old) }
     requires released { NoneReleasing (N.state net.old) }
     ensures plan { N.plan net.new ≡ plan.now }
-    ensures answers { TellingAnswers plan.now telling (record { rest_old = R.rest source.old; rest_new = R.rest source.new; taken_old = W.taken sink.old; taken_new = W.taken sink.new; state_old = N.state net.old; state_new = N.state net.new })
-        (Broken R.called (R.failed source.new) source_calls source.old source.new) ((source.new ≡ source.old) × (sink.new ≡ sink.old) × (net.new ≡ net.old)) result }
+    ensures answers { TellingAnswers plan.now telling (record {
+      rest_old = R.rest source.old;
+      rest_new = R.rest source.new;
+      taken_old = W.taken sink.old;
+      taken_new = W.taken sink.new;
+      state_old = N.state net.old;
+      state_new = N.state net.new;
+    })
+        (Broken R.called (R.failed source.new) source_calls source.old source.new)
+        ((source.new ≡ source.old) × (sink.new ≡ sink.old) × (net.new ≡ net.old)) result }
     ensures mark { W.failed sink.new ≡ mark_after (W.failed sink.old) result }
     ensures calls { CallsAtMost R.called source_calls source.old source.new }
 {
@@ -101,8 +122,16 @@ fn run_script<A: Allocator, B: Allocator, N: Network, R: Source, W: Sink>(
     requires fresh { IsFresh (N.state net.old) }
     requires counts { AreNew plan.now (N.state net.old) teller.old.counts }
     ensures plan { N.plan net.new ≡ plan.now }
-    ensures answers { TellingAnswers plan.now (asked_of teller.old.echo teller.old.counts) (record { rest_old = R.rest source.old; rest_new = R.rest source.new; taken_old = W.taken sink.old; taken_new = W.taken sink.new; state_old = N.state net.old; state_new = N.state net.new })
-        (Broken R.called (R.failed source.new) source_calls source.old source.new) ((source.new ≡ source.old) × (sink.new ≡ sink.old) × (net.new ≡ net.old)) result }
+    ensures answers { TellingAnswers plan.now (asked_of teller.old.echo teller.old.counts) (record {
+      rest_old = R.rest source.old;
+      rest_new = R.rest source.new;
+      taken_old = W.taken sink.old;
+      taken_new = W.taken sink.new;
+      state_old = N.state net.old;
+      state_new = N.state net.new;
+    })
+        (Broken R.called (R.failed source.new) source_calls source.old source.new)
+        ((source.new ≡ source.old) × (sink.new ≡ sink.old) × (net.new ≡ net.old)) result }
     ensures mark { W.failed sink.new ≡ mark_after (W.failed sink.old) result }
     ensures calls { CallsAtMost R.called source_calls source.old source.new }
 {
@@ -118,7 +147,8 @@ fn run_script<A: Allocator, B: Allocator, N: Network, R: Source, W: Sink>(
     }
 }
 
-/// Answers the lines that the frame leaves to it, one after another. The event of a line is read here, since a function of its own would not be inlined.
+/// Answers the lines that the frame leaves to it, one after another. The event of a line is read
+/// here, since a function of its own would not be inlined.
 fn run_lines<A: Allocator, B: Allocator, N: Network, R: Source, W: Sink>(
     frame: FrameReader<'_, A>,
     teller: &mut Teller<A>,
@@ -136,8 +166,16 @@ fn run_lines<A: Allocator, B: Allocator, N: Network, R: Source, W: Sink>(
     requires fresh { IsFresh (N.state net.old) }
     requires counts { AreNew plan.now (N.state net.old) teller.old.counts }
     ensures plan { N.plan net.new ≡ plan.now }
-    ensures answers { TellingAnswers plan.now (asked_of teller.old.echo teller.old.counts) (record { rest_old = R.rest source.old; rest_new = R.rest source.new; taken_old = W.taken sink.old; taken_new = W.taken sink.new; state_old = N.state net.old; state_new = N.state net.new })
-        (Broken R.called (R.failed source.new) source_calls source.old source.new) ((source.new ≡ source.old) × (sink.new ≡ sink.old) × (net.new ≡ net.old)) result }
+    ensures answers { TellingAnswers plan.now (asked_of teller.old.echo teller.old.counts) (record {
+      rest_old = R.rest source.old;
+      rest_new = R.rest source.new;
+      taken_old = W.taken sink.old;
+      taken_new = W.taken sink.new;
+      state_old = N.state net.old;
+      state_new = N.state net.new;
+    })
+        (Broken R.called (R.failed source.new) source_calls source.old source.new)
+        ((source.new ≡ source.old) × (sink.new ≡ sink.old) × (net.new ≡ net.old)) result }
     ensures mark { W.failed sink.new ≡ mark_after (W.failed sink.old) result }
     ensures calls { CallsAtMost R.called source_calls source.old source.new }
 {
@@ -187,7 +225,8 @@ fn script_fault(line: u64, kind: ScriptKind) -> RunCause
 
 /// A failure to read is a cause of its own.
 fn frame_cause(stop: FrameStop) -> RunCause
-    ensures { result ≡ (if is_read stop.fault then RunCause.Read else RunCause.Script (record { line = stop.line; kind = FaultKind.Frame stop.fault })) }
+    ensures { result ≡ (if is_read stop.fault then RunCause.Read
+        else RunCause.Script (record { line = stop.line; kind = FaultKind.Frame stop.fault })) }
 {
     match stop.fault {
         FrameFault::Line(LineFault::Read) => RunCause::Read,

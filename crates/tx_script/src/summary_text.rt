@@ -49,8 +49,9 @@ fn causes() -> [Cause; 9]
 
 /// Writes how many calls ended by each cause.
 fn write_ended<A: Allocator, W: Sink>(counts: &Counts<A>, sink: &mut W) -> Result<(), WriteFault>
-    ensures { Wrote (W.taken sink.old) (W.taken sink.new) (W.failed sink.old) (W.failed sink.new)
-        (flat_map (λ cause. calls_line (cause_text cause) (count_for counts.now.calls cause)) causes) result }
+    ensures { Wrote (W.taken sink.old) (W.taken sink.new)
+        (W.failed sink.old) (W.failed sink.new) (flat_map
+        (λ cause. calls_line (cause_text cause) (count_for counts.now.calls cause)) causes) result }
 {
     let causes = causes();
     for i in 0..causes.len() {
@@ -66,8 +67,9 @@ fn write_peaks<A: Allocator, B: Allocator, W: Sink>(
     plan: &Plan<B>,
     sink: &mut W,
 ) -> Result<(), WriteFault>
-    ensures { Wrote (W.taken sink.old) (W.taken sink.new) (W.failed sink.old) (W.failed sink.new)
-        (flat_map (λ g. peak_line plan.now g (use_at counts.now.groups g).most) (range_with_len 0 (length plan.now.groups))) result }
+    ensures { Wrote (W.taken sink.old) (W.taken sink.new) (W.failed sink.old)
+        (W.failed sink.new) (flat_map (λ g. peak_line plan.now g (use_at counts.now.groups g).most)
+        (range_with_len 0 (length plan.now.groups))) result }
 {
     plan.rules();
     for place in 0..plan.groups() {

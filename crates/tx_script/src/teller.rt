@@ -9,7 +9,8 @@ use tx_plan::Plan;
 use tx_state::{Cause, Event, Reply};
 use tx_text::NoMemory;
 
-/// Whether the line of each event is told, and what is counted for the summary, where that is asked for.
+/// Whether the line of each event is told, and what is counted for the summary, where that is asked
+/// for.
 #[derive(Drop)]
 pub(crate) struct Teller<A: Allocator> {
     pub echo: bool,
@@ -33,7 +34,8 @@ impl<A: Allocator> Teller<A> {
         telling: Telling,
         plan: &Plan<B>,
     ) -> Result<Teller<A>, NoMemory>
-        ensures ok { IfOk result (λ t. t ≡ record { echo = telling.echo; counts = counts_for plan.now telling.summary }) }
+        ensures ok { IfOk result (λ t. t
+            ≡ record { echo = telling.echo; counts = counts_for plan.now telling.summary }) }
         ensures err { OnErr result (telling.summary ≡ true) }
     {
         let counts = if telling.summary {
@@ -48,7 +50,6 @@ impl<A: Allocator> Teller<A> {
     }
 
     /// A call ended.
-    #[inline(always)]
     pub(crate) fn ended(&mut self, cause: Cause)
         requires { IfSome self.old.counts (λ c. count_for c.calls cause + 1 < 2 ^ 64) }
         ensures echo { self.new.echo ≡ self.old.echo }
@@ -60,10 +61,10 @@ impl<A: Allocator> Teller<A> {
     }
 
     /// An event was answered.
-    #[inline(always)]
     pub(crate) fn answered<B: Allocator>(&mut self, plan: &Plan<B>, event: &Event, reply: &Reply)
         ensures echo { self.new.echo ≡ self.old.echo }
-        ensures counts { self.new.counts ≡ option_map (uses_counted plan.now event.now reply.now) self.old.counts }
+        ensures counts { self.new.counts
+            ≡ option_map (uses_counted plan.now event.now reply.now) self.old.counts }
     {
         if let Some(counts) = &mut self.counts {
             counts.answered(plan, event, reply);
