@@ -14,7 +14,7 @@ use Rattle.tx_plan.proofs.Named.{circuits_total, exact_circuits}
 use Rattle.tx_circuits.specs.declared.lists.End.{End}
 use Rattle.tx_circuits.specs.declared.lists.End.TheVariants.{First, Other}
 use Rattle.tx_circuits.specs.declared.slot.State.{State}
-use Rattle.tx_circuits.specs.declared.group.GroupHead.{GroupHead}
+use Rattle.tx_circuits.specs.declared.groups.GroupHead.{GroupHead}
 use Rattle.tx_circuits.specs.inner.Slots.{has_seized, rising}
 use Rattle.tx_circuits.specs.inner.Groups.{GroupState, numbered, end_at, idle}
 use Rattle.tx_circuits.specs.Table.{Seat, all_free, unnamed}

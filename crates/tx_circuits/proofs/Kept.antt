@@ -11,8 +11,8 @@ use Rattle.std.proofs.lemmas.Slice.{between_is, take-put_mid_below, drop-put_mid
 use borrow.Rule.Slice.PartMut.{put_mid}
 use Rattle.tx_circuits.specs.declared.slot.Slot.{Slot}
 use Rattle.tx_circuits.specs.declared.slot.State.{State}
-use Rattle.tx_circuits.specs.declared.group.Row.{Row}
-use Rattle.tx_circuits.specs.declared.group.GroupHead.{GroupHead}
+use Rattle.tx_circuits.specs.declared.groups.Row.{Row}
+use Rattle.tx_circuits.specs.declared.groups.GroupHead.{GroupHead}
 use Rattle.tx_circuits.specs.inner.Slots.{state_of, IsSound}
 use Rattle.tx_circuits.specs.inner.Groups.{GroupState, group_slots, group_state, numbered, set_numbered, change_at, idle, AreKept, AreApart, IsAppended}
 use Rattle.tx_circuits.proofs.Linked.{le_or}

@@ -10,7 +10,7 @@ use Rattle.tx_circuits.specs.declared.lists.End.{End}
 use Rattle.tx_circuits.specs.declared.lists.End.TheVariants.{First, Other}
 use Rattle.tx_circuits.specs.declared.lists.Way.TheVariants.{Up}
 use Rattle.tx_circuits.specs.declared.slot.State.{State}
-use Rattle.tx_circuits.specs.declared.group.GroupHead.{GroupHead}
+use Rattle.tx_circuits.specs.declared.groups.GroupHead.{GroupHead}
 use Rattle.tx_circuits.specs.inner.Slots.{has_seized, rising}
 use Rattle.tx_circuits.specs.inner.Groups.{GroupState, state_at, numbered, seizing_end, end_at}
 use Rattle.tx_circuits.specs.Table.{Seat}

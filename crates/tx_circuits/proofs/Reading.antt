@@ -15,7 +15,7 @@ use Rattle.tx_plan.proofs.Named.{circuits_total, exact_circuits}
 use Rattle.tx_circuits.specs.declared.lists.End.{End}
 use Rattle.tx_circuits.specs.declared.lists.End.TheVariants.{First, Other}
 use Rattle.tx_circuits.specs.declared.slot.State.{State}
-use Rattle.tx_circuits.specs.declared.group.GroupHead.{GroupHead}
+use Rattle.tx_circuits.specs.declared.groups.GroupHead.{GroupHead}
 use Rattle.tx_circuits.specs.inner.Slots.{has_seized, is_free, free_in, in_order, rising, falling}
 use Rattle.tx_circuits.specs.inner.Groups.{GroupState, state_at, numbered, seizing_end, end_at, first_place, way_of, idle}
 use Rattle.tx_circuits.specs.Table.{Seat, seat_cmp, plan_of, is_free_at, is_down, first_free}

@@ -2,7 +2,6 @@
 //! with the circuits that an end may seize in free lists.
 #![tactic(auto)]
 
-mod group;
 mod groups;
 mod lists;
 mod slot;

@@ -4,8 +4,7 @@ ghost use Rattle.std.specs.FinSet as set;
 ghost use Rattle.tx_plan.specs.Circuits.{is_circuit, may_seize};
 ghost use Rattle.tx_circuits.specs.Table.{Table, plan_of, all_free, is_free_at, is_down, first_free, IsSeizedBy, with_held, withdrawn, with_released, released_unless, with_failure};
 
-use crate::group::GroupHead;
-use crate::groups::Groups;
+use crate::groups::{GroupHead, Groups};
 use crate::slot::State;
 use std::alloc::{Allocator, Global};
 use std::marker::Model;

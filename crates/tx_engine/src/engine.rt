@@ -1,12 +1,15 @@
-// The indexed network.
-ghost use Rattle.std.specs.Prelude.{◌≡◌, IfOk};
+// The indexed network: what it knows for the refusals, and what it does with an event.
+ghost use Rattle.std.specs.Prelude.{◌≡◌, IfOk, OnErr, None, true};
 ghost use Rattle.tx_machine.specs.State.{opening};
+ghost use Rattle.tx_machine.specs.Step.{accepted, counted, takes_memory};
+ghost use Rattle.tx_machine.specs.Refusals.{refusal};
+ghost use Rattle.tx_engine.specs.inner.Sound.{IsSound, state_of};
 
 use crate::engine_state::EngineState;
 use std::alloc::{Allocator, Global};
 use std::marker::Model;
-use tx_machine::{Event, Network, Reply, Ticket, refusal_of};
-use tx_plan::Plan;
+use tx_machine::{Event, Facts, Network, Phase, Reply, Ticket, refusal_of};
+use tx_plan::{Circuit, GroupId, Line, Plan};
 use tx_text::NoMemory;
 
 /// The indexed network. It finds lines, circuits and calls by index. So the work of an event hardly
@@ -90,5 +93,108 @@ impl<'p, A: Allocator + Copy> Network for Engine<'p, A> {
 
     fn events(&self) -> u64 {
         self.inner.events
+    }
+}
+
+impl<'p, A: Allocator + Copy> Facts for Engine<'p, A> {
+    ghost plan = { λ n. n.plan };
+
+    ghost state = { λ n. n.state };
+
+    fn phase_of(&self, number: u32) -> Option<Phase> {
+        match self.inner.calls.find(number) {
+            Some(key) => Some(self.inner.calls.at(key).phase),
+            None => None,
+        }
+    }
+
+    fn has_line(&self, line: &Line) -> bool {
+        self.inner.lines.has(line)
+    }
+
+    fn is_engaged(&self, line: &Line) -> bool {
+        self.inner.lines.is_engaged(line)
+    }
+
+    fn is_faulty(&self, line: &Line) -> bool {
+        self.inner.lines.is_faulty(line)
+    }
+
+    fn is_away(&self, line: &Line) -> bool {
+        self.inner.lines.is_away(line)
+    }
+
+    fn has_circuit(&self, circuit: &Circuit) -> bool {
+        self.inner.circuits.has_circuit(circuit)
+    }
+
+    fn is_releasing(&self, circuit: &Circuit) -> bool {
+        self.inner.circuits.is_releasing(circuit)
+    }
+
+    fn is_out(&self, circuit: &Circuit) -> bool {
+        self.inner.circuits.is_out(circuit)
+    }
+
+    fn has_group(&self, group: GroupId) -> bool {
+        let plan = self.inner.plan;
+        let groups = plan.groups();
+        group.index() < groups
+    }
+
+    fn is_failed(&self, group: GroupId) -> bool {
+        self.inner.circuits.is_failed(group)
+    }
+
+    fn is_blocked(&self, group: GroupId) -> bool {
+        self.inner.circuits.is_blocked(group)
+    }
+
+    fn numbers_given(&self) -> u32 {
+        self.inner.numbers
+    }
+
+    fn events_accepted(&self) -> u64 {
+        self.inner.events
+    }
+}
+
+impl<'p, A: Allocator + Copy> EngineState<'p, A> {
+    /// One event that is not refused.
+    pub(crate) fn accept(&mut self, event: &Event) -> Result<Reply, NoMemory>
+        requires sound { IsSound self.old }
+        requires open { refusal self.old.plan.now (state_of self.old) event.now ≡ None }
+        ensures sound { IsSound self.new }
+        ensures plan { self.new.plan.now ≡ self.old.plan.now }
+        ensures ok { IfOk result (λ reply. counted (accepted self.old.plan.now
+            (state_of self.old) event.now) ≡ (reply, state_of self.new)) }
+        ensures err { OnErr result (state_of self.new ≡ state_of self.old) }
+        ensures memory { OnErr result (takes_memory event.now ≡ true) }
+    {
+        match event {
+            Event::Key { line, keyed } => return self.key(*line, *keyed),
+            Event::Route(number) => return self.route(*number),
+            Event::Confirm(number) => return Ok(self.confirm(*number)),
+            Event::Clear { call, party } => return Ok(self.clear(*call, *party)),
+            Event::Fail(group) => return Ok(self.fail(*group)),
+            Event::Released(circuit) => self.circuits.released(circuit),
+            Event::Restore(group) => self.circuits.restore(*group),
+            Event::Block(group) => self.circuits.block(*group),
+            Event::Unblock(group) => self.circuits.unblock(*group),
+            Event::CircuitOut(circuit) => self.circuits.put_out(circuit),
+            Event::CircuitIn(circuit) => self.circuits.put_in(circuit),
+            Event::LineFault(line) => {
+                self.lines.reserve_one()?;
+                self.lines.set_fault(line, true);
+            }
+            Event::LineMend(line) => self.lines.set_fault(line, false),
+            Event::LineAway(line) => {
+                self.lines.reserve_one()?;
+                self.lines.set_away(line, true);
+            }
+            Event::LineBack(line) => self.lines.set_away(line, false),
+        }
+        self.events += 1;
+        Ok(Reply::Done)
     }
 }

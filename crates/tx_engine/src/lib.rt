@@ -13,12 +13,10 @@
 //! ```
 #![tactic(auto)]
 
-mod accepting;
 mod confirm;
 mod ending;
 mod engine;
 mod engine_state;
-mod facts;
 mod failing;
 mod head_on;
 mod keying;

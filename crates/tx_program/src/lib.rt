@@ -13,7 +13,6 @@ mod mended;
 mod new_file;
 mod opened;
 mod output_files;
-mod perform;
 mod program;
 mod tell;
 

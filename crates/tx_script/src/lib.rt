@@ -37,7 +37,6 @@ mod summary_text;
 mod tally;
 mod teller;
 mod telling;
-mod verb;
 
 pub use event_line::{event_lines_read_back, read_event};
 pub use event_text::write_event;

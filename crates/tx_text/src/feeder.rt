@@ -5,7 +5,7 @@ ghost use Rattle.tx_text.specs.Text.{without_cr};
 ghost use Rattle.tx_text.specs.inner.TextLine.{line_of};
 
 use crate::line::TextLine;
-use crate::line_bytes::{bytes_fault, lf_or_len, without_cr};
+use crate::reader::{bytes_fault, lf_or_len, without_cr};
 use crate::text_fault::TextFault;
 use std::alloc::{Allocator, Global};
 use std::marker::Model;

@@ -8,11 +8,9 @@
 mod feeder;
 mod figures;
 mod frame;
-mod frame_reader;
 mod from_read;
 mod inline_bytes;
 mod line;
-mod line_bytes;
 mod line_words;
 mod lines;
 mod memory_sink;
@@ -32,14 +30,12 @@ mod to_write;
 pub use feeder::{Fed, LineFeeder};
 pub use figures::{Figures, are_figures, number};
 pub use frame::{
-    FaultAt, FaultKind, FrameFault, FramePart, FrameStep, FrameStop, LineForm, closing, is_end,
-    last_fault, look,
+    FaultAt, FaultKind, FrameFault, FramePart, FrameReader, FrameStep, FrameStop, LineForm,
+    closing, is_end, last_fault, look,
 };
-pub use frame_reader::FrameReader;
 pub use from_read::FromRead;
 pub use inline_bytes::InlineBytes;
 pub use line::TextLine;
-pub use line_bytes::{bytes_fault, without_cr};
 pub use line_words::Words;
 pub use lines::{Lines, first_line};
 pub use memory_sink::MemorySink;
@@ -47,6 +43,7 @@ pub use memory_source::MemorySource;
 pub use name::{Name, is_name};
 pub use no_memory::NoMemory;
 pub use pieces::pieces_give_the_lines;
+pub use reader::{bytes_fault, without_cr};
 pub use reading::{Declares, read_slice, read_text};
 pub use sink::{Sink, WriteFault, write_bytes, write_parts};
 pub use slice_source::{SliceSource, slices_are_read_whole};

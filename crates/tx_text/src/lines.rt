@@ -6,7 +6,7 @@ ghost use Rattle.tx_text.specs.inner.TextLine.{line_of, item_of};
 ghost use Rattle.tx_text.specs.inner.LinesLeft.{items_of};
 
 use crate::line::TextLine;
-use crate::line_bytes::{bytes_fault, lf_or_len, without_cr};
+use crate::reader::{bytes_fault, lf_or_len, without_cr};
 use crate::text_fault::TextFault;
 use std::marker::Model;
 

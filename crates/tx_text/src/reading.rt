@@ -6,8 +6,7 @@ ghost use Rattle.tx_text.specs.Told.{AtEnd};
 ghost use Rattle.tx_text.specs.Said.{Declared, Answered, AnswersAs, ReadsText, text_said, line_declares, WantingAt, told_fault};
 ghost use Rattle.tx_text.specs.inner.Framing.{frame_start};
 
-use crate::frame::{FaultAt, FaultKind, FrameStep};
-use crate::frame_reader::FrameReader;
+use crate::frame::{FaultAt, FaultKind, FrameReader, FrameStep};
 use crate::line_words::Words;
 use crate::slice_source::{SliceSource, slices_are_read_whole};
 use crate::source::Source;

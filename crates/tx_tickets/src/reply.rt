@@ -1,17 +1,71 @@
-// The line of a reply.
+// The line of a reply, and the words that replies and tickets share.
 ghost use Rattle.std.specs.Prelude.{◌≡◌, ◌+◌, ◌≤◌, ◌++◌, [], codes, decimal, length};
 ghost use Rattle.tx_text.specs.Wrote.{Wrote};
 ghost use Rattle.tx_plan.specs.Plan.{exchange_name};
 ghost use Rattle.tx_machine.specs.declared.reply.Reply.TheVariants.{Lost};
-ghost use Rattle.tx_tickets.specs.Texts.{circuit_text, line_text, stands_text, reply_text};
+ghost use Rattle.tx_tickets.specs.Texts.{circuit_text, line_text, stands_text, reply_text, service_text, cause_text, refusal_text};
 
 use crate::line_room::LineRoom;
-use crate::words::{refusal_word, service_word, stands_word};
 use itoa::Buffer;
 use std::alloc::Allocator;
-use tx_machine::Reply;
+use tx_machine::{Cause, Refusal, Reply, Service};
 use tx_plan::{Circuit, ExchangeId, Line, Plan};
 use tx_text::{Sink, WriteFault, write_bytes, write_parts};
+
+/// A service code, as it is printed.
+pub(crate) fn service_word(service: Service) -> &'static [u8]
+    ensures text { result.now ≡ service_text service }
+    ensures width { length result.now ≤ 4 }
+{
+    match service {
+        Service::Occ => b"OCC",
+        Service::Nc => b"NC",
+        Service::Np => b"NP",
+        Service::Der => b"DER",
+        Service::Abs => b"ABS",
+        Service::Na => b"NA",
+    }
+}
+
+/// The word that stands for a cause after BY.
+pub fn cause_word(cause: Cause) -> &'static [u8]
+    ensures text { result.now ≡ cause_text cause }
+    ensures width { length result.now ≤ 4 }
+{
+    match cause {
+        Cause::Service(service) => service_word(service),
+        Cause::ClearedByCaller => b"CLRA",
+        Cause::ClearedByCalled => b"CLRB",
+        Cause::Lost => b"LOST",
+    }
+}
+
+pub(crate) fn refusal_word(refusal: Refusal) -> &'static [u8]
+    ensures text { result.now ≡ refusal_text refusal }
+    ensures width { length result.now ≤ 4 }
+{
+    match refusal {
+        Refusal::UnknownCall => b"M1",
+        Refusal::NotStanding => b"M2",
+        Refusal::NotCalling => b"M3",
+        Refusal::NotConnected => b"M4",
+        Refusal::UnknownLine => b"M5",
+        Refusal::LineEngaged => b"M6",
+        Refusal::LineOutOfOrder => b"M7",
+        Refusal::AlreadySo => b"M8",
+        Refusal::NotSo => b"M9",
+        Refusal::NotReleasing => b"M10",
+        Refusal::UnknownCircuit => b"M11",
+        Refusal::Exhausted => b"M12",
+    }
+}
+
+pub(crate) fn stands_word(stands: bool) -> &'static [u8]
+    ensures text { result.now ≡ stands_text stands }
+    ensures width { length result.now ≤ 7 }
+{
+    if stands { b" STANDS" } else { b" NC" }
+}
 
 /// How many bytes the line of a reply may have at most.
 const ROOM: usize = 64;

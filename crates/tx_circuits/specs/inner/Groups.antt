@@ -9,8 +9,8 @@ use Rattle.tx_circuits.specs.declared.lists.Way.{Way}
 use Rattle.tx_circuits.specs.declared.lists.Way.TheVariants.{Up, Down}
 use Rattle.tx_circuits.specs.declared.slot.State.{State}
 use Rattle.tx_circuits.specs.declared.slot.Slot.{Slot}
-use Rattle.tx_circuits.specs.declared.group.GroupHead.{GroupHead}
-use Rattle.tx_circuits.specs.declared.group.Row.{Row}
+use Rattle.tx_circuits.specs.declared.groups.GroupHead.{GroupHead}
+use Rattle.tx_circuits.specs.declared.groups.Row.{Row}
 use Rattle.tx_circuits.specs.inner.Slots.{state_of, free_in, in_order, IsSound}
 
 -- a group, with the states of its circuits in order of number

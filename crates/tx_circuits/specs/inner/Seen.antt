@@ -7,7 +7,7 @@ use Rattle.tx_plan.specs.Plan.{Group}
 use Rattle.tx_plan.specs.Circuits.{upward}
 use Rattle.tx_plan.specs.declared.group.Circuit.{Circuit}
 use Rattle.tx_circuits.specs.declared.slot.State.{State}
-use Rattle.tx_circuits.specs.declared.group.GroupHead.{GroupHead}
+use Rattle.tx_circuits.specs.declared.groups.GroupHead.{GroupHead}
 use Rattle.tx_circuits.specs.inner.Slots.{has_seized, rising}
 use Rattle.tx_circuits.specs.inner.Groups.{GroupState, state_at, end_at}
 use Rattle.tx_circuits.specs.Table.{Table, Seat}

@@ -1,5 +1,5 @@
 -- What the fields of a frame reader are for.
-use Rattle.tx_text.specs.declared.frame_reader.FrameReader.TheInside.{Inside}
+use Rattle.tx_text.specs.declared.frame.FrameReader.TheInside.{Inside}
 use Rattle.tx_text.specs.inner.Framing.{FrameReading}
 
 -- the frame reader that the fields are for
