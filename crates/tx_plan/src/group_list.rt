@@ -47,7 +47,7 @@ impl GroupList {
         true
     }
 
-    /// Whether no group stands there twice.
+    /// Whether no group is there twice.
     pub fn none_twice(&self) -> bool
         ensures { result ≡ differ self.now }
     {
@@ -63,7 +63,7 @@ impl GroupList {
     }
 }
 
-/// Whether no group stands there twice.
+/// Whether no group is there twice.
 fn none_twice(groups: &[GroupId]) -> bool
     ensures { result ≡ differ groups.now }
 {

@@ -1,4 +1,4 @@
-// The line of an event, with its number, as a run tells it.
+// The line of an event, with its number, as a run prints it.
 ghost use Rattle.tx_text.specs.Wrote.{Wrote};
 ghost use Rattle.tx_script.specs.Telling.{echo_asked, echo_text, number_text};
 

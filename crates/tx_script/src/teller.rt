@@ -1,4 +1,4 @@
-// What is told of events beside replies and tickets.
+// What is printed of events beside replies and tickets.
 ghost use Rattle.std.specs.Prelude.{◌≡◌, ◌+◌, ◌<◌, ◌^◌, IfOk, OnErr, IfSome, None, true, false, option_map};
 ghost use Rattle.tx_script.specs.inner.Counting.{count_for, counts_for, one_counted, uses_counted};
 
@@ -9,8 +9,8 @@ use tx_machine::{Cause, Event, Reply};
 use tx_plan::Plan;
 use tx_text::NoMemory;
 
-/// Whether the line of each event is told, and what is counted for the summary, where that is asked
-/// for.
+/// Whether the line of each event is printed, and what is counted for the summary, where that is
+/// asked for.
 #[derive(Drop)]
 pub(crate) struct Teller<A: Allocator> {
     pub echo: bool,
@@ -18,7 +18,7 @@ pub(crate) struct Teller<A: Allocator> {
 }
 
 impl<A: Allocator> Teller<A> {
-    /// Nothing more is told.
+    /// Nothing more is printed.
     pub(crate) fn silent() -> Teller<A>
         ensures { result ≡ record { echo = false; counts = None } }
     {

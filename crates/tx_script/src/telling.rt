@@ -1,6 +1,6 @@
-// What a run tells beside replies and tickets.
+// What a run can print beside replies and tickets.
 
-/// What a run tells beside replies and tickets, where it is asked for.
+/// What a run prints beside replies and tickets, where it is asked for.
 #[derive(Clone, Copy)]
 pub struct Telling {
     /// The line of each event, with its number, before its reply.

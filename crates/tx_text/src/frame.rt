@@ -108,7 +108,7 @@ pub enum FramePart {
     Start,
     /// Between the header and END.
     Body,
-    /// Behind END.
+    /// After END.
     Ended,
 }
 
@@ -154,7 +154,7 @@ pub enum LineForm {
     Plain,
     /// The line of the one word END.
     End,
-    /// A line that cannot stand there.
+    /// A line that cannot be there.
     Bad(FrameFault),
 }
 
@@ -329,7 +329,7 @@ impl<'k, A: Allocator> FrameReader<'k, A> {
     }
 
     /// Goes on to the header, to the next line with words or to the end. `Err` is the first fault,
-    /// with its line. A fault before the end of the source stands whatever bytes follow; a read
+    /// with its line. A fault before the end of the source is one whatever bytes follow; a read
     /// fault means that the source failed, or was not at its end after so many calls.
     pub fn advance<R: Source>(&mut self, source: &mut R) -> Result<FrameStep, FrameStop>
         requires { IsSound self.old }
@@ -379,7 +379,7 @@ impl<'k, A: Allocator> FrameReader<'k, A> {
         }
     }
 
-    /// The number of the line that stands, from 1.
+    /// The number of the present line, from 1.
     pub fn number(&self) -> u64
         requires { IsSome (line_of_frame self.now) }
         ensures { result ≡ number_of_line (line_of_frame self.now) }
@@ -387,7 +387,7 @@ impl<'k, A: Allocator> FrameReader<'k, A> {
         self.reader.line().number
     }
 
-    /// The words of the line that stands.
+    /// The words of the present line.
     pub fn words(&self) -> Words<'_>
         requires { IsSome (line_of_frame self.now) }
         ensures { result ≡ words_of_line (line_of_frame self.now) }

@@ -1,4 +1,4 @@
-// InlineBytes texts that are kept in place.
+// Short texts that are kept in place.
 ghost use Rattle.std.specs.Prelude.{◌≡◌, ◌≤◌, ◌-◌, ◌++◌, length, replicate, bytes_eq};
 
 use std::marker::Model;
