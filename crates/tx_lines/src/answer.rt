@@ -2,7 +2,7 @@
 use tx_plan::Line;
 
 /// What a home exchange finds at the line that was called. The first that applies is answered.
-#[derive(Clone, Copy)]
+#[derive(Clone, Copy, Debug)]
 pub enum LineAnswer {
     /// No line of the code has the number (NP).
     NoLine,

@@ -25,7 +25,7 @@ use tx_text::NoMemory;
 ///
 /// A line's first status takes a place of the book's room, which `reserve_one` makes; a further
 /// one takes none. `build` and `reserve_one` alone take memory.
-#[derive(Drop)]
+#[derive(Debug, Drop)]
 pub struct LineBook<A: Allocator = Global> {
     ranges: Ranges<A>,
     statuses: IndexMap<Line, Status, ByWord, A>,

@@ -3,7 +3,7 @@ ghost use Rattle.std.specs.Prelude.{◌≡◌};
 ghost use Rattle.tx_lines.specs.Status.{with_mark, is_unmarked};
 
 /// A mark that a line may have.
-#[derive(Clone, Copy)]
+#[derive(Clone, Copy, Debug)]
 pub enum Mark {
     Faulty,
     Away,
@@ -11,7 +11,7 @@ pub enum Mark {
 }
 
 /// What is known of a line: the marks that it has.
-#[derive(Clone, Copy)]
+#[derive(Clone, Copy, Debug)]
 pub struct Status {
     pub faulty: bool,
     pub away: bool,

@@ -2,7 +2,7 @@
 use tx_plan::CodeId;
 
 /// The figures on the way from the root to a node are a code, or begin one.
-#[derive(Clone, Copy)]
+#[derive(Clone, Copy, Debug)]
 pub struct Node {
     /// The code of these figures.
     pub code: Option<CodeId>,

@@ -3,7 +3,7 @@ use tx_plan::ExchangeId;
 use tx_text::Figures;
 
 /// The figures of a code, and its home.
-#[derive(Clone, Copy)]
+#[derive(Clone, Copy, Debug)]
 pub struct Row {
     pub figures: Figures,
     pub home: ExchangeId,

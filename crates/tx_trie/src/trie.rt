@@ -16,7 +16,7 @@ use tx_plan::{CodeId, ExchangeId, Plan};
 use tx_text::{Figures, NoMemory};
 
 /// The destination codes of a plan by their figures.
-#[derive(Drop)]
+#[derive(Debug, Drop)]
 pub struct CodeTrie<A: Allocator = Global> {
     codes: Vec<Row, A>,
     nodes: Vec<Node, A>,
