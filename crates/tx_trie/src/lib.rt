@@ -3,9 +3,6 @@
 #![tactic(auto)]
 
 mod codes_writer;
-mod node;
-mod nodes;
-mod row;
 mod trie;
 
 pub use codes_writer::write_codes;
