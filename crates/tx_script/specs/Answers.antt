@@ -4,7 +4,7 @@ use Rattle.std.specs.Io.KnownBytes.{append_known, IsAtEnd}
 use Rattle.tx_text.specs.declared.frame.FaultKind.{FaultKind}
 use Rattle.tx_text.specs.declared.frame.FaultKind.TheVariants.{Frame, Word}
 use Rattle.tx_text.specs.declared.frame.FrameFault.TheVariants.{Read as line_read}
-use Rattle.tx_text.specs.Ends.{StopsIn}
+use Rattle.tx_text.specs.Ends.{StopsIn, Input, Output}
 use Rattle.tx_text.specs.Told.{Ending, AtEnd, Cut}
 use Rattle.tx_text.specs.Frame.{ReadsOn, EndsAs, Stands}
 use Rattle.tx_text.specs.Said.{is_no_room}
@@ -29,6 +29,16 @@ pub record IsFresh (s : State) : Type 0 where
   pub no_calls : s.calls ≡ []
   pub no_tickets : s.tickets ≡ []
 
+-- A network: the state that it was in, and is in; and that it is as it was.
+pub record States : Type 1 where
+  pub old : State
+  pub new : State
+  pub unchanged : Type 0
+
+-- the states of one network
+abbrev pub states : {N : Type 0} → (state : N → State) → (old new : N) → States
+states state old new = record { old = state old; new = state new; unchanged = new ≡ old }
+
 -- what a run moved: the source's bytes and the sink's, before and after, and the network's states
 pub record Moved : Type 0 where
   pub rest_old : Option (List ℕ)
@@ -37,6 +47,21 @@ pub record Moved : Type 0 where
   pub taken_new : Option (List ℕ)
   pub state_old : State
   pub state_new : State
+
+-- what a run moved of these
+abbrev pub moved_of : Input → States → Output → Moved
+moved_of source net sink = record {
+  rest_old = source.old;
+  rest_new = source.new;
+  taken_old = sink.old;
+  taken_new = sink.new;
+  state_old = net.old;
+  state_new = net.new;
+}
+
+-- nothing was read, written or done
+abbrev pub NothingDone : Input → States → Output → Type 0
+NothingDone source net sink = source.unread × sink.silent × net.unchanged
 
 -- the network after these events, with its tickets taken
 abbrev pub settled : Plan → State → List Event → State
@@ -128,6 +153,8 @@ abbrev pub is_reader_room : FaultKind ScriptWord → Bool
 is_reader_room (Frame k) = is_no_room k
 is_reader_room (Word w) = false
 
+-- Why a run stopped. Broken says that the source failed or met the bound on calls, untouched that
+-- nothing was read, written or done.
 abbrev pub Stopped : Plan → Moved → (broken untouched : Type 0) → ℕ → RunCause → Type 0
 Stopped p x broken untouched event Read = RanToCut p x broken event
 Stopped p x broken untouched event Write = FailedInEvent p x event ⊎ FailedAtEnd p x event
@@ -135,12 +162,11 @@ Stopped p x broken untouched event (OfScript f) =
     FaultyBy p x untouched (is_reader_room f.kind) event f.line f.kind
 Stopped p x broken untouched event NoMemory = RanOutOfMemory p x event
 
--- WHAT A RUN ANSWERS. Broken says that the source failed or met the bound on calls, untouched that
--- nothing was read, written or done.
-abbrev pub RunAnswers : Plan → Moved → (broken untouched : Type 0)
-    → Result Summary RunFault → Type 0
-RunAnswers p x broken untouched (Ok summary) = RanWhole p x summary
-RunAnswers p x broken untouched (Err f) = Stopped p x broken untouched f.event f.cause
+-- WHAT A RUN ANSWERS
+abbrev pub RunAnswers : Plan → Input → States → Output → Result Summary RunFault → Type 0
+RunAnswers p source net sink (Ok summary) = RanWhole p (moved_of source net sink) summary
+RunAnswers p source net sink (Err f) = Stopped p (moved_of source net sink)
+    source.broken (NothingDone source net sink) f.event f.cause
 
 -- a write fault is told where the sink's mark is set, and otherwise the mark is as before
 abbrev pub mark_by : Bool → RunCause → Bool

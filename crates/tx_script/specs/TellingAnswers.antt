@@ -5,7 +5,7 @@ use Rattle.std.specs.Io.KnownBytes.{append_known}
 use Rattle.tx_text.specs.declared.frame.FaultKind.{FaultKind}
 use Rattle.tx_text.specs.declared.frame.FaultKind.TheVariants.{Frame}
 use Rattle.tx_text.specs.declared.frame.FrameFault.TheVariants.{Read as line_read}
-use Rattle.tx_text.specs.Ends.{StopsIn}
+use Rattle.tx_text.specs.Ends.{StopsIn, Input, Output}
 use Rattle.tx_text.specs.Told.{Cut}
 use Rattle.tx_text.specs.Frame.{EndsAs, Stands}
 use Rattle.tx_plan.specs.Plan.{Plan}
@@ -25,7 +25,7 @@ use Rattle.tx_script.specs.Events.{Said}
 use Rattle.tx_script.specs.Script.{Script, whole, faulty, script_of}
 use Rattle.tx_script.specs.Output.{summary_of, tickets_made}
 use Rattle.tx_script.specs.Answered.{count_of, IsUndone, IsNoEvent}
-use Rattle.tx_script.specs.Answers.{Moved, settled, next, IsWhole, Begins, is_reader_room}
+use Rattle.tx_script.specs.Answers.{States, Moved, moved_of, NothingDone, settled, next, IsWhole, Begins, is_reader_room}
 use Rattle.tx_script.specs.declared.telling.Telling.{Telling}
 use Rattle.tx_script.specs.Telling.{echo_text, echo_asked, told_moment, told_events, told_last, told_output}
 use Rattle.tx_script.specs.Untold.{IsUntold}
@@ -155,6 +155,8 @@ pub record HadNoTable (t : Telling) (untouched : Type 0) (event : ℕ) : Type 0 
   pub place : event ≡ 1
   pub none : untouched
 
+-- Why a run stopped. Broken says that the source failed or met the bound on calls, untouched that
+-- nothing was read, written or done.
 abbrev pub StoppedTelling : Plan → Telling → Moved
     → (broken untouched : Type 0) → ℕ → RunCause → Type 0
 StoppedTelling p t x broken untouched event Read = ToldToCut p t x broken event
@@ -165,10 +167,9 @@ StoppedTelling p t x broken untouched event (OfScript f) =
 StoppedTelling p t x broken untouched event NoMemory = ToldOutOfMemory p t x event
     ⊎ HadNoTable t untouched event
 
--- WHAT A RUN THAT TELLS MORE ANSWERS. Broken says that the source failed or met the bound on calls,
--- untouched that nothing was read, written or done.
-abbrev pub TellingAnswers : Plan → Telling → Moved
-    → (broken untouched : Type 0) → Result Summary RunFault → Type 0
-TellingAnswers p t x broken untouched (Ok summary) = ToldWhole p t x summary
-TellingAnswers p t x broken untouched (Err f) =
-    StoppedTelling p t x broken untouched f.event f.cause
+-- WHAT A RUN THAT TELLS MORE ANSWERS
+abbrev pub TellingAnswers : Plan → Telling → Input → States → Output
+    → Result Summary RunFault → Type 0
+TellingAnswers p t source net sink (Ok summary) = ToldWhole p t (moved_of source net sink) summary
+TellingAnswers p t source net sink (Err f) = StoppedTelling p t (moved_of source net sink)
+    source.broken (NothingDone source net sink) f.event f.cause

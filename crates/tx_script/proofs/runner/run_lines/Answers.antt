@@ -109,7 +109,7 @@ pub returns-in-Ok-End-clause-answers : goal.returns-in-Ok-End-clause-answers
 returns-in-Ok-End-clause-answers g c =
     let k = c.in-Ok-End in
     let f = c.finish.ensures in
-    whole_ends _ _ _ _ _ _ _ _ _ _ _ _ _ c.lines.invariant.runs c.rules.ensures c.requires.fresh c.requires.counts _ _ _ _ c.finish.result (end_came _ _ _ _ _ _ _ _ _ _ _ _ _ c.lines.invariant.runs _ _ (to_come c.advance.new.self) c.advance.new.self.reader.feed.line k.ensures.gives k.field-0-is) f.summary f.ok f.fault f.err
+    whole_ends _ _ _ _ _ _ _ _ _ _ _ _ _ c.lines.invariant.runs c.rules.ensures c.requires.fresh c.requires.counts _ _ _ _ _ _ c.finish.result (end_came _ _ _ _ _ _ _ _ _ _ _ _ _ c.lines.invariant.runs _ _ (to_come c.advance.new.self) c.advance.new.self.reader.feed.line k.ensures.gives k.field-0-is) f.summary f.ok f.fault f.err
 
 pub returns-in-Err-clause-answers : goal.returns-in-Err-clause-answers
 returns-in-Err-clause-answers g c =
