@@ -4,9 +4,9 @@ ghost use Rattle.tx_text.specs.Words.{is_name};
 ghost use Rattle.tx_plan.specs.Declaring.{has_group, is_not_outgoing, group_at};
 ghost use Rattle.tx_plan.specs.inner.RouteScan.{IsScanOf};
 
-use crate::group_list::GroupList;
 use crate::ids::{GroupId, Pair};
 use crate::plan::Plan;
+use crate::routes::GroupList;
 use std::alloc::Allocator;
 use tx_text::{Words, is_name};
 

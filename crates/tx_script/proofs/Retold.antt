@@ -9,7 +9,7 @@ use Rattle.tx_script.specs.declared.run_cause.RunCause.TheVariants.{Read, Write,
 use Rattle.tx_script.specs.declared.run_fault.RunFault.{RunFault}
 use Rattle.tx_script.specs.declared.script_word.ScriptWord.{ScriptWord}
 use Rattle.tx_script.specs.declared.summary.Summary.{Summary}
-use Rattle.tx_script.specs.declared.telling.Telling.{Telling}
+use Rattle.tx_script.specs.declared.teller.Telling.{Telling}
 use Rattle.tx_script.specs.Script.{Script}
 use Rattle.tx_script.specs.Answers.{States, NothingDone, Begins, Ran, FaultyBy, Stopped, RunAnswers, is_reader_room}
 use Rattle.tx_script.specs.TellingAnswers.{ToldRan, FaultyTold, StoppedTelling, TellingAnswers}
