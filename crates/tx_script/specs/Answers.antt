@@ -135,6 +135,7 @@ module _ (p : Plan) (source : Input) (net : States) (sink : Output) where
   FaultyBy true event line kind = (event ≡ 1) × (line ≡ 1) × NothingDone source net sink
   FaultyBy false event line kind = RanToFault event line kind
 
+  -- a run stopped in this event, for this cause
   abbrev pub Stopped : ℕ → RunCause → Type 0
   Stopped event Read = RanToCut event
   Stopped event Write = FailedInEvent event ⊎ FailedAtEnd event

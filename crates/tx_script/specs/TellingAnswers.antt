@@ -153,6 +153,7 @@ module _ (p : Plan) (t : Telling) (source : Input) (net : States) (sink : Output
     pub place : event ≡ 1
     pub none : NothingDone source net sink
 
+  -- a run stopped in this event, for this cause
   abbrev pub StoppedTelling : ℕ → RunCause → Type 0
   StoppedTelling event Read = ToldToCut event
   StoppedTelling event Write = StoppedInEvent event ⊎ StoppedAtEnd event
