@@ -8,10 +8,9 @@ ghost use Rattle.tx_text.specs.inner.Framing.{end_as, frame_start, line_of_frame
 ghost use Rattle.tx_text.specs.declared.frame.FaultKind.TheVariants.{Frame};
 ghost use Rattle.tx_text.specs.Calls.{source_calls, slice_calls, CallsAtMost, Broken};
 
-use crate::line_words::Words;
+use crate::line_words::{Words, words};
 use crate::reader::TextReader;
 use crate::source::Source;
-use crate::split::words;
 use crate::text_fault::TextFault;
 use std::alloc::{Allocator, Global};
 use std::fmt::Display;
@@ -265,7 +264,7 @@ const SOURCE_CALLS: u64 = 4_294_967_295;
 const SLICE_CALLS: u64 = 2_251_799_813_685_249;
 
 /// Reads a text from a source, and keeps its frame.
-#[derive(Drop)]
+#[derive(Debug, Drop)]
 pub struct FrameReader<'k, A: Allocator = Global> {
     key: &'k [u8],
     most: u8,
