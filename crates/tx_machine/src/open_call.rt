@@ -5,7 +5,7 @@ use tx_plan::Line;
 use tx_text::Figures;
 
 /// An open call.
-#[derive(Drop)]
+#[derive(Debug, Drop)]
 pub struct OpenCall<A: Allocator = Global> {
     /// Its number, from 1.
     pub number: u32,
