@@ -9,7 +9,6 @@ mod feeder;
 mod figures;
 mod frame;
 mod from_read;
-mod inline_bytes;
 mod line;
 mod line_words;
 mod lines;
@@ -23,20 +22,18 @@ mod reading;
 mod sink;
 mod slice_source;
 mod source;
-mod split;
 mod text_fault;
 mod to_write;
 
 pub use feeder::{Fed, LineFeeder};
-pub use figures::{Figures, are_figures, number};
+pub use figures::{Figures, InlineBytes, are_figures, number};
 pub use frame::{
     FaultAt, FaultKind, FrameFault, FramePart, FrameReader, FrameStep, FrameStop, LineForm,
     closing, is_end, last_fault, look,
 };
 pub use from_read::FromRead;
-pub use inline_bytes::InlineBytes;
 pub use line::TextLine;
-pub use line_words::Words;
+pub use line_words::{Words, words};
 pub use lines::{Lines, first_line};
 pub use memory_sink::MemorySink;
 pub use memory_source::MemorySource;
@@ -48,6 +45,5 @@ pub use reading::{Declares, read_slice, read_text};
 pub use sink::{Sink, WriteFault, write_bytes, write_parts};
 pub use slice_source::{SliceSource, slices_are_read_whole};
 pub use source::{ReadFault, Source};
-pub use split::words;
 pub use text_fault::TextFault;
 pub use to_write::ToWrite;
