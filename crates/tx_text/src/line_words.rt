@@ -152,10 +152,3 @@ fn first_word(text: &[u8]) -> Option<(&[u8], &[u8])>
         Some((word, rest))
     }
 }
-
-/// The words of a line, which spaces and tabs separate, up to a `#`.
-pub fn words(line: &[u8]) -> Words<'_>
-    ensures { result ≡ words_of line.now }
-{
-    Words::new(line)
-}
