@@ -228,7 +228,7 @@ fn set_links(slots: &mut [Slot], end: End, place: usize, links: Links)
     slots[place] = slots[place].with_links(end, links);
 }
 
-/// The circuit now stands between two neighbours; all other links are as before.
+/// The circuit is now between two neighbours; all other links are as before.
 pub fn insert(slots: &mut [Slot], list: &mut FreeList, end: End, place: usize, links: Links)
     requires short { length slots.old ≤ 240 }
     requires place { place < length slots.old }

@@ -65,7 +65,7 @@ impl State {
         self
     }
 
-    /// The state where the end has, or does not have, seized the circuit.
+    /// The state where the end has, or has not, seized the circuit.
     pub fn with_seized(self, end: End, to: bool) -> State
         ensures { result ≡ with_seized end to self }
     {

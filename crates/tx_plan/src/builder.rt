@@ -18,7 +18,7 @@ use tx_text::Words;
 
 /// A plan in the making. What it declared so far obeys the rules of a plan.
 ///
-/// Each declaration appends one entry to one list, or changes nothing and tells the first refusal
+/// Each declaration appends one entry to one list, or changes nothing and reports the first refusal
 /// in the order of `PlanRefusal`. Names are declared before use.
 #[derive(Debug, Drop)]
 pub struct PlanBuilder<A: Allocator = Global> {
