@@ -3,8 +3,7 @@ use crate::cases::case::next_line;
 use tx_text::words;
 
 /// How many bytes of the output are that of the first so many events: their replies, each with the
-/// tickets after it. The line END EVENTS counts as
-/// one more.
+/// tickets after it. The line END EVENTS counts as one more.
 pub fn written_after(output: &[u8], events: u64) -> usize {
     let mut rest = output;
     let mut left = events;

@@ -25,8 +25,7 @@ fn mark_in(text: &[u8]) -> Option<(&[u8], &[u8])> {
 }
 
 /// Tells a text of the file, in which `{13}` stands for the byte of that number, `{35 512}` for 512
-/// of them, `{}` for a line that goes on, and
-/// `{lines 1 9 CODE 4@ ALFA}` for nine lines.
+/// of them, `{}` for a line that goes on, and `{lines 1 9 CODE 4@ ALFA}` for nine lines.
 pub fn spell(text: &[u8], out: &mut Told) {
     let mut rest = text;
     for _ in 0..=text.len() {
@@ -58,8 +57,7 @@ fn behind_mark<'a>(mark: &[u8], behind: &'a [u8]) -> &'a [u8] {
 }
 
 /// Tells the bytes of a mark: none, a byte's number and how often it stands, or `lines`, two
-/// numbers, and a line that stands once for each number between
-/// them.
+/// numbers, and a line that stands once for each number between them.
 fn tell_mark(mark: &[u8], out: &mut Told) {
     if mark.is_empty() {
         return;

@@ -145,16 +145,12 @@ fn came_of(fault: PlanFault) -> Came {
 /// Reads the plan, and makes what is to be made.
 fn make<A: Allocator + Copy>(alloc: A, made: Made, plan: &[u8]) -> Came {
     match read_plan(alloc, plan) {
-        Ok(plan) => {
-            let came = make_over(alloc, made, &plan);
-            drop(plan);
-            came
-        }
+        Ok(plan) => make_over(alloc, made, &plan),
         Err(fault) => came_of(fault),
     }
 }
 
-/// Refuses each request for memory in turn, until none is refused, and returns how many are not the
+/// Refuses each request for memory in turn, until none is refused, and writes how many are not the
 /// plan's.
 pub(crate) fn play_growths(alloc: Global, made: Option<Made>, plan: &[u8], out: &mut Told) {
     let Some(made) = made else {

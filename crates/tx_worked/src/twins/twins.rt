@@ -61,8 +61,7 @@ fn apply<E: Network>(engine: &mut E, event: &Event) -> Result<Answer, Mismatch> 
 }
 
 /// Applies an event to both networks, and compares their replies and counts. The answer is that of
-/// the engine, in which memory has to be wanting just where
-/// its memory refuses a request.
+/// the engine, in which memory has to be wanting just where its memory refuses a request.
 pub fn apply_to_both<P: Network, E: Network>(
     plain: &mut P,
     engine: &mut E,
