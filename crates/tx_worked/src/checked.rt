@@ -39,11 +39,11 @@ fn put_events<A: Allocator>(
 ) {
     let mut rest = script;
     for _ in 0..script.len() {
-        let Some((line, behind)) = next_line(rest) else {
+        let Some((line, after)) = next_line(rest) else {
             break;
         };
         put_event(plan, line, events, out);
-        rest = behind;
+        rest = after;
     }
 }
 

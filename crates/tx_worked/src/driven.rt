@@ -20,8 +20,8 @@ fn accepted(replies: &[Reply]) -> u64 {
     count
 }
 
-/// Drives the events, and where memory was wanted the rest of them again. Returns whether the
-/// replies were those of the events that were applied.
+/// Drives the events, and where memory ran out the rest of them again. Returns whether the replies
+/// were those of the events that were applied.
 fn drive_on<A: Allocator, N: Network>(
     net: &mut N,
     events: &[Event],
@@ -38,7 +38,7 @@ fn drive_on<A: Allocator, N: Network>(
 }
 
 /// Drives the events through a network, and returns whether the replies are those of a network that
-/// never wants memory.
+/// never runs out of memory.
 fn drives_on<A: Allocator + Copy, N: Network>(
     alloc: A,
     net: &mut N,

@@ -65,8 +65,8 @@ fn try_rooms(alloc: Global, text: Script<'_>, whole: WholeRun<'_>, out: &mut Tol
     }
 }
 
-/// Whether a run that was refused memory stopped where memory may be wanted: in an event that takes
-/// memory, or, for the network or the reader, before the first.
+/// Whether a run that was refused memory stopped where it may: in an event that takes memory, or,
+/// for the network or the reader, before the first.
 fn wanted_memory(ran: &Ran, script: &[u8], whole: &[u8]) -> bool {
     let Err(RunFault { event, cause }) = ran.end else {
         return false;

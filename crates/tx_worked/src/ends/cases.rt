@@ -10,7 +10,7 @@ use tx_program::{WordsFault, refuse_arguments, tell_words};
 #[derive(Clone, Copy)]
 enum Wrong {
     Arguments(io::ErrorKind),
-    /// Memory was wanting when the words were read.
+    /// Memory ran out when the words were read.
     Words,
 }
 

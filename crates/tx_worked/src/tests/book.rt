@@ -115,12 +115,12 @@ fn play_line(book: &mut LineBook, line: &[u8], out: &mut Told) {
 pub(crate) fn play_book(book: &mut LineBook, lines: &[u8], out: &mut Told) {
     let mut rest = lines;
     for _ in 0..lines.len() {
-        let Some((line, behind)) = next_line(rest) else {
+        let Some((line, after)) = next_line(rest) else {
             break;
         };
         tell(line, out);
         play_line(book, line, out);
-        rest = behind;
+        rest = after;
     }
 }
 

@@ -58,7 +58,7 @@ pub(crate) fn tell_circuits(table: &mut CircuitTable, lines: &[u8], out: &mut To
     tell_next(table, out);
     let mut rest = lines;
     for _ in 0..lines.len() {
-        let Some((line, behind)) = next_line(rest) else {
+        let Some((line, after)) = next_line(rest) else {
             break;
         };
         tell(line, out);
@@ -66,7 +66,7 @@ pub(crate) fn tell_circuits(table: &mut CircuitTable, lines: &[u8], out: &mut To
             tell(b", not made", out);
         }
         tell_next(table, out);
-        rest = behind;
+        rest = after;
     }
 }
 

@@ -30,11 +30,11 @@ pub(crate) static MADE: [(&str, Made); 5] = [
 /// What came of it.
 #[derive(Clone, Copy)]
 enum Came {
-    /// All answers are right, and none was when memory runs out.
+    /// All answers are right, and memory never ran out.
     Right,
-    /// The plan wanted memory.
+    /// Memory ran out for the plan.
     NoPlan,
-    /// What was made wanted memory.
+    /// Memory ran out for what was made.
     Wanting,
     /// An answer is wrong.
     Wrong,

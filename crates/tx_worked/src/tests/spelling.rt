@@ -68,11 +68,11 @@ pub(crate) fn tell_spellings(
 ) {
     let mut rest = text;
     for _ in 0..text.len() {
-        let Some((line, behind)) = next_line(rest) else {
+        let Some((line, after)) = next_line(rest) else {
             break;
         };
         tell_parts(&[b"[", line, b"]: "], out);
         tell_line(spelling, first, second, line, out);
-        rest = behind;
+        rest = after;
     }
 }
