@@ -6,8 +6,7 @@ ghost use Rattle.tx_plan.specs.Declaring.{Declares, first_true, exchange_refusal
 use crate::entries::{
     bar_entry, code_entry, exchange_entry, group_entry, range_entry, route_entry,
 };
-use crate::ids::Direction;
-use crate::names::ByWord;
+use crate::ids::{ByWord, Direction};
 use crate::plan::Plan;
 use crate::refusal::PlanRefusal;
 use crate::routes::{Bars, Routes};
