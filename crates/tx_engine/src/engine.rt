@@ -1,4 +1,5 @@
-// The indexed network: what it keeps, what it knows for the refusals, and what it does with an event.
+// The indexed network: what it keeps, what it knows for the refusals, and what it does with an
+// event.
 ghost use Rattle.std.specs.Prelude.{◌≡◌, IfOk, OnErr, None, true, is_some};
 ghost use Rattle.tx_machine.specs.State.{opening};
 ghost use Rattle.tx_machine.specs.Step.{accepted, counted, takes_memory};
