@@ -1,4 +1,4 @@
-// What the user is told of refused words.
+// What is printed of refused words.
 ghost use Rattle.std.specs.Prelude.{◌≡◌};
 ghost use Rattle.std.specs.IoError.{error_kind};
 ghost use Rattle.tx_program.specs.Statuses.{status_of_arguments};
