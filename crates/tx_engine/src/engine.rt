@@ -223,7 +223,8 @@ pub(crate) struct EngineState<'p, A: Allocator> {
 }
 
 impl<'p, A: Allocator + Copy> EngineState<'p, A> {
-    /// Those of the opening state with so many numbers given and so many events accepted.
+    /// What the engine keeps in the opening state with so many numbers given and so many events
+    /// accepted.
     pub(crate) fn build(
         alloc: A,
         plan: &'p Plan<A>,
