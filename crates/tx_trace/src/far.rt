@@ -19,7 +19,6 @@ pub fn far<A: Allocator>(
     ensures leads { other_end plan.now group exchange ≡ Some result }
     ensures within { result < length plan.now.exchanges }
 {
-    plan.rules();
     match plan.other_end(group, exchange) {
         Some(to) => to,
         None => unreachable!(),
