@@ -8,7 +8,7 @@ use Rattle.tx_plan.specs.Plan.{Plan, Group, Route}
 use Rattle.tx_plan.specs.Rules.{IsPlan, IsRoute}
 use Rattle.tx_plan.specs.Routes.{route_list}
 use Rattle.tx_plan.specs.Circuits.{far_end, other_end, may_seize, is_both, direction_of}
-use Rattle.tx_plan.specs.declared.group.Direction.TheVariants.{OneWay}
+use Rattle.tx_plan.specs.declared.ids.Direction.TheVariants.{OneWay}
 use Rattle.tx_plan.specs.Among.{Among}
 use Rattle.tx_rank.specs.Walks.{AllDiffer}
 use Rattle.tx_rank.proofs.Ways.{among_all, all_among, once_first, once_cons}

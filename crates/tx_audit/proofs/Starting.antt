@@ -15,7 +15,7 @@ use Rattle.tx_plan.specs.Rules.{IsPlan, IsRange}
 use Rattle.tx_plan.specs.Lines.{at_most, in_range, is_line}
 use Rattle.tx_plan.specs.Codes.{after, is_prefix, codes_before, longer, longest, code_of}
 use Rattle.tx_plan.specs.Routes.{is_origin}
-use Rattle.tx_plan.specs.declared.line.Line.{Line}
+use Rattle.tx_plan.specs.declared.ids.Line.{Line}
 use Rattle.tx_plan.specs.declared.range.LineRange.{LineRange}
 use Rattle.tx_plan.proofs.Among.{among_places, among_filter, filter_among}
 use Rattle.tx_plan.proofs.ByPlace.{entry_at}

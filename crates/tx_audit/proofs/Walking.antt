@@ -6,15 +6,15 @@ use Rattle.tx_plan.specs.Plan.{Plan, home_of}
 use Rattle.tx_plan.specs.Rules.{IsPlan}
 use Rattle.tx_plan.specs.Routes.{route_list}
 use Rattle.tx_plan.specs.Circuits.{other_end, may_seize, is_both, direction_of, count_of}
-use Rattle.tx_plan.specs.declared.group.Circuit.{Circuit}
-use Rattle.tx_plan.specs.declared.line.Line.{Line}
+use Rattle.tx_plan.specs.declared.ids.Circuit.{Circuit}
+use Rattle.tx_plan.specs.declared.ids.Line.{Line}
 use Rattle.tx_plan.specs.Among.{Among}
 use Rattle.tx_plan.proofs.Among.{among_cases}
 use Rattle.tx_rank.specs.Walks.{AllDiffer, Goes, net_of, before_end, end_of}
 use Rattle.tx_rank.proofs.Ways.{once_first}
 use Rattle.tx_machine.specs.declared.event.Event.TheVariants.{Route, Confirm, Block, Unblock}
-use Rattle.tx_machine.specs.declared.hop.Hop.{Hop}
-use Rattle.tx_machine.specs.declared.phase.Phase.TheVariants.{Standing, Calling}
+use Rattle.tx_machine.specs.declared.open_call.Hop.{Hop}
+use Rattle.tx_machine.specs.declared.open_call.Phase.TheVariants.{Standing, Calling}
 use Rattle.tx_machine.specs.declared.reply.Reply.TheVariants.{Seized, At}
 use Rattle.tx_machine.specs.Refusals.{is_group}
 use Rattle.tx_machine.proofs.Uses.{two_ends}

@@ -9,7 +9,7 @@ use Rattle.tx_text.specs.Words.{is_figure, are_figures, figures_of as keyed_of}
 use Rattle.tx_plan.specs.Plan.{Plan, Code, Group, figures_of}
 use Rattle.tx_plan.specs.Rules.{IsPlan, IsCode, IsRange, is_national}
 use Rattle.tx_plan.specs.Routes.{route_list}
-use Rattle.tx_plan.specs.declared.line.Line.{Line}
+use Rattle.tx_plan.specs.declared.ids.Line.{Line}
 use Rattle.tx_plan.specs.declared.range.LineRange.{LineRange}
 use Rattle.tx_plan.proofs.ByPlace.{entry_at}
 use Rattle.tx_plan.specs.Among.{Among}

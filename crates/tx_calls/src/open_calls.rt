@@ -5,7 +5,7 @@ ghost use Rattle.tx_plan.specs.Among.{Among};
 ghost use Rattle.tx_machine.specs.Routing.{in_phase, set_call};
 ghost use Rattle.tx_machine.specs.Confirming.{carried_on, thrown_back};
 ghost use Rattle.slab.specs.Slab.{get, HasRoomFor, Updates};
-ghost use Rattle.tx_machine.specs.declared.phase.Phase.TheVariants.{Standing};
+ghost use Rattle.tx_machine.specs.declared.open_call.Phase.TheVariants.{Standing};
 ghost use Rattle.tx_machine.specs.declared.open_call.OpenCall.{OpenCall};
 ghost use Rattle.tx_calls.specs.Calls.{Kept, HasRoom, kept_at, Changes, calls_in, kept_of};
 ghost use Rattle.tx_machine.specs.Seen.{call_seen};

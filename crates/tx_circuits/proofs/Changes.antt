@@ -9,7 +9,7 @@ use Rattle.std.proofs.lemmas.Bool.Decides.{eqb_tells}
 use Rattle.std.proofs.lemmas.Map.Lookups.{exact_unsigned}
 use Rattle.std.proofs.Math.Bool.{and-true, and-false}
 use Rattle.tx_plan.specs.Orders.{same_circuit, circuit_cmp}
-use Rattle.tx_plan.specs.declared.group.Circuit.{Circuit}
+use Rattle.tx_plan.specs.declared.ids.Circuit.{Circuit}
 use Rattle.tx_plan.proofs.Named.{circuits_total, exact_circuits, same_circuit-is, same_circuit-itself}
 use Rattle.tx_circuits.specs.declared.lists.End.{End}
 use Rattle.tx_circuits.specs.declared.lists.End.TheVariants.{First, Other}

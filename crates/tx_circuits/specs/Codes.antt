@@ -2,8 +2,8 @@
 use Rattle.std.specs.Prelude.{◌≡◌, ℕ, Bool, if◌then◌else◌, List, refl}
 use Rattle.std.specs.Coded.{Coded, code_by, coded×, coded_bool, coded_ℕ, coded_list}
 use Rattle.tx_plan.specs.Circuits.{is_both}
-use Rattle.tx_plan.specs.declared.group.Direction.{Direction}
-use Rattle.tx_plan.specs.declared.group.Direction.TheVariants.{OneWay, BothWay}
+use Rattle.tx_plan.specs.declared.ids.Direction.{Direction}
+use Rattle.tx_plan.specs.declared.ids.Direction.TheVariants.{OneWay, BothWay}
 use Rattle.tx_plan.specs.Plan.{Group}
 
 -- a direction is told by whether it is both ways

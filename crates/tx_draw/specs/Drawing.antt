@@ -4,8 +4,8 @@ use Rattle.std.specs.Prelude.{ℕ, ◌==◌, if◌then◌else◌, List, [], ◌+
 use Rattle.std.specs.List.{flat_map, range_with_len}
 use Rattle.tx_plan.specs.Plan.{Plan, exchange_name, figures_of, group_name, home_of}
 use Rattle.tx_plan.specs.Circuits.{ends_of, direction_of, count_of}
-use Rattle.tx_plan.specs.declared.group.Direction.{Direction}
-use Rattle.tx_plan.specs.declared.group.Direction.TheVariants.{OneWay, BothWay}
+use Rattle.tx_plan.specs.declared.ids.Direction.{Direction}
+use Rattle.tx_plan.specs.declared.ids.Direction.TheVariants.{OneWay, BothWay}
 
 -- the texts of the places before n, in order
 abbrev pub each_before : ℕ → (ℕ → List ℕ) → List ℕ

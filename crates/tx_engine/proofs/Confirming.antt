@@ -10,10 +10,10 @@ use Rattle.tx_plan.proofs.Named.{same_circuit-is}
 use Rattle.tx_plan.specs.Plan.{Plan}
 use Rattle.tx_plan.specs.Circuits.{other_end}
 use Rattle.tx_plan.specs.Among.{Among}
-use Rattle.tx_plan.specs.declared.group.Circuit.{Circuit}
+use Rattle.tx_plan.specs.declared.ids.Circuit.{Circuit}
 use Rattle.tx_plan.proofs.Among.{among_cases}
-use Rattle.tx_machine.specs.declared.hop.Hop.{Hop}
-use Rattle.tx_machine.specs.declared.phase.Phase.TheVariants.{Calling}
+use Rattle.tx_machine.specs.declared.open_call.Hop.{Hop}
+use Rattle.tx_machine.specs.declared.open_call.Phase.TheVariants.{Calling}
 use Rattle.tx_machine.specs.declared.event.Event.TheVariants.{Confirm}
 use Rattle.tx_machine.specs.declared.reply.Reply.TheVariants.{At}
 use Rattle.tx_machine.specs.Call.{Call, place_of}
@@ -29,7 +29,7 @@ use Rattle.tx_calls.proofs.Sorted.{sorted_mem, distinct_rising}
 use Rattle.tx_engine.specs.inner.Seen.{AreTogether, state_seen}
 use Rattle.tx_engine.proofs.Thrown.{told_alone}
 use Rattle.tx_engine.proofs.Going.{may_hold, carried_together, nobody_else}
-use Rattle.tx_engine.specs.declared.engine_state.EngineState.{EngineState}
+use Rattle.tx_engine.specs.declared.engine.EngineState.{EngineState}
 use Rattle.tx_engine.specs.inner.Sound.{AreSound, IsSound, IsUnder, is_first_end, state_of}
 use Rattle.tx_engine.proofs.Keyed.{keys_stay, keys_here, keys_else}
 use Rattle.tx_engine.proofs.Changing.{sound_after}

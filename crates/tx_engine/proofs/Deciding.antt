@@ -6,9 +6,9 @@ use Rattle.tx_plan.specs.Plan.{Plan, home_of}
 use Rattle.tx_plan.specs.Codes.{code_of}
 use Rattle.tx_plan.specs.Lines.{is_line_at}
 use Rattle.tx_plan.specs.Routes.{route_list, is_barred}
-use Rattle.tx_plan.specs.declared.group.Circuit.{Circuit}
-use Rattle.tx_plan.specs.declared.line.Line.{Line}
-use Rattle.tx_machine.specs.declared.service.Service.TheVariants.{Np, Na}
+use Rattle.tx_plan.specs.declared.ids.Circuit.{Circuit}
+use Rattle.tx_plan.specs.declared.ids.Line.{Line}
+use Rattle.tx_machine.specs.declared.cause.Service.TheVariants.{Np, Na}
 use Rattle.tx_machine.specs.declared.event.Event.TheVariants.{Route}
 use Rattle.tx_machine.specs.Call.{Call, place_of, is_first, call_of}
 use Rattle.tx_machine.specs.State.{State}

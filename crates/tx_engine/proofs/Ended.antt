@@ -15,7 +15,7 @@ use Rattle.tx_engine.specs.inner.GivenBack.{CanGiveBack, given_back, freed}
 use Rattle.tx_engine.specs.inner.Seen.{state_seen}
 use Rattle.tx_engine.proofs.Together.{may_end, together_after, state_after}
 use Rattle.tx_engine.proofs.Filters.{alone}
-use Rattle.tx_engine.specs.declared.engine_state.EngineState.{EngineState}
+use Rattle.tx_engine.specs.declared.engine.EngineState.{EngineState}
 use Rattle.tx_engine.specs.inner.Sound.{AreSound, IsSound, state_of}
 use Rattle.tx_engine.proofs.Keyed.{keyed_removed, hop_room_removed}
 

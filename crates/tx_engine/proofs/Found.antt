@@ -5,9 +5,9 @@ use Rattle.std.specs.Prelude.{if◌then◌else◌}
 use Rattle.tx_plan.specs.Plan.{Plan, home_of}
 use Rattle.tx_plan.specs.Codes.{code_of}
 use Rattle.tx_plan.specs.Routes.{route_list, is_barred}
-use Rattle.tx_plan.specs.declared.line.Line.{Line}
-use Rattle.tx_machine.specs.declared.hop.Hop.{Hop}
-use Rattle.tx_machine.specs.declared.service.Service.TheVariants.{Np, Na}
+use Rattle.tx_plan.specs.declared.ids.Line.{Line}
+use Rattle.tx_machine.specs.declared.open_call.Hop.{Hop}
+use Rattle.tx_machine.specs.declared.cause.Service.TheVariants.{Np, Na}
 use Rattle.tx_machine.specs.Call.{Call, place_of, is_first}
 use Rattle.tx_machine.specs.InUse.{first_in}
 use Rattle.tx_machine.specs.Routing.{line_of}

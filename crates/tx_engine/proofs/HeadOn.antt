@@ -4,9 +4,9 @@ use Rattle.std.specs.Prelude.{if◌then◌else◌, nat_lt}
 use Rattle.std.specs.FinSet as set
 use Rattle.tx_plan.specs.Plan.{Plan}
 use Rattle.tx_plan.specs.Among.{Among}
-use Rattle.tx_plan.specs.declared.group.Circuit.{Circuit}
+use Rattle.tx_plan.specs.declared.ids.Circuit.{Circuit}
 use Rattle.tx_machine.specs.declared.cause.Cause.{Cause}
-use Rattle.tx_machine.specs.declared.phase.Phase.TheVariants.{Calling}
+use Rattle.tx_machine.specs.declared.open_call.Phase.TheVariants.{Calling}
 use Rattle.tx_machine.specs.Call.{Call, place_of}
 use Rattle.tx_machine.specs.State.{State}
 use Rattle.tx_machine.specs.Confirming.{far_of, thrown_back, collide}
@@ -20,7 +20,7 @@ use Rattle.tx_engine.specs.inner.Seen.{state_seen, AreTogether}
 use Rattle.tx_engine.specs.inner.GivenBack.{CanThrowOff, thrown_off}
 use Rattle.tx_engine.proofs.Thrown.{IsRival, told_one, only_rival, rival_is, thrown_in_turn}
 use Rattle.tx_engine.proofs.Together.{may_throw, thrown_together}
-use Rattle.tx_engine.specs.declared.engine_state.EngineState.{EngineState}
+use Rattle.tx_engine.specs.declared.engine.EngineState.{EngineState}
 use Rattle.tx_engine.specs.inner.Sound.{AreSound, IsSound, IsUnder, is_first_end, state_of}
 use Rattle.tx_engine.specs.inner.Meeting.{AreMeeting, AreThrown}
 use Rattle.tx_engine.proofs.Keyed.{keyed_updated, hop_room_updated}

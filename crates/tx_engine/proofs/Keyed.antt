@@ -8,8 +8,8 @@ use Rattle.tx_plan.proofs.Named.{same_circuit-itself}
 use Rattle.tx_plan.specs.Plan.{Plan, Group}
 use Rattle.tx_plan.specs.Circuits.{is_circuit, other_end, ends_of, far_end}
 use Rattle.tx_plan.specs.Among.{Among}
-use Rattle.tx_plan.specs.declared.group.Circuit.{Circuit}
-use Rattle.tx_machine.specs.declared.phase.Phase.TheVariants.{Calling}
+use Rattle.tx_plan.specs.declared.ids.Circuit.{Circuit}
+use Rattle.tx_machine.specs.declared.open_call.Phase.TheVariants.{Calling}
 use Rattle.tx_machine.specs.Call.{place_of}
 use Rattle.tx_machine.specs.InUse.{circuits_carried}
 use Rattle.tx_machine.proofs.Uses.{an_end}

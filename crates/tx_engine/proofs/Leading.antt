@@ -3,8 +3,8 @@ use Rattle.std.proofs.Common.{◌≡◌, ℕ, Bool, true, List, Some, sym, ap, s
 use Rattle.std.specs.List.{list_any}
 use Rattle.tx_plan.specs.Plan.{Plan}
 use Rattle.tx_plan.specs.Among.{Among}
-use Rattle.tx_plan.specs.declared.group.Circuit.{Circuit}
-use Rattle.tx_machine.specs.declared.phase.Phase.TheVariants.{Calling}
+use Rattle.tx_plan.specs.declared.ids.Circuit.{Circuit}
+use Rattle.tx_machine.specs.declared.open_call.Phase.TheVariants.{Calling}
 use Rattle.tx_machine.specs.Call.{Call, place_of}
 use Rattle.tx_machine.specs.InUse.{carries, seizes_from, circuits_carried}
 use Rattle.tx_machine.proofs.Lists.{any_mem}

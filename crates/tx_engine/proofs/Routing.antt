@@ -11,10 +11,10 @@ use Rattle.tx_plan.specs.Lines.{is_line_at}
 use Rattle.tx_plan.specs.Routes.{route_list, is_barred}
 use Rattle.tx_plan.specs.Circuits.{may_seize, other_end, circuits_at, is_circuit}
 use Rattle.tx_plan.specs.Among.{Among}
-use Rattle.tx_plan.specs.declared.group.Circuit.{Circuit}
-use Rattle.tx_plan.specs.declared.line.Line.{Line}
-use Rattle.tx_machine.specs.declared.phase.Phase.TheVariants.{Calling, Connected}
-use Rattle.tx_machine.specs.declared.service.Service.TheVariants.{Na}
+use Rattle.tx_plan.specs.declared.ids.Circuit.{Circuit}
+use Rattle.tx_plan.specs.declared.ids.Line.{Line}
+use Rattle.tx_machine.specs.declared.open_call.Phase.TheVariants.{Calling, Connected}
+use Rattle.tx_machine.specs.declared.cause.Service.TheVariants.{Na}
 use Rattle.tx_machine.specs.Call.{Call, place_of, is_first}
 use Rattle.tx_machine.specs.InUse.{circuits_carried, first_in}
 use Rattle.tx_machine.specs.Routing.{set_call, in_phase, line_of}
@@ -32,7 +32,7 @@ use Rattle.tx_calls.proofs.Sorted.{sorted_mem}
 use Rattle.tx_engine.specs.inner.Seen.{AreTogether}
 use Rattle.tx_engine.proofs.Going.{connected_together, seized_together}
 use Rattle.tx_engine.specs.declared.route.Decision.TheVariants.{Reach, Seize, Answer}
-use Rattle.tx_engine.specs.declared.engine_state.EngineState.{EngineState}
+use Rattle.tx_engine.specs.declared.engine.EngineState.{EngineState}
 use Rattle.tx_engine.specs.inner.Decided.{decided_for, by_line, by_trunk, service_of, IsDecided}
 use Rattle.tx_engine.specs.inner.Sound.{AreSound, IsSound, is_first_end, state_of}
 use Rattle.tx_engine.proofs.Keyed.{keys_stay, keys_here, keys_else, pick_same, pick_other, ends_same}

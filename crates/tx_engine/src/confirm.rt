@@ -2,7 +2,7 @@
 ghost use Rattle.std.specs.Prelude.{◌≡◌, ◌<◌, ◌-◌, ◌^◌, None, false};
 ghost use Rattle.std.specs.FinSet as set;
 ghost use Rattle.tx_machine.specs.declared.event.Event.TheVariants.{Confirm};
-ghost use Rattle.tx_machine.specs.declared.phase.Phase.TheVariants.{Calling};
+ghost use Rattle.tx_machine.specs.declared.open_call.Phase.TheVariants.{Calling};
 ghost use Rattle.tx_machine.specs.declared.reply.Reply.TheVariants.{At};
 ghost use Rattle.tx_machine.specs.Confirming.{far_of};
 ghost use Rattle.tx_machine.specs.Step.{accepted, counted};
@@ -10,7 +10,7 @@ ghost use Rattle.tx_machine.specs.Refusals.{refusal};
 ghost use Rattle.tx_calls.specs.Calls.{Kept};
 ghost use Rattle.tx_engine.specs.inner.Sound.{IsSound, IsUnder, state_of};
 
-use crate::engine_state::EngineState;
+use crate::engine::EngineState;
 use std::alloc::Allocator;
 use tx_machine::{Hop, Phase, Reply, far_of};
 use tx_plan::{Circuit, ExchangeId};

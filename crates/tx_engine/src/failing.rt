@@ -16,7 +16,7 @@ ghost use Rattle.tx_engine.specs.inner.InTurn.{uses, IsLosing};
 ghost use Rattle.tx_engine.specs.inner.Users.{AreNumbersOf};
 ghost use Rattle.tx_engine.specs.inner.Sound.{IsSound, state_of};
 
-use crate::engine_state::EngineState;
+use crate::engine::EngineState;
 use arrayvec::ArrayVec;
 use std::alloc::Allocator;
 use tx_machine::{Cause, Reply};

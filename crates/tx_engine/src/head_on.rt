@@ -3,8 +3,8 @@ ghost use Rattle.std.specs.Prelude.{◌≡◌, ◌≢◌, ℕ, ◌<◌, ◌-◌,
 ghost use Rattle.std.specs.FinSet as set;
 ghost use Rattle.tx_machine.specs.declared.cause.Cause.TheVariants.{Service as ByService};
 ghost use Rattle.tx_machine.specs.declared.event.Event.TheVariants.{Confirm};
-ghost use Rattle.tx_machine.specs.declared.phase.Phase.TheVariants.{Calling};
-ghost use Rattle.tx_machine.specs.declared.service.Service.TheVariants.{Nc};
+ghost use Rattle.tx_machine.specs.declared.open_call.Phase.TheVariants.{Calling};
+ghost use Rattle.tx_machine.specs.declared.cause.Service.TheVariants.{Nc};
 ghost use Rattle.tx_machine.specs.Confirming.{far_of, rival, collide};
 ghost use Rattle.tx_machine.specs.Step.{accepted, counted};
 ghost use Rattle.tx_calls.specs.Calls.{Kept, kept_at};
@@ -13,7 +13,7 @@ ghost use Rattle.tx_engine.specs.inner.Meeting.{AreMeeting, AreThrown, IsMet};
 ghost use Rattle.tx_engine.specs.inner.Sound.{IsSound, IsUnder, state_of};
 
 use crate::ending::throw_off;
-use crate::engine_state::EngineState;
+use crate::engine::EngineState;
 use std::alloc::Allocator;
 use tx_machine::{Cause, Reply, Service};
 use tx_plan::{Circuit, ExchangeId};

@@ -7,7 +7,7 @@ ghost use Rattle.tx_machine.specs.Refusals.{refusal};
 ghost use Rattle.tx_machine.specs.declared.event.Event.TheVariants.{Key};
 ghost use Rattle.tx_engine.specs.inner.Sound.{IsSound, HasTicketRoom, state_of};
 
-use crate::engine_state::EngineState;
+use crate::engine::EngineState;
 use std::alloc::Allocator;
 use std::collections::VecDeque;
 use tx_machine::{OpenCall, Phase, Reply, Ticket};

@@ -16,7 +16,6 @@
 mod confirm;
 mod ending;
 mod engine;
-mod engine_state;
 mod failing;
 mod head_on;
 mod keying;

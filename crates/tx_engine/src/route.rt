@@ -16,7 +16,7 @@ ghost use Rattle.tx_machine.specs.InUse.{first_in};
 ghost use Rattle.tx_machine.specs.Seen.{call_seen};
 ghost use Rattle.tx_circuits.specs.Table.{first_free, unnamed};
 
-use crate::engine_state::EngineState;
+use crate::engine::EngineState;
 use std::alloc::Allocator;
 use tx_circuits::CircuitTable;
 use tx_lines::{LineBook, Status};

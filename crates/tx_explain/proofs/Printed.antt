@@ -9,7 +9,7 @@ use Rattle.tx_lint.specs.declared.warning.Warning.TheVariants as warning
 use Rattle.tx_cert.specs.declared.fault.CertWord.TheVariants as cert
 use Rattle.tx_script.specs.declared.script_word.ScriptWord.TheVariants as script
 use Rattle.tx_machine.specs.declared.refusal.Refusal.TheVariants as refusal
-use Rattle.tx_machine.specs.declared.service.Service.TheVariants as service
+use Rattle.tx_machine.specs.declared.cause.Service.TheVariants as service
 use Rattle.tx_machine.specs.declared.cause.Cause.TheVariants as cause
 use Rattle.tx_check.specs.declared.fault.CheckFault.TheVariants as fault
 use Rattle.tx_rank.specs.declared.finding.Finding.TheVariants as finding

@@ -4,7 +4,7 @@ use Rattle.tx_text.specs.declared.frame.FaultKind.{FaultKind}
 use Rattle.tx_plan.specs.Plan.{Plan}
 use Rattle.tx_machine.specs.State.{State, opening}
 use Rattle.tx_script.specs.declared.script_word.ScriptWord.{ScriptWord}
-use Rattle.tx_script.specs.declared.telling.Telling.{Telling}
+use Rattle.tx_script.specs.declared.teller.Telling.{Telling}
 use Rattle.tx_script.specs.declared.summary.Summary.{Summary}
 use Rattle.tx_script.specs.declared.run_fault.RunFault.{RunFault}
 use Rattle.tx_script.specs.declared.run_cause.RunCause.{RunCause}

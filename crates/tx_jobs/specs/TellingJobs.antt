@@ -5,7 +5,7 @@ use Rattle.tx_plan.specs.Plan.{Plan}
 use Rattle.tx_machine.specs.State.{State, opening}
 use Rattle.tx_script.specs.declared.summary.Summary.{Summary}
 use Rattle.tx_script.specs.declared.run_fault.RunFault.{RunFault}
-use Rattle.tx_script.specs.declared.telling.Telling.{Telling}
+use Rattle.tx_script.specs.declared.teller.Telling.{Telling}
 use Rattle.tx_script.specs.Answers.{Moved}
 use Rattle.tx_script.specs.TellingAnswers.{TellingAnswers}
 use Rattle.tx_jobs.specs.declared.job_fault.JobFault.{JobFault}

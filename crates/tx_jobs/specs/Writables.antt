@@ -3,7 +3,7 @@ use Rattle.std.specs.Prelude.{List}
 use Rattle.std.specs.Coded.{Unit-prop, le_prop, ×_prop, Coded-set, coded_bool}
 use Rattle.std.specs.List.{AllByRecursion, AllByRecursion-prop}
 use Rattle.tx_plan.specs.Plan.{Plan}
-use Rattle.tx_plan.specs.declared.group.Circuit.{Circuit}
+use Rattle.tx_plan.specs.declared.ids.Circuit.{Circuit}
 use Rattle.tx_machine.specs.declared.event.Event.{Event}
 use Rattle.tx_machine.specs.declared.event.Event.TheVariants.{Key, Route, Confirm, Clear, Released, Fail, Restore, Block, Unblock, CircuitOut, CircuitIn, LineFault, LineMend, LineAway, LineBack}
 use Rattle.tx_script.specs.Events.{FitsPlan, IsEvent, IsWritable, IsWritableCircuit}

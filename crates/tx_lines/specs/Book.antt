@@ -6,10 +6,10 @@ use Rattle.std.specs.Coded.{Coded, code_by, coded×, coded_ℕ, coded_list}
 use Rattle.tx_plan.specs.Plan.{no_plan}
 use Rattle.tx_plan.specs.Lines.{is_line_at}
 use Rattle.tx_plan.specs.Orders.{line_cmp, coded_line}
-use Rattle.tx_plan.specs.declared.line.Line.{Line}
+use Rattle.tx_plan.specs.declared.ids.Line.{Line}
 use Rattle.tx_plan.specs.declared.range.LineRange.{LineRange}
-use Rattle.tx_lines.specs.declared.answer.LineAnswer.{LineAnswer}
-use Rattle.tx_lines.specs.declared.answer.LineAnswer.TheVariants.{NoLine, OutOfOrder, Away, Engaged, Free}
+use Rattle.tx_lines.specs.declared.book.LineAnswer.{LineAnswer}
+use Rattle.tx_lines.specs.declared.book.LineAnswer.TheVariants.{NoLine, OutOfOrder, Away, Engaged, Free}
 
 pub record Book : Type 0 where
   pub ranges : List LineRange

@@ -1,8 +1,8 @@
 -- Marks of lines.
 use Rattle.std.specs.Prelude.{Bool, false, not, ◌&&◌}
-use Rattle.tx_lines.specs.declared.status.Status.{Status}
-use Rattle.tx_lines.specs.declared.status.Mark.{Mark}
-use Rattle.tx_lines.specs.declared.status.Mark.TheVariants.{Faulty, Away, Engaged}
+use Rattle.tx_lines.specs.declared.book.Status.{Status}
+use Rattle.tx_lines.specs.declared.book.Mark.{Mark}
+use Rattle.tx_lines.specs.declared.book.Mark.TheVariants.{Faulty, Away, Engaged}
 
 abbrev pub has : Mark → Status → Bool
 has Faulty s = s.faulty

@@ -2,11 +2,7 @@
 //! what a line answers to a call.
 #![tactic(auto)]
 
-mod answer;
 mod book;
 mod ranges;
-mod status;
 
-pub use answer::LineAnswer;
-pub use book::LineBook;
-pub use status::Status;
+pub use book::{LineAnswer, LineBook, Status};

@@ -13,7 +13,7 @@ use tx_text::NoMemory;
 
 /// Ranges in order of code, width and low end, no two of which share a number; and for each code
 /// where its own begin.
-#[derive(Drop)]
+#[derive(Debug, Drop)]
 pub struct Ranges<A: Allocator = Global> {
     ranges: Vec<LineRange, A>,
     firsts: Vec<usize, A>,

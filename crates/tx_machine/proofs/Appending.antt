@@ -4,12 +4,12 @@ use Rattle.std.specs.Prelude.{if◌then◌else◌, filter}
 use Rattle.tx_plan.specs.Plan.{Plan, home_of}
 use Rattle.tx_plan.specs.Codes.{code_of}
 use Rattle.tx_plan.specs.Routes.{is_barred}
-use Rattle.tx_plan.specs.declared.group.Circuit.{Circuit}
-use Rattle.tx_plan.specs.declared.line.Line.{Line}
+use Rattle.tx_plan.specs.declared.ids.Circuit.{Circuit}
+use Rattle.tx_plan.specs.declared.ids.Line.{Line}
 use Rattle.tx_machine.specs.declared.event.Event.TheVariants.{Key, Route, Confirm, Clear, Released, Fail, Restore, Block, Unblock, CircuitOut, CircuitIn, LineFault, LineMend, LineAway, LineBack}
-use Rattle.tx_machine.specs.declared.party.Party.TheVariants.{Caller, Called}
-use Rattle.tx_machine.specs.declared.service.Service.{Service}
-use Rattle.tx_machine.specs.declared.service.Service.TheVariants.{Nc, Np, Na}
+use Rattle.tx_machine.specs.declared.open_call.Party.TheVariants.{Caller, Called}
+use Rattle.tx_machine.specs.declared.cause.Service.{Service}
+use Rattle.tx_machine.specs.declared.cause.Service.TheVariants.{Nc, Np, Na}
 use Rattle.tx_machine.specs.declared.cause.Cause.{Cause}
 use Rattle.tx_machine.specs.declared.cause.Cause.TheVariants.{Service as ByService, Lost as ByLoss}
 use Rattle.tx_machine.specs.declared.refusal.Refusal.{Refusal}

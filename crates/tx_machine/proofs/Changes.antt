@@ -12,12 +12,12 @@ use Rattle.tx_plan.specs.Plan.{Plan}
 use Rattle.tx_plan.specs.Lines.{is_line}
 use Rattle.tx_plan.specs.Circuits.{is_circuit, other_end}
 use Rattle.tx_plan.specs.Among.{Among}
-use Rattle.tx_plan.specs.declared.group.Circuit.{Circuit}
-use Rattle.tx_plan.specs.declared.line.Line.{Line}
+use Rattle.tx_plan.specs.declared.ids.Circuit.{Circuit}
+use Rattle.tx_plan.specs.declared.ids.Line.{Line}
 use Rattle.tx_plan.proofs.Among.{among_cases, filter_among, flat_among, map_among}
 use Rattle.tx_machine.specs.declared.cause.Cause.{Cause}
 use Rattle.tx_machine.specs.declared.cause.Cause.TheVariants.{Lost as ByLoss}
-use Rattle.tx_machine.specs.declared.hop.Hop.{Hop}
+use Rattle.tx_machine.specs.declared.open_call.Hop.{Hop}
 use Rattle.tx_machine.specs.Call.{Phase, Standing, Calling, Connected, Call, start_of, place_of, circuit_called, is_numbered}
 use Rattle.tx_machine.specs.State.{State}
 use Rattle.tx_machine.specs.InUse.{circuits_carried, seizes, circuits_used, uses_group, seizes_from, is_calling_on}

@@ -6,7 +6,7 @@ use Rattle.std.specs.FinSet as set
 use Rattle.tx_plan.specs.Orders.{circuit_cmp}
 use Rattle.tx_plan.specs.Plan.{Plan}
 use Rattle.tx_plan.specs.Among.{Among}
-use Rattle.tx_plan.specs.declared.group.Circuit.{Circuit}
+use Rattle.tx_plan.specs.declared.ids.Circuit.{Circuit}
 use Rattle.tx_plan.proofs.Among.{among_cases, filter_among, map_among}
 use Rattle.tx_machine.specs.Call.{Call}
 use Rattle.tx_machine.specs.Routing.{set_call}

@@ -1,7 +1,7 @@
 -- The last hop.
 use Rattle.std.proofs.Common.{◌≡◌, ℕ, suc, ◌-◌, List, [], ◌∷◌, length, Some, ap, subst, arith}
 use Rattle.std.specs.Prelude.{slice_get}
-use Rattle.tx_machine.specs.declared.hop.Hop.{Hop}
+use Rattle.tx_machine.specs.declared.open_call.Hop.{Hop}
 use Rattle.tx_machine.specs.Call.{last_exchange}
 
 pub last_is : (start : ℕ) (hops : List Hop) (h : Hop) → slice_get hops (length hops - 1) ≡ Some h → last_exchange start hops ≡ h.far

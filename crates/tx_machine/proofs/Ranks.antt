@@ -14,11 +14,11 @@ use Rattle.tx_plan.specs.Lines.{in_range, is_line}
 use Rattle.tx_plan.specs.Codes.{is_prefix, codes_before, longest, code_of}
 use Rattle.tx_plan.specs.Routes.{route_list, is_barred, is_origin}
 use Rattle.tx_plan.specs.Among.{Among}
-use Rattle.tx_plan.specs.declared.group.Circuit.{Circuit}
-use Rattle.tx_plan.specs.declared.line.Line.{Line}
+use Rattle.tx_plan.specs.declared.ids.Circuit.{Circuit}
+use Rattle.tx_plan.specs.declared.ids.Line.{Line}
 use Rattle.tx_plan.proofs.Among.{filter_among}
 use Rattle.tx_machine.specs.declared.event.Event.{Event}
-use Rattle.tx_machine.specs.declared.hop.Hop.{Hop}
+use Rattle.tx_machine.specs.declared.open_call.Hop.{Hop}
 use Rattle.tx_machine.specs.Call.{Call, last_exchange, start_of, place_of, is_first}
 use Rattle.tx_machine.specs.State.{State}
 use Rattle.tx_machine.specs.Confirming.{far_of}

@@ -13,7 +13,7 @@ use Rattle.tx_plan.specs.Certified.{Ranks, IsCertified}
 use Rattle.tx_plan.specs.Lines.{in_range, is_line, full_number}
 use Rattle.tx_plan.specs.Codes.{after, is_prefix}
 use Rattle.tx_plan.specs.Among.{Among}
-use Rattle.tx_plan.specs.declared.line.Line.{Line}
+use Rattle.tx_plan.specs.declared.ids.Line.{Line}
 use Rattle.tx_plan.proofs.Among.{among_cases, flat_among}
 use Rattle.tx_machine.specs.Call.{Phase, Standing, Calling, Connected, Call, start_of}
 use Rattle.tx_machine.specs.State.{State}

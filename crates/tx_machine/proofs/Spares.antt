@@ -13,11 +13,11 @@ use Rattle.tx_plan.specs.Rules.{IsPlan, IsRoute, EachPair}
 use Rattle.tx_plan.specs.Routes.{route_list}
 use Rattle.tx_plan.specs.Circuits.{circuits_at, may_seize, may_seize_row}
 use Rattle.tx_plan.specs.Among.{Among}
-use Rattle.tx_plan.specs.declared.group.Circuit.{Circuit}
+use Rattle.tx_plan.specs.declared.ids.Circuit.{Circuit}
 use Rattle.tx_machine.specs.declared.event.Event.{Event}
 use Rattle.tx_machine.specs.declared.reply.Reply.{Reply}
 use Rattle.tx_machine.specs.declared.reply.Reply.TheVariants.{Answered, HeadOn}
-use Rattle.tx_machine.specs.declared.service.Service.TheVariants.{Nc}
+use Rattle.tx_machine.specs.declared.cause.Service.TheVariants.{Nc}
 use Rattle.tx_machine.specs.Call.{place_of}
 use Rattle.tx_machine.specs.State.{State}
 use Rattle.tx_machine.specs.InUse.{is_down, is_free_at, first_free}

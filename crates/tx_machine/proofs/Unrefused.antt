@@ -7,12 +7,12 @@ use Rattle.std.proofs.lemmas.Option.{slice_get_within}
 use Rattle.tx_plan.specs.Plan.{Plan, Group}
 use Rattle.tx_plan.specs.Lines.{is_line}
 use Rattle.tx_plan.specs.Declaring.{first_true}
-use Rattle.tx_plan.specs.declared.line.Line.{Line}
+use Rattle.tx_plan.specs.declared.ids.Line.{Line}
 use Rattle.tx_machine.specs.declared.event.Event.{Event}
 use Rattle.tx_machine.specs.declared.event.Event.TheVariants.{Key, Route, Confirm, Clear, Fail}
-use Rattle.tx_machine.specs.declared.party.Party.{Party}
-use Rattle.tx_machine.specs.declared.party.Party.TheVariants.{Caller, Called}
-use Rattle.tx_machine.specs.declared.phase.Phase.TheVariants.{Standing}
+use Rattle.tx_machine.specs.declared.open_call.Party.{Party}
+use Rattle.tx_machine.specs.declared.open_call.Party.TheVariants.{Caller, Called}
+use Rattle.tx_machine.specs.declared.open_call.Phase.TheVariants.{Standing}
 use Rattle.tx_machine.specs.declared.refusal.Refusal.{Refusal}
 use Rattle.tx_machine.specs.declared.refusal.Refusal.TheVariants.{Exhausted}
 use Rattle.tx_machine.specs.Call.{Call, call_of, is_standing, is_calling}

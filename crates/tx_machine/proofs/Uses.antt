@@ -10,10 +10,10 @@ use Rattle.tx_plan.proofs.Named.{same_circuit-is, same_circuit-itself, same_line
 use Rattle.tx_plan.specs.Plan.{Plan, Group}
 use Rattle.tx_plan.specs.Circuits.{far_end, other_end, is_circuit, circuits_at, order_at, upward, downward}
 use Rattle.tx_plan.specs.Among.{Among}
-use Rattle.tx_plan.specs.declared.group.Circuit.{Circuit}
-use Rattle.tx_plan.specs.declared.line.Line.{Line}
+use Rattle.tx_plan.specs.declared.ids.Circuit.{Circuit}
+use Rattle.tx_plan.specs.declared.ids.Line.{Line}
 use Rattle.tx_plan.proofs.Among.{among_cases, map_among}
-use Rattle.tx_machine.specs.declared.hop.Hop.{Hop}
+use Rattle.tx_machine.specs.declared.open_call.Hop.{Hop}
 use Rattle.tx_machine.specs.Call.{Phase, Standing, Calling, Connected, Call, last_exchange, place_of, lines_called}
 use Rattle.tx_machine.specs.State.{State}
 use Rattle.tx_machine.specs.InUse.{circuits_carried, carries, is_calling_on, seizes, seizes_from, is_free_at, is_down, first_free, first_in}

@@ -1,11 +1,11 @@
 -- Open calls.
 use Rattle.std.specs.Prelude.{ℕ, Bool, true, false, ◌==◌, List, [], ◌∷◌, find, Option}
 use Rattle.tx_plan.specs.Plan.{Plan, home_of}
-use Rattle.tx_plan.specs.declared.group.Circuit.{Circuit}
-use Rattle.tx_plan.specs.declared.line.Line.{Line}
-use Rattle.tx_machine.specs.declared.hop.Hop.{Hop}
-pub use Rattle.tx_machine.specs.declared.phase.Phase.{Phase}
-pub use Rattle.tx_machine.specs.declared.phase.Phase.TheVariants.{Standing, Calling, Connected}
+use Rattle.tx_plan.specs.declared.ids.Circuit.{Circuit}
+use Rattle.tx_plan.specs.declared.ids.Line.{Line}
+use Rattle.tx_machine.specs.declared.open_call.Hop.{Hop}
+pub use Rattle.tx_machine.specs.declared.open_call.Phase.{Phase}
+pub use Rattle.tx_machine.specs.declared.open_call.Phase.TheVariants.{Standing, Calling, Connected}
 
 -- An open call: its number, the line that calls, the figures that were keyed and the event by which
 -- they were, the hops so far, its phase, and

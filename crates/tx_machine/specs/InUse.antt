@@ -6,7 +6,7 @@ use Rattle.tx_plan.specs.Orders.{same_circuit}
 use Rattle.tx_plan.specs.Plan.{Plan}
 use Rattle.tx_plan.specs.Routes.{route_list}
 use Rattle.tx_plan.specs.Circuits.{circuits_at}
-use Rattle.tx_plan.specs.declared.group.Circuit.{Circuit}
+use Rattle.tx_plan.specs.declared.ids.Circuit.{Circuit}
 use Rattle.tx_machine.specs.Call.{Call, Phase, Standing, Calling, Connected, circuit_called, place_of}
 use Rattle.tx_machine.specs.State.{State}
 

@@ -5,9 +5,9 @@ use Rattle.std.specs.FinSet as set
 use Rattle.tx_plan.specs.Orders.{same_line}
 use Rattle.tx_plan.specs.Plan.{Plan}
 use Rattle.tx_plan.specs.Lines.{is_line}
-use Rattle.tx_plan.specs.declared.line.Line.{Line}
-use Rattle.tx_machine.specs.declared.service.Service.{Service}
-use Rattle.tx_machine.specs.declared.service.Service.TheVariants.{Occ, Np, Der, Abs}
+use Rattle.tx_plan.specs.declared.ids.Line.{Line}
+use Rattle.tx_machine.specs.declared.cause.Service.{Service}
+use Rattle.tx_machine.specs.declared.cause.Service.TheVariants.{Occ, Np, Der, Abs}
 use Rattle.tx_machine.specs.Call.{Call, Phase, Standing, Calling, Connected, lines_called}
 use Rattle.tx_machine.specs.State.{State}
 

@@ -3,12 +3,12 @@ use Rattle.std.specs.Prelude.{ℕ, ◌&&◌, ◌==◌, if◌then◌else◌, List
 use Rattle.tx_plan.specs.Plan.{Plan, figures_of, home_of}
 use Rattle.tx_plan.specs.Codes.{after, code_of}
 use Rattle.tx_plan.specs.Routes.{is_barred}
-use Rattle.tx_plan.specs.declared.group.Circuit.{Circuit}
-use Rattle.tx_plan.specs.declared.line.Line.{Line}
+use Rattle.tx_plan.specs.declared.ids.Circuit.{Circuit}
+use Rattle.tx_plan.specs.declared.ids.Line.{Line}
 use Rattle.tx_machine.specs.declared.reply.Reply.{Reply}
 use Rattle.tx_machine.specs.declared.reply.Reply.TheVariants.{Seized, Connected as ConnectedTo}
-use Rattle.tx_machine.specs.declared.service.Service.{Service}
-use Rattle.tx_machine.specs.declared.service.Service.TheVariants.{Nc, Np, Na}
+use Rattle.tx_machine.specs.declared.cause.Service.{Service}
+use Rattle.tx_machine.specs.declared.cause.Service.TheVariants.{Nc, Np, Na}
 use Rattle.tx_machine.specs.Call.{Call, Phase, Calling, Connected, place_of, is_first}
 use Rattle.tx_machine.specs.State.{State}
 use Rattle.tx_machine.specs.InUse.{choice}

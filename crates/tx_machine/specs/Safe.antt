@@ -6,7 +6,7 @@ use Rattle.tx_plan.specs.Orders.{same_circuit, same_line}
 use Rattle.tx_plan.specs.Plan.{Plan, home_of}
 use Rattle.tx_plan.specs.Lines.{is_line, full_number}
 use Rattle.tx_plan.specs.Codes.{code_of}
-use Rattle.tx_plan.specs.declared.line.Line.{Line}
+use Rattle.tx_plan.specs.declared.ids.Line.{Line}
 use Rattle.tx_machine.specs.Members.{NoneTwice}
 use Rattle.tx_machine.specs.Call.{Call, Phase, Standing, Calling, Connected, start_of, place_of}
 use Rattle.tx_machine.specs.State.{State}

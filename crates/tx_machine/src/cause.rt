@@ -1,5 +1,21 @@
 // Why calls end.
-use crate::service::Service;
+
+/// A service code: why a call was not put through.
+#[derive(Clone, Copy, Debug, PartialEq, Eq)]
+pub enum Service {
+    /// OCC: the subscriber is engaged.
+    Occ,
+    /// NC: no circuits.
+    Nc,
+    /// NP: the called party is not, or is no longer, a subscriber.
+    Np,
+    /// DER: out of order.
+    Der,
+    /// ABS: the subscriber is absent, the office closed.
+    Abs,
+    /// NA: correspondence with this subscriber is not admitted.
+    Na,
+}
 
 /// Why a call ended.
 #[derive(Clone, Copy, Debug, PartialEq, Eq)]

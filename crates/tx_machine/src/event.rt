@@ -1,5 +1,5 @@
 // What may happen in the network.
-use crate::party::Party;
+use crate::open_call::Party;
 use tx_plan::{Circuit, GroupId, Line};
 use tx_text::Figures;
 

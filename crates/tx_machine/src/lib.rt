@@ -8,20 +8,15 @@ mod driving;
 mod event;
 mod facts;
 mod headline;
-mod hop;
 mod network;
 mod open_call;
-mod party;
 mod path;
-mod phase;
-mod places;
 mod refusal;
 mod refusals;
 mod reply;
-mod service;
 mod ticket;
 
-pub use cause::Cause;
+pub use cause::{Cause, Service};
 pub use changing::{common_ranks_certify, live_change_is_sound};
 pub use driving::drive;
 pub use event::Event;
@@ -30,15 +25,10 @@ pub use headline::{
     certified_is_sound, every_nc_is_excused, hops_join_and_carry_once, lines_take_part_once,
     ranks_fall, routes_are_bounded, spare_groups_suffice, tickets_are_appended,
 };
-pub use hop::Hop;
 pub use network::Network;
-pub use open_call::OpenCall;
-pub use party::Party;
+pub use open_call::{Hop, OpenCall, Party, Phase, far_of, place_of};
 pub use path::Path;
-pub use phase::Phase;
-pub use places::{far_of, place_of};
 pub use refusal::Refusal;
 pub use refusals::refusal_of;
 pub use reply::Reply;
-pub use service::Service;
 pub use ticket::Ticket;

@@ -1,7 +1,7 @@
 // The ways that calls went.
 ghost use Rattle.std.specs.Prelude.{◌≡◌};
 
-use crate::hop::Hop;
+use crate::open_call::Hop;
 use std::alloc::{Allocator, Global};
 use std::marker::Model;
 
@@ -13,7 +13,7 @@ pub struct Path<A: Allocator = Global> {
 
 impl<A: Allocator> Model for Path<A> {
     ghost use Rattle.std.specs.Prelude.{List};
-    ghost use Rattle.tx_machine.specs.declared.hop.Hop.{Hop};
+    ghost use Rattle.tx_machine.specs.declared.open_call.Hop.{Hop};
 
     ghost Value = { List Hop };
 

@@ -4,7 +4,7 @@ ghost use Rattle.tx_plan.specs.Lines.{is_line};
 ghost use Rattle.tx_plan.specs.Circuits.{is_circuit};
 ghost use Rattle.tx_plan.specs.Declaring.{first_true};
 ghost use Rattle.tx_machine.specs.declared.event.Event.TheVariants.{Key, Route, Confirm, Clear, Released};
-ghost use Rattle.tx_machine.specs.declared.party.Party.TheVariants.{Caller, Called};
+ghost use Rattle.tx_machine.specs.declared.open_call.Party.TheVariants.{Caller, Called};
 ghost use Rattle.tx_machine.specs.declared.refusal.Refusal.TheVariants.{UnknownLine, UnknownCircuit, Exhausted};
 ghost use Rattle.tx_machine.specs.Refusals.{refusal, is_group};
 ghost use Rattle.tx_machine.specs.inner.Facts.{is_idle, idle};

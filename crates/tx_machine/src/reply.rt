@@ -1,6 +1,6 @@
 // What the network replies.
+use crate::cause::Service;
 use crate::refusal::Refusal;
-use crate::service::Service;
 use tx_plan::{Circuit, ExchangeId, Line};
 
 /// The reply to an event.

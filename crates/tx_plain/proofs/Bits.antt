@@ -12,7 +12,7 @@ use Rattle.std.proofs.lemmas.Cmp.{tied_itself}
 use Rattle.tx_plan.specs.Orders.{circuit_cmp}
 use Rattle.tx_plan.proofs.Named.{circuits_total, exact_circuits, by_cmp-is}
 use Rattle.tx_plan.proofs.Tables.{list_any-map}
-use Rattle.tx_plan.specs.declared.group.Circuit.{Circuit}
+use Rattle.tx_plan.specs.declared.ids.Circuit.{Circuit}
 use Rattle.tx_plan.proofs.Lists.{at_least}
 use Rattle.std.proofs.lemmas.List.{get_or-set_other}
 use Rattle.std.proofs.lemmas.Grind.{get_or-set_at}

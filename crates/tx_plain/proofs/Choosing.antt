@@ -5,7 +5,7 @@ use Rattle.std.specs.Option.{option_map_or}
 use Rattle.tx_plan.specs.Plan.{Plan, Group}
 use Rattle.tx_plan.specs.Circuits.{upward, downward, circuits_at, order_at, is_circuit, ends_of, count_of}
 use Rattle.tx_plan.specs.Routes.{route_list}
-use Rattle.tx_plan.specs.declared.group.Circuit.{Circuit}
+use Rattle.tx_plan.specs.declared.ids.Circuit.{Circuit}
 use Rattle.tx_machine.specs.State.{State}
 use Rattle.tx_machine.specs.InUse.{first_free, choice}
 use Rattle.tx_machine.proofs.Uses.{first_in-is, chosen}

@@ -11,7 +11,7 @@ use Rattle.std.proofs.lemmas.List.Folds.{list_any-append}
 use Rattle.std.proofs.lemmas.List.Elements.{filter-append}
 use Rattle.tx_plan.specs.Orders.{circuit_cmp}
 use Rattle.tx_plan.proofs.Named.{circuits_total, exact_circuits}
-use Rattle.tx_plan.specs.declared.group.Circuit.{Circuit}
+use Rattle.tx_plan.specs.declared.ids.Circuit.{Circuit}
 use Rattle.tx_plain.specs.inner.Marks.{Circuits}
 use Rattle.tx_plain.specs.inner.GivenUp.{with_more}
 

@@ -4,9 +4,9 @@ use Rattle.std.specs.Prelude.{if◌then◌else◌}
 use Rattle.tx_plan.specs.Plan.{Plan, home_of}
 use Rattle.tx_plan.specs.Codes.{code_of}
 use Rattle.tx_plan.specs.Routes.{is_barred}
-use Rattle.tx_plan.specs.declared.group.Circuit.{Circuit}
-use Rattle.tx_machine.specs.declared.phase.Phase.TheVariants.{Calling}
-use Rattle.tx_machine.specs.declared.service.Service.TheVariants.{Na}
+use Rattle.tx_plan.specs.declared.ids.Circuit.{Circuit}
+use Rattle.tx_machine.specs.declared.open_call.Phase.TheVariants.{Calling}
+use Rattle.tx_machine.specs.declared.cause.Service.TheVariants.{Na}
 use Rattle.tx_plain.specs.inner.Marks.{HasMark}
 use Rattle.tx_plain.specs.inner.Decided.{IsOn, IsMet}
 use Rattle.tx_plain.specs.declared.confirm.Meeting.{Meeting}

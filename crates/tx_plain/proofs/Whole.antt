@@ -11,13 +11,13 @@ use Rattle.tx_plan.specs.Plan.{Plan, Group}
 use Rattle.tx_plan.specs.Rules.{IsPlan, IsGroup}
 use Rattle.tx_plan.specs.Circuits.{is_circuit}
 use Rattle.tx_plan.specs.Among.{Among}
-use Rattle.tx_plan.specs.declared.group.Circuit.{Circuit}
-use Rattle.tx_plan.specs.declared.line.Line.{Line}
+use Rattle.tx_plan.specs.declared.ids.Circuit.{Circuit}
+use Rattle.tx_plan.specs.declared.ids.Line.{Line}
 use Rattle.tx_plan.proofs.Lists.{at_least}
 use Rattle.tx_plan.proofs.Among.{among_cases, among_left, among_right, filter_among}
-use Rattle.tx_machine.specs.declared.phase.Phase.{Phase}
-use Rattle.tx_machine.specs.declared.phase.Phase.TheVariants.{Standing, Calling, Connected}
-use Rattle.tx_machine.specs.declared.hop.Hop.{Hop}
+use Rattle.tx_machine.specs.declared.open_call.Phase.{Phase}
+use Rattle.tx_machine.specs.declared.open_call.Phase.TheVariants.{Standing, Calling, Connected}
+use Rattle.tx_machine.specs.declared.open_call.Hop.{Hop}
 use Rattle.tx_machine.specs.Ended.{Ended}
 use Rattle.tx_machine.specs.Call.{Call, is_numbered, is_calling, circuit_called, call_of}
 use Rattle.tx_machine.specs.Confirming.{thrown_back}

@@ -9,7 +9,7 @@ ghost use Rattle.tx_plain.specs.inner.Marks.{HasMark};
 ghost use Rattle.tx_machine.specs.Seen.{call_seen};
 ghost use Rattle.tx_plain.specs.inner.Decided.{meeting_done, IsMet, IsOn};
 ghost use Rattle.tx_machine.specs.declared.event.Event.TheVariants.{Confirm};
-ghost use Rattle.tx_machine.specs.declared.phase.Phase.TheVariants.{Calling};
+ghost use Rattle.tx_machine.specs.declared.open_call.Phase.TheVariants.{Calling};
 ghost use Rattle.tx_plain.specs.declared.changing.Change.TheVariants.{Carry};
 
 use crate::calls::{call_of, rival_of};

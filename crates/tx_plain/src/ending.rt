@@ -1,5 +1,5 @@
 // Ending calls.
-ghost use Rattle.tx_machine.specs.declared.party.Party.TheVariants.{Caller, Called};
+ghost use Rattle.tx_machine.specs.declared.open_call.Party.TheVariants.{Caller, Called};
 ghost use Rattle.std.specs.Prelude.{◌≡◌, ◌<◌, ◌+◌, ◌-◌, ◌^◌, filter, length};
 ghost use Rattle.tx_machine.specs.Step.{step, accepted, counted};
 ghost use Rattle.tx_machine.specs.InUse.{uses_group};

@@ -10,7 +10,7 @@ ghost use Rattle.tx_plan.specs.Circuits.{is_circuit};
 ghost use Rattle.tx_machine.specs.Seen.{call_seen};
 ghost use Rattle.tx_plain.specs.inner.Decided.{routing_done, IsPlanned};
 ghost use Rattle.tx_machine.specs.declared.event.Event.TheVariants.{Route};
-ghost use Rattle.tx_machine.specs.declared.phase.Phase.TheVariants.{Calling};
+ghost use Rattle.tx_machine.specs.declared.open_call.Phase.TheVariants.{Calling};
 
 use crate::calls::call_of;
 use crate::changing::{Change, change_numbered, reserve_hop};

@@ -6,8 +6,8 @@ use Rattle.std.specs.Str.{bytes_eq}
 use Rattle.std.proofs.lemmas.Slice.Eq.{bytes_eq-Decides}
 use Rattle.std.proofs.lemmas.Bool.{leb-true, and_parts}
 use Rattle.tx_text.specs.Words.{is_name, is_letter, is_figure}
-use Rattle.tx_plan.specs.Rules.{is_code}
-use Rattle.tx_plan.specs.Plan.{Plan, exchange_named, code_named, group_named}
+use Rattle.tx_plan.specs.Rules.{is_code, IsPlan, IsGroup}
+use Rattle.tx_plan.specs.Plan.{Plan, Group, exchange_named, code_named, group_named}
 use Rattle.tx_plan.specs.Declaring.{has_exchange, has_code, has_group}
 use Rattle.tx_plan.proofs.Lists.{no_place, found_any}
 
@@ -23,6 +23,16 @@ others ok word P w (x ∷ xs) k h all =
 
 pub unnamed : {A : Type 0} (ok : List ℕ → Bool) (word : A → List ℕ) (P : A → Type 0) (w : List ℕ) (xs : List A) → ((x : A) → P x → ok (word x) ≡ true) → ok w ≡ false → AllByRecursion P xs → position (λ x. bytes_eq w (word x)) xs ≡ None
 unnamed ok word P w xs k h all = no_place (λ x. bytes_eq w (word x)) xs (others ok word P w xs k h all)
+
+-- a word that names a group is a name
+pub group_word : (p : Plan) (w : List ℕ) (o : Option ℕ) → IsPlan p → o ≡ group_named p w
+    → is_some o ≡ true → is_name w ≡ true
+group_word p w o h e some = by_test (is_name w) refl
+  where
+    by_test : (b : Bool) → is_name w ≡ b → b ≡ true
+    by_test true k = refl
+    by_test false k = sym (ap is_some (e ∙ unnamed is_name (λ (r : Group). r.name) (IsGroup p) w
+        p.groups (λ x g. g.name) k h.groups)) ∙ some
 
 -- a text too long for the words that pass
 pub too_long : (ok : List ℕ → Bool) (n : ℕ) → ((w : List ℕ) → ok w ≡ true → length w ≤ n) → (w : List ℕ) → n < length w → ok w ≡ false

@@ -16,8 +16,8 @@ use Rattle.tx_plan.specs.Circuits.{may_seize, may_seize_row}
 use Rattle.tx_plan.specs.Routes.{is_barred}
 use Rattle.tx_plan.specs.Rules.{EachPair, IsCode, IsRange, IsGroup, IsRoute, IsBar, IsPlan, AreSeparate, is_code, is_national}
 use Rattle.tx_plan.specs.Declaring.{first_true, exchange_refusals, code_refusals, lines_refusals, group_refusals, route_refusals, bar_refusals, with_exchange, with_code, with_lines, with_group, with_route, with_bar, exchange_at, code_at, group_at, has_exchange, has_code, has_group, has_route, pair_of, pair_named, holds_at, shares, overlaps, is_not_outgoing, none_twice}
-use Rattle.tx_plan.specs.declared.group.Direction.{Direction}
-use Rattle.tx_plan.specs.declared.group.Direction.TheVariants.{OneWay}
+use Rattle.tx_plan.specs.declared.ids.Direction.{Direction}
+use Rattle.tx_plan.specs.declared.ids.Direction.TheVariants.{OneWay}
 use Rattle.tx_plan.specs.declared.ids.Pair.{Pair}
 use Rattle.tx_plan.specs.declared.range.LineRange.{LineRange}
 use Rattle.tx_plan.specs.declared.refusal.PlanRefusal.{PlanRefusal}

@@ -7,8 +7,8 @@ use Rattle.std.specs.Str.{bytes_eq}
 use Rattle.std.proofs.lemmas.List.{map_push}
 use Rattle.indexmap.specs.IndexMap.{IndexMap, insert_entry}
 use Rattle.indexmap.specs.IndexSet.{insert_key}
-use Rattle.tx_plan.specs.declared.group.Direction.{Direction}
-use Rattle.tx_plan.specs.declared.group.GroupRow.{GroupRow}
+use Rattle.tx_plan.specs.declared.ids.Direction.{Direction}
+use Rattle.tx_plan.specs.declared.ids.GroupRow.{GroupRow}
 use Rattle.tx_plan.specs.declared.ids.Pair.{Pair}
 use Rattle.tx_plan.specs.declared.range.LineRange.{LineRange}
 use Rattle.tx_plan.specs.Plan.{Plan, Code, Group}

@@ -8,7 +8,7 @@ use Rattle.std.proofs.lemmas.Slice.Eq.{bytes_eq-Decides}
 use Rattle.tx_plan.specs.Plan.{Plan, Group}
 use Rattle.tx_plan.specs.Declaring.{has_group, group_at, none_twice}
 use Rattle.tx_plan.specs.inner.Distinct.{differ}
-use Rattle.tx_plan.specs.declared.group.Direction.TheVariants.{OneWay}
+use Rattle.tx_plan.specs.declared.ids.Direction.TheVariants.{OneWay}
 use Rattle.tx_plan.proofs.Lists.{one_word, below, same_tests}
 
 -- two declared names are one exactly where they name one group

@@ -5,7 +5,7 @@ use Rattle.std.specs.List.{list_any, position_or_len}
 use Rattle.std.specs.Option.{option_map, option_map_or}
 use Rattle.std.proofs.lemmas.List.{length-map}
 use Rattle.std.proofs.lemmas.Option.{slice_get-map}
-use Rattle.tx_plan.specs.declared.group.GroupRow.{GroupRow}
+use Rattle.tx_plan.specs.declared.ids.GroupRow.{GroupRow}
 use Rattle.tx_plan.specs.inner.Tables.{group_of_row, row_of}
 
 pub list_any-map : {A B : Type 0} (t : B → Bool) (f : A → B) (xs : List A) → list_any t (map f xs) ≡ list_any (λ x. t (f x)) xs

@@ -4,7 +4,7 @@ use Rattle.std.specs.List.{list_any}
 use Rattle.tx_text.specs.Words.{are_figures}
 pub use Rattle.tx_plan.specs.Numbers.{at_most, in_range}
 use Rattle.tx_plan.specs.Plan.{Plan, figures_of}
-use Rattle.tx_plan.specs.declared.line.Line.{Line}
+use Rattle.tx_plan.specs.declared.ids.Line.{Line}
 
 -- a code and a text are a line where the text is figures, and lies in a range of the code
 abbrev pub is_line_at : Plan → ℕ → List ℕ → Bool

@@ -3,15 +3,14 @@ ghost use Rattle.std.specs.Prelude.{◌≡◌};
 ghost use Rattle.tx_plan.specs.Plan.{no_plan};
 ghost use Rattle.tx_plan.specs.Declaring.{Declares, first_true, exchange_refusals, with_exchange, code_refusals, with_code, lines_refusals, with_lines, group_refusals, with_group, route_refusals, with_route, bar_refusals, with_bar};
 
-use crate::bars::Bars;
 use crate::entries::{
     bar_entry, code_entry, exchange_entry, group_entry, range_entry, route_entry,
 };
-use crate::group::Direction;
+use crate::ids::Direction;
+use crate::names::ByWord;
 use crate::plan::Plan;
 use crate::refusal::PlanRefusal;
-use crate::routes::Routes;
-use crate::word_hasher::ByWord;
+use crate::routes::{Bars, Routes};
 use indexmap::{IndexMap, IndexSet};
 use std::alloc::{Allocator, Global};
 use std::marker::Model;

@@ -8,16 +8,14 @@ ghost use Rattle.tx_plan.specs.Routes.{is_barred};
 ghost use Rattle.tx_plan.specs.inner.RouteScan.{IsScanOf};
 ghost use Rattle.tx_plan.specs.Declaring.{first_true, exchange_refusals, code_refusals, lines_refusals, group_refusals, route_refusals, route_plan_refusals, route_group_refusals, bar_refusals, route_word_refusals, has_exchange, has_code, has_group, has_route, pair_named, is_ordered, exchange_at, code_at, group_at};
 
-use crate::group::{Direction, GroupRow};
-use crate::group_list::GroupList;
 use crate::group_words::none_twice;
-use crate::ids::{ExchangeId, Pair};
-use crate::line::{National, at_most};
-use crate::name_key::NameKey;
+use crate::ids::{Direction, ExchangeId, GroupRow, National, Pair, at_most};
+use crate::names::NameKey;
 use crate::plan::Plan;
 use crate::range::LineRange;
 use crate::refusal::PlanRefusal;
 use crate::route_words::{RouteScan, scan};
+use crate::routes::GroupList;
 use std::alloc::Allocator;
 use tx_text::{Words, are_figures, is_name};
 

@@ -1,7 +1,11 @@
-// The places of a plan's entries, and pairs of them.
-ghost use Rattle.std.specs.Prelude.{◌≡◌, ◌<◌};
+// The ids of what a plan lists, and the circuits and lines that these give.
+ghost use Rattle.std.specs.Prelude.{◌≡◌, ◌<◌, ◌≤◌, true, length, if◌then◌else◌, Some, None};
+ghost use Rattle.tx_text.specs.inner.Padded.{padded_to};
+ghost use Rattle.tx_plan.specs.Numbers.{is_national, at_most};
 
+use std::hash::{Hash, Hasher};
 use std::marker::Model;
+use tx_text::{InlineBytes, are_figures};
 
 /// An exchange of a plan, by its place. An id is foreign to a plan that has no such place.
 #[derive(Clone, Copy, Debug, PartialEq, Eq, Hash)]
@@ -120,4 +124,129 @@ impl GroupId {
 pub struct Pair {
     pub exchange: ExchangeId,
     pub code: CodeId,
+}
+
+/// From which ends the circuits of a group may be seized.
+#[derive(Clone, Copy, Debug, PartialEq, Eq)]
+pub enum Direction {
+    /// From the first end only.
+    OneWay,
+    /// From both ends.
+    BothWay,
+}
+
+/// What is declared of the group of a name.
+#[derive(Clone, Copy, Debug)]
+pub(crate) struct GroupRow {
+    pub a: ExchangeId,
+    pub b: ExchangeId,
+    pub direction: Direction,
+    /// 1 to 240.
+    pub count: u8,
+}
+
+/// A circuit: its group, and its number in it. The circuits of a plan have the numbers from 1 to
+/// the group's count, at most 240; any other is foreign.
+#[derive(Clone, Copy, Debug, PartialEq, Eq)]
+pub struct Circuit {
+    pub group: GroupId,
+    pub number: u32,
+}
+
+/// A national number: 1 to 9 figures. Leading zeros count.
+#[derive(Clone, Copy, Debug, PartialEq, Eq)]
+pub struct National {
+    figures: InlineBytes<9>,
+}
+
+impl Model for National {
+    ghost use Rattle.std.specs.Prelude.{ℕ, List};
+
+    ghost Value = { List ℕ };
+
+    ghost view = { λ n. n.figures };
+
+    ghost use Rattle.std.specs.Prelude.{◌≡◌, true};
+    ghost use Rattle.tx_plan.specs.Numbers.{is_national};
+
+    ghost invariant = { λ n. is_national n.figures ≡ true };
+
+    ghost inverse = { λ t. record { figures = t } };
+}
+
+impl National {
+    /// The number that the text spells, if it is 1 to 9 figures.
+    pub fn read(text: &[u8]) -> Option<National>
+        ensures { result ≡ (if is_national text.now then Some text.now else None) }
+    {
+        if !are_figures(text, 1, 9) {
+            return None;
+        }
+        let figures = InlineBytes::new(text);
+        Some(National { figures })
+    }
+
+    /// Its figures.
+    pub fn bytes(&self) -> &[u8]
+        ensures value { result.now ≡ self.now }
+        ensures width { length result.now ≤ 9 }
+        ensures figures { is_national self.now ≡ true }
+    {
+        self.figures.bytes()
+    }
+
+    /// Its figures, and zeros after them up to nine bytes.
+    fn padded(&self) -> &[u8; 9]
+        ensures { result.now ≡ padded_to 9 self.now }
+    {
+        self.figures.padded()
+    }
+}
+
+/// A subscriber's line: a destination code and the national number after it (ITU-T F.69).
+#[derive(Clone, Copy, Debug)]
+pub struct Line {
+    pub code: CodeId,
+    pub national: National,
+}
+
+impl PartialEq for Line {
+    ghost use Rattle.std.specs.Cmp.{partial_equiv_from_equiv};
+    ghost use Rattle.tx_plan.specs.Orders.{same_line};
+    ghost use Rattle.tx_plan.specs.inner.LineLaws.{same_line_equiv};
+
+    ghost eq = { same_line };
+
+    ghost laws = { partial_equiv_from_equiv same_line_equiv };
+
+    fn eq(&self, other: &Line) -> bool {
+        self.code == other.code && self.national == other.national
+    }
+}
+
+impl Eq for Line {
+    ghost use Rattle.tx_plan.specs.inner.LineLaws.{same_line_equiv};
+
+    ghost laws = { same_line_equiv };
+}
+
+impl Hash for Line {
+    ghost use Rattle.std.proofs.Common.{ap};
+    ghost use Rattle.tx_plan.specs.inner.LineLaws.{same_line-is, line_bytes};
+
+    ghost hash_input = { line_bytes };
+
+    ghost respects_eq = { λ l m h. ap line_bytes (same_line-is l m h) };
+
+    fn hash<H: Hasher>(&self, state: &mut H) {
+        state.write_u16(self.code.place());
+        state.write(self.national.padded());
+    }
+}
+
+/// Whether the one text of figures is not above the other, figure by figure.
+pub fn at_most(low: &[u8], high: &[u8]) -> bool
+    ensures { result ≡ at_most low.now high.now }
+{
+    low.cmp(high).is_le()
 }

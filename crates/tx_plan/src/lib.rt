@@ -22,31 +22,21 @@
 //! ```
 #![tactic(auto)]
 
-mod bars;
 mod builder;
 mod entries;
-mod group;
-mod group_list;
 mod group_words;
 mod ids;
-mod line;
-mod name_key;
 mod names;
 mod plan;
 mod range;
 mod refusal;
 mod route_words;
 mod routes;
-mod word_hasher;
 
-pub use bars::Bars;
 pub use builder::PlanBuilder;
-pub use group::{Circuit, Direction};
-pub use group_list::GroupList;
-pub use ids::{CodeId, ExchangeId, GroupId, Pair};
-pub use line::{Line, National};
+pub use ids::{Circuit, CodeId, Direction, ExchangeId, GroupId, Line, National, Pair};
+pub use names::ByWord;
 pub use plan::Plan;
 pub use range::LineRange;
 pub use refusal::PlanRefusal;
-pub use routes::Routes;
-pub use word_hasher::ByWord;
+pub use routes::{Bars, GroupList, Routes};

@@ -11,14 +11,10 @@ ghost use Rattle.tx_plan.specs.Mixed.{rerouted};
 ghost use Rattle.tx_plan.specs.Declaring.{has_route, overlaps};
 ghost use Rattle.tx_plan.specs.inner.Tables.{row_of};
 
-use crate::bars::Bars;
-use crate::group::{Direction, GroupRow};
-use crate::ids::{CodeId, ExchangeId, GroupId, Pair};
-use crate::line::{Line, National};
-use crate::name_key::NameKey;
+use crate::ids::{CodeId, Direction, ExchangeId, GroupId, GroupRow, Line, National, Pair};
+use crate::names::{ByWord, NameKey};
 use crate::range::LineRange;
-use crate::routes::Routes;
-use crate::word_hasher::ByWord;
+use crate::routes::{Bars, Routes};
 use indexmap::{IndexMap, IndexSet};
 use std::alloc::{Allocator, Global};
 use std::marker::Model;

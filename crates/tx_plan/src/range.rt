@@ -1,8 +1,7 @@
 // Ranges of national numbers.
 ghost use Rattle.std.specs.Prelude.{◌≡◌};
 
-use crate::ids::CodeId;
-use crate::line::{National, at_most};
+use crate::ids::{CodeId, National, at_most};
 
 /// The national numbers of a code from low to high, both in it. They have as many figures as its
 /// ends, and are in order figure by figure.

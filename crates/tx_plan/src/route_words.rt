@@ -4,9 +4,9 @@ ghost use Rattle.tx_text.specs.Words.{is_name};
 ghost use Rattle.tx_plan.specs.Declaring.{has_group, is_not_outgoing, group_at};
 ghost use Rattle.tx_plan.specs.inner.RouteScan.{IsScanOf};
 
-use crate::group_list::GroupList;
 use crate::ids::{GroupId, Pair};
 use crate::plan::Plan;
+use crate::routes::GroupList;
 use std::alloc::Allocator;
 use tx_text::{Words, is_name};
 
@@ -43,7 +43,9 @@ impl RouteScan {
             (Some(pair), Some(group)) => !plan.may_seize(group, pair.exchange),
             _ => false,
         };
-        self.bad = self.bad || !is_name(word);
+        // What names a group is a name, so only another word is read again.
+        plan.rules();
+        self.bad = self.bad || group.is_none() && !is_name(word);
         self.unknown = self.unknown || group.is_none();
         self.not_outgoing = self.not_outgoing || closed;
         if !self.list.push(group.unwrap_or(GroupId::of(0))) {

@@ -13,7 +13,7 @@ use Rattle.tx_text.specs.declared.sink.WriteFault.{WriteFault}
 use Rattle.tx_text.specs.Ends.{StopsIn}
 use Rattle.tx_text.specs.Wrote.{WroteBy}
 use Rattle.tx_text.specs.Written.{joined, line_written}
-use Rattle.tx_plan.specs.declared.group.Direction.{Direction}
+use Rattle.tx_plan.specs.declared.ids.Direction.{Direction}
 use Rattle.tx_plan.specs.Plan.{Plan, Route, exchange_name, figures_of, group_name, home_of}
 use Rattle.tx_plan.specs.Circuits.{direction_of, count_of, ends_of}
 use Rattle.tx_plan.specs.Routes.{route_list}

@@ -10,8 +10,8 @@ use Rattle.tx_text.specs.Frame.{EndsAs}
 use Rattle.tx_text.specs.Said.{text_said, line_declares, ReadsText}
 use Rattle.tx_plan.specs.declared.refusal.PlanRefusal.{PlanRefusal}
 use Rattle.tx_plan.specs.declared.refusal.PlanRefusal.TheVariants.{WrongCount, NoMemory}
-use Rattle.tx_plan.specs.declared.group.Direction.{Direction}
-use Rattle.tx_plan.specs.declared.group.Direction.TheVariants.{OneWay, BothWay}
+use Rattle.tx_plan.specs.declared.ids.Direction.{Direction}
+use Rattle.tx_plan.specs.declared.ids.Direction.TheVariants.{OneWay, BothWay}
 use Rattle.tx_plan.specs.Plan.{Plan, no_plan}
 use Rattle.tx_plan.specs.Declaring.{first_true, exchange_refusals, code_refusals, lines_refusals, group_refusals, route_refusals, bar_refusals, with_exchange, with_code, with_lines, with_group, with_route, with_bar}
 use Rattle.tx_plantext.specs.declared.fault.PlanWord.{PlanWord}

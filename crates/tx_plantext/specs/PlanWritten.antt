@@ -5,8 +5,8 @@ use Rattle.std.specs.List.{flat_map, slice_get}
 use Rattle.std.specs.Option.{option_map_or}
 use Rattle.tx_text.specs.Told.{AtEnd}
 use Rattle.tx_text.specs.Written.{line_written}
-use Rattle.tx_plan.specs.declared.group.Direction.{Direction}
-use Rattle.tx_plan.specs.declared.group.Direction.TheVariants.{OneWay, BothWay}
+use Rattle.tx_plan.specs.declared.ids.Direction.{Direction}
+use Rattle.tx_plan.specs.declared.ids.Direction.TheVariants.{OneWay, BothWay}
 use Rattle.tx_plan.specs.declared.ids.Pair.{Pair}
 use Rattle.tx_plan.specs.declared.range.LineRange.{LineRange}
 use Rattle.tx_plan.specs.Plan.{Plan, Code, Group, Route, exchange_name, figures_of, group_name}

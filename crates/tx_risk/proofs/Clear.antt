@@ -9,18 +9,18 @@ use Rattle.tx_plan.specs.Routes.{route_list, is_barred}
 use Rattle.tx_plan.specs.Circuits.{circuits_at}
 use Rattle.tx_plan.specs.Among.{Among}
 use Rattle.tx_plan.proofs.Among.{among_cases, filter_among, among_left, among_right, among_map, map_among}
-use Rattle.tx_plan.specs.declared.group.Circuit.{Circuit}
-use Rattle.tx_plan.specs.declared.line.Line.{Line}
+use Rattle.tx_plan.specs.declared.ids.Circuit.{Circuit}
+use Rattle.tx_plan.specs.declared.ids.Line.{Line}
 use Rattle.tx_machine.specs.declared.event.Event.{Event}
 use Rattle.tx_machine.specs.declared.event.Event.TheVariants.{Key, Route, Confirm, Clear, Released, Fail, Restore, Block, Unblock, CircuitOut, CircuitIn, LineFault, LineMend, LineAway, LineBack}
-use Rattle.tx_machine.specs.declared.hop.Hop.{Hop}
-use Rattle.tx_machine.specs.declared.service.Service.{Service}
-use Rattle.tx_machine.specs.declared.service.Service.TheVariants.{Na}
+use Rattle.tx_machine.specs.declared.open_call.Hop.{Hop}
+use Rattle.tx_machine.specs.declared.cause.Service.{Service}
+use Rattle.tx_machine.specs.declared.cause.Service.TheVariants.{Na}
 use Rattle.tx_machine.specs.declared.cause.Cause.TheVariants.{Service as ByService}
 use Rattle.tx_machine.specs.declared.refusal.Refusal.{Refusal}
 use Rattle.tx_machine.specs.declared.reply.Reply.{Reply}
 use Rattle.tx_machine.specs.declared.reply.Reply.TheVariants.{Answered}
-use Rattle.tx_machine.specs.declared.phase.Phase.TheVariants.{Standing, Calling, Connected}
+use Rattle.tx_machine.specs.declared.open_call.Phase.TheVariants.{Standing, Calling, Connected}
 use Rattle.tx_machine.specs.Call.{Call, place_of, call_of, is_numbered, is_first, circuit_called}
 use Rattle.tx_machine.specs.State.{State}
 use Rattle.tx_machine.specs.InUse.{circuits_carried, circuits_used, is_down, is_free_at, first_free, choice}

@@ -10,13 +10,13 @@ use Rattle.tx_plan.specs.Rules.{IsPlan}
 use Rattle.tx_plan.specs.Codes.{code_of}
 use Rattle.tx_plan.specs.Routes.{is_barred}
 use Rattle.tx_plan.proofs.Among.{filter_among}
-use Rattle.tx_plan.specs.declared.group.Circuit.{Circuit}
-use Rattle.tx_plan.specs.declared.line.Line.{Line}
+use Rattle.tx_plan.specs.declared.ids.Circuit.{Circuit}
+use Rattle.tx_plan.specs.declared.ids.Line.{Line}
 use Rattle.tx_machine.specs.declared.event.Event.{Event}
 use Rattle.tx_machine.specs.declared.event.Event.TheVariants.{Key, Route, Confirm, Clear, Released, Fail, Restore, Block, Unblock, CircuitOut, CircuitIn, LineFault, LineMend, LineAway, LineBack}
-use Rattle.tx_machine.specs.declared.phase.Phase.{Phase}
-use Rattle.tx_machine.specs.declared.phase.Phase.TheVariants.{Standing, Calling, Connected}
-use Rattle.tx_machine.specs.declared.service.Service.{Service}
+use Rattle.tx_machine.specs.declared.open_call.Phase.{Phase}
+use Rattle.tx_machine.specs.declared.open_call.Phase.TheVariants.{Standing, Calling, Connected}
+use Rattle.tx_machine.specs.declared.cause.Service.{Service}
 use Rattle.tx_machine.specs.declared.refusal.Refusal.{Refusal}
 use Rattle.tx_machine.specs.declared.reply.Reply.{Reply}
 use Rattle.tx_machine.specs.Call.{Call, call_of, place_of, is_first}
@@ -24,7 +24,7 @@ use Rattle.tx_machine.specs.State.{State, opening}
 use Rattle.tx_machine.specs.InUse.{uses_group, choice}
 use Rattle.tx_machine.specs.Lines.{line_answer}
 use Rattle.tx_machine.specs.Refusals.{refusal}
-use Rattle.tx_machine.specs.declared.service.Service.TheVariants.{Na}
+use Rattle.tx_machine.specs.declared.cause.Service.TheVariants.{Na}
 use Rattle.tx_machine.specs.Ending.{answered}
 use Rattle.tx_machine.specs.Routing.{at_line, at_trunk, line_of, routed_for}
 use Rattle.tx_machine.specs.Confirming.{confirmed_by, rival, confirmed}

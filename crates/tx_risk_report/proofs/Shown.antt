@@ -18,9 +18,9 @@ use Rattle.tx_plan.proofs.Among.{filter_among, among_filter}
 use Rattle.tx_rank.specs.Walks.{Goes, net_of, end_of, IsWalk}
 use Rattle.tx_machine.specs.declared.event.Event.{Event}
 use Rattle.tx_machine.specs.declared.event.Event.TheVariants.{Key, Route, Block}
-use Rattle.tx_machine.specs.declared.phase.Phase.TheVariants.{Standing}
+use Rattle.tx_machine.specs.declared.open_call.Phase.TheVariants.{Standing}
 use Rattle.tx_machine.specs.declared.reply.Reply.TheVariants.{Answered}
-use Rattle.tx_machine.specs.declared.service.Service.TheVariants.{Nc}
+use Rattle.tx_machine.specs.declared.cause.Service.TheVariants.{Nc}
 use Rattle.tx_machine.specs.Call.{Call}
 use Rattle.tx_machine.specs.State.{State, opening}
 use Rattle.tx_machine.specs.InUse.{is_down, first_free, choice}

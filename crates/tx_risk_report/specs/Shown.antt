@@ -2,11 +2,11 @@
 use Rattle.std.specs.Prelude.{◌≡◌, ℕ, ◌<◌, length, true, false, List, [], ◌∷◌, ◌++◌, map, Some}
 use Rattle.tx_plan.specs.Plan.{Plan}
 use Rattle.tx_plan.specs.Codes.{code_of}
-use Rattle.tx_plan.specs.declared.group.Circuit.{Circuit}
+use Rattle.tx_plan.specs.declared.ids.Circuit.{Circuit}
 use Rattle.tx_machine.specs.declared.event.Event.{Event}
 use Rattle.tx_machine.specs.declared.event.Event.TheVariants.{Route}
 use Rattle.tx_machine.specs.declared.reply.Reply.TheVariants.{Answered}
-use Rattle.tx_machine.specs.declared.service.Service.TheVariants.{Nc}
+use Rattle.tx_machine.specs.declared.cause.Service.TheVariants.{Nc}
 use Rattle.tx_machine.specs.Call.{Call, start_of}
 use Rattle.tx_machine.specs.State.{State, opening}
 use Rattle.tx_machine.specs.InUse.{carries, is_free_at, is_down}

@@ -20,7 +20,7 @@ use Rattle.tx_script.specs.Answers.{IsFresh}
 use Rattle.tx_script.specs.Output.{tickets_made, end_text}
 use Rattle.tx_script.specs.Summaries.{calls_line, causes, ended_by, peak_line, summary_text}
 use Rattle.tx_script.specs.Taken.{peak}
-use Rattle.tx_script.specs.declared.telling.Telling.{Telling}
+use Rattle.tx_script.specs.declared.teller.Telling.{Telling}
 use Rattle.tx_script.specs.Telling.{told_last}
 use Rattle.tx_script.specs.TellingAnswers.{NoneReleasing}
 use Rattle.tx_script.specs.inner.Counting.{Counted, AreFew, AreNew, asked_of, counts_for, counted_on, counted_over, ends_counted, uses_counted, nothing_counted, counts_text, last_lines, use_at}

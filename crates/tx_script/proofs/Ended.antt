@@ -7,7 +7,7 @@ use Rattle.std.specs.Prelude.{replicate, slice_get, option_map, IfSome}
 use Rattle.std.specs.List.{count_by, flat_map}
 use Rattle.tx_machine.specs.declared.cause.Cause.{Cause}
 use Rattle.tx_machine.specs.declared.cause.Cause.TheVariants.{Service as ByService, ClearedByCaller, ClearedByCalled, Lost as ByLoss}
-use Rattle.tx_machine.specs.declared.service.Service.TheVariants.{Occ, Nc, Np, Der, Abs, Na}
+use Rattle.tx_machine.specs.declared.cause.Service.TheVariants.{Occ, Nc, Np, Der, Abs, Na}
 use Rattle.tx_tickets.specs.Texts.{cause_text}
 use Rattle.tx_machine.specs.Ended.{Ended}
 use Rattle.tx_machine.proofs.Lists.{first_of, none_in}

@@ -14,12 +14,12 @@ use Rattle.tx_text.proofs.ReadBack.{words_joined}
 use Rattle.tx_text.proofs.WrittenWords.{IsShortWord, all_stronger, name_bytes, name_word, figures_word, number_word, number_back, circuit_word, line_of_short, fixed_word, no_fault}
 use Rattle.tx_plan.specs.Plan.{Plan, group_name, figures_of as code_figures}
 use Rattle.tx_plan.specs.Rules.{IsPlan, is_national}
-use Rattle.tx_plan.specs.declared.group.Circuit.{Circuit}
-use Rattle.tx_plan.specs.declared.line.Line.{Line}
+use Rattle.tx_plan.specs.declared.ids.Circuit.{Circuit}
+use Rattle.tx_plan.specs.declared.ids.Line.{Line}
 use Rattle.tx_machine.specs.declared.event.Event.{Event}
 use Rattle.tx_machine.specs.declared.event.Event.TheVariants.{Key, Route, Confirm, Clear, Released, Fail, Restore, Block, Unblock, CircuitOut, CircuitIn, LineFault, LineMend, LineAway, LineBack}
-use Rattle.tx_machine.specs.declared.party.Party.{Party}
-use Rattle.tx_machine.specs.declared.party.Party.TheVariants.{Caller, Called}
+use Rattle.tx_machine.specs.declared.open_call.Party.{Party}
+use Rattle.tx_machine.specs.declared.open_call.Party.TheVariants.{Caller, Called}
 use Rattle.tx_tickets.specs.Texts.{circuit_text}
 use Rattle.tx_script.specs.Events.{is_dot, cut_at_dot, from_one, line_of, circuit_of, call_in, group_in, party_word, event_of, event_in, event_words, IsWritableCircuit, FitsPlan, IsEvent, EventsReadBack}
 use Rattle.tx_plan.proofs.NamesBack.{code_back, figures_are_code, group_back, group_is_name}

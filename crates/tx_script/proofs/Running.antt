@@ -26,7 +26,7 @@ use Rattle.tx_script.specs.declared.run_fault.RunFault.{RunFault}
 use Rattle.tx_script.specs.declared.run_cause.RunCause.{RunCause}
 use Rattle.tx_script.specs.declared.run_cause.RunCause.TheVariants.{Read, Script as OfScript}
 use Rattle.tx_script.specs.declared.script_word.ScriptWord.{ScriptWord}
-use Rattle.tx_script.specs.declared.tally.Tally.{Tally}
+use Rattle.tx_script.specs.declared.teller.Tally.{Tally}
 use Rattle.tx_script.specs.Events.{Said, event_of}
 use Rattle.tx_script.specs.Output.{tickets_made}
 use Rattle.tx_script.specs.Answered.{count_of}

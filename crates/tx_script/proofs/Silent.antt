@@ -15,7 +15,7 @@ use Rattle.tx_script.specs.declared.run_cause.RunCause.{RunCause}
 use Rattle.tx_script.specs.declared.run_cause.RunCause.TheVariants.{Read, Write, Script as OfScript, NoMemory}
 use Rattle.tx_script.specs.declared.script_word.ScriptWord.{ScriptWord}
 use Rattle.tx_script.specs.declared.summary.Summary.{Summary}
-use Rattle.tx_script.specs.declared.telling.Telling.{Telling}
+use Rattle.tx_script.specs.declared.teller.Telling.{Telling}
 use Rattle.tx_script.specs.Script.{Script}
 use Rattle.tx_script.specs.Output.{moment_text, events_text, end_text, last_text}
 use Rattle.tx_script.specs.Untold.{IsUntold}

@@ -6,12 +6,12 @@ use Rattle.tx_text.specs.Words.{words_of, number_of, figures_of, are_figures}
 use Rattle.tx_text.specs.Written.{joined, line_written}
 use Rattle.tx_plan.specs.Plan.{Plan, code_named, group_named, group_name, figures_of as code_figures}
 use Rattle.tx_plan.specs.Rules.{IsPlan, is_national}
-use Rattle.tx_plan.specs.declared.group.Circuit.{Circuit}
-use Rattle.tx_plan.specs.declared.line.Line.{Line}
+use Rattle.tx_plan.specs.declared.ids.Circuit.{Circuit}
+use Rattle.tx_plan.specs.declared.ids.Line.{Line}
 use Rattle.tx_machine.specs.declared.event.Event.{Event}
 use Rattle.tx_machine.specs.declared.event.Event.TheVariants.{Key, Route, Confirm, Clear, Released, Fail, Restore, Block, Unblock, CircuitOut, CircuitIn, LineFault, LineMend, LineAway, LineBack}
-use Rattle.tx_machine.specs.declared.party.Party.{Party}
-use Rattle.tx_machine.specs.declared.party.Party.TheVariants.{Caller, Called}
+use Rattle.tx_machine.specs.declared.open_call.Party.{Party}
+use Rattle.tx_machine.specs.declared.open_call.Party.TheVariants.{Caller, Called}
 use Rattle.tx_tickets.specs.Texts.{circuit_text}
 use Rattle.tx_text.specs.declared.text_fault.TextFault.{TextFault}
 use Rattle.tx_text.specs.Told.{frame_fault}

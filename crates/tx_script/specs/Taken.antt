@@ -5,7 +5,7 @@ use Rattle.std.specs.FinSet as set
 use Rattle.tx_plan.specs.Orders.{same_circuit}
 use Rattle.tx_plan.specs.Plan.{Plan}
 use Rattle.tx_plan.specs.Circuits.{count_of, upward}
-use Rattle.tx_plan.specs.declared.group.Circuit.{Circuit}
+use Rattle.tx_plan.specs.declared.ids.Circuit.{Circuit}
 use Rattle.tx_machine.specs.Call.{Call}
 use Rattle.tx_machine.specs.State.{State}
 use Rattle.tx_machine.specs.InUse.{circuits_used}

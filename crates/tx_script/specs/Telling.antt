@@ -6,7 +6,7 @@ use Rattle.tx_machine.specs.declared.event.Event.{Event}
 use Rattle.tx_machine.specs.State.{State}
 use Rattle.tx_machine.specs.Runs.{Moment, run, state_after}
 use Rattle.tx_script.specs.declared.script_word.ScriptWord.{ScriptWord}
-use Rattle.tx_script.specs.declared.telling.Telling.{Telling}
+use Rattle.tx_script.specs.declared.teller.Telling.{Telling}
 use Rattle.tx_script.specs.Events.{event_text}
 use Rattle.tx_script.specs.Script.{Script}
 use Rattle.tx_script.specs.Output.{moment_text, end_text}

@@ -26,7 +26,7 @@ use Rattle.tx_script.specs.Script.{Script, whole, faulty, script_of}
 use Rattle.tx_script.specs.Output.{summary_of, tickets_made}
 use Rattle.tx_script.specs.Answered.{count_of, IsUndone, IsNoEvent}
 use Rattle.tx_script.specs.Answers.{Moved, settled, next, IsWhole, Begins, is_reader_room}
-use Rattle.tx_script.specs.declared.telling.Telling.{Telling}
+use Rattle.tx_script.specs.declared.teller.Telling.{Telling}
 use Rattle.tx_script.specs.Telling.{echo_text, echo_asked, told_moment, told_events, told_last, told_output}
 use Rattle.tx_script.specs.Untold.{IsUntold}
 

@@ -11,10 +11,9 @@ ghost use Rattle.tx_script.specs.TellingAnswers.{EventTold, LineTold};
 ghost use Rattle.tx_script.specs.Untold.{StopsAtTicket};
 ghost use Rattle.tx_script.specs.inner.Counting.{AreFew, counted_on, ends_counted};
 
-use crate::echo::write_asked_echo;
 use crate::run_cause::RunCause;
 use crate::script_word::ScriptWord;
-use crate::teller::Teller;
+use crate::teller::{Teller, write_asked_echo};
 use std::alloc::Allocator;
 use tx_machine::{Event, Network, Reply};
 use tx_plan::Plan;

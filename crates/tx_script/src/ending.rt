@@ -12,7 +12,7 @@ use crate::run_cause::RunCause;
 use crate::run_fault::RunFault;
 use crate::summary::Summary;
 use crate::summary_text::write_summary;
-use crate::tally::Tally;
+use crate::teller::Tally;
 use itoa::Buffer;
 use std::alloc::Allocator;
 use tx_machine::Network;

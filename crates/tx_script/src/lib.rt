@@ -22,7 +22,6 @@
 
 mod answer;
 mod counts;
-mod echo;
 mod ending;
 mod event_line;
 mod event_text;
@@ -34,9 +33,7 @@ mod runner;
 mod script_word;
 mod summary;
 mod summary_text;
-mod tally;
 mod teller;
-mod telling;
 
 pub use event_line::{event_lines_read_back, read_event};
 pub use event_text::write_event;
@@ -45,4 +42,4 @@ pub use run_fault::RunFault;
 pub use runner::{run, run_telling};
 pub use script_word::{ScriptFault, ScriptKind, ScriptWord, code_and_name};
 pub use summary::Summary;
-pub use telling::Telling;
+pub use teller::Telling;

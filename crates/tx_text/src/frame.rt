@@ -265,7 +265,7 @@ const SOURCE_CALLS: u64 = 4_294_967_295;
 const SLICE_CALLS: u64 = 2_251_799_813_685_249;
 
 /// Reads a text from a source, and keeps its frame.
-#[derive(Drop)]
+#[derive(Debug, Drop)]
 pub struct FrameReader<'k, A: Allocator = Global> {
     key: &'k [u8],
     most: u8,

@@ -9,7 +9,6 @@ mod feeder;
 mod figures;
 mod frame;
 mod from_read;
-mod inline_bytes;
 mod line;
 mod line_words;
 mod lines;
@@ -28,13 +27,12 @@ mod text_fault;
 mod to_write;
 
 pub use feeder::{Fed, LineFeeder};
-pub use figures::{Figures, are_figures, number};
+pub use figures::{Figures, InlineBytes, are_figures, number};
 pub use frame::{
     FaultAt, FaultKind, FrameFault, FramePart, FrameReader, FrameStep, FrameStop, LineForm,
     closing, is_end, last_fault, look,
 };
 pub use from_read::FromRead;
-pub use inline_bytes::InlineBytes;
 pub use line::TextLine;
 pub use line_words::Words;
 pub use lines::{Lines, first_line};

@@ -4,8 +4,7 @@ ghost use Rattle.std.specs.List.{list_all};
 ghost use Rattle.tx_text.specs.Words.{is_name, is_letter, is_figure};
 ghost use Rattle.tx_text.specs.inner.Words.{name_of};
 
-use crate::figures::is_figure;
-use crate::inline_bytes::InlineBytes;
+use crate::figures::{InlineBytes, is_figure};
 use std::marker::Model;
 
 /// The name of an exchange or a group: 1 to 8 of `A` to `Z` and `0` to `9`, a letter first.

@@ -88,7 +88,7 @@ pub(crate) fn lf_or_len(piece: &[u8]) -> usize
 
 /// Reads a text from a source, line by line. A line that stands whole in the bytes that were read
 /// is lent from there, and the feeder holds the others.
-#[derive(Drop)]
+#[derive(Debug, Drop)]
 pub(crate) struct TextReader<A: Allocator = Global> {
     feeder: LineFeeder<A>,
     piece: [u8; 4096],

@@ -2,17 +2,17 @@
 use Rattle.std.specs.Prelude.{ℕ, Bool, true, false, List, ◌++◌, codes, decimal}
 use Rattle.std.specs.List.{flat_map}
 use Rattle.tx_plan.specs.Plan.{Plan, exchange_name, figures_of, group_name}
-use Rattle.tx_plan.specs.declared.group.Circuit.{Circuit}
-use Rattle.tx_plan.specs.declared.line.Line.{Line}
+use Rattle.tx_plan.specs.declared.ids.Circuit.{Circuit}
+use Rattle.tx_plan.specs.declared.ids.Line.{Line}
 use Rattle.tx_machine.specs.declared.cause.Cause.{Cause}
 use Rattle.tx_machine.specs.declared.cause.Cause.TheVariants.{Service as ByService, ClearedByCaller, ClearedByCalled, Lost as ByLoss}
-use Rattle.tx_machine.specs.declared.hop.Hop.{Hop}
+use Rattle.tx_machine.specs.declared.open_call.Hop.{Hop}
 use Rattle.tx_machine.specs.declared.refusal.Refusal.{Refusal}
 use Rattle.tx_machine.specs.declared.refusal.Refusal.TheVariants.{UnknownCall, NotStanding, NotCalling, NotConnected, UnknownLine, LineEngaged, LineOutOfOrder, AlreadySo, NotSo, NotReleasing, UnknownCircuit, Exhausted}
 use Rattle.tx_machine.specs.declared.reply.Reply.{Reply}
 use Rattle.tx_machine.specs.declared.reply.Reply.TheVariants.{Keyed, Seized, At, Connected, Answered, HeadOn, Cleared, Done, Lost, Refused}
-use Rattle.tx_machine.specs.declared.service.Service.{Service}
-use Rattle.tx_machine.specs.declared.service.Service.TheVariants.{Occ, Nc, Np, Der, Abs, Na}
+use Rattle.tx_machine.specs.declared.cause.Service.{Service}
+use Rattle.tx_machine.specs.declared.cause.Service.TheVariants.{Occ, Nc, Np, Der, Abs, Na}
 use Rattle.tx_machine.specs.Ended.{Ended}
 
 -- a group's name, a dot and the circuit's number, as G1.1

@@ -1,7 +1,6 @@
 //! The lines that a run prints: replies, and tickets of the calls that ended.
 #![tactic(auto)]
 
-mod line_room;
 mod reply;
 mod ticket;
 

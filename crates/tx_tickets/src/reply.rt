@@ -1,16 +1,88 @@
-// The line of a reply, and the words that replies and tickets share.
-ghost use Rattle.std.specs.Prelude.{◌≡◌, ◌+◌, ◌≤◌, ◌++◌, [], codes, decimal, length};
+// The line of a reply, in room of its own, and the words that replies and tickets share.
+ghost use Rattle.std.specs.Prelude.{◌≡◌, ◌+◌, ◌≤◌, ◌++◌, [], codes, decimal, length, ◌<◌};
 ghost use Rattle.tx_text.specs.Wrote.{Wrote};
 ghost use Rattle.tx_plan.specs.Plan.{exchange_name};
 ghost use Rattle.tx_machine.specs.declared.reply.Reply.TheVariants.{Lost};
 ghost use Rattle.tx_tickets.specs.Texts.{circuit_text, line_text, stands_text, reply_text, service_text, cause_text, refusal_text};
 
-use crate::line_room::LineRoom;
 use itoa::Buffer;
 use std::alloc::Allocator;
+use std::marker::Model;
 use tx_machine::{Cause, Refusal, Reply, Service};
 use tx_plan::{Circuit, ExchangeId, Line, Plan};
 use tx_text::{Sink, WriteFault, write_bytes, write_parts};
+
+/// The bytes of a line so far, in room of at most 255 bytes that is lent. The caller sees that they
+/// have room.
+#[derive(Drop)]
+pub(crate) struct LineRoom<'a, const N: usize> {
+    room: &'a mut [u8; N],
+    len: usize,
+}
+
+impl<'a, const N: usize> Model for LineRoom<'a, N> {
+    ghost use Rattle.std.specs.Prelude.{ℕ, List, take, ◌≤◌};
+
+    ghost Value = { List ℕ };
+
+    ghost view = { λ l. take l.len l.room.now };
+
+    ghost invariant = { λ l. (l.len ≤ N) × (N ≤ 255) };
+}
+
+impl<'a, const N: usize> LineRoom<'a, N> {
+    /// A line of no bytes.
+    pub(crate) fn new(room: &'a mut [u8; N]) -> LineRoom<'a, N>
+        requires { N ≤ 255 }
+        ensures { result ≡ [] }
+    {
+        LineRoom { room, len: 0 }
+    }
+
+    /// The line so far.
+    pub(crate) fn bytes(&self) -> &[u8]
+        ensures { result.now ≡ self.now }
+    {
+        &self.room[..self.len]
+    }
+
+    /// How many bytes it has.
+    pub(crate) fn len(&self) -> usize
+        ensures { result ≡ length self.now }
+    {
+        self.bytes().len()
+    }
+
+    /// Goes back to no bytes.
+    pub(crate) fn clear(&mut self)
+        ensures { self.new ≡ [] }
+    {
+        self.len = 0;
+    }
+
+    /// Appends bytes.
+    pub(crate) fn put(&mut self, bytes: &[u8])
+        requires { length self.old + length bytes.now ≤ N }
+        ensures text { self.new ≡ self.old ++ bytes.now }
+        ensures width { length self.new ≡ length self.old + length bytes.now }
+    {
+        let from = self.len;
+        let to = from + bytes.len();
+        let room = &mut self.room[..];
+        room[from..to].copy_from_slice(bytes);
+        self.len = to;
+    }
+
+    /// Appends the figures of a number.
+    pub(crate) fn put_number(&mut self, number: u64)
+        requires { length self.old + 20 ≤ N }
+        ensures text { self.new ≡ self.old ++ decimal number }
+        ensures width { length self.new ≤ length self.old + 20 }
+    {
+        let mut figures = Buffer::new();
+        self.put(figures.format(number).as_bytes());
+    }
+}
 
 /// A service code, as it is printed.
 pub(crate) fn service_word(service: Service) -> &'static [u8]

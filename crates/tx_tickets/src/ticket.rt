@@ -4,8 +4,7 @@ ghost use Rattle.std.specs.List.{flat_map};
 ghost use Rattle.tx_text.specs.Wrote.{Wrote};
 ghost use Rattle.tx_tickets.specs.Texts.{hop_text, caller_text, events_text, why_text, ticket_text};
 
-use crate::line_room::LineRoom;
-use crate::reply::cause_word;
+use crate::reply::{LineRoom, cause_word};
 use std::alloc::Allocator;
 use tx_machine::{Hop, Ticket};
 use tx_plan::Plan;

@@ -15,7 +15,7 @@ use Rattle.tx_plan.specs.Codes.{is_prefix}
 use Rattle.tx_plan.specs.Ambiguous.{pair_cmp, ambiguous_of}
 use Rattle.tx_plan.specs.inner.AmbiguousAt.{pair_at, IsAmbiguousAt}
 use Rattle.tx_plan.proofs.Ambiguity.{ambiguous-none, ambiguous-some}
-use Rattle.tx_trie.specs.declared.node.Node.{Node}
+use Rattle.tx_trie.specs.declared.trie.Node.{Node}
 use Rattle.tx_trie.specs.inner.Nodes.{IsTrie, look}
 use Rattle.tx_trie.specs.inner.Least.{IsLeastPair, IsLeastBelow}
 use Rattle.tx_trie.proofs.Prefixes.{prefix_is_take, take_is_prefix}

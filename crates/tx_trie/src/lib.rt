@@ -4,9 +4,6 @@
 #![tactic(auto)]
 
 mod codes_writer;
-mod node;
-mod nodes;
-mod row;
 mod trie;
 
 pub use codes_writer::write_codes;

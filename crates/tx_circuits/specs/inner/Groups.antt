@@ -1,7 +1,7 @@
 -- The groups of a plan with the states of their circuits, and how they are kept in one vector.
 use Rattle.std.specs.Prelude.{◌≡◌, ℕ, zero, suc, ◌+◌, ◌<◌, ◌≤◌, Bool, false, ◌&&◌, ◌==◌, if◌then◌else◌, List, [], ◌∷◌, map, length, find, replicate, Option, Some, None, option_and_then, slice_get, slice_set, ◌⊎◌}
 use Rattle.std.specs.List.{between}
-use Rattle.tx_plan.specs.declared.group.Circuit.{Circuit}
+use Rattle.tx_plan.specs.declared.ids.Circuit.{Circuit}
 use Rattle.tx_plan.specs.Circuits.{is_both}
 use Rattle.tx_circuits.specs.declared.lists.End.{End}
 use Rattle.tx_circuits.specs.declared.lists.End.TheVariants.{First, Other}

@@ -1,11 +1,11 @@
 -- Two calls that meet on a circuit.
 use Rattle.std.specs.Prelude.{◌≡◌, ℕ, Some}
-use Rattle.tx_plan.specs.declared.group.Circuit.{Circuit}
-use Rattle.tx_machine.specs.declared.phase.Phase.TheVariants.{Calling}
+use Rattle.tx_plan.specs.declared.ids.Circuit.{Circuit}
+use Rattle.tx_machine.specs.declared.open_call.Phase.TheVariants.{Calling}
 use Rattle.tx_machine.specs.Confirming.{rival, thrown_back}
 use Rattle.tx_calls.specs.Calls.{Kept, Calls, kept_at}
 use Rattle.tx_engine.specs.declared.head_on.Met.{Met}
-use Rattle.tx_engine.specs.declared.engine_state.EngineState.{EngineState}
+use Rattle.tx_engine.specs.declared.engine.EngineState.{EngineState}
 use Rattle.tx_engine.specs.inner.Sound.{state_of}
 
 -- the call under a key has seized a circuit that the call under another key has seized from its

@@ -6,8 +6,8 @@ use Rattle.tx_plan.specs.Rules.{IsPlan}
 use Rattle.tx_plan.specs.Lines.{is_line_at}
 use Rattle.tx_plan.specs.Circuits.{is_circuit, ends_of}
 use Rattle.tx_plan.specs.Among.{Among}
-use Rattle.tx_plan.specs.declared.group.Circuit.{Circuit}
-use Rattle.tx_machine.specs.declared.phase.Phase.TheVariants.{Calling}
+use Rattle.tx_plan.specs.declared.ids.Circuit.{Circuit}
+use Rattle.tx_machine.specs.declared.open_call.Phase.TheVariants.{Calling}
 use Rattle.tx_machine.specs.Call.{place_of, call_of}
 use Rattle.tx_machine.specs.State.{State}
 use Rattle.tx_machine.specs.InUse.{circuits_carried}
@@ -17,7 +17,7 @@ use Rattle.tx_calls.specs.Calls.{Kept, Calls, kept_at, calls_in}
 use Rattle.tx_calls.specs.inner.Keys.{HasKeys, keys_of, pick}
 use Rattle.tx_calls.specs.declared.circuit_keys.EndKeys.{EndKeys}
 use Rattle.tx_engine.specs.inner.Seen.{state_seen, AreTogether}
-use Rattle.tx_engine.specs.declared.engine_state.EngineState.{EngineState}
+use Rattle.tx_engine.specs.declared.engine.EngineState.{EngineState}
 
 -- the exchange is the first end of the circuit's group
 abbrev pub is_first_end : Plan → Circuit → ℕ → Bool

@@ -3,11 +3,11 @@ use Rattle.std.specs.Prelude.{◌≡◌, ℕ, true, not, length, Some}
 use Rattle.tx_plan.specs.Plan.{Plan}
 use Rattle.tx_plan.specs.Circuits.{is_circuit}
 use Rattle.tx_machine.specs.declared.cause.Cause.TheVariants.{Service as ByService}
-use Rattle.tx_machine.specs.declared.phase.Phase.{Phase}
-use Rattle.tx_machine.specs.declared.phase.Phase.TheVariants.{Calling, Connected}
+use Rattle.tx_machine.specs.declared.open_call.Phase.{Phase}
+use Rattle.tx_machine.specs.declared.open_call.Phase.TheVariants.{Calling, Connected}
 use Rattle.tx_machine.specs.declared.reply.Reply.{Reply}
 use Rattle.tx_machine.specs.declared.reply.Reply.TheVariants.{Seized, At, HeadOn, Connected as ConnectedTo}
-use Rattle.tx_machine.specs.declared.service.Service.TheVariants.{Nc}
+use Rattle.tx_machine.specs.declared.cause.Service.TheVariants.{Nc}
 use Rattle.tx_machine.specs.Call.{Call, call_of}
 use Rattle.tx_machine.specs.State.{State}
 use Rattle.tx_machine.specs.Ending.{answered, end_calls}

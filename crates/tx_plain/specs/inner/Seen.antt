@@ -1,6 +1,6 @@
 -- Room of open calls, and what changes of them come to.
 use Rattle.std.specs.Prelude.{◌≡◌, ℕ, ◌<◌, true, false, ◌==◌, [], ◌∷◌, ◌++◌, vec_len, vec_capacity, if◌then◌else◌}
-use Rattle.tx_machine.specs.declared.phase.Phase.TheVariants.{Standing}
+use Rattle.tx_machine.specs.declared.open_call.Phase.TheVariants.{Standing}
 use Rattle.tx_machine.specs.Call.{Call, is_calling}
 use Rattle.tx_machine.specs.Routing.{in_phase}
 use Rattle.tx_machine.specs.Confirming.{thrown_back}

@@ -4,7 +4,7 @@ use Rattle.std.specs.FinSet as set
 use Rattle.tx_plan.specs.Plan.{Plan}
 use Rattle.tx_plan.specs.Rules.{IsPlan}
 use Rattle.tx_plan.specs.Among.{Among}
-use Rattle.tx_plan.specs.declared.line.Line.{Line}
+use Rattle.tx_plan.specs.declared.ids.Line.{Line}
 use Rattle.tx_machine.specs.Call.{Call}
 use Rattle.tx_machine.specs.Ended.{Ended}
 use Rattle.tx_machine.specs.State.{Net}

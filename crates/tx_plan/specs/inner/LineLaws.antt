@@ -8,7 +8,7 @@ use Rattle.std.proofs.lemmas.Bool.{and_parts, and_from}
 use Rattle.std.proofs.lemmas.Bool.Decides.{same_from_decides}
 use Rattle.std.proofs.lemmas.Slice.Eq.{bytes_eq-Decides}
 use Rattle.tx_text.specs.inner.Padded.{padded_to}
-use Rattle.tx_plan.specs.declared.line.Line.{Line}
+use Rattle.tx_plan.specs.declared.ids.Line.{Line}
 use Rattle.tx_plan.specs.Orders.{same_line}
 
 pub same_line-is : (l m : Line) → same_line l m ≡ true → l ≡ m

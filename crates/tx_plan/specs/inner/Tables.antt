@@ -3,7 +3,7 @@ use Rattle.std.specs.Prelude.{ℕ, List, map}
 use Rattle.tx_plan.specs.Plan.{Plan, Code, Group, Route}
 use Rattle.tx_plan.specs.declared.ids.Pair.{Pair}
 use Rattle.tx_plan.specs.declared.range.LineRange.{LineRange}
-use Rattle.tx_plan.specs.declared.group.GroupRow.{GroupRow}
+use Rattle.tx_plan.specs.declared.ids.GroupRow.{GroupRow}
 
 -- figures, and the home of their code
 abbrev pub code_of_row : List ℕ × ℕ → Code

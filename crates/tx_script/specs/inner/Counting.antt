@@ -4,7 +4,7 @@ use Rattle.std.specs.List.{count_by}
 use Rattle.tx_plan.specs.Orders.{same_circuit}
 use Rattle.tx_plan.specs.Plan.{Plan}
 use Rattle.tx_plan.specs.Circuits.{count_of, upward}
-use Rattle.tx_plan.specs.declared.group.Circuit.{Circuit}
+use Rattle.tx_plan.specs.declared.ids.Circuit.{Circuit}
 use Rattle.tx_machine.specs.declared.cause.Cause.{Cause}
 use Rattle.tx_machine.specs.declared.event.Event.{Event}
 use Rattle.tx_machine.specs.declared.event.Event.TheVariants.{Route, Released, Fail}
@@ -18,7 +18,7 @@ use Rattle.tx_script.specs.Output.{tickets_made, end_text}
 use Rattle.tx_script.specs.Summaries.{place_of, summary_by}
 use Rattle.tx_script.specs.TellingAnswers.{NoneReleasing}
 use Rattle.tx_script.specs.declared.group_use.GroupUse.{GroupUse}
-use Rattle.tx_script.specs.declared.telling.Telling.{Telling}
+use Rattle.tx_script.specs.declared.teller.Telling.{Telling}
 
 -- how many calls ended, by the places of their causes, and a row for each group
 pub record Counted : Type 0 where

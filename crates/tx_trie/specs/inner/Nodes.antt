@@ -4,8 +4,8 @@ use Rattle.std.specs.Option.{option_map, option_map_or}
 use Rattle.tx_text.specs.Words.{is_figure}
 use Rattle.tx_plan.specs.Plan.{Code}
 use Rattle.tx_plan.specs.Rules.{is_code}
-use Rattle.tx_trie.specs.declared.node.Node.{Node}
-use Rattle.tx_trie.specs.declared.row.Row.{Row}
+use Rattle.tx_trie.specs.declared.trie.Node.{Node}
+use Rattle.tx_trie.specs.declared.trie.Row.{Row}
 
 abbrev pub code_of_row : Row → Code
 code_of_row r = record { figures = r.figures; home = r.home }

@@ -2,7 +2,7 @@ use Rattle.std.proofs.Common.{ap, ◌∙◌, sym, subst, [], ◌∷◌, map, tak
 use Rattle.tx_machine.specs.Seen.{call_seen}
 use Rattle.tx_plain.specs.inner.GivenUp.{is_given, with_more}
 use Rattle.tx_plain.specs.inner.Marks.{Circuits, HasMark}
-use Rattle.tx_machine.specs.declared.hop.Hop.{Hop}
+use Rattle.tx_machine.specs.declared.open_call.Hop.{Hop}
 use Rattle.std.specs.Prelude.{filter}
 use Rattle.std.proofs.lemmas.List.{map_push}
 use Rattle.tx_plain.proofs.Giving.{more_none, more_given, take_more}

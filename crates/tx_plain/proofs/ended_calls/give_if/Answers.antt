@@ -6,7 +6,7 @@ use Rattle.tx_machine.specs.Call.{circuit_called}
 use Rattle.tx_machine.specs.InUse.{circuits_carried, circuits_used}
 use Rattle.tx_plan.specs.Among.{Among}
 use Rattle.tx_plan.proofs.Among.{among_left, among_right}
-use Rattle.tx_machine.specs.declared.hop.Hop.{Hop}
+use Rattle.tx_machine.specs.declared.open_call.Hop.{Hop}
 use Rattle.std.specs.Prelude.{filter, if◌then◌else◌}
 use Rattle.tx_plain.proofs.Giving.{more_given, more_none}
 use Rattle.tx_plain.proofs.ended_calls.give_if.Goals as goal

@@ -1,5 +1,5 @@
 use Rattle.std.proofs.Common.{◌+◌, ap, ◌∙◌, arith, ◌++◌, ◌∷◌, [], false}
-use Rattle.tx_machine.specs.declared.phase.Phase.TheVariants.{Standing}
+use Rattle.tx_machine.specs.declared.open_call.Phase.TheVariants.{Standing}
 use Rattle.tx_plain.proofs.Whole.{whole_room, whole_more}
 use Rattle.tx_machine.specs.declared.open_call.OpenCall.{OpenCall}
 use Rattle.tx_plain.proofs.plain.Plain.key.Goals as goal

@@ -2,7 +2,7 @@ use Rattle.std.proofs.Common.{◌≡◌, ◌<◌, ◌++◌, ◌∷◌, [], Some,
 use Rattle.std.proofs.lemmas.List.{length-map, map_push}
 use Rattle.std.proofs.lemmas.Option.{slice_get_read}
 use Rattle.std.specs.Prelude.{slice_get}
-use Rattle.tx_trie.specs.declared.row.Row.{Row}
+use Rattle.tx_trie.specs.declared.trie.Row.{Row}
 use Rattle.tx_trie.specs.inner.Nodes.{IsTrie, walk, code_of_row}
 use Rattle.tx_trie.proofs.Ways.{walk_within}
 use Rattle.tx_trie.proofs.Longest.{widths}
