@@ -22,8 +22,7 @@ pub struct ChangeRoutes<'a, A: Allocator> {
     ghost network: { SameNetwork old.now new.now },
     ghost right: { AreOrigins old.now origins.now },
     ghost joined: { AreJoined old.now new.now code lists.now },
-    ghost net: { IsNet (change_net old.now new.now code) }
-        by { IsNet-prop (change_net old.now new.now code) },
+    ghost net: { IsNet (change_net old.now new.now code) } by { IsNet-prop (change_net old.now new.now code) },
 }
 
 impl<'a, A: Allocator> Routes for ChangeRoutes<'a, A> {

@@ -5,11 +5,7 @@ use std::alloc::Allocator;
 use tx_plan::{CodeId, Direction, ExchangeId, GroupId, Plan};
 
 /// Whether an exchange is the same in two plans.
-pub fn is_same_exchange<A: Allocator>(
-    old: &Plan<A>,
-    new: &Plan<A>,
-    exchange: ExchangeId,
-) -> bool
+pub fn is_same_exchange<A: Allocator>(old: &Plan<A>, new: &Plan<A>, exchange: ExchangeId) -> bool
     requires old { exchange < length old.now.exchanges }
     requires new { exchange < length new.now.exchanges }
     ensures { result ≡ true

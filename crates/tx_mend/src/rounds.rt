@@ -31,12 +31,7 @@ fn home_alone<A: Allocator + Copy>(
 }
 
 /// The rank that an exchange keeps, or gets in a round.
-fn rank_on<R: Rule>(
-    rule: &R,
-    ranks: &[Option<u8>],
-    exchange: ExchangeId,
-    round: u8,
-) -> Option<u8>
+fn rank_on<R: Rule>(rule: &R, ranks: &[Option<u8>], exchange: ExchangeId, round: u8) -> Option<u8>
     requires long { length ranks.now ≡ R.exchanges rule.now }
     requires exchange { exchange < R.exchanges rule.now }
     ensures { (of : ℕ → Option ℕ) → ranks.now ≡ map of (places (R.exchanges rule.now))

@@ -16,8 +16,7 @@ pub struct RoutesFrom<'a, A: Allocator> {
     pub code: CodeId,
     pub start: ExchangeId,
     ghost known: { code < length plan.now.codes },
-    ghost net: { IsNet (net_from plan.now code start) }
-        by { IsNet-prop (net_from plan.now code start) },
+    ghost net: { IsNet (net_from plan.now code start) } by { IsNet-prop (net_from plan.now code start) },
 }
 
 impl<'a, A: Allocator> Routes for RoutesFrom<'a, A> {

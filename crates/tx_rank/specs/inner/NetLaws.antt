@@ -9,7 +9,7 @@ some_below-prop : (o : Option ℕ) (n : ℕ) → IsProp ((y : ℕ) × (o ≡ Som
 some_below-prop o n a b =
     let same : a.0 ≡ b.0 = let e = a.1 in let f = b.1 in cc in
     subst (λ (y : ℕ). (e : o ≡ Some y) (l : y < n)
-        → Path ((z : ℕ) × (o ≡ Some z) × (z < n)) a (y, e, l)) same
+    → Path ((z : ℕ) × (o ≡ Some z) × (z < n)) a (y, e, l)) same
     (λ e l i. (a.0, Coded-set (coded_option coded_ℕ) o (Some a.0) a.1 e i, le_prop a.2 l i))
     b.1 b.2
 
