@@ -1,6 +1,6 @@
 // The words that the program takes, with what it tells of them when asked for help.
-ghost use Rattle.std.specs.Prelude.{◌≡◌, Ok, IfOk};
-ghost use Rattle.clap.specs.Words.{AddsSubcommand, app_of};
+ghost use Rattle.std.specs.Prelude.{◌≡◌, Ok, IfOk, codes};
+ghost use Rattle.clap.specs.Words.{AddsSubcommand, App, app_of, with_rule};
 ghost use Rattle.clap.specs.declared.builder.command.Command.{Command};
 ghost use Rattle.tx_commands.specs.Grammar as grammar;
 
@@ -35,7 +35,19 @@ fn run_grammar<'a>(alloc: Global) -> Result<clap::Command<'a>, AllocError>
         "Run only if this certificate shows that the plan is safe, else print
 the verdict; goes with --limit and --spare",
     );
-    let run = with_bounds(run, alloc, false);
+    with_telling(with_bounds(run, alloc, false), alloc)
+}
+
+/// Adds the options by which `run` tells more.
+fn with_telling<'a>(
+    run: Result<clap::Command<'a>, AllocError>,
+    alloc: Global,
+) -> Result<clap::Command<'a>, AllocError>
+    ensures { (app : App) → IfOk run.entry (λ c. app_of c ≡ app)
+        → IfOk result (λ c. app_of c
+        ≡ with_rule (with_rule (with_rule app (grammar.flag (codes "strict")))
+        (grammar.flag (codes "echo"))) (grammar.flag (codes "summary"))) }
+{
     let run = with_flag(
         run,
         alloc,

@@ -126,10 +126,11 @@ fn command_in<'a>(
         Ok(matches) => matches,
         Err(e) => return Err(WordsFault::of_clap(e)),
     };
-    match found_command(alloc, &matches) {
-        Ok(command) => Ok(command),
-        Err(refusal) => Err(words_fault(grammar, refusal)?),
-    }
+    let refusal = match found_command(alloc, &matches) {
+        Ok(command) => return Ok(command),
+        Err(refusal) => refusal,
+    };
+    Err(words_fault(grammar, refusal)?)
 }
 
 /// Reads the words after the program's name. `Err` is refused words, a request for help or for the

@@ -1,10 +1,10 @@
 // Commands whose files are open.
-ghost use Rattle.std.specs.Prelude.{◌≡◌, ◌≤◌, IfSome};
+ghost use Rattle.std.specs.Prelude.{◌≡◌, ◌≤◌, true, IfSome};
 ghost use Rattle.tx_commands.specs.Commands.{IsInRange};
+ghost use Rattle.tx_program.specs.inner.Judging.{judges};
 
 use crate::folder::Folder;
 use crate::input::{Input, Inputs};
-use crate::output_files::OutputFiles;
 use std::io::Read;
 use tx_commands::Command;
 use tx_jobs::JobFault;
@@ -85,18 +85,15 @@ pub(crate) enum Opened<'a, I: Read + Drop, R: Read + Drop> {
     Audit {
         plan: Input<I, R>,
         bounds: Bounds,
-        files: OutputFiles<'a>,
     },
     Mend {
         plan: Input<I, R>,
         bounds: Bounds,
-        files: OutputFiles<'a>,
     },
     Change {
         old: Input<I, R>,
         new: Input<I, R>,
         bounds: Bounds,
-        files: OutputFiles<'a>,
     },
     Survive {
         plan: Input<I, R>,
@@ -107,7 +104,7 @@ pub(crate) enum Opened<'a, I: Read + Drop, R: Read + Drop> {
         job: PlanJob<'a>,
     },
     Explain {
-        word: Option<&'a str>,
+        word: &'a Option<String>,
     },
 }
 
@@ -121,9 +118,7 @@ impl<'a, I: Read + Drop, R: Read + Drop> Opened<'a, I, R> {
         requires { IsInRange command.now }
     {
         match command {
-            Command::Pipe => Ok(Opened::Pipe {
-                input: inputs.take_standard()?,
-            }),
+            Command::Pipe => Opened::pipe(inputs),
             Command::Run {
                 plan,
                 script,
@@ -135,19 +130,7 @@ impl<'a, I: Read + Drop, R: Read + Drop> Opened<'a, I, R> {
                 strict,
                 echo,
                 summary,
-            } => {
-                let telling = Telling {
-                    echo: *echo,
-                    summary: *summary,
-                };
-                Opened::run_telling(inputs, plan, script, *strict, telling)
-            }
-            Command::Check {
-                plan,
-                cert,
-                limit,
-                spare,
-            } => Opened::check(inputs, plan, cert, Bounds::of(*limit, *spare)),
+            } => Opened::run_telling(inputs, plan, script, *strict, *echo, *summary),
             Command::Lint { plan } => Opened::lint(inputs, plan),
             Command::Codes { plan } => Opened::over_plan(inputs, plan, PlanJob::Codes),
             Command::Grade { plan } => Opened::over_plan(inputs, plan, PlanJob::Grade),
@@ -158,36 +141,50 @@ impl<'a, I: Read + Drop, R: Read + Drop> Opened<'a, I, R> {
                 code,
             } => Opened::trace(inputs, plan, exchange, code),
             Command::Draw { plan, routes } => Opened::draw(inputs, plan, routes),
-            Command::Explain { word } => Ok(Opened::Explain {
-                word: word.as_deref(),
-            }),
-            Command::Audit {
-                plan,
-                limit,
-                spare,
-                cert,
-                counter,
-            } => Opened::audit(inputs, plan, Bounds::of(*limit, *spare), cert, counter),
-            Command::Mend {
-                plan,
-                limit,
-                spare,
-                mended,
-                cert,
-            } => Opened::mend(inputs, plan, Bounds::of(*limit, *spare), mended, cert),
-            Command::Change {
-                old,
-                new,
-                limit,
-                spare,
-                cert,
-                mixture,
-                counter,
-            } => {
-                let bounds = Bounds::of(*limit, *spare);
-                Opened::change(inputs, old, new, bounds, cert, mixture, counter)
+            Command::Explain { word } => Ok(Opened::Explain { word }),
+            Command::Check { limit, spare, .. }
+            | Command::Audit { limit, spare, .. }
+            | Command::Change { limit, spare, .. }
+            | Command::Mend { limit, spare, .. } => {
+                Opened::judging(inputs, command, Bounds::of(*limit, *spare))
             }
         }
+    }
+
+    /// Opens the files of a command that judges plans.
+    fn judging<F: Folder<Input = R>>(
+        inputs: &mut Inputs<'_, F, I>,
+        command: &'a Command,
+        bounds: Bounds,
+    ) -> Result<Opened<'a, I, R>, JobFault>
+        requires { judges command.now ≡ true }
+    {
+        match command {
+            Command::Check { plan, cert, .. } => {
+                let (plan, cert) = inputs.open_both(plan, cert)?;
+                Ok(Opened::Check { plan, cert, bounds })
+            }
+            Command::Audit { plan, .. } => {
+                let plan = inputs.open(plan)?;
+                Ok(Opened::Audit { plan, bounds })
+            }
+            Command::Change { old, new, .. } => {
+                let (old, new) = inputs.open_both(old, new)?;
+                Ok(Opened::Change { old, new, bounds })
+            }
+            Command::Mend { plan, .. } => {
+                let plan = inputs.open(plan)?;
+                Ok(Opened::Mend { plan, bounds })
+            }
+            _ => unreachable!(),
+        }
+    }
+
+    fn pipe<F: Folder<Input = R>>(
+        inputs: &mut Inputs<'_, F, I>,
+    ) -> Result<Opened<'a, I, R>, JobFault> {
+        let input = inputs.take_standard()?;
+        Ok(Opened::Pipe { input })
     }
 
     fn run<F: Folder<Input = R>>(
@@ -215,14 +212,15 @@ impl<'a, I: Read + Drop, R: Read + Drop> Opened<'a, I, R> {
         plan: &str,
         script: &str,
         strict: bool,
-        telling: Telling,
+        echo: bool,
+        summary: bool,
     ) -> Result<Opened<'a, I, R>, JobFault> {
         let (plan, script) = inputs.open_both(plan, script)?;
         Ok(Opened::RunTelling {
             plan,
             script,
             strict,
-            telling,
+            telling: Telling { echo, summary },
         })
     }
 
@@ -241,16 +239,6 @@ impl<'a, I: Read + Drop, R: Read + Drop> Opened<'a, I, R> {
             script,
             bounds,
         })
-    }
-
-    fn check<F: Folder<Input = R>>(
-        inputs: &mut Inputs<'_, F, I>,
-        plan: &str,
-        cert: &str,
-        bounds: Bounds,
-    ) -> Result<Opened<'a, I, R>, JobFault> {
-        let (plan, cert) = inputs.open_both(plan, cert)?;
-        Ok(Opened::Check { plan, cert, bounds })
     }
 
     fn over_plan<F: Folder<Input = R>>(
@@ -313,68 +301,5 @@ impl<'a, I: Read + Drop, R: Read + Drop> Opened<'a, I, R> {
             code: code.as_bytes(),
         };
         Opened::over_plan(inputs, plan, job)
-    }
-
-    fn audit<F: Folder<Input = R>>(
-        inputs: &mut Inputs<'_, F, I>,
-        plan: &str,
-        bounds: Bounds,
-        cert: &'a Option<String>,
-        counter: &'a Option<String>,
-    ) -> Result<Opened<'a, I, R>, JobFault> {
-        let plan = inputs.open(plan)?;
-        let files = OutputFiles {
-            cert: cert.as_deref(),
-            plan: None,
-            counter: counter.as_deref(),
-        };
-        Ok(Opened::Audit {
-            plan,
-            bounds,
-            files,
-        })
-    }
-
-    fn mend<F: Folder<Input = R>>(
-        inputs: &mut Inputs<'_, F, I>,
-        plan: &str,
-        bounds: Bounds,
-        mended: &'a Option<String>,
-        cert: &'a Option<String>,
-    ) -> Result<Opened<'a, I, R>, JobFault> {
-        let plan = inputs.open(plan)?;
-        let files = OutputFiles {
-            cert: cert.as_deref(),
-            plan: mended.as_deref(),
-            counter: None,
-        };
-        Ok(Opened::Mend {
-            plan,
-            bounds,
-            files,
-        })
-    }
-
-    fn change<F: Folder<Input = R>>(
-        inputs: &mut Inputs<'_, F, I>,
-        old: &str,
-        new: &str,
-        bounds: Bounds,
-        cert: &'a Option<String>,
-        mixture: &'a Option<String>,
-        counter: &'a Option<String>,
-    ) -> Result<Opened<'a, I, R>, JobFault> {
-        let (old, new) = inputs.open_both(old, new)?;
-        let files = OutputFiles {
-            cert: cert.as_deref(),
-            plan: mixture.as_deref(),
-            counter: counter.as_deref(),
-        };
-        Ok(Opened::Change {
-            old,
-            new,
-            bounds,
-            files,
-        })
     }
 }

@@ -6,6 +6,7 @@ use std::alloc::Allocator;
 use std::io::Write;
 use tx_audit::write_counter;
 use tx_cert::{Cert, write_cert};
+use tx_commands::Command;
 use tx_jobs::{CounterScript, JobFault};
 use tx_plan::Plan;
 use tx_plantext::write_plan;
@@ -19,6 +20,28 @@ pub(crate) struct OutputFiles<'a> {
     pub plan: Option<&'a str>,
     /// The file of the counter script.
     pub counter: Option<&'a str>,
+}
+
+impl<'a> OutputFiles<'a> {
+    /// Those that a command names.
+    pub(crate) fn of(command: &'a Command) -> OutputFiles<'a> {
+        let (cert, plan, counter) = match command {
+            Command::Audit { cert, counter, .. } => (cert.as_deref(), None, counter.as_deref()),
+            Command::Mend { mended, cert, .. } => (cert.as_deref(), mended.as_deref(), None),
+            Command::Change {
+                cert,
+                mixture,
+                counter,
+                ..
+            } => (cert.as_deref(), mixture.as_deref(), counter.as_deref()),
+            _ => (None, None, None),
+        };
+        OutputFiles {
+            cert,
+            plan,
+            counter,
+        }
+    }
 }
 
 /// What a file holds that a command makes.

@@ -13,6 +13,7 @@ use crate::folder::Folder;
 use crate::input::Inputs;
 use crate::mended::mend_file;
 use crate::opened::{Bounds, Opened, PlanJob};
+use crate::output_files::OutputFiles;
 use crate::tell::tell_words;
 use std::alloc::{Allocator, Global};
 use std::io::{IsTerminal, Read, Write};
@@ -151,7 +152,7 @@ pub(crate) fn perform<A: Allocator + Copy, F: Folder, I: Read + Drop, O: Write +
 {
     let opened = Opened::new(command, &mut Inputs::new(folder, input))?;
     let output = Output::new(alloc, output)?;
-    let done = do_job(alloc, opened, folder, &output);
+    let done = do_job(alloc, opened, OutputFiles::of(command), folder, &output);
     output.let_out()?;
     done
 }
@@ -159,6 +160,7 @@ pub(crate) fn perform<A: Allocator + Copy, F: Folder, I: Read + Drop, O: Write +
 fn do_job<A: Allocator + Copy, F: Folder, I: Read + Drop, O: Write + Drop>(
     alloc: A,
     opened: Opened<'_, I, F::Input>,
+    files: OutputFiles<'_>,
     folder: &F,
     output: &Output<O, A>,
 ) -> Result<u8, CommandFault> {
@@ -179,24 +181,15 @@ fn do_job<A: Allocator + Copy, F: Folder, I: Read + Drop, O: Write + Drop>(
         } => run_checked_files(alloc, plan, cert, bounds, script, output)?,
         Opened::Check { plan, cert, bounds } => check_files(alloc, plan, cert, bounds, output)?,
         Opened::Plan { plan, job } => do_plan_job(alloc, plan, job, output)?,
-        Opened::Audit {
-            plan,
-            bounds,
-            files,
-        } => { audit_file(alloc, plan, bounds, files, folder, output)? }
-        Opened::Mend {
-            plan,
-            bounds,
-            files,
-        } => { mend_file(alloc, plan, bounds, files, folder, output)? }
+        Opened::Audit { plan, bounds } => {
+            audit_file(alloc, plan, bounds, files, folder, output)?
+        }
+        Opened::Mend { plan, bounds } => mend_file(alloc, plan, bounds, files, folder, output)?,
         Opened::Survive { plan, risks } => survive_files(alloc, plan, risks, output)?,
-        Opened::Change {
-            old,
-            new,
-            bounds,
-            files,
-        } => change_files(alloc, old, new, bounds, files, folder, output)?,
-        Opened::Explain { word } => explain(word, output)?,
+        Opened::Change { old, new, bounds } => change_files(
+            alloc, old, new, bounds, files, folder, output,
+        )?,
+        Opened::Explain { word } => explain(word.as_deref(), output)?,
     };
     Ok(status)
 }
