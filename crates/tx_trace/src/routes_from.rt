@@ -4,10 +4,9 @@ ghost use Rattle.tx_rank.specs.Nets.{IsNet};
 ghost use Rattle.tx_rank.specs.inner.NetLaws.{IsNet-prop};
 ghost use Rattle.tx_trace.specs.Ranked.{net_from};
 
-use crate::far::far;
 use std::alloc::Allocator;
 use tx_plan::{CodeId, ExchangeId, GroupId, Plan};
-use tx_rank::Routes;
+use tx_rank::{Routes, far};
 
 /// The routes of one code of a plan, for calls that start at one exchange.
 #[derive(Drop)]
