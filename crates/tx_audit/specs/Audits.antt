@@ -68,7 +68,7 @@ pub record ReadAlone (text : Input) : Type 0 where
   pub rules : IsPlan plan
   pub read : SaysPlan text plan
 
--- WHAT AN AUDIT ANSWERS
+-- What an audit answers
 abbrev pub AuditAnswers : {A : Type 0} → (limit spare : ℕ) → (text : Input) → (out : Output)
     → Result (Audited A) AuditFault → Type 0
 AuditAnswers {A} limit spare text out (Ok (Sound p cert)) =

@@ -43,7 +43,7 @@ Breaks p limit spare (Loop c w) events = PassesTwice p (state_after p (opening 0
 Breaks p limit spare (Short c w) events = AnswersBare p spare (opening 0 0) events
 Breaks p limit spare (Long c w) events = PassesMany p limit (state_after p (opening 0 0) events)
 
--- THE EVENTS SHOW THE FINDING: none of them is refused, and their run is not that of a sound plan.
+-- The events show the finding: none of them is refused, and their run is not that of a sound plan.
 pub record Shows {A : Type 0} (p : Plan) (limit spare : ℕ)
     (finding : Finding A) (events : List Event) : Type 0 where
   pub unrefused : NoneRefused p (opening 0 0) events

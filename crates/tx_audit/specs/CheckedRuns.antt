@@ -10,7 +10,7 @@ use Rattle.tx_check.specs.Checks.{check_faults, ranks_for, verdict_of}
 use Rattle.tx_script.specs.declared.summary.Summary.{Summary}
 use Rattle.tx_script.specs.declared.run_fault.RunFault.{RunFault}
 use Rattle.tx_script.specs.declared.run_cause.RunCause.TheVariants.{NoMemory}
-use Rattle.tx_script.specs.Answers.{RunAnswers, mark_by}
+use Rattle.tx_script.specs.Answers.{States, RunAnswers, mark_by}
 use Rattle.tx_audit.specs.declared.checked.Checked.{Checked}
 use Rattle.tx_audit.specs.declared.checked.Checked.TheVariants.{Ran, Denied}
 
@@ -18,18 +18,15 @@ use Rattle.tx_audit.specs.declared.checked.Checked.TheVariants.{Ran, Denied}
 abbrev pub IsUntouched : (script : Input) → (out : Output) → Type 0
 IsUntouched script out = script.unread × out.silent
 
+-- a network that came from the opening state to this one
+abbrev pub from_opening : State → States
+from_opening state = record { old = opening 0 0; new = state; unchanged = state ≡ opening 0 0 }
+
 -- the script was run over a network of the plan, from the opening state
 pub record RanFromOpening (p : Plan) (script : Input) (out : Output)
     (answer : Result Summary RunFault) : Type 0 where
   pub state : State
-  pub ran : RunAnswers p (record {
-    rest_old = script.old;
-    rest_new = script.new;
-    taken_old = out.old;
-    taken_new = out.new;
-    state_old = opening 0 0;
-    state_new = state;
-  }) script.broken (IsUntouched script out × (state ≡ opening 0 0)) answer
+  pub ran : RunAnswers p script (from_opening state) out answer
 
 -- there was no memory for the network: the first event is told, and nothing was read or written
 abbrev pub HadNoRoom : (script : Input) → (out : Output) → RunFault → Type 0

@@ -72,7 +72,7 @@ turns_on_one p (s ∷ []) = false
 turns_on_one p (s ∷ t ∷ []) = is_single p s.0 t.0
 turns_on_one p (s ∷ t ∷ u ∷ steps) = turns_on_one p (t ∷ u ∷ steps)
 
--- THE EVENTS OF A FINDING: none for an ambiguous pair, and for a loop that turns so
+-- The events of a finding: none for an ambiguous pair, and for a loop that turns so
 abbrev pub counter_of : {A : Type 0} → Plan → Finding A → Option (List Event)
 counter_of p (Ambiguous a b) = None
 counter_of p (Loop c w) = if turns_on_one p w.steps then None else walked p c w []

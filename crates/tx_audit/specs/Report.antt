@@ -45,7 +45,7 @@ abbrev pub verdict_line : ℕ → List ℕ
 verdict_line n = if n == 0 then codes "VERDICT YES\n"
     else codes "VERDICT NO " ++ (decimal n ++ codes "\n")
 
--- THE REPORT: what was asked, a line for each finding, and the verdict
+-- The report: what was asked, a line for each finding, and the verdict
 abbrev pub report : {A : Type 0} → Plan → (limit spare : ℕ) → List (Finding A) → List ℕ
 report p limit spare findings = head_line limit spare
     ++ (flat_map (finding_line p) findings ++ verdict_line (length findings))

@@ -49,6 +49,7 @@ sorted_calls (Some k ∷ slots) = put_call k.call (sorted_calls slots)
 abbrev pub calls_in : Calls → List Call
 calls_in v = sorted_calls v.slots
 
+-- a call as it is kept: what is seen of it, and how many more hops have room
 abbrev pub kept_of : {A : Type 0} → OpenCall A → Kept
 kept_of c = record { call = call_seen c; room = vec_capacity c.hops - vec_len c.hops }
 

@@ -63,7 +63,7 @@ impl<A: Allocator> OpenCalls<A> {
         self.calls.len() < self.calls.capacity() && self.by_number.len() < self.by_number.capacity()
     }
 
-    /// Makes room for one more call. Where there is some, no memory is asked for. Want of memory
+    /// Makes room for one more call. Where there is some, no memory is asked for. Lack of memory
     /// changes no call.
     pub fn reserve_one(&mut self) -> Result<(), NoMemory>
         ensures ok { OnOk result (HasRoom self.new) }

@@ -6,7 +6,7 @@ ghost use Rattle.tx_cert.specs.CertFaults.{word_row, fault_row};
 use thiserror::Error;
 use tx_text::{FaultAt, FaultKind, NoMemory};
 
-/// What is wrong with the words of a line. Of several the first in this order is told.
+/// What is wrong with the words of a line. Of several the first in this order is reported.
 #[derive(Clone, Copy, Debug, PartialEq, Eq, Error)]
 pub enum CertWord {
     /// C1: the first word is none of a certificate's.

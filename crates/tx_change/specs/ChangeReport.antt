@@ -9,7 +9,7 @@ use Rattle.tx_audit.specs.Report.{asked_line, finding_line, verdict_line}
 abbrev pub change_head : (limit spare : ℕ) → List ℕ
 change_head = asked_line (codes "CHANGE")
 
--- THE REPORT: what was asked, a line for each finding, by the names of either plan, and the verdict
+-- The report: what was asked, a line for each finding, by the names of either plan, and the verdict
 abbrev pub change_report : {A : Type 0} → Plan → (limit spare : ℕ) → List (Finding A) → List ℕ
 change_report p limit spare findings =
     change_head limit spare

@@ -42,7 +42,7 @@ module _ {A : Type 0} where
       (f : Finding A) × (first_walked findings ≡ Some f)
       × ShowsMixture old new limit spare f m events
 
-  -- THE MIXTURE OF SOME FINDINGS: there is none where no finding has a walk
+  -- The mixture of some findings: there is none where no finding has a walk
   abbrev pub MixtureAnswer : (old new : Plan) → (limit spare : ℕ) → List (Finding A)
       → Option (ShownMixture A) → Type 0
   MixtureAnswer old new limit spare findings None = first_walked findings ≡ None

@@ -54,7 +54,7 @@ shown_by old new spare (Loop c w) = mixed_by old new c None w
 shown_by old new spare (Short c w) = mixed_by old new c (Some spare) w
 shown_by old new spare (Long c w) = mixed_by old new c None w
 
--- A FINDING SHOWS A MIXTURE: it is true of it.
+-- A finding shows a mixture: it is true of it.
 abbrev pub IsShown : {A : Type 0} → (old new : Plan) → (limit spare : ℕ) → Finding A → Type 0
 IsShown old new limit spare f =
     IsMixture old new (shown_by old new spare f) × IsTrueOf (shown_by old new spare f) limit spare f

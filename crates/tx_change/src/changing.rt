@@ -103,8 +103,8 @@ fn change_codes<A: Allocator + Copy>(
     Ok(cert)
 }
 
-/// Ranks that certify every plan that may stand while a plan is changed into another one of the
-/// same network, list by list, for at most `limit` transits (0 to 62, ITU-T F.68) and `spare`
+/// Ranks that certify every plan that may be in force while a plan is changed into another one of
+/// the same network, list by list, for at most `limit` transits (0 to 62, ITU-T F.68) and `spare`
 /// groups to spare (0 to 15); or what is wrong with some of these plans. `Err` means out of memory.
 pub fn change<A: Allocator + Copy>(
     alloc: A,

@@ -25,6 +25,7 @@ fault_words p (NotLower c x g) =
     ∷ exchange_name p x
     ∷ group_name p g ∷ []
 
+-- the words of a verdict: YES, or NO with the fault
 abbrev pub verdict_words : Plan → Verdict → List (List ℕ)
 verdict_words p Yes = codes "YES" ∷ []
 verdict_words p (No fault) = codes "NO" ∷ fault_words p fault

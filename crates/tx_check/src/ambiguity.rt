@@ -1,4 +1,4 @@
-// The pair of codes that a check tells first.
+// The pair of codes that a check reports first.
 ghost use Rattle.std.specs.Prelude.{◌≡◌, ◌+◌, ◌<◌, length};
 ghost use Rattle.tx_plan.specs.Ambiguous.{ambiguous_of};
 ghost use Rattle.tx_plan.specs.Codes.{is_prefix};

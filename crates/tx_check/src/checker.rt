@@ -17,10 +17,9 @@ use tx_plan::Plan;
 /// to 62, ITU-T F.68) and `spare` groups to spare (0 to 15).
 ///
 /// After a Yes the plan is sound: in every run, whatever the events, every state is safe, and NC is
-/// answered only after a second head-on collision, or where
-/// more than `spare` groups are listed and each of them is down or has no free circuit. And at most
-/// twice `limit` and three Routes of one call are accepted.
-/// A No tells the first fault. Takes no memory.
+/// answered only after a second head-on collision, or where more than `spare` groups are listed and
+/// each of them is down or has no free circuit. And at most twice `limit` and three Routes of one
+/// call are accepted. A No reports the first fault. Takes no memory.
 pub fn check<A: Allocator>(plan: &Plan<A>, cert: &Cert<A>, limit: u8, spare: u8) -> Verdict
     requires limit { limit ≤ 62 }
     requires spare { spare ≤ 15 }

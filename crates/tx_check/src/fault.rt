@@ -2,10 +2,9 @@
 use thiserror::Error;
 use tx_plan::{CodeId, ExchangeId, GroupId};
 
-/// What a check finds. Of several faults the first in this order is told. Of several of one kind it
-/// is the first by order of declaration of the code and then
-/// of the exchange, and then by place in the list; of ambiguous pairs it is the least by their
-/// figures.
+/// What a check finds. Of several faults the first in this order is reported; of several of one
+/// kind is the first by order of declaration of the code and then of the exchange, and then by
+/// place in the list; of ambiguous pairs it is the least by their figures.
 #[derive(Clone, Copy, Debug, PartialEq, Eq, Error)]
 pub enum CheckFault {
     /// K1: the first code begins the second.

@@ -154,7 +154,7 @@ fn first_wrong<A: Allocator>(
     ensures not_lower { result.1 ≡ find (λ g. is_at_least
         (rank_beyond plan.now (ranks_for plan.now cert.now) code exchange g) rank) list.now }
 {
-    // Where nothing is wrong, one pass over the list tells it.
+    // Where nothing is wrong, one pass over the list shows it.
     match first_either(plan, cert, code, exchange, rank, list) {
         None => (None, None),
         Some(_) => (

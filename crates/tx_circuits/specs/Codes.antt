@@ -6,7 +6,7 @@ use Rattle.tx_plan.specs.declared.ids.Direction.{Direction}
 use Rattle.tx_plan.specs.declared.ids.Direction.TheVariants.{OneWay, BothWay}
 use Rattle.tx_plan.specs.Plan.{Group}
 
--- a direction is told by whether it is both ways
+-- a direction is given back by whether it is both ways
 abbrev pub both_is : (d : Direction) → (if is_both d then BothWay else OneWay) ≡ d
 both_is OneWay = refl
 both_is BothWay = refl

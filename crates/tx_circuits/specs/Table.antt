@@ -51,8 +51,7 @@ all_free p = record {
 }
 
 -- Free at an exchange: no call carries the circuit, it is not releasing, it is not out of service,
--- and the exchange has not seized it. A seizure from
--- the other end is not seen.
+-- and the exchange has not seized it. A seizure from the other end is not seen.
 abbrev pub is_free_at : Table → ℕ → Circuit → Bool
 is_free_at t x c = not (set.contains t.carried c) && (not (set.contains t.releasing c)
     && (not (set.contains t.out c) && not (set.contains t.seized (c, x))))

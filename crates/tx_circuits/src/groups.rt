@@ -14,7 +14,7 @@ use tx_plan::{Circuit, Direction, ExchangeId, GroupId};
 use tx_text::NoMemory;
 
 /// A group's ends and direction, and its marks.
-#[derive(Clone, Copy)]
+#[derive(Clone, Copy, Debug)]
 pub struct GroupHead {
     pub a: ExchangeId,
     pub b: ExchangeId,
@@ -39,7 +39,7 @@ impl GroupHead {
 }
 
 /// A group, where its slots begin in the vector of all, how many they are, and its free lists.
-#[derive(Clone, Copy)]
+#[derive(Clone, Copy, Debug)]
 pub struct Row {
     pub head: GroupHead,
     pub start: usize,
@@ -162,7 +162,7 @@ fn clear(slots: &mut [Slot]) -> FreeLists
 
 /// The groups of a plan with the states of their circuits: all circuits in one vector, group by
 /// group, linked in free lists.
-#[derive(Drop)]
+#[derive(Debug, Drop)]
 pub struct Groups<A: Allocator = Global> {
     slots: Vec<Slot, A>,
     rows: Vec<Row, A>,

@@ -38,7 +38,7 @@ impl Way {
 }
 
 /// The circuits beside one in a free list, by their places in the group.
-#[derive(Clone, Copy)]
+#[derive(Clone, Copy, Debug)]
 pub struct Links {
     pub above: Option<u8>,
     pub below: Option<u8>,
@@ -68,7 +68,7 @@ impl Links {
 }
 
 /// The first and the last place of the circuits that are free at an end.
-#[derive(Clone, Copy)]
+#[derive(Clone, Copy, Debug)]
 pub struct FreeList {
     pub least: Option<u8>,
     pub greatest: Option<u8>,
@@ -87,7 +87,7 @@ impl FreeList {
 }
 
 /// The free lists of a group, one for each end.
-#[derive(Clone, Copy)]
+#[derive(Clone, Copy, Debug)]
 pub struct FreeLists {
     pub first: FreeList,
     pub other: FreeList,
@@ -228,7 +228,7 @@ fn set_links(slots: &mut [Slot], end: End, place: usize, links: Links)
     slots[place] = slots[place].with_links(end, links);
 }
 
-/// The circuit now stands between two neighbours; all other links are as before.
+/// The circuit is now between two neighbours; all other links are as before.
 pub fn insert(slots: &mut [Slot], list: &mut FreeList, end: End, place: usize, links: Links)
     requires short { length slots.old ≤ 240 }
     requires place { place < length slots.old }

@@ -6,7 +6,7 @@ ghost use Rattle.tx_circuits.specs.inner.Slots.{links_of, ahead, back, opposite,
 use crate::lists::{End, Links, Way};
 
 /// What holds a circuit.
-#[derive(Clone, Copy)]
+#[derive(Clone, Copy, Debug)]
 pub struct State {
     pub seized_first: bool,
     pub seized_other: bool,
@@ -65,7 +65,7 @@ impl State {
         self
     }
 
-    /// The state where the end has, or does not have, seized the circuit.
+    /// The state where the end has, or has not, seized the circuit.
     pub fn with_seized(self, end: End, to: bool) -> State
         ensures { result ≡ with_seized end to self }
     {
@@ -83,7 +83,7 @@ impl State {
 }
 
 /// A circuit's state, and its links in the list of each end.
-#[derive(Clone, Copy)]
+#[derive(Clone, Copy, Debug)]
 pub struct Slot {
     pub state: State,
     pub first: Links,

@@ -19,7 +19,7 @@ use tx_text::NoMemory;
 /// list.
 /// A call that makes a circuit free at an end may walk the list of that end, and `fail` passes over
 /// the group's circuits twice. No clause counts these steps.
-#[derive(Drop)]
+#[derive(Debug, Drop)]
 pub struct CircuitTable<A: Allocator = Global> {
     groups: Groups<A>,
 }
@@ -89,7 +89,7 @@ impl<A: Allocator> CircuitTable<A> {
         self.groups.end(group, exchange).is_some()
     }
 
-    /// Whether the group has failed; a foreign one does not have.
+    /// Whether the group has failed; a foreign one has not.
     pub fn is_failed(&self, group: GroupId) -> bool
         ensures { result ≡ set.contains self.now.failed group }
     {
@@ -197,8 +197,7 @@ impl<A: Allocator> CircuitTable<A> {
         Some(a)
     }
 
-    /// Whether the exchange has seized the circuit; an exchange that may not seize it does not
-    /// have.
+    /// Whether the exchange has seized the circuit; an exchange that may not seize it has not.
     pub fn is_seized(&self, circuit: &Circuit, exchange: ExchangeId) -> bool
         ensures { result ≡ set.contains self.now.seized (circuit.now, exchange) }
     {
@@ -209,8 +208,7 @@ impl<A: Allocator> CircuitTable<A> {
     }
 
     /// The circuit that the exchange takes next in a group: the least free number at the first end,
-    /// the greatest at the other. None where the group is
-    /// down or no circuit is free there.
+    /// the greatest at the other. None where the group is down or no circuit is free there.
     pub fn first_free(&self, group: GroupId, exchange: ExchangeId) -> Option<Circuit>
         requires { may_seize (plan_of self.now) group exchange ≡ true }
         ensures value { result ≡ first_free self.now exchange group }

@@ -51,6 +51,7 @@ check_words =
     with_rule (with_rule (with_rule
     (plan_words (codes "check")) (file (codes "cert"))) (needed limit)) (needed spare)
 
+-- the arguments of `lint`
 abbrev pub lint_words : App
 lint_words = plan_words (codes "lint")
 

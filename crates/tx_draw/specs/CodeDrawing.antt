@@ -37,7 +37,7 @@ abbrev pub list_lines : Plan → ℕ → List Bool → Shown → ℕ → List �
 list_lines p c reached s x = each_before (length (route_list p x c))
     (λ i. choice_line p reached s x (i + 1) (get_or (route_list p x c) i 0))
 
--- THE PICTURE OF THE ROUTES FOR A CODE: the exchanges, and then their lists, in order of
+-- The picture of the routes for a code: the exchanges, and then their lists, in order of
 -- declaration
 abbrev pub code_drawing : Plan → ℕ → List Bool → Shown → List ℕ
 code_drawing p c reached s =

@@ -11,7 +11,7 @@ use Rattle.tx_plan.specs.declared.ids.Direction.TheVariants.{OneWay, BothWay}
 abbrev pub each_before : ℕ → (ℕ → List ℕ) → List ℕ
 each_before n text = flat_map text (range_with_len 0 n)
 
--- the first lines: exchanges are boxes, and what stands at a line between two of them is small
+-- the first lines: exchanges are boxes, and what is written at a line between two of them is small
 abbrev pub head : List ℕ
 head = codes "digraph \"plan\" {\n" ++ (codes "graph [fontname=\"Helvetica\"];\n"
     ++ (codes "node [shape=\"box\", fontname=\"Helvetica\"];\n"

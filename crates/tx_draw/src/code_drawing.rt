@@ -143,7 +143,7 @@ fn write_list<A: Allocator, W: Sink>(
     Ok(())
 }
 
-/// Writes the line of the group that stands so many in the list of an exchange.
+/// Writes the line of the group at a place in the list of an exchange.
 fn write_choice<A: Allocator, W: Sink>(
     plan: &Plan<A>,
     reached: &[bool],

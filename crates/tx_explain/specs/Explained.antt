@@ -78,7 +78,7 @@ CheckFaultsAreExplained = (p : Plan) (fault : CheckFault)
 abbrev pub FindingsAreExplained : Type 0 → Type 0
 FindingsAreExplained A = (p : Plan) (finding : Finding A) → BeginsExplained (finding_line p finding)
 
--- what the report of a mending tells after a NO: the ambiguous pair, and whom no lists can serve
+-- what the report of a mending names after a NO: the ambiguous pair, and whom no lists can serve
 pub record MendingsAreExplained : Type 0 where
   pub pair : (p : Plan) (q : ℕ × ℕ) → BeginsExplained (pair_line p (Some q))
   pub unserved : (p : Plan) (k : ℕ × ℕ) → BeginsExplained (unserved_line p k)

@@ -7,14 +7,13 @@ use Rattle.tx_text.specs.Ends.{StopsIn, Input, output}
 use Rattle.tx_text.specs.Wrote.{Wrote}
 use Rattle.tx_plan.specs.Plan.{Plan}
 use Rattle.tx_cert.specs.Certificate.{Certificate}
-use Rattle.tx_machine.specs.State.{opening}
 use Rattle.tx_check.specs.declared.fault.CheckFault.{CheckFault}
 use Rattle.tx_check.specs.declared.verdict.Verdict.TheVariants.{No}
 use Rattle.tx_check.specs.Verdicts.{verdict_written}
-use Rattle.tx_script.specs.Answers.{RanWhole}
+use Rattle.tx_script.specs.Answers.{RunAnswers}
 use Rattle.tx_audit.specs.declared.checked.Checked.{Checked}
 use Rattle.tx_audit.specs.declared.checked.Checked.TheVariants.{Ran, Denied}
-use Rattle.tx_audit.specs.CheckedRuns.{CheckedAnswers}
+use Rattle.tx_audit.specs.CheckedRuns.{from_opening, CheckedAnswers}
 use Rattle.tx_jobs.specs.declared.job_fault.JobFault.TheVariants.{Write}
 use Rattle.tx_jobs.specs.CheckedJobs.{ToldRun, ToldNo}
 
@@ -42,7 +41,7 @@ module _ {W : Type 0} (taken : W → Option (List ℕ)) (p : Plan) (t : Certific
       state = h.1.state;
       ran =
           subst
-          (λ (w : W). RanWhole p (record { rest_old = script.old; rest_new = script.new; taken_old = taken a; taken_new = taken w; state_old = opening 0 0; state_new = h.1.state }) summary)
+          (λ (w : W). RunAnswers p script (from_opening h.1.state) (output taken a w) (Ok summary))
           (sym e) h.1.ran;
     },
   )

@@ -9,7 +9,7 @@ use Rattle.tx_text.specs.Text.{without_cr}
 use Rattle.tx_text.specs.Words.{words_of, is_blank, is_hash}
 use Rattle.tx_text.specs.inner.Words.{is_word_byte}
 use Rattle.tx_text.specs.Frame.{is_end}
-use Rattle.tx_text.proofs.WordLists.{cuts_word, no_words, blank_before}
+use Rattle.tx_text.proofs.WordLists.{cuts_word, blank_before}
 use Rattle.tx_jobs.specs.declared.seen.Seen.TheVariants.{Blanks, E, En, End, Comment, Cr, Other}
 use Rattle.tx_jobs.specs.inner.Seen.{line_seen, is_end_seen}
 
@@ -21,7 +21,8 @@ wordless [] = true
 wordless (w ∷ ws) = false
 
 nothing : words_of [] ≡ []
-nothing = no_words [] refl
+unfolding words_of
+nothing = refl
 
 word_parts : (x y : Bool) → not (x || y) ≡ true → (x ≡ false) × (y ≡ false)
 word_parts false false h = (refl, refl)

@@ -106,7 +106,7 @@ module _ {R : Type 0} (rest : R → Option (List ℕ)) (failed : R → Bool) (ca
                     subst2
                     (λ x y. ReadsPlan (record { old = x; new = y; broken = Broken called (failed mid) source_calls old mid; unread = mid ≡ old }) (Err (f.line, f.kind)))
                     plan_is plan_new
-                    (refused_with _ _ _ _ plan_broken (λ e. ap (λ (p : PlanPart R). p.input.now) e) (plan_rest rest a) (plan_rest rest c) f.line f.kind h);
+                    (refused_with (input (plan_rest rest) (λ p. p.ahead.now.failed) (PlanCall rest failed called) a c) _ _ plan_broken (λ e. ap (λ (p : PlanPart R). p.input.now) e) f.line f.kind h);
                 told = ap Err by;
                 rest = silent;
               };
@@ -146,7 +146,7 @@ module _ {R : Type 0} (rest : R → Option (List ℕ)) (failed : R → Bool) (ca
           → ScriptRan p (input (left rest) (λ t. t.ahead.now.failed) (ScriptCall rest failed called) b e) out result → PipeRan rest failed called old new out result
       ran p rules out result says h =
           let script : left rest b ≡ option_map script_part (rest old) = lent ∙ all_script c.seen (left rest (as_script c)) says.1 ∙ script_is in
-          let told = simulated_with _ _ _ _ script_broken (λ same. ap (λ (t : ScriptPart R). t.input.now) same) p (left rest b) (left rest e) out result h in
+          let told = simulated_with (input (left rest) (λ t. t.ahead.now.failed) (ScriptCall rest failed called) b e) _ _ script_broken (λ same. ap (λ (t : ScriptPart R). t.input.now) same) p out result h in
           record {
             mid = from;
             read = b.ahead.now.held;

@@ -9,13 +9,13 @@ use Rattle.tx_jobs.specs.declared.job_fault.JobFault.TheVariants.{Write, NoMemor
 use Rattle.tx_jobs.specs.JobFaults.{plan_fault}
 use Rattle.tx_text.specs.Ends.{Input, Output}
 
--- why an audit stopped, as a job tells it
+-- why an audit stopped, as a job reports it
 abbrev pub audit_fault : AuditFault → JobFault
 audit_fault (Plan f) = plan_fault f
 audit_fault AuditWrite = Write
 audit_fault AuditNoMemory = NoMemory
 
--- what an audit answers, as a job tells it
+-- what an audit answers, as a job reports it
 abbrev pub told_audit : {A : Type 0} → Result (Audited A) AuditFault → Result (Audited A) JobFault
 told_audit (Ok audited) = Ok audited
 told_audit (Err f) = Err (audit_fault f)

@@ -1,4 +1,4 @@
--- Why the job of a change stops, and what is told of it.
+-- Why the job of a change stops, and what is reported of it.
 use Rattle.std.specs.Prelude.{ℕ, ◌+◌, Bool, List, ◌++◌, Result, Ok, Err, codes, decimal}
 use Rattle.tx_text.specs.declared.frame.FaultAt.{FaultAt}
 use Rattle.tx_plantext.specs.declared.fault.PlanWord.{PlanWord}
@@ -22,7 +22,7 @@ status_of_change (TwoNetworks d) = 2
 abbrev pub old_plan_fault : FaultAt PlanWord → ChangeFault
 old_plan_fault f = Job (plan_fault f)
 
--- A failure to read and a lack of memory are told as such.
+-- A failure to read and a lack of memory are reported as such.
 abbrev pub in_new_plan : JobFault → ChangeFault
 in_new_plan (Plan f) = NewPlan f
 in_new_plan other = Job other
@@ -31,7 +31,7 @@ in_new_plan other = Job other
 abbrev pub new_plan_fault : FaultAt PlanWord → ChangeFault
 new_plan_fault f = in_new_plan (plan_fault f)
 
--- the sink's mark after a fault: set where a write fault is told, and otherwise as before
+-- the sink's mark after a fault: set where a write fault is reported, and otherwise as before
 abbrev pub change_mark_by : Bool → ChangeFault → Bool
 change_mark_by old (Job f) = mark_by old f
 change_mark_by old (NewPlan f) = old
@@ -60,7 +60,7 @@ abbrev pub old_fault_line : JobFault → List ℕ
 old_fault_line (Plan f) = text_fault_line (codes "old plan") f.line (fault_row f.kind)
 old_fault_line other = fault_line other
 
--- the line that tells why the job of a change stopped
+-- the line that says why the job of a change stopped
 abbrev pub change_fault_line : ChangeFault → List ℕ
 change_fault_line (Job f) = old_fault_line f
 change_fault_line (NewPlan f) = text_fault_line (codes "new plan") f.line (fault_row f.kind)

@@ -25,8 +25,8 @@ abbrev pub OnUnsoundChange : {A : Type 0} → ((old new : Plan) → List (Findin
 OnUnsoundChange Holds (Sound p cert) = Unit {0}
 OnUnsoundChange Holds (Unsound p q findings) = Holds p q findings.items
 
--- What is told of two plans. They are of one network: the certificate clears the change, or the
--- findings deny it, and the report was written. Or the first entry that differs is told.
+-- What is answered of two plans. They are of one network: the certificate clears the change, or the
+-- findings deny it, and the report was written. Or the first entry that differs is answered.
 abbrev pub ToldChange : {A : Type 0} → (p q : Plan) → (limit spare : ℕ) → Output
     → Result (Changed A) ChangeFault → Type 0
 ToldChange {A} p q limit spare out (Ok (Sound m cert)) =

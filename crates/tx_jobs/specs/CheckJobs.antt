@@ -21,7 +21,7 @@ use Rattle.tx_jobs.specs.Jobs.{PlanRead, PlanRefused}
 abbrev pub verdict_for : Plan → Certificate → (limit spare : ℕ) → Verdict
 verdict_for p t limit spare = verdict_of (check_faults p (ranks_for p t) limit spare)
 
--- the verdict was written, and is told; after a Yes the plan is sound
+-- the verdict was written, and is the answer; after a Yes the plan is sound
 abbrev pub ToldVerdict : Plan → Certificate → (limit spare : ℕ)
     → Output → Result Verdict JobFault → Type 0
 ToldVerdict p t limit spare out (Ok v) = (v ≡ verdict_for p t limit spare)
@@ -62,12 +62,12 @@ abbrev pub status_for : Verdict → ℕ
 status_for Yes = 0
 status_for (No fault) = 1
 
--- a verdict, told as an exit status
+-- a verdict, as an exit status
 abbrev pub told_status : Result Verdict JobFault → Result ℕ JobFault
 told_status (Ok v) = Ok (status_for v)
 told_status (Err f) = Err f
 
--- the same, told as an exit status
+-- the same, as an exit status
 abbrev pub CheckStatusAnswers : (limit spare : ℕ)
     → (plan cert : Input) → Output → Result ℕ JobFault → Type 0
 CheckStatusAnswers limit spare plan cert out result = (answer : Result Verdict JobFault)

@@ -72,12 +72,12 @@ abbrev pub status_of_run : Checked → ℕ
 status_of_run (Ran summary) = 0
 status_of_run (Denied fault) = 1
 
--- what a checked run came to, told as an exit status
+-- what a checked run came to, as an exit status
 abbrev pub told_status : Result Checked JobFault → Result ℕ JobFault
 told_status (Ok checked) = Ok (status_of_run checked)
 told_status (Err fault) = Err fault
 
--- the same, told as an exit status
+-- the same, as an exit status
 abbrev pub CheckedStatusAnswers : (limit spare : ℕ)
     → (plan cert script : Input) → Output → Result ℕ JobFault → Type 0
 CheckedStatusAnswers limit spare plan cert script out result = (answer : Result Checked JobFault)

@@ -22,8 +22,7 @@ status_of_evidence (Sound plan cert) = 0
 status_of_evidence (Unsound script) = 1
 
 -- The script has the plan and the events of the first finding that has some, and these show one of
--- the findings, so the plan is not sound. There is none
--- exactly where no finding has events.
+-- the findings, so the plan is not sound. There is none exactly where no finding has events.
 pub record ShowsFirst {A : Type 0} (p : Plan) (limit spare : ℕ)
     (findings : List (Finding A)) (script : Option (CounterScript A)) : Type 0 where
   pub plan : IfSome script (λ s. s.plan ≡ p)

@@ -40,7 +40,7 @@ pub record GradedInPart (A : Type 0) (p : Plan) (out : Output) : Type 0 where
   pub right : IsGradeOf p grade
   pub wrote : StopsIn out.old out.new (grade_text p grade)
 
--- the grade was written, and is told
+-- the grade was written, and is the answer
 abbrev pub ToldGrade : {A : Type 0} → Plan → Output → Result (Grade A) JobFault → Type 0
 ToldGrade p out (Ok grade) = IsGradeOf p grade
     × (out.new ≡ append_known out.old (grade_text p grade))
@@ -57,12 +57,12 @@ GradeJobAnswers plan out result = PlanRead plan (λ p. ToldGrade p out result)
 abbrev pub status_of_grade : {A : Type 0} → Grade A → ℕ
 status_of_grade g = if is_some g.plan then 0 else 1
 
--- a grade, told as an exit status
+-- a grade, as an exit status
 abbrev pub told_grade_status : {A : Type 0} → Result (Grade A) JobFault → Result ℕ JobFault
 told_grade_status (Ok grade) = Ok (status_of_grade grade)
 told_grade_status (Err fault) = Err fault
 
--- the same, told as an exit status
+-- the same, as an exit status
 abbrev pub GradeStatusAnswers : (A : Type 0) → Input → Output → Result ℕ JobFault → Type 0
 GradeStatusAnswers A plan out result = (answer : Result (Grade A) JobFault)
     × GradeJobAnswers plan out answer × (result ≡ told_grade_status answer)

@@ -1,4 +1,4 @@
--- Why jobs stop, and what is told of it.
+-- Why jobs stop, and what is reported of it.
 use Rattle.std.specs.Prelude.{ℕ, Bool, true, List, ◌++◌, Result, Ok, Err, codes, decimal}
 use Rattle.tx_text.specs.declared.frame.FrameFault.TheVariants.{Read as LineRead, NoMemory as TextNoMemory}
 use Rattle.tx_text.specs.declared.frame.FaultAt.{FaultAt}
@@ -28,14 +28,14 @@ status_of Read = 3
 status_of Write = 3
 status_of NoMemory = 4
 
--- A failure to read and a lack of memory are told as such.
+-- A failure to read and a lack of memory are reported as such.
 abbrev pub plan_fault_by : FaultAt PlanWord → FaultKind PlanWord → JobFault
 plan_fault_by f (Frame LineRead) = Read
 plan_fault_by f (Frame TextNoMemory) = NoMemory
 plan_fault_by f (Word (Refused PlanNoMemory)) = NoMemory
 plan_fault_by f k = Plan f
 
--- a fault of the plan's text, as a job tells it
+-- a fault of the plan's text, as a job reports it
 abbrev pub plan_fault : FaultAt PlanWord → JobFault
 plan_fault f = plan_fault_by f f.kind
 
@@ -46,7 +46,7 @@ cert_fault_by f (Frame TextNoMemory) = NoMemory
 cert_fault_by f (Word CertNoMemory) = NoMemory
 cert_fault_by f k = Cert f
 
--- a fault of the certificate's text, as a job tells it
+-- a fault of the certificate's text, as a job reports it
 abbrev pub cert_fault : FaultAt CertWord → JobFault
 cert_fault f = cert_fault_by f f.kind
 
@@ -55,7 +55,7 @@ abbrev pub script_fault_by : FaultAt ScriptWord → FaultKind ScriptWord → Job
 script_fault_by f (Frame TextNoMemory) = NoMemory
 script_fault_by f k = Script f
 
--- a fault of the script's text, as a job tells it
+-- a fault of the script's text, as a job reports it
 abbrev pub script_fault : FaultAt ScriptWord → JobFault
 script_fault f = script_fault_by f f.kind
 
@@ -66,11 +66,11 @@ cause_fault RunWrite = Write
 cause_fault RunNoMemory = NoMemory
 cause_fault (RunScript f) = script_fault f
 
--- why a run stopped, as a job tells it
+-- why a run stopped, as a job reports it
 abbrev pub run_fault : RunFault → JobFault
 run_fault f = cause_fault f.cause
 
--- the sink's mark after a fault: set where a write fault is told, and otherwise as before
+-- the sink's mark after a fault: set where a write fault is reported, and otherwise as before
 abbrev pub mark_by : Bool → JobFault → Bool
 mark_by old (Plan f) = old
 mark_by old (Cert f) = old
@@ -89,7 +89,7 @@ abbrev pub text_fault_line : List ℕ → ℕ → List ℕ × List ℕ → List 
 text_fault_line text n row = codes "telexplan: " ++ (text ++ (codes " line "
     ++ (decimal n ++ (codes ": " ++ (row.0 ++ (codes " " ++ (row.1 ++ codes "\n")))))))
 
--- the line that tells why a job stopped
+-- the line that says why a job stopped
 abbrev pub fault_line : JobFault → List ℕ
 fault_line (Plan f) = text_fault_line (codes "plan") f.line (plan_row f.kind)
 fault_line (Cert f) = text_fault_line (codes "certificate") f.line (cert_row f.kind)

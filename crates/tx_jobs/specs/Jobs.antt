@@ -16,7 +16,7 @@ use Rattle.tx_jobs.specs.declared.job_fault.JobFault.{JobFault}
 use Rattle.tx_jobs.specs.declared.job_fault.JobFault.TheVariants.{Write, NoMemory}
 use Rattle.tx_jobs.specs.JobFaults.{plan_fault, run_fault}
 
--- what a run answers, as a job tells it
+-- what a run answers, as a job reports it
 abbrev pub told_run : Result Summary RunFault → Result Summary JobFault
 told_run (Ok summary) = Ok summary
 told_run (Err f) = Err (run_fault f)
@@ -56,7 +56,7 @@ abbrev pub RunJobAnswers : (plan script : Input) → Output → Result Summary J
 RunJobAnswers plan script out result = PlanRead plan (λ p. ScriptRan p script out result)
     ⊎ PlanRefused plan (script.unread × out.silent) result
 
--- `codes PLAN`: the codes and the least ambiguous pair were written, and that pair is told
+-- `codes PLAN`: the codes and the least ambiguous pair were written, and that pair is the answer
 abbrev pub ToldCodes : Plan → Output → Result (Option (ℕ × ℕ)) JobFault → Type 0
 ToldCodes p out (Ok pair) = (pair ≡ ambiguous_of p.codes)
     × (out.new ≡ append_known out.old (codes_text p))
@@ -64,7 +64,7 @@ ToldCodes p out (Err Write) = StopsIn out.old out.new (codes_text p)
 ToldCodes p out (Err NoMemory) = out.silent
 ToldCodes p out (Err other) = ⊥
 
--- `codes PLAN`: the plan was read and its codes told, or it was refused
+-- `codes PLAN`: the plan was read and its codes were written, or it was refused
 abbrev pub CodesJobAnswers : Input → Output → Result (Option (ℕ × ℕ)) JobFault → Type 0
 CodesJobAnswers plan out result = PlanRead plan (λ p. ToldCodes p out result)
     ⊎ PlanRefused plan out.silent result
@@ -74,12 +74,12 @@ abbrev pub status_of_codes : Option (ℕ × ℕ) → ℕ
 status_of_codes None = 0
 status_of_codes (Some pair) = 1
 
--- a pair of codes, told as an exit status
+-- a pair of codes, as an exit status
 abbrev pub told_codes_status : Result (Option (ℕ × ℕ)) JobFault → Result ℕ JobFault
 told_codes_status (Ok pair) = Ok (status_of_codes pair)
 told_codes_status (Err fault) = Err fault
 
--- the same, told as an exit status
+-- the same, as an exit status
 abbrev pub CodesStatusAnswers : Input → Output → Result ℕ JobFault → Type 0
 CodesStatusAnswers plan out result = (answer : Result (Option (ℕ × ℕ)) JobFault)
     × CodesJobAnswers plan out answer × (result ≡ told_codes_status answer)

@@ -8,12 +8,12 @@ use Rattle.tx_lint.specs.Lints.{Lint, IsLintOf, lint_text, lint_status, IsWholeT
 use Rattle.tx_jobs.specs.declared.job_fault.JobFault.{JobFault}
 use Rattle.tx_jobs.specs.declared.job_fault.JobFault.TheVariants.{Read, Write, NoMemory}
 
--- why a text was not looked through, as a job tells it
+-- why a text was not looked through, as a job reports it
 abbrev pub lint_fault : LintFault → JobFault
 lint_fault LintRead = Read
 lint_fault LintNoMemory = NoMemory
 
--- what is to be said was written, and its status is told; or a front of it before the sink failed
+-- all lines were written, and their status is the answer; or a front of them, and the sink failed
 abbrev pub ToldLint : (file : List ℕ) → Lint → Output → Result ℕ JobFault → Type 0
 ToldLint file l out (Ok status) =
     (status ≡ lint_status l) × (out.new ≡ append_known out.old (lint_text file l))

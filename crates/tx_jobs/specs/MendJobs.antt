@@ -12,7 +12,7 @@ use Rattle.tx_jobs.specs.declared.job_fault.JobFault.TheVariants.{Write, NoMemor
 use Rattle.tx_text.specs.Ends.{Input, Output}
 use Rattle.tx_jobs.specs.Jobs.{PlanRead, PlanRefused}
 
--- why there is no whole report, as a job tells it
+-- why there is no whole report, as a job reports it
 abbrev pub mend_fault : MendFault → JobFault
 mend_fault MendWrite = Write
 mend_fault MendNoMemory = NoMemory

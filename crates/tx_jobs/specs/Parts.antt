@@ -17,9 +17,11 @@ plan_end size (line ∷ next ∷ lines) = if is_end (words_of line.bytes)
 abbrev pub cut_of : List ℕ → ℕ
 cut_of text = plan_end (length text) (lines_of text)
 
+-- the plan of a text
 abbrev pub plan_part : List ℕ → List ℕ
 plan_part text = take (cut_of text) text
 
+-- the script of a text
 abbrev pub script_part : List ℕ → List ℕ
 script_part text = drop (cut_of text) text
 

@@ -14,8 +14,8 @@ use tx_audit::{Audited, audit};
 use tx_text::{Sink, Source};
 
 /// Reads a plan, and writes the report of its audit for at most `limit` transits (0 to 62) and
-/// `spare` groups to spare (0 to 15). Answers the plan, with a
-/// certificate or with the findings. `Err` is the fault of the first call that failed.
+/// `spare` groups to spare (0 to 15). Answers the plan, with a certificate or with the findings.
+/// `Err` is the fault of the first call that failed.
 pub fn audit_job<A: Allocator + Copy, P: Source, W: Sink>(
     alloc: A,
     plan: &mut P,

@@ -18,10 +18,10 @@ use tx_rank::Finding;
 use tx_text::{Sink, Source};
 
 /// Reads a plan, and writes the report of its audit for at most `limit` transits (0 to 62) and
-/// `spare` groups to spare (0 to 15). Answers what shows the
-/// verdict: after a Yes the certificate, and after a No, if it is asked for, the script of the
-/// first finding that has one. `Err` is the fault of the first
-/// call that failed. Where there is no memory for that script, the report was written.
+/// `spare` groups to spare (0 to 15). Answers what shows the verdict: after a Yes the certificate,
+/// and after a No, if it is asked for, the script of the first finding that has one. `Err` is the
+/// fault of the first call that failed. Where there is no memory for that script, the report was
+/// written.
 pub fn evidence_job<A: Allocator + Copy, P: Source, W: Sink>(
     alloc: A,
     plan: &mut P,

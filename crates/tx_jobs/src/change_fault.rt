@@ -33,7 +33,7 @@ impl ChangeFault {
         }
     }
 
-    /// A failure to read and a lack of memory are told as such.
+    /// A failure to read and a lack of memory are reported as such.
     pub(crate) fn of_new_plan(fault: PlanFault) -> ChangeFault
         ensures { result ≡ new_plan_fault fault }
     {

@@ -1,4 +1,4 @@
-// The line that tells why the job of a change stopped.
+// The line that says why the job of a change stopped.
 ghost use Rattle.std.specs.Prelude.{◌≡◌};
 ghost use Rattle.tx_text.specs.Wrote.{Wrote};
 ghost use Rattle.tx_jobs.specs.ChangeFaults.{change_fault_line, old_fault_line, difference_line, list_word};
@@ -11,7 +11,7 @@ use tx_change::{Difference, NetworkList};
 use tx_plantext::code_and_name;
 use tx_text::{Sink, WriteFault, write_parts};
 
-/// Writes the line that tells a fault, as `telexplan: new plan line 5: P11 Overlap`, with its LF.
+/// Writes the line that reports a fault, as `telexplan: new plan line 5: P11 Overlap`, with its LF.
 pub fn write_change_fault<W: Sink>(fault: &ChangeFault, sink: &mut W) -> Result<(), WriteFault>
     ensures { Wrote W.taken W.failed sink.old sink.new (change_fault_line fault.now) result }
 {

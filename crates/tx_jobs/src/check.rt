@@ -14,8 +14,8 @@ use tx_plantext::read_plan_from;
 use tx_text::{Sink, Source, WriteFault};
 
 /// Reads a plan and then a certificate, and writes whether the plan is certified by its ranks for
-/// at most `limit` transits (0 to 62) and `spare` groups to
-/// spare (0 to 15). Answers the verdict. `Err` is the fault of the first call that failed.
+/// at most `limit` transits (0 to 62) and `spare` groups to spare (0 to 15). Answers the verdict.
+/// `Err` is the fault of the first call that failed.
 pub fn check_job<A: Allocator + Copy, P: Source, R: Source, W: Sink>(
     alloc: A,
     plan: &mut P,

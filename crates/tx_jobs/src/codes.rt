@@ -13,8 +13,8 @@ use tx_text::{Sink, Source};
 use tx_trie::{CodeTrie, write_codes};
 
 /// Reads a plan, and writes its codes and then the least pair of a code and a longer one that
-/// begins with it, or `DISTINCT`. Answers that pair, if there is
-/// one. `Err` is the fault of the first call that failed.
+/// begins with it, or `DISTINCT`. Answers that pair, if there is one. `Err` is the fault of the
+/// first call that failed.
 pub fn codes_job<A: Allocator + Copy, P: Source, W: Sink>(
     alloc: A,
     plan: &mut P,

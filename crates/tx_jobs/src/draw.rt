@@ -24,8 +24,7 @@ pub enum Drawn {
 }
 
 /// Reads a plan, and writes its picture; with the figures of a code that of the routes for the
-/// code, and with a limit and a spare number too that with the
-/// walk of the code's first finding.
+/// code, and with a limit and a spare number too that with the walk of the code's first finding.
 ///
 /// Answers whether the picture was written, or the plan has no such code. Nothing is written where
 /// it has none or is refused, or where memory runs out.

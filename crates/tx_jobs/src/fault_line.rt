@@ -1,4 +1,4 @@
-// The line that tells why a job stopped.
+// The line that says why a job stopped.
 ghost use Rattle.tx_text.specs.Wrote.{Wrote};
 ghost use Rattle.tx_jobs.specs.JobFaults.{fault_line, text_fault_line};
 
@@ -6,7 +6,7 @@ use crate::job_fault::JobFault;
 use itoa::Buffer;
 use tx_text::{Sink, WriteFault, write_bytes, write_parts};
 
-/// Writes the line that tells a fault, as `telexplan: plan line 5: P11 Overlap`, with its LF.
+/// Writes the line that reports a fault, as `telexplan: plan line 5: P11 Overlap`, with its LF.
 pub fn write_fault<W: Sink>(fault: &JobFault, sink: &mut W) -> Result<(), WriteFault>
     ensures { Wrote W.taken W.failed sink.old sink.new (fault_line fault.now) result }
 {

@@ -68,7 +68,7 @@ impl JobFault {
         }
     }
 
-    /// A failure to read and a lack of memory are told as such.
+    /// A failure to read and a lack of memory are reported as such.
     pub(crate) fn of_plan(fault: PlanFault) -> JobFault
         ensures { result ≡ plan_fault fault }
     {

@@ -22,8 +22,8 @@ use tx_script::Summary;
 use tx_text::{Sink, Source};
 
 /// Reads a plan from an input, up to and with the first line whose one word is END, and then runs
-/// the script that follows, whose lines count from 1. `Err` is
-/// the fault of the first call that failed.
+/// the script that follows, whose lines count from 1. `Err` is the fault of the first call that
+/// failed.
 pub fn pipe_job<A: Allocator + Copy, R: Source, W: Sink>(
     alloc: A,
     input: &mut R,

@@ -15,9 +15,9 @@ use tx_plantext::read_plan_from;
 use tx_text::{Sink, Source, WriteFault};
 
 /// Reads a plan and a certificate, and runs a script over the plan after a Yes of the checker for
-/// at most `limit` transits (0 to 62) and `spare` groups to
-/// spare (0 to 15). After a No it writes the verdict alone, and reads nothing of the script. `Err`
-/// is the fault of the first call that failed.
+/// at most `limit` transits (0 to 62) and `spare` groups to spare (0 to 15). After a No it writes
+/// the verdict alone, and reads nothing of the script. `Err` is the fault of the first call that
+/// failed.
 pub fn run_checked_job<A: Allocator + Copy, P: Source, C: Source, R: Source, W: Sink>(
     alloc: A,
     plan: &mut P,

@@ -2,7 +2,7 @@
 ghost use Rattle.std.specs.Prelude.{◌≡◌, ◌≢◌, ◌+◌, ◌<◌, ◌≤◌, [], ◌++◌, ℕ, List, drop, length, false};
 ghost use Rattle.tx_jobs.specs.inner.Seen.{after, is_over, end_from};
 
-/// What was seen of a plan: that it is over, or of the line in hand as much as tells whether its
+/// What was seen of a plan: that it is over, or of the line in hand as much as says whether its
 /// one word is END.
 #[derive(Clone, Copy, PartialEq, Eq)]
 pub(crate) enum Seen {

@@ -29,7 +29,7 @@ impl SurviveFault {
         }
     }
 
-    /// A failure to read and a lack of memory are told as such.
+    /// A failure to read and a lack of memory are reported as such.
     pub(crate) fn of_risks(fault: RiskFault) -> SurviveFault
         ensures { result ≡ risks_fault fault }
     {

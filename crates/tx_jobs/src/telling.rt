@@ -1,4 +1,4 @@
-// The job of `run PLAN SCRIPT` where more is told, and the exit status of a run that is to tell
+// The job of `run PLAN SCRIPT` where more is printed, and the exit status of a run that is to show
 // whether an event was refused.
 ghost use Rattle.std.specs.Prelude.{◌≡◌};
 ghost use Rattle.tx_text.specs.Calls.{CallsAtMost, source_calls};
@@ -15,7 +15,7 @@ use tx_script::{Summary, Telling, run_telling};
 use tx_text::{Sink, Source};
 
 /// Reads a plan, and then runs a script over it as `run_job` does. Where they are asked for, the
-/// line of each event stands before its reply, and the summary after the line END EVENTS.
+/// line of each event comes before its reply, and the summary after the line END EVENTS.
 pub fn run_telling_job<A: Allocator + Copy, P: Source, R: Source, W: Sink>(
     alloc: A,
     telling: Telling,

@@ -11,6 +11,7 @@ use Rattle.tx_plan.specs.declared.range.LineRange.{LineRange}
 use Rattle.tx_lines.specs.declared.book.LineAnswer.{LineAnswer}
 use Rattle.tx_lines.specs.declared.book.LineAnswer.TheVariants.{NoLine, OutOfOrder, Away, Engaged, Free}
 
+-- the ranges of a plan, the lines that are faulty, away and engaged, and room for further lines
 pub record Book : Type 0 where
   pub ranges : List LineRange
   pub faulty : set.FinSet line_cmp
@@ -51,6 +52,7 @@ coded_range = code_by (ℕ × (List ℕ × List ℕ))
     (coded× coded_ℕ (coded× (coded_list coded_ℕ) (coded_list coded_ℕ))) (λ r.
     (r.code, (r.low, r.high))) (λ p. record { code = p.0; low = p.1.0; high = p.1.1 }) (λ _. refl)
 
+-- the same of the whole book
 abbrev pub coded_book : Coded Book
 coded_book = code_by (List LineRange × (set.FinSet line_cmp
     × (set.FinSet line_cmp × (set.FinSet line_cmp × ℕ)))) (coded× (coded_list coded_range) (coded×

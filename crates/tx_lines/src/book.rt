@@ -123,7 +123,7 @@ impl<A: Allocator + Copy> LineBook<A> {
 
 impl<A: Allocator> LineBook<A> {
     /// Makes room for one more line with a status. Where there is some, no memory is asked for.
-    /// Want of memory changes no status.
+    /// Lack of memory changes no status.
     pub fn reserve_one(&mut self) -> Result<(), NoMemory>
         ensures ok { OnOk result (0 < self.new.room) }
         ensures rest { self.new ≡ record self.old { room = self.new.room } }

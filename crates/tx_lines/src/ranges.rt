@@ -60,7 +60,7 @@ impl<A: Allocator> Ranges<A> {
         reaches(range, code, number)
     }
 
-    /// From which place and up to which the ranges of the code stand; all places for a code that
+    /// From which place and up to which the ranges of the code are; all places for a code that
     /// the plan does not have.
     fn places(&self, code: CodeId) -> (usize, usize)
         ensures order { result.0 ≤ result.1 }
@@ -110,7 +110,7 @@ fn compare_starts(a: &LineRange, b: &LineRange) -> Ordering
     compare(a.code, a.low.bytes(), b.code, b.low.bytes())
 }
 
-/// How many ranges start at the number of the code or before it, where those of the code stand from
+/// How many ranges start at the number of the code or before it, where those of the code are from
 /// one place and up to another.
 fn starting_by(ranges: &[LineRange], code: CodeId, number: &[u8], first: usize, end: usize) -> usize
     requires order { IsInOrder ranges.now }

@@ -6,8 +6,7 @@ use std::alloc::Allocator;
 use tx_plan::{CodeId, ExchangeId, GroupId, Plan};
 
 /// What a line of a plan's text declares. Ranges, routes and bars are known by their places in
-/// their
-/// lists, from 0.
+/// their lists, from 0.
 #[derive(Clone, Copy)]
 pub(crate) enum Entry {
     Header,

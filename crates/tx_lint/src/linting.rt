@@ -32,8 +32,7 @@ impl<'t, A: Allocator> Lint<'t, A> {
 }
 
 /// Looks a plan's text through: all its faults, or where it has none all warnings of its plan.
-/// `Err`
-/// is lack of memory.
+/// `Err` is lack of memory.
 pub fn lint_plan<A: Allocator + Copy>(alloc: A, text: &[u8]) -> Result<Lint<'_, A>, LintFault>
     ensures { IfOk result (λ l. IsLintOf text.now (lint_held l)) }
 {

@@ -17,7 +17,7 @@ pub enum Warning {
     UnusedList,
     /// A5: calls for the code may start at the exchange, and it has neither a list nor a bar.
     NoList(CodeId),
-    /// A6: no call can start where the bar stands.
+    /// A6: no call can start where the bar is.
     UnusedBar,
 }
 

@@ -93,7 +93,7 @@ fn is_among(word: &[u8], words: Words<'_>) -> bool
     words.any(|other| word == other)
 }
 
-/// The first of the words that stands there again.
+/// The first of the words that comes again.
 pub(crate) fn first_again<'t>(words: Words<'t>) -> Option<&'t [u8]>
     ensures { option_map (λ w. w.now) result ≡ first_again words.entry }
 {

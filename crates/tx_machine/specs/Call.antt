@@ -8,8 +8,8 @@ pub use Rattle.tx_machine.specs.declared.open_call.Phase.{Phase}
 pub use Rattle.tx_machine.specs.declared.open_call.Phase.TheVariants.{Standing, Calling, Connected}
 
 -- An open call: its number, the line that calls, the figures that were keyed and the event by which
--- they were, the hops so far, its phase, and
--- whether a head-on collision threw it back to the exchange where it stands.
+-- they were, the hops so far, its phase, and whether a head-on collision threw it back to the
+-- exchange where it stands.
 pub record Call : Type 0 where
   pub number : ℕ
   pub line : Line

@@ -47,7 +47,7 @@ IsSafeByEach old limit s = (p : Plan) → SameNetwork old p → IsSafe p limit s
 abbrev pub IsExcusedThen : (spare : ℕ) → Switched → Type 0
 IsExcusedThen spare m = IsExcused m.plan spare m.moment.before m.moment.event m.moment.reply
 
--- A CHANGE IS SOUND: from every opening state, for every list of events, and whichever mixture is
+-- A change is sound: from every opening state, for every list of events, and whichever mixture is
 -- in force at each of them, every state is safe, and every NC is excused by the list in force when
 -- it was answered.
 pub record IsSoundChange (old new : Plan) (limit spare : ℕ) : Type 0 where

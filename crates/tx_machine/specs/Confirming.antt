@@ -44,8 +44,8 @@ abbrev pub second_time : Call → Call → Call → Bool
 second_time c d k = (is_numbered c.number k && c.collided) || (is_numbered d.number k && d.collided)
 
 -- The call goes on if no other call has seized the circuit from its other end. Else both lose it:
--- one for which it is the second collision at its
--- exchange ends with NC, one for which it is the first stands again.
+-- one for which it is the second collision at its exchange ends with NC, one for which it is the
+-- first stands again.
 abbrev pub confirmed_by : Plan → State → Call → Circuit → Option Call → Reply × State
 confirmed_by p s c x None = (
   At (far_of p c x),

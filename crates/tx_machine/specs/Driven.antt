@@ -8,9 +8,9 @@ use Rattle.tx_machine.specs.Refusals.{refusal}
 use Rattle.tx_machine.specs.Step.{takes_memory}
 use Rattle.tx_machine.specs.Runs.{replies, state_after}
 
--- Memory was wanting at an event that takes memory and would not be refused. Those before it were
--- applied: their replies were appended to the ones that
--- were there, and the state is the one after them.
+-- Memory ran out at an event that takes memory and would not be refused. Those before it were
+-- applied: their replies were appended to the ones that were there, and the state is the one after
+-- them.
 pub record StopsAt (p : Plan) (s : State) (events : List Event)
     (old : List Reply) (t : State) (new : List Reply) : Type 0 where
   pub done : List Event

@@ -5,8 +5,7 @@ use Rattle.tx_machine.specs.declared.cause.Cause.{Cause}
 use Rattle.tx_machine.specs.declared.open_call.Hop.{Hop}
 
 -- The call's number, the line that called and the exchange where it started, the figures that were
--- keyed, why it ended, the events by which it was
--- keyed and ended, and its hops.
+-- keyed, why it ended, the events by which it was keyed and ended, and its hops.
 pub record Ended : Type 0 where
   pub number : ℕ
   pub line : Line

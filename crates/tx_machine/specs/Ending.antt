@@ -34,7 +34,7 @@ abbrev pub given_up : List Call → List Call → List Circuit
 given_up ended kept = filter (λ x. not (list_any (λ c. seizes c x) kept))
     (flat_map circuits_used ended)
 
--- The calls that the test tells end with this cause: what they give up is releasing, and each
+-- The calls that pass the test end with this cause: what they give up is releasing, and each
 -- leaves a ticket, in order of their numbers.
 abbrev pub end_calls : Plan → Cause → (Call → Bool) → State → State
 end_calls p cause ends s =

@@ -52,8 +52,7 @@ IsExcusedTo p spare s (Some n) Nc = FoundNone p s spare n
 IsExcusedTo p spare s None Nc = ⊥
 IsExcusedTo p spare s n other = Unit {0}
 
--- NC is told of a call that a collision ends, and that had collided at its exchange before; no call
--- is answered NC
+-- A collision ends only a call that had collided at its exchange before; no call is answered NC.
 abbrev pub IsNcByCollision : State → Reply → Type 0
 IsNcByCollision s (Answered Nc) = ⊥
 IsNcByCollision s (HeadOn a b a_stands b_stands) = (a_stands ≡ false → HadCollided s a)
@@ -61,8 +60,8 @@ IsNcByCollision s (HeadOn a b a_stands b_stands) = (a_stands ≡ false → HadCo
 IsNcByCollision s other = Unit {0}
 
 -- An answer NC to a routed call is excused where it found no circuit in a list of more groups than
--- spare. The NC of a call that a collision ends is
--- excused where it had collided at its exchange before. Other replies need no excuse.
+-- spare. The NC of a call that a collision ends is excused where it had collided at its exchange
+-- before. Other replies need no excuse.
 abbrev pub IsExcused : Plan → ℕ → State → Event → Reply → Type 0
 IsExcused p spare s e (Answered service) = IsExcusedTo p spare s (routed_call e) service
 IsExcused p spare s e other = IsNcByCollision s other

@@ -41,8 +41,7 @@ abbrev pub uses_group : ℕ → Call → Bool
 uses_group g c = list_any (λ x. x.group == g) (circuits_used c)
 
 -- Free at an exchange: no call carries the circuit, it is not releasing, it is not out, and no call
--- has seized it from there. A seizure from the
--- other end is not seen.
+-- has seized it from there. A seizure from the other end is not seen.
 abbrev pub is_free_at : Plan → State → ℕ → Circuit → Bool
 is_free_at p s place x = not (list_any (λ c. carries c x) s.calls) && (not (set.contains s.releasing
     x) && (not (set.contains s.out x) && not (list_any (λ c. seizes_from p c x place) s.calls)))

@@ -1,4 +1,4 @@
--- Lists in which nothing stands twice.
+-- Lists in which nothing is twice.
 use Rattle.std.specs.Prelude.{◌≡◌, Bool, false, List, [], ◌∷◌}
 use Rattle.std.specs.List.{list_any}
 

@@ -23,8 +23,8 @@ is_other test (Some c) = not (test c.phase)
 abbrev pub is_group : Plan → ℕ → Bool
 is_group p g = is_some (slice_get p.groups g)
 
--- Each refusal that may come, in the order of their numbers, with where it applies. Of what the
--- plan has not it is not told whether it is so.
+-- Each refusal that may come, in the order of their numbers, with where it applies. For what
+-- the plan does not have, AlreadySo and NotSo do not come.
 abbrev pub refusals : Plan → State → Event → List (Bool × Refusal)
 refusals p s (Key line keyed) =
     (not (is_line p line), UnknownLine)

@@ -37,8 +37,8 @@ pub record JoinsAndCarriesOnce (p : Plan) (s : State) : Type 0 where
   pub once : NoneTwice same_circuit (flat_map circuits_carried s.calls)
 
 -- No line takes part twice, as the line that calls or as the one that a call is connected to, in
--- one call or in two. A connected call stands at the
--- home of the code of the line, and the full number of that line is the keyed text.
+-- one call or in two. A connected call stands at the home of the code of the line, and the full
+-- number of that line is the keyed text.
 pub record TakesPartOnce (p : Plan) (s : State) : Type 0 where
   pub once : NoneTwice same_line (flat_map lines_of s.calls)
   pub keyed : AllByRecursion (λ c. OfConnected c.phase (IsKeyedLine p c)) s.calls
@@ -56,9 +56,8 @@ abbrev pub RanksFall : Plan → Ranks → ℕ → State → Type 0
 RanksFall p ranks limit s = AllByRecursion (FallsInRank p ranks limit) s.calls
 
 -- each hop's circuit is one of the plan and joins the exchange before it to the one after it, no
--- exchange is passed twice, there are at most limit
--- transits, and a connected call stands at the home of the one line of the plan whose full number
--- was keyed
+-- exchange is passed twice, there are at most limit transits, and a connected call stands at the
+-- home of the one line of the plan whose full number was keyed
 pub record IsSafeCall (p : Plan) (limit : ℕ) (c : Call) : Type 0 where
   pub joined : Joins p (start_of p c) c.hops
   pub once : NoneTwice (λ x y. x == y) (passed p c)

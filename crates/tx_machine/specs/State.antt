@@ -8,9 +8,8 @@ use Rattle.tx_machine.specs.Call.{Call}
 use Rattle.tx_machine.specs.Ended.{Ended}
 
 -- The open calls, in order of their numbers; the groups that are failed and those that are blocked;
--- the circuits that are releasing (cleared, and
--- not yet confirmed to be free) and those that are out of service; the lines that are out of order
--- and those that are away; how many call numbers
+-- the circuits that are releasing (cleared, and not yet confirmed to be free) and those that are
+-- out of service; the lines that are out of order and those that are away; how many call numbers
 -- were given and how many events were accepted; the tickets that were not yet taken, the oldest
 -- first.
 pub record State : Type 0 where

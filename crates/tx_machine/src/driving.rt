@@ -10,9 +10,8 @@ use std::alloc::Allocator;
 use tx_text::NoMemory;
 
 /// Applies the events in turn, and appends the replies. `Err` means out of memory: for the room of
-/// all replies, before anything is done, or at an event that
-/// takes memory and would not be refused. Then the replies to the events before it were appended,
-/// and the network stands after these.
+/// all replies, before anything is done, or at an event that takes memory and would not be refused.
+/// Then the replies to the events before it were appended, and the network is as they left it.
 pub fn drive<N: Network, B: Allocator>(
     net: &mut N,
     events: &[Event],

@@ -13,7 +13,7 @@ ghost use Rattle.tx_machine.specs.Refusals.{is_group};
 use crate::Phase;
 use tx_plan::{Circuit, GroupId, Line};
 
-/// What a network knows of a call, a line, a circuit and a group. By this its refusals are told.
+/// What a network knows of a call, a line, a circuit and a group. Its refusals follow from this.
 pub trait Facts {
     ghost plan: { Self → Plan };
 

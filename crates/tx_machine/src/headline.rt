@@ -22,8 +22,8 @@ pub fn lines_take_part_once()
 {}
 
 /// In every run of a certified plan ranks fall along the hops of each call, no exchange is passed
-/// twice, there are at most `limit` transits, and no
-/// other line has the full number of the line that a call is connected to.
+/// twice, there are at most `limit` transits, and no other line has the full number of the line
+/// that a call is connected to.
 pub fn ranks_fall()
     ensures { (p : Plan) (ranks : Ranks) (limit spare : ℕ)
         → IsPlan p → IsCertified p ranks limit spare → InEveryState p (RanksFall p ranks limit) }
@@ -36,8 +36,8 @@ pub fn every_nc_is_excused()
 {}
 
 /// In every run of a certified plan, while at most `spare` groups are down and each other group has
-/// a circuit free where the routed call stands, NC is
-/// answered only after a second head-on collision.
+/// a circuit free where the routed call stands, NC is answered only after a second head-on
+/// collision.
 pub fn spare_groups_suffice()
     ensures { (p : Plan) (ranks : Ranks) (limit spare : ℕ)
         → IsPlan p → IsCertified p ranks limit spare
@@ -52,8 +52,8 @@ pub fn routes_are_bounded()
 {}
 
 /// A certified plan is sound: from every opening state and for every list of events every state is
-/// safe and every NC is excused. And at most
-/// twice `limit` and three Routes of one call are accepted.
+/// safe and every NC is excused. And at most twice `limit` and three Routes of one call are
+/// accepted.
 pub fn certified_is_sound()
     ensures sound { (p : Plan) (ranks : Ranks) (limit spare : ℕ)
         → IsPlan p → IsCertified p ranks limit spare → IsSound p limit spare }

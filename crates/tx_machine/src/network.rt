@@ -21,8 +21,8 @@ pub trait Network {
     ghost state: { Self → State };
 
     /// Applies one event: the reply and the change are those of the step. Where no memory is left
-    /// nothing changes, nothing would have been refused,
-    /// and the event is a Key, a Route, a LineFault or a LineAway.
+    /// nothing changes, nothing would have been refused, and the event is a Key, a Route, a
+    /// LineFault or a LineAway.
     fn apply(&mut self, event: Event) -> Result<Reply, NoMemory>
         ensures plan { plan self.new ≡ plan self.old }
         ensures step { IfOk result

@@ -60,7 +60,7 @@ pub struct Hop {
 }
 
 /// An open call.
-#[derive(Drop)]
+#[derive(Debug, Drop)]
 pub struct OpenCall<A: Allocator = Global> {
     /// Its number, from 1.
     pub number: u32,

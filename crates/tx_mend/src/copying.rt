@@ -55,7 +55,8 @@ fn is_staying<A: Allocator>(
     before.has(&Pair { exchange, code }) || cert.rank(code, exchange).is_some()
 }
 
-/// The routes that stood before, and those of exchanges that a certificate ranks for their codes.
+/// The routes that were there before, and those of exchanges that a certificate ranks for their
+/// codes.
 pub fn staying_routes<A: Allocator + Copy>(
     alloc: A,
     plan: &Plan<A>,

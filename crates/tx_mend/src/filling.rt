@@ -26,7 +26,7 @@ fn stands(list: &GroupList, group: GroupId) -> bool
     false
 }
 
-/// Appends a group, unless it stands there already or there are more than `spare`.
+/// Appends a group, unless it is there already or there are more than `spare`.
 fn put(list: &mut GroupList, group: GroupId, spare: u8)
     requires { spare ≤ 15 }
     ensures { list.new ≡ put spare list.old group }

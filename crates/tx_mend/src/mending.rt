@@ -119,7 +119,7 @@ fn settle<A: Allocator + Copy>(
 
 /// Mends a plan: routes over its groups that are certified for at most `limit` transits (0 to 62)
 /// and `spare` groups to spare (0 to 15), wherever any are. A code whose present routes can be
-/// certified keeps them. Else it tells which exchanges cannot be served for which code. `Err` is
+/// certified keeps them. Else it says which exchanges cannot be served for which code. `Err` is
 /// lack of memory.
 pub fn mend<A: Allocator + Copy>(
     alloc: A,

@@ -51,7 +51,7 @@ module _ {A : Type 0} where
   IsRightMending p limit spare (NoRouting q pairs pair) =
       HasNoRouting p q pairs.items pair limit spare
 
-  -- THE REPORT
+  -- The report
   abbrev pub mend_report : (limit spare : ℕ) → Mending A → List ℕ
   mend_report limit spare (Mended q before cert) = mended_text before q limit spare
   mend_report limit spare (NoRouting q pairs pair) = unserved_text q limit spare pairs.items pair

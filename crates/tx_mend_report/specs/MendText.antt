@@ -25,7 +25,7 @@ list_line p code x (g ∷ gs) =
 abbrev pub line_unless_same : Plan → (code x : ℕ) → (before now : List ℕ) → List ℕ
 line_unless_same p code x before now = if bytes_eq before now then [] else list_line p code x now
 
--- that of the list of an exchange for a code, where other routes stood before
+-- that of the list of an exchange for a code, where other routes were before
 abbrev pub change_line : List Route → Plan → (code x : ℕ) → List ℕ
 change_line before p code x = line_unless_same p code x
     (route_list (rerouted p before p.bars) x code) (route_list p x code)
@@ -39,7 +39,7 @@ code_changes before p code =
 abbrev pub changes : List Route → Plan → List ℕ
 changes before p = flat_map (code_changes before p) (range_with_len 0 (length p.codes))
 
--- THE REPORT of a plan that was mended, and had these routes before
+-- The report of a plan that was mended, and had these routes before
 abbrev pub mended_text : List Route → Plan → (limit spare : ℕ) → List ℕ
 mended_text before p limit spare =
     head_line limit spare ++ (changes before p ++ codes "VERDICT YES\n")

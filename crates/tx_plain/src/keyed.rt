@@ -1,4 +1,4 @@
-// Keyed figures: the code that they begin with, and what stands after it.
+// Keyed figures: the code that they begin with, and what follows it.
 ghost use Rattle.std.specs.Prelude.{◌≡◌, ◌&&◌, ◌||◌, nat_lt, length, unwrap_or, []};
 ghost use Rattle.std.specs.Option.{option_map};
 ghost use Rattle.tx_plan.specs.Codes.{code_of, after, is_prefix};

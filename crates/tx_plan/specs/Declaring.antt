@@ -71,7 +71,7 @@ abbrev pub is_not_outgoing : Plan → Option Pair → List ℕ → Bool
 is_not_outgoing p pair g =
     holds_at pair (λ x c. option_map_or (λ i. not (may_seize p i x)) (group_named p g) false)
 
--- no word stands there twice
+-- no word is there twice
 abbrev pub none_twice : List (List ℕ) → Bool
 none_twice [] = true
 none_twice (w ∷ ws) = not (list_any (bytes_eq w) ws) && none_twice ws

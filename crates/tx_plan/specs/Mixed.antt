@@ -1,5 +1,5 @@
--- A plan with other routes and bars, and the mixture that takes some lists and some bars of one code
--- from the new plan, and all else from the old one.
+-- A plan with other routes and bars, and the mixture that takes some lists and some bars of one
+-- code from the new plan, and all else from the old one.
 use Rattle.std.specs.Prelude.{ℕ, Bool, not, ◌&&◌, ◌==◌, List, ◌++◌, filter}
 use Rattle.tx_plan.specs.declared.ids.Pair.{Pair}
 use Rattle.tx_plan.specs.Plan.{Plan, Route}

@@ -29,6 +29,7 @@ abbrev pub coded_circuit : Coded Circuit
 coded_circuit = code_by (ℕ × ℕ) (coded× coded_ℕ coded_ℕ)
     (λ x. (x.group, x.number)) (λ p. record { group = p.0; number = p.1 }) (λ _. refl)
 
+-- lines as pairs
 abbrev pub coded_line : Coded Line
 coded_line = code_by (ℕ × List ℕ) (coded× coded_ℕ (coded_list coded_ℕ))
     (λ x. (x.code, x.national)) (λ p. record { code = p.0; national = p.1 }) (λ _. refl)

@@ -9,7 +9,7 @@ use Rattle.tx_plan.specs.Circuits.{may_seize}
 use Rattle.tx_plan.specs.declared.ids.Pair.{Pair}
 use Rattle.tx_plan.specs.declared.range.LineRange.{LineRange}
 
--- each member of a list stands so to each later one
+-- each member of a list has this relation to each later one
 abbrev pub EachPair : {A : Type 0} → (A → A → Type 0) → List A → Type 0
 EachPair Apart [] = Unit {0}
 EachPair Apart (x ∷ xs) = AllByRecursion (Apart x) xs × EachPair Apart xs
@@ -57,8 +57,8 @@ abbrev pub AreSeparate : LineRange → LineRange → Type 0
 AreSeparate r q = r.code ≡ q.code → length r.low ≡ length q.low
     → (at_most q.low r.high ≡ false) ⊎ (at_most r.low q.high ≡ false)
 
--- The rules of a plan: what holds of each entry of each list, that no two entries are alike, and how
--- long a list may be.
+-- The rules of a plan: what holds of each entry of each list, that no two entries are alike, and
+-- how long a list may be.
 pub record IsPlan (p : Plan) : Type 0 where
   pub exchanges : AllByRecursion (λ x. is_name x ≡ true) p.exchanges
   pub exchanges_differ : EachPair (λ x y. x ≢ y) p.exchanges

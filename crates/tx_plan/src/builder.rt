@@ -6,8 +6,7 @@ ghost use Rattle.tx_plan.specs.Declaring.{Declares, first_true, exchange_refusal
 use crate::entries::{
     bar_entry, code_entry, exchange_entry, group_entry, range_entry, route_entry,
 };
-use crate::ids::Direction;
-use crate::names::ByWord;
+use crate::ids::{ByWord, Direction};
 use crate::plan::Plan;
 use crate::refusal::PlanRefusal;
 use crate::routes::{Bars, Routes};
@@ -18,7 +17,7 @@ use tx_text::Words;
 
 /// A plan in the making. What it declared so far obeys the rules of a plan.
 ///
-/// Each declaration appends one entry to one list, or changes nothing and tells the first refusal
+/// Each declaration appends one entry to one list, or changes nothing and reports the first refusal
 /// in the order of `PlanRefusal`. Names are declared before use.
 #[derive(Debug, Drop)]
 pub struct PlanBuilder<A: Allocator = Global> {

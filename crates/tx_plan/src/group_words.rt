@@ -23,7 +23,7 @@ fn is_among(word: &[u8], words: Words<'_>) -> bool
     }
 }
 
-/// Whether no word stands there twice.
+/// Whether no word is there twice.
 pub(crate) fn none_twice(words: Words<'_>) -> bool
     ensures { result ≡ none_twice words.entry }
 {

@@ -34,8 +34,7 @@ mod route_words;
 mod routes;
 
 pub use builder::PlanBuilder;
-pub use ids::{Circuit, CodeId, Direction, ExchangeId, GroupId, Line, National, Pair};
-pub use names::ByWord;
+pub use ids::{ByWord, Circuit, CodeId, Direction, ExchangeId, GroupId, Line, National, Pair};
 pub use plan::Plan;
 pub use range::LineRange;
 pub use refusal::PlanRefusal;

@@ -11,8 +11,8 @@ ghost use Rattle.tx_plan.specs.Mixed.{rerouted};
 ghost use Rattle.tx_plan.specs.Declaring.{has_route, overlaps};
 ghost use Rattle.tx_plan.specs.inner.Tables.{row_of};
 
-use crate::ids::{CodeId, Direction, ExchangeId, GroupId, GroupRow, Line, National, Pair};
-use crate::names::{ByWord, NameKey};
+use crate::ids::{ByWord, CodeId, Direction, ExchangeId, GroupId, GroupRow, Line, National, Pair};
+use crate::names::NameKey;
 use crate::range::LineRange;
 use crate::routes::{Bars, Routes};
 use indexmap::{IndexMap, IndexSet};

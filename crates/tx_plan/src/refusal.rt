@@ -10,7 +10,7 @@ use tx_text::NoMemory;
 /// codes are those that a plan's text is refused with.
 #[derive(Clone, Copy, Debug, PartialEq, Eq, Error)]
 pub enum PlanRefusal {
-    /// P4: a route without groups. The reader of a text also tells a wrong number of words by it.
+    /// P4: a route without groups. A reader of texts also refuses a wrong number of words with it.
     #[error("a line has too few or too many words, or a list has no groups")]
     WrongCount,
     /// P5: a word in the place of an exchange or a group is no name.
@@ -40,7 +40,7 @@ pub enum PlanRefusal {
     /// P13: the exchange may not seize a group of its list.
     #[error("the exchange may not seize a group of its list")]
     NotOutgoing,
-    /// P14: a group stands twice in a list.
+    /// P14: a group is twice in a list.
     #[error("a group stands twice in a list")]
     RepeatedGroup,
     /// P15: a route at the code's home.

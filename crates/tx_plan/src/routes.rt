@@ -4,8 +4,7 @@ ghost use Rattle.std.specs.List.{list_any};
 ghost use Rattle.std.specs.Option.{option_map, option_map_or};
 ghost use Rattle.tx_plan.specs.inner.Distinct.{differ};
 
-use crate::ids::{GroupId, Pair};
-use crate::names::ByWord;
+use crate::ids::{ByWord, GroupId, Pair};
 use indexmap::{IndexMap, IndexSet};
 use std::alloc::{Allocator, Global};
 use std::marker::Model;

@@ -86,6 +86,6 @@ abbrev pub plan_written : Plan → List ℕ
 plan_written p = line_written (head_of (has_bars p))
     ++ (flat_map line_written (plan_lines p) ++ codes "END\n")
 
--- THE ROUND TRIP: what is written for a plan says that plan
+-- The round trip: what is written for a plan says that plan
 abbrev pub ReadsBack : Type 0
 ReadsBack = (p : Plan) → IsPlan p → plan_of AtEnd (plan_written p) ≡ Ok p

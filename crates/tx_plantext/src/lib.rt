@@ -1,8 +1,8 @@
 //! The text of a route plan, both ways.
 //!
-//! `read_plan` and `read_plan_from` take a text exactly where it keeps to the format, and else tell
-//! its first fault with its line. What `write_plan` writes
-//! reads back as the same plan. `write_route` writes the line of one route.
+//! `read_plan` and `read_plan_from` take a text exactly where it keeps to the format, and else
+//! report its first fault with its line. What `write_plan` writes reads back as the same plan.
+//! `write_route` writes the line of one route.
 #![tactic(auto)]
 
 mod declaring;

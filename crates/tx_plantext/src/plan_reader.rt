@@ -57,7 +57,7 @@ impl<A: Allocator> Declares for PlanLines<A> {
 }
 
 /// Reads a plan text from a source, to its end, in pieces of any size and by at most 4,294,967,295
-/// calls. `Err` is the first fault, with its line. A fault before the end stands whatever bytes
+/// calls. `Err` is the first fault, with its line. A fault before the end is one whatever bytes
 /// follow.
 pub fn read_plan_from<R: Source, A: Allocator + Copy>(
     alloc: A,

@@ -8,7 +8,7 @@ use Rattle.tx_rank.specs.declared.finding.Finding.{Finding}
 use Rattle.tx_rank.specs.declared.finding.Finding.TheVariants.{Ambiguous, Loop, Short, Long}
 use Rattle.tx_rank.specs.Walks.{Net, Walk, net_of, end_of, IsLoop, IsShort, IsLong}
 
--- A FINDING IS TRUE: the pair is the least of a code and a longer code that begins with it, or the
+-- A finding is true: the pair is the least of a code and a longer code that begins with it, or the
 -- walk is one for the code, with this wrong.
 abbrev pub IsTrueOf : {A : Type 0} → Plan → ℕ → ℕ → Finding A → Type 0
 IsTrueOf p limit spare (Ambiguous a b) = ambiguous_of p.codes ≡ Some (a, b)
@@ -17,7 +17,7 @@ IsTrueOf p limit spare (Short c w) = (c < length p.codes)
     × IsShort (net_of p c) spare w.start w.steps
 IsTrueOf p limit spare (Long c w) = (c < length p.codes) × IsLong (net_of p c) limit w.start w.steps
 
--- THE LIST OF FINDINGS: which of several walks is in one is open, and all else is not.
+-- The list of findings: which of several walks is in one is open, and all else is not.
 
 -- the exchange where a walk ends
 abbrev pub end_at : Walk → ℕ
@@ -36,6 +36,7 @@ IsLongIfAny n limit None = (x : ℕ) (steps : List (ℕ × ℕ)) → IsLong n li
 IsLongIfAny n limit (Some w) = IsLong n limit w.start w.steps
 
 module _ {A : Type 0} where
+  -- the finding of a long walk, if there is one
   abbrev pub long_findings : ℕ → Option Walk → List (Finding A)
   long_findings code None = []
   long_findings code (Some w) = Long code w ∷ []
@@ -58,6 +59,7 @@ module _ {A : Type 0} where
       × (last : List (Finding A)) × (findings ≡ front ++ last)
       × AreFindingsBelow p limit spare c front × AreFindingsOfCode (net_of p c) c limit spare last
 
+  -- the finding of the ambiguous pair, if there is one
   abbrev pub pair_findings : Option (ℕ × ℕ) → List (Finding A)
   pair_findings None = []
   pair_findings (Some q) = Ambiguous q.0 q.1 ∷ []

@@ -59,7 +59,7 @@ before_end x (s ∷ steps) = x ∷ before_end s.1 steps
 abbrev pub AllDiffer : List ℕ → Type 0
 AllDiffer = EachPair (λ x y. x ≢ y)
 
--- A WALK: it begins where calls may start, and goes by the lists.
+-- A walk: it begins where calls may start, and goes by the lists.
 pub record IsWalk (n : Net) (x : ℕ) (steps : List (ℕ × ℕ)) : Type 0 where
   pub origin : n.is_origin x ≡ true
   pub goes : Goes n x steps

@@ -19,7 +19,7 @@ use tx_cert::Cert;
 use tx_plan::{CodeId, Plan};
 use tx_text::NoMemory;
 
-/// Tells the grade of a code, or adds what no limit and no spare number mends.
+/// Returns the grade of a code, or adds what no limit and no spare number mends.
 fn code_grade<A: Allocator + Copy>(
     alloc: A,
     plan: &Plan<A>,
@@ -56,9 +56,9 @@ fn code_grade<A: Allocator + Copy>(
     Ok(Some(code_bounds(plan, cert, code)))
 }
 
-/// Tells with which limits, and which spare numbers up to 15, some ranks certify the plan, and each
-/// of its codes alone; and if they certify the plan with none, what no limit and no spare number
-/// mends. `Err` means out of memory.
+/// Returns with which limits, and which spare numbers up to 15, some ranks certify the plan, and
+/// each of its codes alone; and if they certify the plan with none, what no limit and no spare
+/// number mends. `Err` means out of memory.
 pub fn grade<A: Allocator + Copy>(alloc: A, plan: &Plan<A>) -> Result<Grade<A>, NoMemory>
     // The grade of the plan says with which limits and spare numbers some ranks certify it, and so
     // for which no finding is true.

@@ -2,10 +2,10 @@
 //! what is wrong with it.
 //!
 //! `rank` finds a certificate wherever there is one. Else it answers the ambiguous pair of codes,
-//! and for each code a loop, or a walk to each short list and
-//! one that is too long; the lists of the plan allow each walk.
+//! and for each code a loop, or a walk to each short list and one that is too long; the lists of
+//! the plan allow each walk.
 //!
-//! `grade` tells for which limits and spare numbers there is one.
+//! `grade` says for which limits and spare numbers there is one.
 //!
 //! ```
 //! /// Whether no call passes a transit, with no group to spare.

@@ -98,8 +98,8 @@ fn rank_each<A: Allocator + Copy>(
 }
 
 /// Ranks the exchanges for each code by their heights above its home, for at most `limit` transits
-/// (0 to 62, ITU-T F.68) and `spare` groups to spare (0 to
-/// 15), or tells what is wrong. `Err` means out of memory.
+/// (0 to 62, ITU-T F.68) and `spare` groups to spare (0 to 15), or says what is wrong. `Err` means
+/// out of memory.
 pub fn rank<A: Allocator + Copy>(
     alloc: A,
     plan: &Plan<A>,

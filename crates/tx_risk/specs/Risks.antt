@@ -34,7 +34,7 @@ without risk n = record {
 abbrev pub net_without : Plan → Risk → ℕ → Net
 net_without p risk code = without risk (net_of p code)
 
--- A DEAD END: the steps lead from x by the lists to an exchange other than the home, and nothing
+-- A dead end: the steps lead from x by the lists to an exchange other than the home, and nothing
 -- is in its list.
 pub record IsDeadEnd (n : Net) (x : ℕ) (steps : List (ℕ × ℕ)) : Type 0 where
   pub goes : Goes n x steps
@@ -62,7 +62,7 @@ pub record LeadsHome (n : Net) (x : ℕ) : Type 0 where
   pub goes : Goes n x steps
   pub home : end_of x steps ≡ n.home
 
--- SERVED: each way from x, by the groups that are left, can go on to the home.
+-- Served: each way from x, by the groups that are left, can go on to the home.
 abbrev pub IsServed : Plan → Risk → (code x : ℕ) → Type 0
 IsServed p risk code x =
     (steps : List (ℕ × ℕ)) → Goes (net_without p risk code) x steps

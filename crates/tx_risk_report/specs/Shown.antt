@@ -30,7 +30,7 @@ pub record IsAloneOnWay (p : Plan) (code x : ℕ) (steps : List (ℕ × ℕ)) (s
   pub way : map (λ h. (h.circuit.group, h.far)) call.hops ≡ steps
   pub free : (place : ℕ) (y : Circuit) → carries call y ≡ false → is_free_at p s place y ≡ true
 
--- THE EVENTS SHOW THE CUT: none of them is refused, nor is one Route more, of the one open call,
+-- The events show the cut: none of them is refused, nor is one Route more, of the one open call,
 -- which is answered NC.
 pub record IsShown (p : Plan) (risk : Risk) (code x : ℕ) (steps : List (ℕ × ℕ))
     (events : List Event) : Type 0 where

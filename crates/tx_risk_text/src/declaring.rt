@@ -67,7 +67,7 @@ fn is_among(word: &[u8], words: Words<'_>) -> bool
     }
 }
 
-/// Whether no word stands there twice.
+/// Whether no word is there twice.
 fn is_none_twice(words: Words<'_>) -> bool
     ensures { result ≡ none_twice words.entry }
 {

@@ -6,7 +6,7 @@ ghost use Rattle.tx_risk_text.specs.RiskFaults.{word_row, fault_row};
 use thiserror::Error;
 use tx_text::{FaultAt, FaultKind, NoMemory};
 
-/// What is wrong with the words of a line. Of several the first in this order is told.
+/// What is wrong with the words of a line. Of several the first in this order is reported.
 #[derive(Clone, Copy, Debug, PartialEq, Eq, Error)]
 pub enum RiskWord {
     /// Q1: the first word is none of a text of risks.
@@ -24,7 +24,7 @@ pub enum RiskWord {
     /// Q5: the plan has no such group.
     #[error("the plan has no such group")]
     UnknownName,
-    /// Q6: a group stands there twice.
+    /// Q6: a group is there twice.
     #[error("a group stands there twice")]
     RepeatedGroup,
     /// Q10: no memory was left.

@@ -15,3 +15,4 @@ pub mod Told
 pub mod Running
 pub mod RunEnds
 pub mod Silent
+pub mod Retold

@@ -1,4 +1,4 @@
--- What is told of the answer to one line.
+-- What is known of the answer to one line.
 use Rattle.std.specs.Prelude.{◌≡◌, ℕ, Bool, true, List, length, Option, None, Result, Ok, Err}
 use Rattle.tx_text.specs.declared.frame.FaultKind.TheVariants.{Word}
 use Rattle.tx_plan.specs.Plan.{Plan}
@@ -35,7 +35,7 @@ pub record IsNoEvent (n : ℕ) (k : ScriptWord)
   pub network : t ≡ s
   pub written : b ≡ a
 
--- a write fault is told where the sink's mark is set, and otherwise the mark is as before
+-- the sink's mark is set after a write fault, and otherwise as before
 abbrev pub mark_with : Bool → Result Answered RunCause → Bool
 mark_with old (Ok count) = old
 mark_with old (Err cause) = mark_by old cause

@@ -28,8 +28,6 @@ use Rattle.tx_script.specs.declared.script_word.ScriptWord.TheVariants.{UnknownW
 abbrev pub Said : Type 0
 Said = Result Event ScriptWord
 
--- WHAT A WORD SPELLS
-
 -- a call number: 0 to 4,294,967,295
 abbrev pub call_number : List ℕ → Option ℕ
 call_number w = number_of (2 ^ 32 - 1) w
@@ -43,6 +41,7 @@ party_of w = if bytes_eq w (codes "CALLER") then Some Caller
 abbrev pub national_of : List ℕ → Option (List ℕ)
 national_of w = if is_national w then Some w else None
 
+-- a number, unless it is 0
 abbrev pub from_one : Option ℕ → Option ℕ
 from_one None = None
 from_one (Some n) = if n == 0 then None else Some n
@@ -51,10 +50,11 @@ from_one (Some n) = if n == 0 then None else Some n
 abbrev pub circuit_number : List ℕ → Option ℕ
 circuit_number w = from_one (number_of 240 w)
 
+-- a byte is a dot
 abbrev pub is_dot : ℕ → Bool
 is_dot b = b == 46
 
--- what stands before a place of a word, and what stands after it
+-- what is before a place of a word, and what follows it
 abbrev pub cut_at : List ℕ → ℕ → List ℕ × List ℕ
 cut_at w i = (take i w, drop (i + 1) w)
 
@@ -86,8 +86,6 @@ line_of p code national = spelt (national_of national)
 abbrev pub circuit_of : Plan → List ℕ → Result Circuit ScriptWord
 circuit_of p w = spelt (cut_at_dot w) (λ c. spelt (circuit_number c.1)
     (λ n. named (group_named p c.0) (λ g. Ok (record { group = g; number = n }))))
-
--- WHAT FOLLOWS THE FIRST WORD
 
 -- exactly one word
 abbrev pub one_word : List (List ℕ) → Option (List ℕ)
@@ -145,8 +143,6 @@ abbrev pub end_event : List (List ℕ) → Said
 end_event [] = Err UnknownWord
 end_event (w ∷ ws) = Err WrongCount
 
--- THE EVENT OF A LINE'S WORDS
-
 -- the word of a verb
 abbrev pub verb_word : Verb → List ℕ
 verb_word KeyVerb = codes "KEY"
@@ -166,6 +162,7 @@ verb_word AwayVerb = codes "AWAY"
 verb_word BackVerb = codes "BACK"
 verb_word EndVerb = codes "END"
 
+-- all first words
 abbrev pub verbs : List Verb
 verbs =
     KeyVerb
@@ -224,16 +221,16 @@ event_said (Some f) said = Err (Frame (frame_fault f))
 event_said None (Ok e) = Ok e
 event_said None (Err k) = Err (Word k)
 
--- THE EVENT OF A LINE, given as its bytes without the LF and the CR before it
+-- The event of a line, given as its bytes without the LF and the CR before it
 abbrev pub event_in : Plan → List ℕ → Result Event (FaultKind ScriptWord)
 event_in p bytes = event_said (bytes_fault bytes) (event_of p (words_of bytes))
 
--- THE LINE OF AN EVENT
-
+-- the word of a party
 abbrev pub party_word : Party → List ℕ
 party_word Caller = codes "CALLER"
 party_word Called = codes "CALLED"
 
+-- the words of an event's line
 abbrev pub event_words : Plan → Event → List (List ℕ)
 event_words p (Key l keyed) = codes "KEY" ∷ code_figures p l.code ∷ l.national ∷ keyed ∷ []
 event_words p (Route n) = codes "ROUTE" ∷ decimal n ∷ []
@@ -258,8 +255,6 @@ event_line p e = joined (event_words p e)
 -- the same with its LF
 abbrev pub event_text : Plan → Event → List ℕ
 event_text p e = line_written (event_words p e)
-
--- WHAT CAN BE WRITTEN
 
 -- the plan has the group, and the number is 1 to 240; the group need not have so many circuits
 pub record IsWritableCircuit (p : Plan) (x : Circuit) : Type 0 where
@@ -308,7 +303,7 @@ IsEvent (LineBack l) = is_national l.national ≡ true
 abbrev pub IsWritable : Plan → Event → Type 0
 IsWritable p e = FitsPlan p e × IsEvent e
 
--- THE ROUND TRIP: the line that is written for an event says that event
+-- The round trip: the line that is written for an event says that event
 abbrev pub EventsReadBack : Type 0
 EventsReadBack =
     (p : Plan) (e : Event) → IsPlan p → IsWritable p e → event_in p (event_line p e) ≡ Ok e

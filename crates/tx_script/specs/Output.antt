@@ -30,6 +30,7 @@ abbrev pub end_line : ℕ → ℕ → List ℕ
 end_line events open_calls = codes "END EVENTS "
     ++ (decimal events ++ (codes " OPEN " ++ (decimal open_calls ++ codes "\n")))
 
+-- the last line in a state
 abbrev pub end_text : State → List ℕ
 end_text s = end_line s.events (length s.calls)
 
@@ -38,7 +39,7 @@ abbrev pub last_text : State → Option (ℕ × FaultKind ScriptWord) → List �
 last_text s None = end_text s
 last_text s (Some x) = []
 
--- THE OUTPUT of a script from a state on
+-- The output of a script from a state on
 abbrev pub output : Plan → State → Script → List ℕ
 output p s script = events_text p s script.events
     ++ last_text (state_after p s script.events) script.fault

@@ -6,6 +6,7 @@ use Rattle.tx_text.specs.declared.frame.FaultKind.TheVariants.{Frame, Word}
 use Rattle.tx_script.specs.declared.script_word.ScriptWord.{ScriptWord}
 use Rattle.tx_script.specs.declared.script_word.ScriptWord.TheVariants.{UnknownWord, WrongCount, BadNumber, UnknownName}
 
+-- the code and the name of what is wrong with the words of a line
 abbrev pub word_row : ScriptWord → Row
 word_row UnknownWord = (codes "S1", codes "UnknownWord")
 word_row WrongCount = (codes "S2", codes "WrongCount")

@@ -1,5 +1,5 @@
--- What is told of a whole run, after its last line: how its calls ended, and how many circuits of
--- each group were taken at once.
+-- What is printed of a whole run, after its last line: how its calls ended, and how many circuits
+-- of each group were taken at once.
 use Rattle.std.specs.Prelude.{ℕ, Bool, ◌==◌, if◌then◌else◌, List, [], ◌∷◌, ◌++◌, length, codes, decimal}
 use Rattle.std.specs.List.{flat_map, count_by, range_with_len}
 use Rattle.tx_plan.specs.Plan.{Plan, group_name}
@@ -14,7 +14,7 @@ use Rattle.tx_tickets.specs.Texts.{cause_text}
 use Rattle.tx_script.specs.Output.{tickets_made}
 use Rattle.tx_script.specs.Taken.{peak}
 
--- all causes, in the order in which they are told
+-- all causes, in the order in which they are printed
 abbrev pub causes : List Cause
 causes =
     ByService Occ
@@ -39,6 +39,7 @@ place_of ClearedByCaller = 6
 place_of ClearedByCalled = 7
 place_of ByLoss = 8
 
+-- two causes are one
 abbrev pub same_cause : Cause → Cause → Bool
 same_cause a b = place_of a == place_of b
 
@@ -63,7 +64,7 @@ summary_by p ended opened most = flat_map (λ cause. calls_line (cause_text caus
     causes ++ (calls_line (codes "OPEN") opened ++ (flat_map
     (λ g. peak_line p g (most g)) (range_with_len 0 (length p.groups)) ++ codes "END SUMMARY\n"))
 
--- THE SUMMARY of a run, and of the state after it
+-- The summary of a run, and of the state after it
 abbrev pub summary_text : Plan → List Moment → State → List ℕ
 summary_text p ms s = summary_by p (ended_by (flat_map tickets_made ms))
     (length s.calls) (λ g. peak p g ms)

@@ -1,4 +1,4 @@
--- What a run tells where more is asked for: the line of each event, and a summary of the run.
+-- What a run prints where more is asked for: the line of each event, and a summary of the run.
 use Rattle.std.specs.Prelude.{ℕ, ◌+◌, Bool, if◌then◌else◌, List, [], ◌∷◌, ◌++◌, Option, None, Some, codes, decimal}
 use Rattle.tx_text.specs.declared.frame.FaultKind.{FaultKind}
 use Rattle.tx_plan.specs.Plan.{Plan}
@@ -20,6 +20,7 @@ number_text n = codes "EVENT " ++ (decimal n ++ codes " ")
 abbrev pub echo_text : Plan → ℕ → Event → List ℕ
 echo_text p n e = number_text n ++ event_text p e
 
+-- the line of an event, where it is asked for
 abbrev pub echo_asked : Bool → Plan → ℕ → Event → List ℕ
 echo_asked asked p n e = if asked then echo_text p n e else []
 
@@ -36,6 +37,7 @@ told_moments p echo n (m ∷ ms) = told_moment p echo n m ++ told_moments p echo
 abbrev pub told_events : Plan → (echo : Bool) → State → List Event → List ℕ
 told_events p echo s es = told_moments p echo 1 (run p s es)
 
+-- a text, where it is asked for
 abbrev pub if_asked : Bool → List ℕ → List ℕ
 if_asked asked text = if asked then text else []
 
@@ -46,7 +48,7 @@ told_last p t s es None = end_text (state_after p s es)
     ++ if_asked t.summary (summary_text p (run p s es) (state_after p s es))
 told_last p t s es (Some x) = []
 
--- THE OUTPUT of a script from a state on
+-- The output of a script from a state on
 abbrev pub told_output : Plan → Telling → State → Script → List ℕ
 told_output p t s script = told_events p t.echo s script.events
     ++ told_last p t s script.events script.fault

@@ -5,7 +5,7 @@ use Rattle.std.specs.Io.KnownBytes.{append_known}
 use Rattle.tx_text.specs.declared.frame.FaultKind.{FaultKind}
 use Rattle.tx_text.specs.declared.frame.FaultKind.TheVariants.{Frame}
 use Rattle.tx_text.specs.declared.frame.FrameFault.TheVariants.{Read as line_read}
-use Rattle.tx_text.specs.Ends.{StopsIn}
+use Rattle.tx_text.specs.Ends.{StopsIn, Input, Output}
 use Rattle.tx_text.specs.Told.{Cut}
 use Rattle.tx_text.specs.Frame.{EndsAs, Stands}
 use Rattle.tx_plan.specs.Plan.{Plan}
@@ -25,7 +25,7 @@ use Rattle.tx_script.specs.Events.{Said}
 use Rattle.tx_script.specs.Script.{Script, whole, faulty, script_of}
 use Rattle.tx_script.specs.Output.{summary_of, tickets_made}
 use Rattle.tx_script.specs.Answered.{count_of, IsUndone, IsNoEvent}
-use Rattle.tx_script.specs.Answers.{Moved, settled, next, IsWhole, Begins, is_reader_room}
+use Rattle.tx_script.specs.Answers.{States, NothingDone, settled, next, IsWhole, Begins, is_reader_room}
 use Rattle.tx_script.specs.declared.teller.Telling.{Telling}
 use Rattle.tx_script.specs.Telling.{echo_text, echo_asked, told_moment, told_events, told_last, told_output}
 use Rattle.tx_script.specs.Untold.{IsUntold}
@@ -79,96 +79,88 @@ LineTold p echo n k (Err word) s t a b (Err cause) = IsNoEvent n word s t a b ca
 
 -- ---- a run
 
--- All the output of a script was written, and nothing else; the network stands after its events.
-pub record ToldRan (p : Plan) (t : Telling) (x : Moved) (script : Script) : Type 0 where
-  pub wrote : x.taken_new ≡ append_known x.taken_old (told_output p t x.state_old script)
-  pub network : x.state_new ≡ settled p x.state_old script.events
+module _ (p : Plan) (t : Telling) (source : Input) (net : States) (sink : Output) where
+  -- All the output of a script was written, and nothing else; the network stands after its events.
+  pub record ToldRan (script : Script) : Type 0 where
+    pub wrote : sink.new ≡ append_known sink.old (told_output p t net.old script)
+    pub network : net.new ≡ settled p net.old script.events
 
--- The whole text is a script, and the summary counts its run.
-pub record ToldWhole (p : Plan) (t : Telling) (x : Moved) (summary : Summary) : Type 0 where
-  pub events : List Event
-  pub text : IsWhole p x events
-  pub ran : ToldRan p t x (whole events)
-  pub counted : summary ≡ summary_of p x.state_old events
+  -- The whole text is a script, and the summary counts its run.
+  pub record ToldWhole (summary : Summary) : Type 0 where
+    pub events : List Event
+    pub text : IsWhole p source events
+    pub ran : ToldRan (whole events)
+    pub counted : summary ≡ summary_of p net.old events
 
--- The text is faulty after the events before this one.
-pub record ToldToFault (p : Plan) (t : Telling)
-    (x : Moved) (event line : ℕ) (kind : FaultKind ScriptWord) : Type 0 where
-  pub events : List Event
-  pub place : event ≡ length events + 1
-  pub text : Stands x.rest_old x.rest_new (script_of p) (faulty events line kind)
-  pub ran : ToldRan p t x (faulty events line kind)
+  -- The text is faulty after the events before this one.
+  pub record ToldToFault (event line : ℕ) (kind : FaultKind ScriptWord) : Type 0 where
+    pub events : List Event
+    pub place : event ≡ length events + 1
+    pub text : Stands source.old source.new (script_of p) (faulty events line kind)
+    pub ran : ToldRan (faulty events line kind)
 
--- The source failed in a line, or met the bound on calls, after the events before this one.
-pub record ToldToCut (p : Plan) (t : Telling)
-    (x : Moved) (broken : Type 0) (event : ℕ) : Type 0 where
-  pub events : List Event
-  pub line : ℕ
-  pub place : event ≡ length events + 1
-  pub text : EndsAs x.rest_old x.rest_new (script_of p) Cut
-      (faulty events line (Frame line_read))
-  pub failed : broken
-  pub ran : ToldRan p t x (faulty events line (Frame line_read))
+  -- The source failed in a line, or met the bound on calls, after the events before this one.
+  pub record ToldToCut (event : ℕ) : Type 0 where
+    pub events : List Event
+    pub line : ℕ
+    pub place : event ≡ length events + 1
+    pub text : EndsAs source.old source.new (script_of p) Cut
+        (faulty events line (Frame line_read))
+    pub failed : source.broken
+    pub ran : ToldRan (faulty events line (Frame line_read))
 
--- Memory ran out in this event: the lines of those before it were written, and nothing of it was
--- done or written.
-pub record ToldOutOfMemory (p : Plan) (t : Telling) (x : Moved) (event : ℕ) : Type 0 where
-  pub events : List Event
-  pub hand : Event
-  pub place : event ≡ length events + 1
-  pub text : Begins p x (events ++ hand ∷ [])
-  pub wrote : x.taken_new ≡ append_known x.taken_old (told_events p t.echo x.state_old events)
-  pub network : x.state_new ≡ settled p x.state_old events
-  pub asks : takes_memory hand ≡ true
-  pub unrefused : refusal p x.state_new hand ≡ None
+  -- Memory ran out in this event: the lines of those before it were written, and nothing of it was
+  -- done or written.
+  pub record ToldOutOfMemory (event : ℕ) : Type 0 where
+    pub events : List Event
+    pub hand : Event
+    pub place : event ≡ length events + 1
+    pub text : Begins p source (events ++ hand ∷ [])
+    pub wrote : sink.new ≡ append_known sink.old (told_events p t.echo net.old events)
+    pub network : net.new ≡ settled p net.old events
+    pub asks : takes_memory hand ≡ true
+    pub unrefused : refusal p net.new hand ≡ None
 
--- A write failed in the lines of this event, which was done: those of the events before it were
--- written, and of its own a front and not all.
-pub record StoppedInEvent (p : Plan) (t : Telling) (x : Moved) (event : ℕ) : Type 0 where
-  pub events : List Event
-  pub hand : Event
-  pub place : event ≡ length events + 1
-  pub text : Begins p x (events ++ hand ∷ [])
-  pub lines : StopsInLines p t.echo event (next p x.state_old events hand) x.state_new
-      (append_known x.taken_old (told_events p t.echo x.state_old events)) x.taken_new
+  -- A write failed in the lines of this event, which was done: those of the events before it were
+  -- written, and of its own a front and not all.
+  pub record StoppedInEvent (event : ℕ) : Type 0 where
+    pub events : List Event
+    pub hand : Event
+    pub place : event ≡ length events + 1
+    pub text : Begins p source (events ++ hand ∷ [])
+    pub lines : StopsInLines p t.echo event (next p net.old events hand) net.new
+        (append_known sink.old (told_events p t.echo net.old events)) sink.new
 
--- A write failed after the lines of all events: these were written, and of the last line and the
--- summary a front and not all.
-pub record StoppedAtEnd (p : Plan) (t : Telling) (x : Moved) (event : ℕ) : Type 0 where
-  pub events : List Event
-  pub place : event ≡ length events + 1
-  pub text : IsWhole p x events
-  pub front : StopsIn (append_known x.taken_old (told_events p t.echo x.state_old events))
-      x.taken_new (told_last p t x.state_old events None)
-  pub network : x.state_new ≡ settled p x.state_old events
+  -- A write failed after the lines of all events: these were written, and of the last line and the
+  -- summary a front and not all.
+  pub record StoppedAtEnd (event : ℕ) : Type 0 where
+    pub events : List Event
+    pub place : event ≡ length events + 1
+    pub text : IsWhole p source events
+    pub front : StopsIn (append_known sink.old (told_events p t.echo net.old events)) sink.new
+        (told_last p t net.old events None)
+    pub network : net.new ≡ settled p net.old events
 
--- Without memory for the reader of lines the first event and the first line are told, and nothing
--- was touched.
-abbrev pub FaultyTold : Plan → Telling → Moved
-    → Type 0 → Bool → ℕ → ℕ → FaultKind ScriptWord → Type 0
-FaultyTold p t x untouched true event line kind = (event ≡ 1) × (line ≡ 1) × untouched
-FaultyTold p t x untouched false event line kind = ToldToFault p t x event line kind
+  -- Without memory for the reader of lines the first event and the first line are told, and nothing
+  -- was touched.
+  abbrev pub FaultyTold : Bool → ℕ → ℕ → FaultKind ScriptWord → Type 0
+  FaultyTold true event line kind = (event ≡ 1) × (line ≡ 1) × NothingDone source net sink
+  FaultyTold false event line kind = ToldToFault event line kind
 
--- Without memory for what is to be counted the first event is told, and nothing was touched.
-pub record HadNoTable (t : Telling) (untouched : Type 0) (event : ℕ) : Type 0 where
-  pub asked : t.summary ≡ true
-  pub place : event ≡ 1
-  pub none : untouched
+  -- Without memory for what is to be counted the first event is told, and nothing was touched.
+  pub record HadNoTable (event : ℕ) : Type 0 where
+    pub asked : t.summary ≡ true
+    pub place : event ≡ 1
+    pub none : NothingDone source net sink
 
-abbrev pub StoppedTelling : Plan → Telling → Moved
-    → (broken untouched : Type 0) → ℕ → RunCause → Type 0
-StoppedTelling p t x broken untouched event Read = ToldToCut p t x broken event
-StoppedTelling p t x broken untouched event Write = StoppedInEvent p t x event
-    ⊎ StoppedAtEnd p t x event
-StoppedTelling p t x broken untouched event (OfScript f) =
-    FaultyTold p t x untouched (is_reader_room f.kind) event f.line f.kind
-StoppedTelling p t x broken untouched event NoMemory = ToldOutOfMemory p t x event
-    ⊎ HadNoTable t untouched event
+  -- a run stopped in this event, for this cause
+  abbrev pub StoppedTelling : ℕ → RunCause → Type 0
+  StoppedTelling event Read = ToldToCut event
+  StoppedTelling event Write = StoppedInEvent event ⊎ StoppedAtEnd event
+  StoppedTelling event (OfScript f) = FaultyTold (is_reader_room f.kind) event f.line f.kind
+  StoppedTelling event NoMemory = ToldOutOfMemory event ⊎ HadNoTable event
 
--- WHAT A RUN THAT TELLS MORE ANSWERS. Broken says that the source failed or met the bound on calls,
--- untouched that nothing was read, written or done.
-abbrev pub TellingAnswers : Plan → Telling → Moved
-    → (broken untouched : Type 0) → Result Summary RunFault → Type 0
-TellingAnswers p t x broken untouched (Ok summary) = ToldWhole p t x summary
-TellingAnswers p t x broken untouched (Err f) =
-    StoppedTelling p t x broken untouched f.event f.cause
+  -- WHAT A RUN THAT TELLS MORE ANSWERS
+  abbrev pub TellingAnswers : Result Summary RunFault → Type 0
+  TellingAnswers (Ok summary) = ToldWhole summary
+  TellingAnswers (Err f) = StoppedTelling f.event f.cause

@@ -1,4 +1,4 @@
-// The answer to one line of a script: its event's reply and tickets, and what more is told.
+// The answer to one line of a script: its event's reply and tickets, and what more is printed.
 ghost use Rattle.std.specs.Prelude.{◌≡◌, ◌+◌, ◌<◌, ◌^◌, [], true, OnOk, OnErr, IfOk, length, option_map};
 ghost use Rattle.std.specs.List.{flat_map};
 ghost use Rattle.std.specs.Io.KnownBytes.{append_known};

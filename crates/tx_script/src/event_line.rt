@@ -10,9 +10,8 @@ use tx_plan::Plan;
 use tx_text::{FaultKind, FrameFault, bytes_fault, words};
 
 /// The event that one line of a script says, given without its LF and the CR before it. `Err` is
-/// the first fault: one of its bytes comes before those of its
-/// words. A line without words, one that begins with SCRIPT and the one word END are no events:
-/// they are S1.
+/// the first fault: one of its bytes comes before those of its words. A line without words, one
+/// that begins with SCRIPT and the one word END are no events: they are S1.
 pub fn read_event<A: Allocator>(line: &[u8], plan: &Plan<A>) -> Result<Event, ScriptKind>
     ensures event { result ≡ event_in plan.now line.now }
     ensures writable { IfOk result (IsWritable plan.now) }

@@ -15,8 +15,8 @@ use tx_text::{Figures, Sink, WriteFault, write_parts};
 use tx_tickets::write_circuit;
 
 /// Writes the line of an event, as `KEY 41 10001 4110002`, with its LF. The plan has the event's
-/// ids, and its circuit has a number from 1 to 240. The line
-/// reads back as the event. Where the sink fails, a front of the line was taken.
+/// ids, and its circuit has a number from 1 to 240. The line reads back as the event. Where the
+/// sink fails, a front of the line was taken.
 pub fn write_event<A: Allocator, W: Sink>(
     event: &Event,
     plan: &Plan<A>,
@@ -116,7 +116,7 @@ fn write_call<W: Sink>(first: &[u8], call: u32, end: &[u8], sink: &mut W) -> Res
     write_parts(&[first, digits.format(call).as_bytes(), end, b""], sink)
 }
 
-/// The party that clears, with what stands before it and after it.
+/// The party that clears, with what comes before it and after it.
 fn party_end<'a>(party: Party) -> &'a [u8]
     ensures { result.now ≡ codes " " ++ (party_word party ++ codes "\n") }
 {

@@ -207,7 +207,7 @@ fn circuit_number(word: &[u8]) -> Option<u32>
     }
 }
 
-/// What stands before the first dot, and what stands after it.
+/// What is before the first dot, and what follows it.
 fn cut_at_dot(word: &[u8]) -> Option<(&[u8], &[u8])>
     ensures { MatchOption result (cut_at_dot word.now ≡ None)
         (λ c. cut_at_dot word.now ≡ Some (c.0.now, c.1.now)) }
@@ -218,7 +218,7 @@ fn cut_at_dot(word: &[u8]) -> Option<(&[u8], &[u8])>
     }
 }
 
-/// Where the first dot stands.
+/// Where the first dot is.
 fn first_dot(word: &[u8]) -> Option<usize>
     ensures place { result ≡ position is_dot word.now }
     ensures within { IfSome result (λ dot. dot < length word.now) }

@@ -1,8 +1,8 @@
 //! A script: events as lines of text, and the run that plays them over a network.
 //!
 //! `run` takes any `Network` that was made for the plan, and writes the reply to each event and
-//! then the tickets of the calls that it ended. `read_event` and
-//! `write_event` are one line, both ways.
+//! then the tickets of the calls that it ended. `read_event` and `write_event` are one line, both
+//! ways.
 //!
 //! ```
 //! fn run_one_call<N: Network>(

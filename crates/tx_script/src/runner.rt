@@ -1,9 +1,10 @@
 // The run of a script over a network.
 ghost use Rattle.std.specs.Prelude.{◌≡◌, codes, if◌then◌else◌, true};
-ghost use Rattle.tx_text.specs.Calls.{CallsAtMost, Broken, source_calls};
+ghost use Rattle.tx_text.specs.Calls.{CallsAtMost, source_calls};
+ghost use Rattle.tx_text.specs.Ends.{input, output};
 ghost use Rattle.tx_text.specs.inner.Framing.{frame_start};
 ghost use Rattle.tx_text.specs.Frame.{is_read};
-ghost use Rattle.tx_script.specs.Answers.{RunAnswers, IsFresh, mark_after};
+ghost use Rattle.tx_script.specs.Answers.{RunAnswers, IsFresh, states, mark_after};
 ghost use Rattle.tx_script.specs.TellingAnswers.{NoneReleasing, TellingAnswers};
 ghost use Rattle.tx_script.specs.inner.Counting.{AreNew, asked_of};
 
@@ -37,16 +38,9 @@ pub fn run<A: Allocator, B: Allocator, N: Network, R: Source, W: Sink>(
     requires plan { N.plan net.old ≡ plan.now }
     requires fresh { IsFresh (N.state net.old) }
     ensures plan { N.plan net.new ≡ plan.now }
-    ensures answers { RunAnswers plan.now (record {
-      rest_old = R.rest source.old;
-      rest_new = R.rest source.new;
-      taken_old = W.taken sink.old;
-      taken_new = W.taken sink.new;
-      state_old = N.state net.old;
-      state_new = N.state net.new;
-    })
-        (Broken R.called (R.failed source.new) source_calls source.old source.new)
-        ((source.new ≡ source.old) × (sink.new ≡ sink.old) × (net.new ≡ net.old)) result }
+    ensures answers { RunAnswers plan.now
+        (input R.rest R.failed R.called source.old source.new)
+        (states N.state net.old net.new) (output W.taken sink.old sink.new) result }
     ensures mark { W.failed sink.new ≡ mark_after (W.failed sink.old) result }
     ensures calls { CallsAtMost R.called source_calls source.old source.new }
 {
@@ -72,16 +66,9 @@ pub fn run_telling<A: Allocator + Copy, B: Allocator, N: Network, R: Source, W: 
     requires fresh { IsFresh (N.state net.old) }
     requires released { telling.summary ≡ true → NoneReleasing (N.state net.old) }
     ensures plan { N.plan net.new ≡ plan.now }
-    ensures answers { TellingAnswers plan.now telling (record {
-      rest_old = R.rest source.old;
-      rest_new = R.rest source.new;
-      taken_old = W.taken sink.old;
-      taken_new = W.taken sink.new;
-      state_old = N.state net.old;
-      state_new = N.state net.new;
-    })
-        (Broken R.called (R.failed source.new) source_calls source.old source.new)
-        ((source.new ≡ source.old) × (sink.new ≡ sink.old) × (net.new ≡ net.old)) result }
+    ensures answers { TellingAnswers plan.now telling
+        (input R.rest R.failed R.called source.old source.new)
+        (states N.state net.old net.new) (output W.taken sink.old sink.new) result }
     ensures mark { W.failed sink.new ≡ mark_after (W.failed sink.old) result }
     ensures calls { CallsAtMost R.called source_calls source.old source.new }
 {
@@ -111,16 +98,9 @@ fn run_script<A: Allocator, B: Allocator, N: Network, R: Source, W: Sink>(
     requires fresh { IsFresh (N.state net.old) }
     requires counts { AreNew plan.now (N.state net.old) teller.old.counts }
     ensures plan { N.plan net.new ≡ plan.now }
-    ensures answers { TellingAnswers plan.now (asked_of teller.old.echo teller.old.counts) (record {
-      rest_old = R.rest source.old;
-      rest_new = R.rest source.new;
-      taken_old = W.taken sink.old;
-      taken_new = W.taken sink.new;
-      state_old = N.state net.old;
-      state_new = N.state net.new;
-    })
-        (Broken R.called (R.failed source.new) source_calls source.old source.new)
-        ((source.new ≡ source.old) × (sink.new ≡ sink.old) × (net.new ≡ net.old)) result }
+    ensures answers { TellingAnswers plan.now (asked_of teller.old.echo teller.old.counts)
+        (input R.rest R.failed R.called source.old source.new)
+        (states N.state net.old net.new) (output W.taken sink.old sink.new) result }
     ensures mark { W.failed sink.new ≡ mark_after (W.failed sink.old) result }
     ensures calls { CallsAtMost R.called source_calls source.old source.new }
 {
@@ -147,16 +127,9 @@ fn run_lines<A: Allocator, B: Allocator, N: Network, R: Source, W: Sink>(
     requires fresh { IsFresh (N.state net.old) }
     requires counts { AreNew plan.now (N.state net.old) teller.old.counts }
     ensures plan { N.plan net.new ≡ plan.now }
-    ensures answers { TellingAnswers plan.now (asked_of teller.old.echo teller.old.counts) (record {
-      rest_old = R.rest source.old;
-      rest_new = R.rest source.new;
-      taken_old = W.taken sink.old;
-      taken_new = W.taken sink.new;
-      state_old = N.state net.old;
-      state_new = N.state net.new;
-    })
-        (Broken R.called (R.failed source.new) source_calls source.old source.new)
-        ((source.new ≡ source.old) × (sink.new ≡ sink.old) × (net.new ≡ net.old)) result }
+    ensures answers { TellingAnswers plan.now (asked_of teller.old.echo teller.old.counts)
+        (input R.rest R.failed R.called source.old source.new)
+        (states N.state net.old net.new) (output W.taken sink.old sink.new) result }
     ensures mark { W.failed sink.new ≡ mark_after (W.failed sink.old) result }
     ensures calls { CallsAtMost R.called source_calls source.old source.new }
 {

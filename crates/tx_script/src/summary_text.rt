@@ -30,7 +30,7 @@ pub(crate) fn write_summary<A: Allocator, B: Allocator, W: Sink>(
     write_parts(&[b"END SUMMARY\n"], sink)
 }
 
-/// All causes, in the order in which they are told.
+/// All causes, in the order in which they are printed.
 fn causes() -> [Cause; 9]
     ensures { result ≡ causes }
 {

@@ -30,7 +30,7 @@ abbrev pub version_of : ℕ → List ℕ → Option ℕ
 version_of most v = if bytes_eq v (codes "1")
     then Some 1 else if nat_le 2 most && bytes_eq v (codes "2") then Some 2 else None
 
--- the version that a header with this key tells
+-- the version that a header with this key names
 abbrev pub header_of : List ℕ → ℕ → List (List ℕ) → Option ℕ
 header_of key most [] = None
 header_of key most (w ∷ []) = None
@@ -59,13 +59,13 @@ closing Start = Some NoHeader
 closing Body = Some NoEnd
 closing Ended = None
 
--- what is wrong where an unfinished line with words stands last
+-- what is wrong where an unfinished line with words is last
 abbrev pub last_by : Bool → FramePart → Option FrameFault
 last_by end Start = if end then Some NoHeader else Some NoEnd
 last_by end Body = if end then None else Some NoEnd
 last_by end Ended = Some AfterEnd
 
--- What is wrong where an unfinished line with these words stands last.
+-- What is wrong where an unfinished line with these words is last.
 abbrev pub last_fault : FramePart → List (List ℕ) → Option FrameFault
 last_fault p [] = closing p
 last_fault p (w ∷ ws) = last_by (is_end (w ∷ ws)) p
@@ -110,7 +110,7 @@ pub record EndsAs {X : Type 0} (old new : Option (List ℕ))
   pub moves : Moves old new read
   pub gives : F e read ≡ x
 
--- x stands whatever follows, or the bytes are at their end and it is x then
+-- x holds whatever follows, or the bytes are at their end and it is x then
 abbrev pub Stands : {X : Type 0} → (old new : Option (List ℕ))
     → (Ending → List ℕ → X) → X → Type 0
 Stands old new F x = ReadsOn old new F (λ _ _. x) ⊎ (EndsAs old new F AtEnd x × IsAtEnd new)

@@ -45,7 +45,7 @@ abbrev pub DeclaredBy : {S W : Type 0} → Result S W → Bool → W → Type 0
 DeclaredBy r true x = is_ok r ≡ true
 DeclaredBy r false x = r ≡ Err x
 
--- Declaring a line did what it declares, or told its fault, or memory ran out.
+-- Declaring a line did what it declares, or answered its fault, or memory ran out.
 abbrev pub Declared : {S W U : Type 0} → (W → Bool) → Result S W → S → Result U W → Type 0
 Declared memory r new (Ok x) = r ≡ Ok new
 Declared memory r new (Err x) = DeclaredBy r (memory x) x
@@ -65,7 +65,7 @@ is_no_room NoMemory = true
 is_no_room k = false
 
 -- A fault of the frame is the one that the text has, unless the reader had no memory: then it is
--- told of line 1, before anything is read.
+-- answered at line 1, before anything is read.
 abbrev pub StoppedBy : {S W : Type 0} → Option (List ℕ) → Option (List ℕ) → (Ending → List ℕ
     → Result S (ℕ × FaultKind W)) → (broken untouched : Type 0) → Bool → ℕ → FrameFault → Type 0
 StoppedBy old new F broken untouched true n k = (n ≡ 1) × untouched

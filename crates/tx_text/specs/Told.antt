@@ -40,7 +40,7 @@ abbrev pub told_end : Ending → Told
 told_end AtEnd = Closed
 told_end Cut = Faulty Read
 
--- what lines tell whose text ends in this way
+-- the lines of a text that ends in this way, up to its first fault
 unfoldable pub told : Ending → List Line → Told
 told e [] = told_end e
 told e (l ∷ ls) = told_line e l.finished l (told e ls)

@@ -11,17 +11,17 @@ is_blank b = b == 32 || b == 9
 abbrev pub is_hash : ℕ → Bool
 is_hash b = b == 35
 
--- Some byte stands there.
+-- Some byte is there.
 abbrev pub is_filled : List ℕ → Bool
 is_filled [] = false
 is_filled (b ∷ bs) = true
 
--- what stands before the first element that passes
+-- what is before the first element that passes
 abbrev pub before : (ℕ → Bool) → List ℕ → List ℕ
 before p [] = []
 before p (b ∷ bs) = if p b then [] else b ∷ before p bs
 
--- the words of a line: what stands between blanks, up to the comment
+-- the words of a line: what is between blanks, up to the comment
 unfoldable pub words_of : List ℕ → List (List ℕ)
 words_of line = filter is_filled (slice_split is_blank (before is_hash line))
 

@@ -63,7 +63,7 @@ impl<A: Allocator> LineFeeder<A> {
         })
     }
 
-    /// Counts a line that stands whole elsewhere, of so many bytes and an LF, and returns where it
+    /// Counts a line that is whole elsewhere, of so many bytes and an LF, and returns where it
     /// starts. Where a line has begun here, or one was faulty, it does nothing.
     pub(crate) fn pass(&mut self, len: usize) -> Option<usize>
         requires { self.old.start + len + 1 < 2 ^ 64 - 1 }
@@ -92,7 +92,7 @@ impl<A: Allocator> LineFeeder<A> {
         self.number
     }
 
-    /// Lets the completed line go.
+    /// Drops the completed line.
     fn begin(&mut self)
         ensures { self.new ≡ record self.old { line = None } }
     {
@@ -110,8 +110,8 @@ impl<A: Allocator> LineFeeder<A> {
         self.fault = Some(fault);
     }
 
-    /// Takes the bytes of a piece up to and with the first LF, or all of them. `Err` tells that the
-    /// line is too long or has a bad byte.
+    /// Takes the bytes of a piece up to and with the first LF, or all of them. `Err`: the line
+    /// is too long or has a bad byte.
     pub fn feed(&mut self, piece: &[u8]) -> Result<Fed, TextFault>
         requires { self.old.start + length self.old.begun + length piece.now < 2 ^ 64 - 1 }
         ensures gives { result ≡ feed_gives self.old piece.now }
@@ -164,8 +164,8 @@ impl<A: Allocator> LineFeeder<A> {
         None
     }
 
-    /// The text came to its end: returns whether an unfinished line stands, and completes it. `Err`
-    /// tells that this line is too long or has a bad byte.
+    /// The text came to its end: returns whether there is an unfinished line, and completes it.
+    /// `Err`: this line is too long or has a bad byte.
     pub fn finish(&mut self) -> Result<bool, TextFault>
         ensures gives { result ≡ finish_gives self.old }
         ensures leaves { self.new ≡ finish_leaves self.old }

@@ -8,7 +8,7 @@ ghost use Rattle.tx_text.specs.inner.Framing.{end_as, frame_start, line_of_frame
 ghost use Rattle.tx_text.specs.declared.frame.FaultKind.TheVariants.{Frame};
 ghost use Rattle.tx_text.specs.Calls.{source_calls, slice_calls, CallsAtMost, Broken};
 
-use crate::line_words::{Words, words};
+use crate::line_words::Words;
 use crate::reader::TextReader;
 use crate::source::Source;
 use crate::text_fault::TextFault;
@@ -107,7 +107,7 @@ pub enum FramePart {
     Start,
     /// Between the header and END.
     Body,
-    /// Behind END.
+    /// After END.
     Ended,
 }
 
@@ -153,7 +153,7 @@ pub enum LineForm {
     Plain,
     /// The line of the one word END.
     End,
-    /// A line that cannot stand there.
+    /// A line that cannot be there.
     Bad(FrameFault),
 }
 
@@ -190,12 +190,12 @@ fn header(key: &[u8], most: u8, words: Words<'_>) -> Option<u8>
 pub fn look(key: &[u8], most: u8, phase: FramePart, line: &[u8]) -> LineForm
     ensures { result ≡ looked (header_of key.now most) phase (words_of line.now) }
 {
-    let mut all = words(line);
+    let mut all = Words::new(line);
     let Some(first) = all.next() else {
         return LineForm::Blank;
     };
     match phase {
-        FramePart::Start => match header(key, most, words(line)) {
+        FramePart::Start => match header(key, most, Words::new(line)) {
             Some(version) => LineForm::Header(version),
             None => LineForm::Bad(FrameFault::NoHeader),
         },
@@ -225,11 +225,11 @@ pub fn closing(phase: FramePart) -> Option<FrameFault>
 pub fn last_fault(phase: FramePart, line: &[u8]) -> Option<FrameFault>
     ensures { result ≡ last_fault phase (words_of line.now) }
 {
-    let mut all = words(line);
+    let mut all = Words::new(line);
     if all.next().is_none() {
         return closing(phase);
     }
-    let end = is_end(words(line));
+    let end = is_end(Words::new(line));
     match phase {
         FramePart::Start => {
             if end {
@@ -328,7 +328,7 @@ impl<'k, A: Allocator> FrameReader<'k, A> {
     }
 
     /// Goes on to the header, to the next line with words or to the end. `Err` is the first fault,
-    /// with its line. A fault before the end of the source stands whatever bytes follow; a read
+    /// with its line. A fault before the end of the source is one whatever bytes follow; a read
     /// fault means that the source failed, or was not at its end after so many calls.
     pub fn advance<R: Source>(&mut self, source: &mut R) -> Result<FrameStep, FrameStop>
         requires { IsSound self.old }
@@ -378,7 +378,7 @@ impl<'k, A: Allocator> FrameReader<'k, A> {
         }
     }
 
-    /// The number of the line that stands, from 1.
+    /// The number of the present line, from 1.
     pub fn number(&self) -> u64
         requires { IsSome (line_of_frame self.now) }
         ensures { result ≡ number_of_line (line_of_frame self.now) }
@@ -386,11 +386,11 @@ impl<'k, A: Allocator> FrameReader<'k, A> {
         self.reader.line().number
     }
 
-    /// The words of the line that stands.
+    /// The words of the present line.
     pub fn words(&self) -> Words<'_>
         requires { IsSome (line_of_frame self.now) }
         ensures { result ≡ words_of_line (line_of_frame self.now) }
     {
-        words(self.reader.line().text)
+        Words::new(self.reader.line().text)
     }
 }

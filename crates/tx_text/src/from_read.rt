@@ -1,4 +1,4 @@
-// std's readers as sources, whose bytes are not told.
+// std's readers as sources, whose bytes are not seen.
 ghost use Rattle.std.specs.Prelude.{◌≡◌, false};
 
 use crate::source::{ReadFault, Source};
@@ -6,7 +6,7 @@ use std::io::Read;
 use std::marker::Model;
 
 /// A source over a reader of the standard library. Any error of the reader is a failure, and stays
-/// one. The calls are counted. It does not tell its bytes.
+/// one. The calls are counted. It does not show its bytes.
 #[derive(Debug, Drop)]
 pub struct FromRead<R> {
     reader: R,

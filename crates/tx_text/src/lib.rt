@@ -22,6 +22,7 @@ mod reading;
 mod sink;
 mod slice_source;
 mod source;
+mod split;
 mod text_fault;
 mod to_write;
 
@@ -33,7 +34,7 @@ pub use frame::{
 };
 pub use from_read::FromRead;
 pub use line::TextLine;
-pub use line_words::{Words, words};
+pub use line_words::Words;
 pub use lines::{Lines, first_line};
 pub use memory_sink::MemorySink;
 pub use memory_source::MemorySource;
@@ -45,5 +46,6 @@ pub use reading::{Declares, read_slice, read_text};
 pub use sink::{Sink, WriteFault, write_bytes, write_parts};
 pub use slice_source::{SliceSource, slices_are_read_whole};
 pub use source::{ReadFault, Source};
+pub use split::words;
 pub use text_fault::TextFault;
 pub use to_write::ToWrite;

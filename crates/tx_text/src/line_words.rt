@@ -36,7 +36,7 @@ impl<'a> Words<'a> {
         Words { rest: line }
     }
 
-    /// What is left of the line: these words, and what stands around them.
+    /// What is left of the line: these words, and what is around them.
     pub fn rest(&self) -> &'a [u8]
         ensures { words_of result.now ≡ self.now }
     {
@@ -119,7 +119,7 @@ impl<'a> Iterator for Words<'a> {
     }
 }
 
-/// How many blanks stand at the front.
+/// How many blanks are at the front.
 fn count_blanks(text: &[u8]) -> usize
     ensures within { result ≤ length text.now }
     ensures count { result ≡ prefix_len is_blank text.now }
@@ -139,7 +139,7 @@ fn word_len(text: &[u8]) -> usize
     end.unwrap_or(text.len())
 }
 
-/// The first word, and what stands after it.
+/// The first word, and what follows it.
 fn first_word(text: &[u8]) -> Option<(&[u8], &[u8])>
     ensures { MatchOption result (words_of text.now ≡ [])
         (λ x. words_of text.now ≡ x.0.now ∷ words_of x.1.now) }
@@ -151,11 +151,4 @@ fn first_word(text: &[u8]) -> Option<(&[u8], &[u8])>
     } else {
         Some((word, rest))
     }
-}
-
-/// The words of a line, which spaces and tabs separate, up to a `#`.
-pub fn words(line: &[u8]) -> Words<'_>
-    ensures { result ≡ words_of line.now }
-{
-    Words::new(line)
 }

@@ -65,7 +65,7 @@ impl<'a> Iterator for Lines<'a> {
     }
 }
 
-/// What is left of a text: its bytes, how many lines stand before them, and where they start.
+/// What is left of a text: its bytes, how many lines are before them, and where they start.
 #[derive(Clone, Copy)]
 struct Left<'a> {
     rest: &'a [u8],

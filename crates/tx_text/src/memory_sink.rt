@@ -1,4 +1,4 @@
-// A sink over memory, which tells its bytes.
+// A sink over memory, which shows its bytes.
 ghost use Rattle.std.specs.Prelude.{◌≡◌, IfOk, IfErr, false, []};
 ghost use Rattle.tx_text.specs.declared.no_memory.NoMemory.{NoMemory};
 

@@ -1,4 +1,4 @@
-// A source over memory that tells its bytes, and fails where it is told to.
+// A source over memory that shows its bytes, and fails where it is asked to.
 ghost use Rattle.std.specs.Prelude.{◌≡◌, ◌<◌, false};
 ghost use Rattle.tx_text.specs.inner.Memory.{is_due, sooner};
 

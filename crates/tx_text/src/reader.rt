@@ -78,7 +78,7 @@ pub fn bytes_fault(line: &[u8]) -> Option<TextFault>
     Some(TextFault::BadByte)
 }
 
-/// Where the first LF stands, or the length.
+/// Where the first LF is, or the length.
 pub(crate) fn lf_or_len(piece: &[u8]) -> usize
     ensures within { result ≤ length piece.now }
     ensures place { result ≡ position_or_len is_lf piece.now }
@@ -86,7 +86,7 @@ pub(crate) fn lf_or_len(piece: &[u8]) -> usize
     memchr(b'\n', piece).unwrap_or(piece.len())
 }
 
-/// Reads a text from a source, line by line. A line that stands whole in the bytes that were read
+/// Reads a text from a source, line by line. A line that is whole in the bytes that were read
 /// is lent from there, and the feeder holds the others.
 #[derive(Debug, Drop)]
 pub(crate) struct TextReader<A: Allocator = Global> {
@@ -151,7 +151,7 @@ impl<A: Allocator> TextReader<A> {
         Ok(fed.line)
     }
 
-    /// Lends the first line of the bytes that were read, and tells so, where it stands whole there
+    /// Lends the first line of the bytes that were read, and says so, where it is whole there
     /// and is right.
     fn lend(&mut self) -> bool
         ensures known { IsFeed self.old.feed }
@@ -272,7 +272,7 @@ fn part(piece: &[u8], from: usize, to: usize) -> &[u8]
 }
 
 /// How many bytes the first line of a piece has before its LF, and how many without the CR before
-/// it, where the line stands whole there and is right.
+/// it, where the line is whole there and is right.
 fn whole_line(piece: &[u8]) -> Option<(usize, usize)>
     ensures lf { IfSome result (λ line. has_lf piece.now ≡ true) }
     ensures len { IfSome result (λ line. line.0 ≡ length (front_of piece.now)) }

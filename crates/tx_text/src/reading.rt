@@ -31,7 +31,7 @@ pub trait Declares {
 
 /// Reads a text from a source, to its end, in pieces of any size and by at most 4,294,967,295
 /// calls. Its header is the key and a version from 1 to `most`. `Err` is the first fault, with its
-/// line. A fault before the end stands whatever bytes follow.
+/// line. A fault before the end is one whatever bytes follow.
 pub fn read_text<D: Declares + Drop, R: Source, A: Allocator>(
     alloc: A,
     key: &[u8],

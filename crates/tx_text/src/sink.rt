@@ -15,7 +15,7 @@ pub struct WriteFault;
 
 /// Where bytes go.
 pub trait Sink {
-    // The bytes that were taken, where the sink tells them.
+    // The bytes that were taken, where the sink shows them.
     ghost taken: { Self → Option (List ℕ) };
 
     // Whether the last call failed.

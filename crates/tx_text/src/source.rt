@@ -13,7 +13,7 @@ pub struct ReadFault;
 
 /// Where bytes come from.
 pub trait Source {
-    // The bytes still to come, where the source tells them.
+    // The bytes still to come, where the source shows them.
     ghost rest: { Self → Option (List ℕ) };
 
     // Whether the last call failed.

@@ -1,4 +1,4 @@
-// std's writers as sinks, whose bytes are not told.
+// std's writers as sinks, whose bytes are not seen.
 ghost use Rattle.std.specs.Prelude.{◌≡◌, false};
 
 use crate::sink::{Sink, WriteFault};
@@ -6,7 +6,7 @@ use std::io::Write;
 use std::marker::Model;
 
 /// A sink over a writer of the standard library. Any error of the writer is a failure, and so is a
-/// call that takes nothing; a failure stays one. It does not tell its bytes.
+/// call that takes nothing; a failure stays one. It does not show its bytes.
 #[derive(Debug, Drop)]
 pub struct ToWrite<W> {
     writer: W,

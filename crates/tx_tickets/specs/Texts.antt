@@ -23,6 +23,7 @@ circuit_text p x = group_name p x.group ++ (codes "." ++ decimal x.number)
 abbrev pub line_text : Plan → Line → List ℕ
 line_text p l = figures_of p l.code ++ (codes " " ++ l.national)
 
+-- the word of a service code
 abbrev pub service_text : Service → List ℕ
 service_text Occ = codes "OCC"
 service_text Nc = codes "NC"
@@ -55,11 +56,12 @@ events_text t = decimal t.keyed_at ++ (codes " " ++ (decimal t.ended_at ++ codes
 abbrev pub why_text : Plan → Ended → List ℕ
 why_text p t = cause_text t.cause ++ (codes " VIA " ++ exchange_name p t.start)
 
--- THE LINE OF A TICKET
+-- The line of a ticket
 abbrev pub ticket_text : Plan → Ended → List ℕ
 ticket_text p t = caller_text p t
     ++ (events_text t ++ (why_text p t ++ (flat_map (hop_text p) t.path ++ codes "\n")))
 
+-- the code of a refusal
 abbrev pub refusal_text : Refusal → List ℕ
 refusal_text UnknownCall = codes "M1"
 refusal_text NotStanding = codes "M2"
@@ -79,7 +81,7 @@ abbrev pub stands_text : Bool → List ℕ
 stands_text true = codes " STANDS"
 stands_text false = codes " NC"
 
--- THE LINE OF A REPLY
+-- The line of a reply
 abbrev pub reply_text : Plan → Reply → List ℕ
 reply_text p (Keyed n) = codes "KEYED " ++ (decimal n ++ codes "\n")
 reply_text p (Seized x) = codes "SEIZED " ++ (circuit_text p x ++ codes "\n")

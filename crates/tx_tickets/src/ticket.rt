@@ -10,15 +10,15 @@ use tx_machine::{Hop, Ticket};
 use tx_plan::Plan;
 use tx_text::{Sink, WriteFault, write_bytes};
 
-/// How many bytes of a ticket's line may are in its room.
+/// How many bytes the room of a ticket's line has.
 const ROOM: usize = 192;
 
 /// A line of more bytes may have no room for one more hop and an LF.
 const FULL: usize = 152;
 
 /// Writes the line of a ticket, with its LF: the call's number, its line, what was keyed, the
-/// events by which it was keyed and ended, why it ended, and its
-/// way. Where the sink fails, a front of the line was taken.
+/// events by which it was keyed and ended, why it ended, and its way. Where the sink fails, a front
+/// of the line was taken.
 pub fn write_ticket<A: Allocator, B: Allocator, W: Sink>(
     ticket: &Ticket<A>,
     plan: &Plan<B>,
@@ -83,7 +83,7 @@ fn put_why<A: Allocator, B: Allocator>(
 }
 
 /// Writes a line that has begun, with each hop after it and an LF. Where the next hop may have no
-/// room, what stands there goes out before it.
+/// room, what is there goes out before it.
 fn write_path<A: Allocator, W: Sink>(
     hops: &[Hop],
     plan: &Plan<A>,

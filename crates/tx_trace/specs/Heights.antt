@@ -27,7 +27,7 @@ height_within p c zero y = if y == home_of p c then Some 0 else None
 height_within p c (suc k) y =
     if y == home_of p c then Some 0 else one_above (map (height_within p c k) (far_ends p c y))
 
--- THE HEIGHT of y. A way that does not come back has fewer steps than there are exchanges.
+-- The height of y. A way that does not come back has fewer steps than there are exchanges.
 abbrev pub height : Plan → (c y : ℕ) → Option ℕ
 height p c y = height_within p c (length p.exchanges) y
 

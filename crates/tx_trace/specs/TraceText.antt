@@ -59,7 +59,7 @@ list_lines p c ranks y =
 abbrev pub met_lines : Plan → (c : ℕ) → (ranks : ℕ → Option ℕ) → (y : ℕ) → List ℕ
 met_lines p c ranks y = if y == home_of p c then home_line p y else list_lines p c ranks y
 
--- THE TRACE: what was asked, the first way, and each exchange that is met
+-- The trace: what was asked, the first way, and each exchange that is met
 abbrev pub trace_text : Plan → (c x : ℕ) → List ℕ
 trace_text p c x =
     head_line p c x ++ (bar_line p c x ++ (way_line p x (first_way p c x)

@@ -11,8 +11,8 @@ use tx_plan::{CodeId, Plan};
 use tx_text::{Sink, WriteFault, write_parts};
 
 /// Writes a line for each code with its home, in order of declaration, and then the least pair of
-/// which one begins the other, or `DISTINCT`. The trie is that
-/// of the plan. Where the sink fails, a front of the text was taken.
+/// which one begins the other, or `DISTINCT`. The trie is that of the plan. Where the sink fails, a
+/// front of the text was taken.
 pub fn write_codes<A: Allocator, W: Sink>(
     plan: &Plan<A>,
     trie: &CodeTrie<A>,

@@ -1,6 +1,5 @@
 //! The destination codes of a plan as a trie: the longest code that begins some figures (ITU-T
-//! F.69), and the least pair of codes of which one begins the
-//! other.
+//! F.69), and the least pair of codes of which one begins the other.
 #![tactic(auto)]
 
 mod codes_writer;

@@ -101,7 +101,7 @@ fn try_plain(alloc: Global, run: Task<'_>, job: &[u8], out: &mut Told) {
     }
 }
 
-/// Returns what a task wrote, and its fault.
+/// Writes what a task wrote, and its fault.
 fn tell_whole(whole: Whole<'_>, out: &mut Told) {
     tell(whole.text, out);
     if let Err(fault) = whole.answer {
@@ -139,7 +139,6 @@ fn play_task(alloc: Global, task: Task<'_>, mode: Mode, out: &mut Told) {
         text: written.taken(),
     };
     play_whole(alloc, task, whole, mode, out);
-    drop(written);
 }
 
 /// Tries that a plan and a script in two texts and in one do the same, and the laws of the run.
@@ -183,5 +182,4 @@ fn play_both(alloc: Global, head: Head<'_>, input: &[u8], out: &mut Told) {
         text: written.taken(),
     };
     try_both(alloc, run, pipe, whole, head, out);
-    drop(written);
 }

@@ -24,8 +24,7 @@ fn stopped(ran: &Ran, fault: JobFault, whole: &[u8]) -> bool {
 }
 
 /// Whether so many bytes of the whole output were written in an event: all of the events before it,
-/// and of its own output nothing, or, where the writer
-/// failed, less than all.
+/// and of its own output nothing, or, where the writer failed, less than all.
 fn is_in_event(event: u64, fault: JobFault, whole: &[u8], written: usize) -> bool {
     if event == 0 {
         return fault == JobFault::NoMemory && written == 0;
@@ -66,9 +65,8 @@ fn try_rooms(alloc: Global, text: Script<'_>, whole: WholeRun<'_>, out: &mut Tol
     }
 }
 
-/// Whether a run that was refused memory stopped where memory may be wanted: in an event that takes
-/// memory, or, for the network or the reader, before
-/// the first.
+/// Whether a run that was refused memory stopped where it may: in an event that takes memory, or,
+/// for the network or the reader, before the first.
 fn wanted_memory(ran: &Ran, script: &[u8], whole: &[u8]) -> bool {
     let Err(RunFault { event, cause }) = ran.end else {
         return false;
@@ -103,7 +101,7 @@ fn try_refusals(alloc: Global, text: Script<'_>, whole: WholeRun<'_>, out: &mut 
     }
 }
 
-/// Returns what was counted of a run.
+/// Writes what was counted of a run.
 pub(crate) fn tell_summary(summary: &Summary, out: &mut Told) {
     tell_count(b"-- ", summary.events, b" events, ", out);
     tell_count(b"", summary.refused, b" refused, ", out);
@@ -111,7 +109,7 @@ pub(crate) fn tell_summary(summary: &Summary, out: &mut Told) {
     tell_count(b"", summary.open_calls, b" open\n", out);
 }
 
-/// Tries the laws of a run, and returns what it counted or where it stopped.
+/// Tries the laws of a run, and writes what it counted or where it stopped.
 pub(crate) fn try_run_laws(alloc: Global, text: Script<'_>, whole: WholeRun<'_>, out: &mut Told) {
     try_reads(alloc, text, whole, out);
     try_rooms(alloc, text, whole, out);

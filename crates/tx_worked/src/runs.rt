@@ -48,8 +48,7 @@ pub(crate) struct WholeRun<'a> {
 }
 
 /// How a run ended, how many bytes it wrote, whether these are a front of what the whole run
-/// writes, and whether the request for memory came that was to be
-/// refused.
+/// writes, and whether the request for memory came that was to be refused.
 #[derive(Clone, Copy)]
 pub(crate) struct Ran {
     pub end: Result<Summary, RunFault>,
@@ -80,11 +79,7 @@ fn run_plain<A: Allocator + Copy>(
     out: &mut MemorySink,
 ) -> Result<Summary, RunFault> {
     match Plain::starting_at(alloc, plan, text.numbers, text.events) {
-        Ok(mut net) => {
-            let end = run(alloc, plan, &mut net, source, out);
-            drop(net);
-            end
-        }
+        Ok(mut net) => run(alloc, plan, &mut net, source, out),
         Err(_) => Err(NOT_BEGUN),
     }
 }
@@ -128,11 +123,7 @@ pub(crate) fn run_text<A: Allocator + Copy>(
     out: &mut MemorySink,
 ) -> Result<Summary, RunFault> {
     match read_plan(alloc, text.plan) {
-        Ok(plan) => {
-            let end = run_over(alloc, &plan, text, source, out);
-            drop(plan);
-            end
-        }
+        Ok(plan) => run_over(alloc, &plan, text, source, out),
         Err(_) => Err(NOT_BEGUN),
     }
 }
@@ -159,11 +150,7 @@ pub(crate) fn run_in_room(
 /// How a script runs, beside what is to be written.
 pub(crate) fn run_beside(alloc: Global, text: Script<'_>, ends: Ends, whole: &[u8]) -> Ran {
     match MemorySink::new(alloc, ends.room) {
-        Ok(mut room) => {
-            let ran = run_in_room(alloc, text, ends, whole, &mut room);
-            drop(room);
-            ran
-        }
+        Ok(mut room) => run_in_room(alloc, text, ends, whole, &mut room),
         Err(_) => Ran {
             end: Err(NOT_BEGUN),
             written: 0,
@@ -180,7 +167,7 @@ pub(crate) fn told_cause(cause: RunCause) -> JobFault {
         RunCause::Write => JobFault::Write,
         RunCause::NoMemory => JobFault::NoMemory,
         RunCause::Script(fault) => match fault.kind {
-            FaultKind::Frame(FrameFault::NoMemory) => { JobFault::NoMemory }
+            FaultKind::Frame(FrameFault::NoMemory) => JobFault::NoMemory,
             _ => JobFault::Script(fault),
         },
     }

@@ -23,11 +23,7 @@ fn same_ranks(plan: &Plan, one: &Cert, other: &Cert) -> bool {
 /// Whether what was read is a certificate with the same ranks.
 fn is_same(plan: &Plan, cert: &Cert, read: Result<Cert, CertFault>) -> bool {
     match read {
-        Ok(back) => {
-            let is_same = same_ranks(plan, cert, &back);
-            drop(back);
-            is_same
-        }
+        Ok(back) => same_ranks(plan, cert, &back),
         Err(_) => false,
     }
 }
@@ -52,7 +48,6 @@ fn write_new(alloc: Global, plan: &Plan, out: &mut Told) {
     match Cert::new(alloc, plan) {
         Ok(cert) => {
             let _ = write_cert(&cert, plan, out);
-            drop(cert);
         }
         Err(_) => tell_broken(b"no memory", 0, out),
     }
@@ -76,7 +71,6 @@ fn write_back_cert(alloc: Global, plan: &Plan, text: &[u8], out: &mut Told) {
                 tell_broken(b"not the same in pieces", 0, out);
             }
             write_and_read(alloc, plan, &cert, out);
-            drop(cert);
         }
         Err(_) => tell_broken(b"no certificate", 0, out),
     }
@@ -95,10 +89,7 @@ const NO_BUFFER: CertFault = CertFault {
 /// Whether memory runs out for a new certificate.
 fn new_wants<A: Allocator>(alloc: A, plan: &Plan<A>) -> bool {
     match Cert::new(alloc, plan) {
-        Ok(cert) => {
-            drop(cert);
-            false
-        }
+        Ok(_) => false,
         Err(_) => true,
     }
 }
@@ -106,10 +97,7 @@ fn new_wants<A: Allocator>(alloc: A, plan: &Plan<A>) -> bool {
 /// Whether memory ran out for a certificate that was read.
 fn has_wanted<A: Allocator>(read: Result<Cert<A>, CertFault>) -> bool {
     match read {
-        Ok(cert) => {
-            drop(cert);
-            false
-        }
+        Ok(_) => false,
         Err(fault) => fault == NO_MEMORY || fault == NO_BUFFER,
     }
 }
@@ -125,11 +113,7 @@ fn cert_wants<A: Allocator + Copy>(alloc: A, plan: &Plan<A>, cert: &[u8]) -> boo
 /// Whether memory runs out for a plan, which is a good one, or for its certificate.
 fn wants<A: Allocator + Copy>(alloc: A, plan: &[u8], cert: &[u8]) -> bool {
     match read_plan(alloc, plan) {
-        Ok(plan) => {
-            let wants = cert_wants(alloc, &plan, cert);
-            drop(plan);
-            wants
-        }
+        Ok(plan) => cert_wants(alloc, &plan, cert),
         Err(_) => true,
     }
 }
@@ -155,7 +139,6 @@ pub(crate) fn play_cert(alloc: Global, plan: &[u8], cert: &[u8], out: &mut Told)
         Ok(plan) => {
             write_new(alloc, &plan, out);
             write_back_cert(alloc, &plan, cert, out);
-            drop(plan);
         }
         Err(_) => tell_broken(b"no plan", 0, out),
     }
@@ -166,7 +149,6 @@ pub(crate) fn play_cert(alloc: Global, plan: &[u8], cert: &[u8], out: &mut Told)
 fn write_again(alloc: Global, plan: &[u8], out: &mut Told) {
     if let Ok(plan) = read_plan(alloc, plan) {
         let _ = write_plan(&plan, out);
-        drop(plan);
     }
 }
 

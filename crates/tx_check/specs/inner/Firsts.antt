@@ -9,6 +9,7 @@ abbrev pub firsts_of : List CheckFault → List CheckFault → List CheckFault �
 firsts_of short unranked not_lower =
     record { short = foremost short; unranked = foremost unranked; not_lower = foremost not_lower }
 
+-- the one fault, or else the other
 abbrev pub or_later : Option CheckFault → Option CheckFault → Option CheckFault
 or_later None later = later
 or_later (Some fault) later = Some fault

@@ -17,6 +17,7 @@ abbrev pub places_cmp : Plan → ℕ × ℕ → ℕ × ℕ → Ordering
 places_cmp p x y = ordering_then (slice_cmp nat_cmp (figures_of p x.0) (figures_of p y.0))
     (slice_cmp nat_cmp (figures_of p x.1) (figures_of p y.1))
 
+-- a pair comes before another
 abbrev pub comes_first : Plan → ℕ × ℕ → ℕ × ℕ → Bool
 comes_first p x y = is_lt (places_cmp p x y)
 
@@ -35,9 +36,10 @@ IsLeastOf p Seen None = (y : ℕ × ℕ) → Seen y → begins p y ≡ true → 
 IsLeastOf p Seen (Some x) = (x.0 < length p.codes) × (x.1 < length p.codes)
     × (begins p x ≡ true) × ((y : ℕ × ℕ) → Seen y → begins p y ≡ true → comes_first p y x ≡ false)
 
--- all pairs of the plan's codes whose first code stands below this place were seen
+-- all pairs of the plan's codes whose first code is below this place were seen
 abbrev pub SeenBelow : Plan → ℕ → ℕ × ℕ → Type 0
 SeenBelow p n y = (y.0 < n) × (y.1 < length p.codes)
 
+-- the least of the pairs that were seen
 abbrev pub IsLeastBelow : Plan → ℕ → Option (ℕ × ℕ) → Type 0
 IsLeastBelow p n least = IsLeastOf p (SeenBelow p n) least

@@ -106,7 +106,7 @@ pub record AreKept (slots : List Slot) (rows : List Row) : Type 0 where
       → slice_get rows h ≡ Some s → g < h → r.start + r.count ≤ s.start
   pub sound : (g : ℕ) (r : Row) → slice_get rows g ≡ Some r → IsSound (group_slots slots r) r.lists
 
--- The slots of one group more, all idle, stand after those of the others.
+-- The slots of one group more, all idle, are after those of the others.
 pub record IsAppended (old new : List Slot) (head : GroupHead)
     (count : ℕ) (row : Row) : Type 0 where
   pub head_is : row.head ≡ head

@@ -1,5 +1,5 @@
--- Lists of free places, linked in an order: `free` tells the places, `rank` the order, and `next`
--- what follows a place, or begins the list.
+-- Lists of free places, linked in an order: `free` says which they are, `rank` in which order, and
+-- `next` what follows a place, or begins the list.
 use Rattle.std.specs.Prelude.{◌≡◌, ℕ, ◌+◌, ◌<◌, ◌≤◌, ◌==◌, Bool, true, cond, List, [], ◌∷◌, Option, Some, None}
 
 -- the links followed from a place give exactly this list

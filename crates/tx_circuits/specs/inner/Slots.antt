@@ -111,8 +111,7 @@ in_order Up n = rising n
 in_order Down n = falling n
 
 -- For each end, the links followed from the list's head give exactly the circuits that are free at
--- that end: upward from the least in rising order,
--- and downward from the greatest in falling order.
+-- that end: upward from the least in rising order, and downward from the greatest in falling order.
 pub record IsSound (slots : List Slot) (lists : FreeLists) : Type 0 where
   pub short : length slots ≤ 240
   pub followed : (end : End) (way : Way) → Follows (chain end way slots (list_of end lists)) None

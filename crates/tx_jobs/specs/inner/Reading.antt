@@ -20,13 +20,15 @@ as_script p = record { input = p.input; ahead = p.ahead }
 abbrev pub plan_of : Seen → Option (List ℕ) → Option (List ℕ)
 plan_of seen left = option_map (λ t. take (end_from seen t) t) left
 
+-- what is left of the script
 abbrev pub script_of : Seen → Option (List ℕ) → Option (List ℕ)
 script_of seen left = option_map (λ t. drop (end_from seen t) t) left
 
--- what is left of the plan, and what stands after it
+-- what is left of the plan, and what follows it
 abbrev pub plan_rest : {R : Type 0} → (R → Option (List ℕ)) → PlanPart R → Option (List ℕ)
 plan_rest rest p = plan_of p.seen (left rest (as_script p))
 
+-- what is left of the script
 abbrev pub script_rest : {R : Type 0} → (R → Option (List ℕ)) → PlanPart R → Option (List ℕ)
 script_rest rest p = script_of p.seen (left rest (as_script p))
 
@@ -57,9 +59,8 @@ pub record LeftInput {R : Type 0} (answer : Result ℕ ReadFault)
   pub held : IfOk answer (λ n. 0 < n → old.ahead.now.held ≢ [])
 
 -- A call of a part with room for so many bytes. It keeps what it is lent. What is over stays so,
--- and gives no bytes. Where there is room for
--- 4,096 bytes it leaves none held, unless the plan is over then. It fails only where the input
--- fails, and each call after it fails.
+-- and gives no bytes. Where there is room for 4,096 bytes it leaves none held, unless the plan is
+-- over then. It fails only where the input fails, and each call after it fails.
 pub record PartCall {R : Type 0} (rest : R → Option (List ℕ)) (failed : R
     → Bool) (called : ℕ → Result ℕ ReadFault → R → R → Type 0) (was_over over : Bool)
     (room : ℕ) (answer : Result ℕ ReadFault) (old new : ScriptPart R) : Type 0 where

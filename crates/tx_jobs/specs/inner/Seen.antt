@@ -37,6 +37,7 @@ at_lf Cr = Over
 at_lf Over = Over
 at_lf seen = Blanks
 
+-- with one byte more
 abbrev pub after : Seen → ℕ → Seen
 after seen b = if is_lf b then at_lf seen else in_line seen b
 

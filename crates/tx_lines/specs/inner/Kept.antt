@@ -40,6 +40,7 @@ module _ {S : Type 0} where
   abbrev pub with_status : (Status → Bool) → IndexMap Line Status S → set.FinSet line_cmp
   with_status test m = set.from_list (filter (passes test m) (index.keys m))
 
+  -- the book of ranges and of a map from lines to statuses
   abbrev pub book_of : List LineRange → IndexMap Line Status S → Book
   book_of ranges m = record {
     ranges = ranges;

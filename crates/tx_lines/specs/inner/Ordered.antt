@@ -11,6 +11,7 @@ use Rattle.tx_plan.specs.declared.range.LineRange.{LineRange}
 abbrev pub Place : Type 0
 Place = ℕ × List ℕ
 
+-- by code, then by width, then by figures
 abbrev pub place_cmp : Place → Place → Ordering
 place_cmp x y = ordering_then (nat_cmp x.0 y.0)
     (ordering_then (nat_cmp (length x.1) (length y.1)) (slice_cmp nat_cmp x.1 y.1))

@@ -10,6 +10,7 @@ use Rattle.tx_lint.specs.Warnings.{Coming, TellsWhereCallsCome, is_listed}
 abbrev pub comes_by : List (List Bool) → Coming
 comes_by marks c x = option_map_or (λ m. is_marked m x) (slice_get marks c) false
 
+-- where calls come, by the marks
 abbrev pub coming_of : {A : Type 0} → Marks A → Coming
 coming_of m = comes_by (map (λ v. v.items) m.coming.items)
 

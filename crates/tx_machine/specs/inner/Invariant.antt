@@ -20,9 +20,8 @@ use Rattle.tx_machine.specs.Passed.{Joins, IsLower, Falls}
 use Rattle.tx_machine.specs.Safe.{IsKeyedLine}
 
 -- Of each call alone: its line is a line of the plan; its hops join; it carries no circuit twice,
--- and none that it has seized; a circuit that it has
--- seized is one of the plan and leads on from where it stands; it is connected to the line that was
--- keyed, and not to its own.
+-- and none that it has seized; a circuit that it has seized is one of the plan and leads on from
+-- where it stands; it is connected to the line that was keyed, and not to its own.
 pub record IsKept (p : Plan) (c : Call) : Type 0 where
   pub known : is_line p c.line ≡ true
   pub joined : Joins p (start_of p c) c.hops
@@ -50,14 +49,14 @@ pub record IsUnused (c : Call) (x : Circuit) : Type 0 where
   pub carried : Among x (circuits_carried c) → ⊥
   pub seized : c.phase ≡ Calling x → ⊥
 
--- the calls stand in order of their numbers
+-- the calls are in order of their numbers
 abbrev pub IsRising : List Call → Type 0
 IsRising [] = Unit {0}
 IsRising (c ∷ cs) = ((d : Call) → Among d cs → c.number < d.number) × IsRising cs
 
 -- Each call is kept so, each two of them are apart, a releasing circuit is unused by all, a number
--- has one call, no call has a number that was not
--- given, and the calls stand in order of their numbers.
+-- has one call, no call has a number that was not given, and the calls are in order of their
+-- numbers.
 pub record Inv (p : Plan) (calls : List Call)
     (releasing : set.FinSet circuit_cmp) (numbers : ℕ) : Type 0 where
   pub each : (c : Call) → Among c calls → IsKept p c
@@ -73,8 +72,8 @@ abbrev pub Holds : Plan → State → Type 0
 Holds p s = Inv p s.calls s.releasing s.numbers
 
 -- Of each call: its line is a line of the plan; without a code it has gone over no circuit; with
--- one, ranks for the code fall along its hops; a
--- circuit that it has seized leads to a lower rank; and where it collided, the rank is above 0.
+-- one, ranks for the code fall along its hops; a circuit that it has seized leads to a lower rank;
+-- and where it collided, the rank is above 0.
 pub record IsRanked (p : Plan) (ranks : Ranks) (c : Call) : Type 0 where
   pub known : is_line p c.line ≡ true
   pub unrouted : code_of p c.keyed ≡ None → c.hops ≡ []

@@ -24,8 +24,8 @@ pub record AreHeld (groups numbers : ℕ) (calls : List Call) : Type 0 where
   pub given : (c : Call) → Among c calls → c.number ≤ numbers
 
 -- What the fields keep: the rules of the plan; room for a ticket of each open call; what holds of
--- the calls; room for the hop of a call that has
--- seized a circuit; marks for all groups of the plan.
+-- the calls; room for the hop of a call that has seized a circuit; marks for all groups of the
+-- plan.
 pub record IsWhole {A : Type 0} (p : Plan) (calls : Vec (OpenCall A) A)
     (tickets : Vec Ended A) (marks : Marks A) (numbers : ℕ) : Type 0 where
   pub rules : IsPlan p

@@ -1,7 +1,7 @@
 -- What a hash of a key computes.
 use Rattle.std.specs.Prelude.{ℕ, ◌*◌, ◌/◌, ◌%◌, ◌^◌, ◌==◌, List, length, take, slice_index, if◌then◌else◌, nat_le, bit_and, bit_xor}
 use Rattle.std.specs.Int.{w16, w32, w64, from_le_bytes}
-use Rattle.tx_plan.specs.declared.names.WordHasher.{WordHasher}
+use Rattle.tx_plan.specs.declared.ids.WordHasher.{WordHasher}
 
 -- nothing is written yet
 abbrev pub start : WordHasher

@@ -13,6 +13,7 @@ use Rattle.tx_rank.specs.declared.explore.Progress.TheVariants.{More, Done, Clos
 use Rattle.tx_rank.specs.declared.mark.Mark.{Mark}
 use Rattle.tx_rank.specs.declared.mark.Mark.TheVariants.{Unseen, Open, Ranked}
 
+-- the rank of a mark
 abbrev pub rank_of : Mark → Option ℕ
 rank_of Unseen = None
 rank_of Open = None
@@ -24,9 +25,11 @@ cost_of Unseen = 2
 cost_of Open = 1
 cost_of (Ranked r) = 0
 
+-- the rank of an exchange
 abbrev pub rank_in : List Mark → ℕ → Option ℕ
 rank_in marks x = option_and_then rank_of (slice_get marks x)
 
+-- the costs of all marks together
 abbrev pub cost : List Mark → ℕ
 cost [] = 0
 cost (m ∷ marks) = cost_of m + cost marks
@@ -37,8 +40,6 @@ pub record IsSettled (n : Net) (ranks : ℕ → Option ℕ) (x r : ℕ) : Type 0
   pub lower : (g : ℕ) → Among g (n.list x) → LeadsBelow n ranks x r g
   pub tight : (r ≡ 1) ⊎ ((g : ℕ) × (y : ℕ) × (m : ℕ)
       × Among g (n.list x) × (n.far g x ≡ Some y) × (ranks y ≡ Some m) × (suc m ≡ r))
-
--- WHAT A PASS KEEPS
 
 -- of the marks: the ranked exchanges are those whose walks were all gone over
 pub record IsMarked (n : Net) (marks : List Mark) : Type 0 where
@@ -128,8 +129,6 @@ pub record IsPassing (n : Net) (marks : List Mark) (i : ℕ) : Type 0 where
   pub none : NoneOpen marks
   pub origins : (x : ℕ) → x < i → n.is_origin x ≡ true → (r : ℕ) × (rank_in marks x ≡ Some r)
 
--- WHAT A PASS LEAVES THAT MET NO LOOP
-
 -- of ranks: those that walks pass are ranked by what their lists lead to
 pub record AreSettled (n : Net) (ranks : ℕ → Option ℕ) : Type 0 where
   pub home : ranks n.home ≡ Some 0
@@ -139,6 +138,7 @@ pub record AreSettled (n : Net) (ranks : ℕ → Option ℕ) : Type 0 where
   pub low : (x r : ℕ) → ranks x ≡ Some r → r ≤ 2 * n.exchanges
   pub within : (x r : ℕ) → ranks x ≡ Some r → x < n.exchanges
 
+-- a pass is over that met no loop
 pub record IsPassed (n : Net) (marks : List Mark) : Type 0 where
   pub long : length marks ≡ n.exchanges
   pub ranks : AreSettled n (rank_in marks)

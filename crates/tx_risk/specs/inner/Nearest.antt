@@ -39,7 +39,7 @@ abbrev pub IsAtDistance : Net → Goal → List (Option ℕ) → (x d : ℕ) →
 IsAtDistance n goal distances x zero = IsGoal n goal x
 IsAtDistance n goal distances x (suc d) = (x ≢ n.home) × (s : ℕ × ℕ) × IsStep n distances x d s
 
--- WHAT IS MEASURED: all exchanges from where a way to a goal has fewer steps than k, and no others.
+-- What is measured: all exchanges from where a way to a goal has fewer steps than k, and no others.
 pub record AreMeasured (n : Net) (goal : Goal) (k : ℕ) (distances : List (Option ℕ)) : Type 0 where
   pub long : length distances ≡ n.exchanges
   pub near : (x d : ℕ) → distance_in distances x ≡ Some d → d < k

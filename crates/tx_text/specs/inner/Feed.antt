@@ -31,7 +31,7 @@ ended f bytes = record f {
   });
 }
 
--- a fault stands from now on
+-- there is a fault from now on
 abbrev pub faulted : Feed → TextFault → Feed
 faulted f x = record f { begun = []; line = None; fault = Some x }
 

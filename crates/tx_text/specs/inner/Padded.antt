@@ -5,7 +5,7 @@ use Rattle.std.specs.Prelude.{◌≡◌, ℕ, ◌-◌, ◌≤◌, ◌++◌, List
 abbrev pub padded_to : ℕ → List ℕ → List ℕ
 padded_to room text = text ++ replicate (room - length text) 0
 
--- The first bytes are the text, and zeros stand after it.
+-- The first bytes are the text, and zeros follow it.
 pub record IsPadded (room len : ℕ) (bytes : List ℕ) : Type 0 where
   pub fits : len ≤ room
   pub short : length (take len bytes) ≡ len

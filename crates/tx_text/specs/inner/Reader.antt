@@ -5,7 +5,7 @@ use Rattle.tx_text.specs.inner.Feed.{Feed}
 use Rattle.tx_text.specs.inner.Reading.{Reading, IsFeed}
 use Rattle.tx_text.specs.declared.reader.TextReader.TheInside.{Inside}
 
--- The line that stands whole in the buffer, where one is lent.
+-- The line that is whole in the buffer, where one is lent.
 abbrev pub lent_line : {A : Type 0} → Inside A → Line
 lent_line a = record {
   number = a.feeder.number;

@@ -7,6 +7,7 @@ use Rattle.tx_plan.specs.Rules.{is_code}
 use Rattle.tx_trie.specs.declared.trie.Node.{Node}
 use Rattle.tx_trie.specs.declared.trie.Row.{Row}
 
+-- a row as a code of the plan
 abbrev pub code_of_row : Row → Code
 code_of_row r = record { figures = r.figures; home = r.home }
 

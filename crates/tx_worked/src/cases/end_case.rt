@@ -4,11 +4,11 @@
 // - `input FILE`: standard input has the bytes of that file, else those of the file `empty`.
 // - `piece N`: a read gives at most N bytes.
 // - `fails NAME N`: read number N of that file fails, or flush number N where it is written.
-// Standard input is `in`.
+//   Standard input is `in`.
 // - `interrupts NAME N`: call number N of that file is interrupted: a read, or a write or flush. It
-// goes on where it is called again.
+//   goes on where it is called again.
 // - `room NAME N`: that file takes N bytes and then fails. Standard output and standard error are
-// `out` and `errors`.
+//   `out` and `errors`.
 // - `unfinished FILE`: that file, which is made, cannot be given its name.
 // - `terminal`: standard input is a terminal.
 // - `shows FILE`: what that file holds in the end is printed.

@@ -13,8 +13,8 @@ pub enum End {
 }
 
 /// What a task or a run is given: how many bytes a call of a source gives, the call of a source
-/// that fails, the request for memory that is refused, or 0 for
-/// none, and the room for what is written.
+/// that fails, the request for memory that is refused, or 0 for none, and the room for what is
+/// written.
 #[derive(Clone, Copy)]
 pub struct Ends {
     pub piece: usize,

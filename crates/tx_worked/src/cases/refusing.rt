@@ -1,6 +1,5 @@
-// An allocator that refuses the request of a chosen number, and passes the others on.
-// A test makes each growth fail in turn: it runs its work over `&Refusing::new(rt.alloc(), n)` for
-// n from 1 on,
+// An allocator that refuses the request of a chosen number, and passes the others on. A test makes
+// each growth fail in turn: it runs its work over `&Refusing::new(rt.alloc(), n)` for n from 1 on,
 // until a run ends before request n comes.
 use std::alloc::{AllocError, Allocator};
 use std::cell::Cell;

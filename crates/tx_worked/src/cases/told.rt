@@ -86,9 +86,9 @@ pub fn tell_parts(texts: &[&[u8]], out: &mut Told) {
 }
 
 /// Tells a number between two texts.
-pub fn tell_count(before: &[u8], count: u64, behind: &[u8], out: &mut Told) {
+pub fn tell_count(before: &[u8], count: u64, after: &[u8], out: &mut Told) {
     let mut digits = Buffer::new();
-    tell_parts(&[before, digits.format(count).as_bytes(), behind], out);
+    tell_parts(&[before, digits.format(count).as_bytes(), after], out);
 }
 
 /// Tells loudly which law a case broke, and at which number first.

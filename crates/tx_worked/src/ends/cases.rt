@@ -10,7 +10,7 @@ use tx_program::{WordsFault, refuse_arguments, tell_words};
 #[derive(Clone, Copy)]
 enum Wrong {
     Arguments(io::ErrorKind),
-    /// Memory was wanting when the words were read.
+    /// Memory ran out when the words were read.
     Words,
 }
 
@@ -22,10 +22,7 @@ static WRONGS: [(&str, Wrong); 3] = [
 
 /// What the program tells where its arguments are no words, and its exit status.
 fn refuse(kind: io::ErrorKind, errors: &mut Vec<u8>) -> u8 {
-    let why = io::Error::from(kind);
-    let status = refuse_arguments(&why, errors);
-    drop(why);
-    status
+    refuse_arguments(&io::Error::from(kind), errors)
 }
 
 /// What the program tells where memory runs out for its words, and its exit status.
@@ -33,14 +30,11 @@ fn refuse_words(alloc: Global, errors: &mut Vec<u8>) -> u8 {
     let fault = WordsFault::NoMemory;
     let mut output = Vec::new(alloc);
     let _ = tell_words(&fault, &mut output, errors);
-    drop(output);
-    let status = fault.status();
-    drop(fault);
-    status
+    fault.status()
 }
 
-/// Returns what the program tells on standard error where something is wrong before there are
-/// words, and its exit status.
+/// Writes what the program tells on standard error where something is wrong before there are words,
+/// and its exit status.
 pub(crate) fn play_arguments(alloc: Global, wrong: &[u8], out: &mut Told) {
     let mut errors = Vec::new(alloc);
     match named(&WRONGS, wrong) {
@@ -54,7 +48,6 @@ pub(crate) fn play_arguments(alloc: Global, wrong: &[u8], out: &mut Told) {
         }
         None => tell_broken(b"nothing is wrong with the arguments", 0, out),
     }
-    drop(errors);
 }
 
 fn tell_refused(errors: &[u8], status: u8, out: &mut Told) {
@@ -63,8 +56,8 @@ fn tell_refused(errors: &[u8], status: u8, out: &mut Told) {
 }
 
 /// Plays the program at its ends over the files of the folder, and tells all that happens there in
-/// order: files opened and made, each read and what it gave,
-/// what each write took, each flush, and then the exit status.
+/// order: files opened and made, each read and what it gave, what each write took, each flush, and
+/// then the exit status.
 pub(crate) fn play_program(rt: &HostRuntime, head: &[u8], out: &mut Told) {
     let Ok(head) = str::from_utf8(head) else {
         return tell_broken(b"the head is no UTF-8 text", 0, out);
@@ -72,7 +65,5 @@ pub(crate) fn play_program(rt: &HostRuntime, head: &[u8], out: &mut Told) {
     let log = Log::new(rt.alloc());
     let case = EndCase::read(rt.alloc(), head);
     play(rt, &case, &log);
-    drop(case);
     log.print(out);
-    drop(log);
 }

@@ -5,7 +5,7 @@ use crate::cases::{EndCase, Log, Refusing, What};
 use crate::ends::stage::Stage;
 use tx_program::{Command, Folder, WordsFault, read_command, run_command, run_words};
 
-/// Plays a case, and returns what happens.
+/// Plays a case, and writes what happens.
 pub(crate) fn play(rt: &HostRuntime, case: &EndCase<'_>, log: &Log) {
     if case.is_bad {
         log.tell("BROKEN:", "no such case");
@@ -44,11 +44,7 @@ fn run(rt: &HostRuntime, case: &EndCase<'_>, log: &Log) -> bool {
 /// a command, and its input could be opened.
 fn run_without(rt: &HostRuntime, case: &EndCase<'_>, log: &Log) -> bool {
     match read_command(rt.alloc(), case.words.as_slice()) {
-        Ok(command) => {
-            let played = refuse_each(rt, case, &command, log);
-            drop(command);
-            played
-        }
+        Ok(command) => refuse_each(rt, case, &command, log),
         Err(_) => false,
     }
 }
@@ -70,12 +66,10 @@ fn refuse_each(rt: &HostRuntime, case: &EndCase<'_>, command: &Command, log: &Lo
             break;
         }
     }
-    drop(last);
     played
 }
 
-/// Returns what happened, whether a request was refused or none, where the same did not happen
-/// last.
+/// Writes what happened, whether a request was refused or none, where the same did not happen last.
 fn tell_change(came: Option<bool>, now: &Log, last: &Log, log: &Log) {
     if let Some(refused) = came {
         if !now.is_as(last) {
@@ -118,10 +112,9 @@ fn read(rt: &HostRuntime, case: &EndCase<'_>, log: &Log) {
         Ok(command) => log.tell_value(command),
         Err(fault) => tell_fault(fault, log),
     }
-    drop(read);
 }
 
-/// Returns why words ask for nothing, and the exit status.
+/// Writes why words ask for nothing, and the exit status.
 fn tell_fault(fault: &WordsFault, log: &Log) {
     match fault {
         WordsFault::Clap(e) => log.tell_value(&e.kind()),

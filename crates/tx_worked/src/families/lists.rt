@@ -46,7 +46,7 @@ pub fn put_list(
     words: &Words<'_>,
     number: u64,
     before: &[u8],
-    behind: &[u8],
+    after: &[u8],
     text: &mut Vec<u8>,
 ) -> Result<(), NoMemory> {
     let mut taken = 0u32;
@@ -60,7 +60,7 @@ pub fn put_list(
         left = (left - 1) / free;
         free -= 1;
         if let Some(word) = take_free(words.again(), &mut taken, place) {
-            put_words(&[before, word, behind], text)?;
+            put_words(&[before, word, after], text)?;
         }
     }
     Ok(())

@@ -11,7 +11,6 @@ pub(crate) fn play_pictures(alloc: Global, head: Head<'_>, text: &[u8], out: &mu
     match read_plan(alloc, text) {
         Ok(plan) => {
             draw_codes(alloc, &plan, head, text, out);
-            drop(plan);
         }
         Err(_) => tell_broken(b"no plan", 0, out),
     }

@@ -54,8 +54,8 @@ fn try_rooms(alloc: Global, task: Task<'_>, whole: Whole<'_>, out: &mut Told) {
     }
 }
 
-/// Refuses each request for memory in turn, which has to make the task want memory, until none is
-/// refused.
+/// Refuses each request for memory in turn, which has to make the task run out of memory, until
+/// none is refused.
 pub(crate) fn try_refusals(alloc: Global, task: Task<'_>, whole: Whole<'_>, out: &mut Told) {
     for refused in 1..MANY {
         let ends = Ends {

@@ -70,7 +70,7 @@ static BEFORE: [&str; 11] = [
     " ambiguous pairs and ",
 ];
 
-/// Returns what there was in a family.
+/// Writes what there was in a family.
 pub fn tell_mends(tally: &MendTally, out: &mut Told) {
     let counts = [
         tally.plans,

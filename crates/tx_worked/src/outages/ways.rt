@@ -68,8 +68,7 @@ fn note_dead(steps: usize, ways: &mut Ways) {
 }
 
 /// Takes in how the walk ends that has come to an exchange by so many steps, and how all end that
-/// go
-/// on from it by at most so many more.
+/// go on from it by at most so many more.
 pub fn note_ways(left: &Left<'_>, at: ExchangeId, steps: usize, more: usize, ways: &mut Ways) {
     if left.is_home(at) {
         ways.home = true;

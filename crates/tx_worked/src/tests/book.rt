@@ -57,7 +57,7 @@ fn tell_marks(book: &LineBook, line: &Line, out: &mut Told) {
     );
 }
 
-/// Returns what is answered for a number.
+/// Writes what is answered for a number.
 fn tell_answer(book: &LineBook, code: CodeId, number: &[u8], out: &mut Told) {
     let text = match book.answer(code, number) {
         LineAnswer::NoLine => b": no line\n".as_slice(),
@@ -90,7 +90,7 @@ fn read_asked(line: &[u8]) -> Asked<'_> {
     }
 }
 
-/// Returns what is found, after what happens to the line, and what is answered.
+/// Writes what is found, after what happens to the line, and what is answered.
 fn play_line(book: &mut LineBook, line: &[u8], out: &mut Told) {
     let Asked {
         code,
@@ -111,16 +111,16 @@ fn play_line(book: &mut LineBook, line: &[u8], out: &mut Told) {
     tell_answer(book, code, number, out);
 }
 
-/// Returns what is found for each line of a case.
+/// Writes what is found for each line of a case.
 pub(crate) fn play_book(book: &mut LineBook, lines: &[u8], out: &mut Told) {
     let mut rest = lines;
     for _ in 0..lines.len() {
-        let Some((line, behind)) = next_line(rest) else {
+        let Some((line, after)) = next_line(rest) else {
             break;
         };
         tell(line, out);
         play_line(book, line, out);
-        rest = behind;
+        rest = after;
     }
 }
 
@@ -138,7 +138,7 @@ fn mark_away(book: &mut LineBook, number: u32) -> bool {
     }
 }
 
-/// Marks the lines of the first code from one number to another away, and returns how many of them
+/// Marks the lines of the first code from one number to another away, and writes how many of them
 /// are found so then.
 pub(crate) fn mark_many(book: &mut LineBook, text: &[u8], out: &mut Told) {
     let (line, _) = next_line(text).unwrap_or((b"", b""));

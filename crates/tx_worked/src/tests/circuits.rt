@@ -43,13 +43,13 @@ fn has_marks(table: &CircuitTable) -> bool {
     table.is_failed(group) || table.is_blocked(group)
 }
 
-/// Returns which number ALFA and BETA take next, or 0 for none.
+/// Writes which number ALFA and BETA take next, or 0 for none.
 fn tell_next(table: &CircuitTable, out: &mut Told) {
     tell_count(b": ", u64::from(next(table, ALFA)), b"", out);
     tell_count(b" ", u64::from(next(table, BETA)), b"\n", out);
 }
 
-/// Tells the new table, and then makes the call of each line and returns what is next after it.
+/// Tells the new table, and then makes the call of each line and writes what is next after it.
 pub(crate) fn tell_circuits(table: &mut CircuitTable, lines: &[u8], out: &mut Told) {
     tell(b"built", out);
     if !has_marks(table) {
@@ -58,7 +58,7 @@ pub(crate) fn tell_circuits(table: &mut CircuitTable, lines: &[u8], out: &mut To
     tell_next(table, out);
     let mut rest = lines;
     for _ in 0..lines.len() {
-        let Some((line, behind)) = next_line(rest) else {
+        let Some((line, after)) = next_line(rest) else {
             break;
         };
         tell(line, out);
@@ -66,7 +66,7 @@ pub(crate) fn tell_circuits(table: &mut CircuitTable, lines: &[u8], out: &mut To
             tell(b", not made", out);
         }
         tell_next(table, out);
-        rest = behind;
+        rest = after;
     }
 }
 
@@ -97,7 +97,7 @@ fn agrees(alloc: Global, plan: &Plan, sequence: u32) -> bool {
     }
 }
 
-/// Tries all sequences of three calls, and returns how many there are.
+/// Tries all sequences of three calls, and writes how many there are.
 pub(crate) fn try_sequences(alloc: Global, plan: &Plan, out: &mut Told) {
     let mut tried = 0u64;
     for sequence in 0..79_507u32 {

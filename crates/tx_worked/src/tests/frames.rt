@@ -24,7 +24,7 @@ fn frame_name(fault: FrameFault) -> &'static [u8] {
 /// Tells a header, an end, or a fault.
 fn tell_step(step: Result<FrameStep, FrameStop>, out: &mut Told) {
     match step {
-        Ok(FrameStep::Header(version)) => { tell_count(b"header ", u64::from(version), b"\n", out) }
+        Ok(FrameStep::Header(version)) => tell_count(b"header ", u64::from(version), b"\n", out),
         Ok(FrameStep::Line) => {}
         Ok(FrameStep::End) => tell(b"end\n", out),
         Err(stop) => {

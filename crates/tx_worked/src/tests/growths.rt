@@ -30,11 +30,11 @@ pub(crate) static MADE: [(&str, Made); 5] = [
 /// What came of it.
 #[derive(Clone, Copy)]
 enum Came {
-    /// All answers are right, and none was when memory runs out.
+    /// All answers are right, and memory never ran out.
     Right,
-    /// The plan wanted memory.
+    /// Memory ran out for the plan.
     NoPlan,
-    /// What was made wanted memory.
+    /// Memory ran out for what was made.
     Wanting,
     /// An answer is wrong.
     Wrong,
@@ -145,16 +145,12 @@ fn came_of(fault: PlanFault) -> Came {
 /// Reads the plan, and makes what is to be made.
 fn make<A: Allocator + Copy>(alloc: A, made: Made, plan: &[u8]) -> Came {
     match read_plan(alloc, plan) {
-        Ok(plan) => {
-            let came = make_over(alloc, made, &plan);
-            drop(plan);
-            came
-        }
+        Ok(plan) => make_over(alloc, made, &plan),
         Err(fault) => came_of(fault),
     }
 }
 
-/// Refuses each request for memory in turn, until none is refused, and returns how many are not the
+/// Refuses each request for memory in turn, until none is refused, and writes how many are not the
 /// plan's.
 pub(crate) fn play_growths(alloc: Global, made: Option<Made>, plan: &[u8], out: &mut Told) {
     let Some(made) = made else {

@@ -61,7 +61,7 @@ impl Cuts {
     }
 }
 
-/// Returns how much was taken, or a fault.
+/// Writes how much was taken, or a fault.
 fn tell_fed(answer: Result<Fed, TextFault>, out: &mut Told) {
     match answer {
         Ok(fed) => tell_count(b"", fed.taken as u64, b" taken\n", out),
@@ -112,7 +112,7 @@ fn feed_pieces(feeder: &mut LineFeeder, text: &[u8], cuts: Cuts, out: &mut Told)
     true
 }
 
-/// Feeds a text, and returns how it ends.
+/// Feeds a text, and writes how it ends.
 fn feed_text(feeder: &mut LineFeeder, text: &[u8], cuts: Cuts, out: &mut Told)
     requires { feeder.old.start + length feeder.old.begun + length text.now ≤ 1000 }
 {

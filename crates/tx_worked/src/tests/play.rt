@@ -51,7 +51,7 @@ pub(crate) static CALLS: [(&str, CallKind); 20] = [
     ("sequences", CallKind::OverPlan(PlanCall::Sequences)),
 ];
 
-/// Plays a case of calls, and returns what they answer.
+/// Plays a case of calls, and writes what they answer.
 pub(crate) fn play_call(
     alloc: Global,
     call: CallKind,

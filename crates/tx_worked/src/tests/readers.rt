@@ -34,7 +34,7 @@ fn declare_all<A: Allocator>(plan: &mut PlanBuilder<A>, wanting: &mut [bool; 8])
     true
 }
 
-/// Returns how many exchanges, codes, ranges, groups, routes and bars.
+/// Writes how many exchanges, codes, ranges, groups, routes and bars.
 fn tell_sizes(plan: &Plan, out: &mut Told) {
     let sizes = [
         plan.exchanges(),
@@ -107,9 +107,8 @@ fn has_groups(plan: &Plan) -> bool {
         && plan.may_seize(group, beta)
 }
 
-/// Returns what the readers of the small plan answer.
+/// Writes what the readers of the small plan answer.
 fn tell_readers(plan: &Plan, out: &mut Told) {
-    plan.rules();
     let answers = [
         has_places(plan),
         has_range(plan),
@@ -160,7 +159,7 @@ fn fill(plan: &mut PlanBuilder) {
     }
 }
 
-/// Returns what the small plan holds, or how much one does that has more than there may be.
+/// Writes what the small plan holds, or how much one does that has more than there may be.
 pub(crate) fn tell_plan(alloc: Global, full: bool, out: &mut Told) {
     let mut builder = PlanBuilder::new(alloc);
     let _ = declare_all(&mut builder, &mut [false; 8]);
@@ -172,7 +171,6 @@ pub(crate) fn tell_plan(alloc: Global, full: bool, out: &mut Told) {
         tell_readers(&plan, out);
     }
     tell_sizes(&plan, out);
-    drop(plan);
 }
 
 /// Declares the small plan with one request for memory refused, marks what found none, and returns
@@ -187,7 +185,7 @@ fn declare_without(alloc: Global, request: u64, wanting: &mut [bool; 8], out: &m
     refusing.has_refused()
 }
 
-/// Refuses each request for memory in turn, until none is refused, and returns which declarations
+/// Refuses each request for memory in turn, until none is refused, and writes which declarations
 /// take memory: the first of each kind.
 pub(crate) fn tell_growths(alloc: Global, out: &mut Told) {
     let mut wanting = [false; 8];

@@ -16,7 +16,7 @@ pub(crate) fn tell_trie(plan: &Plan, trie: &CodeTrie, lines: &[u8], out: &mut To
     }
     let mut rest = lines;
     for _ in 0..lines.len() {
-        let Some((line, behind)) = next_line(rest) else {
+        let Some((line, after)) = next_line(rest) else {
             break;
         };
         let read = match trie.read(line) {
@@ -24,6 +24,6 @@ pub(crate) fn tell_trie(plan: &Plan, trie: &CodeTrie, lines: &[u8], out: &mut To
             None => b"none",
         };
         tell_parts(&[line, b": ", read, b"\n"], out);
-        rest = behind;
+        rest = after;
     }
 }

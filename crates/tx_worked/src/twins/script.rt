@@ -93,10 +93,7 @@ fn take_ticket<P: Network, E: Network>(
 ) -> Result<bool, Halt> {
     let wanted = plain.next_ticket();
     let ticket = engine.next_ticket();
-    let noted = note_tickets(wanted.as_ref(), ticket.as_ref(), picture, tally);
-    drop(wanted);
-    drop(ticket);
-    noted
+    note_tickets(wanted.as_ref(), ticket.as_ref(), picture, tally)
 }
 
 /// Takes all tickets of both networks.
@@ -183,7 +180,5 @@ pub fn play<P: Network, E: Network>(
     tally: &mut EventTally,
 ) -> Result<(), Stop> {
     let mut picture = Picture::new(alloc, script.numbers);
-    let played = play_events(plan, script, plain, engine, memory, &mut picture, tally);
-    drop(picture);
-    played
+    play_events(plan, script, plain, engine, memory, &mut picture, tally)
 }

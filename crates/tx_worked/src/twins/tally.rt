@@ -89,8 +89,8 @@ fn reply_place(reply: &Reply) -> usize {
             ..
         } => match (*a_stands, *b_stands) {
             (true, true) => 4,
+            (true, false) | (false, true) => 5,
             (false, false) => 6,
-            _ => 5,
         },
         Reply::Cleared => 7,
         Reply::Done => 8,
@@ -148,7 +148,17 @@ fn want_place(event: &Event) -> usize {
         Event::Route(_) => 1,
         Event::LineFault(_) => 2,
         Event::LineAway(_) => 3,
-        _ => 4,
+        Event::Confirm(_)
+        | Event::Clear { .. }
+        | Event::Released(_)
+        | Event::Fail(_)
+        | Event::Restore(_)
+        | Event::Block(_)
+        | Event::Unblock(_)
+        | Event::CircuitOut(_)
+        | Event::CircuitIn(_)
+        | Event::LineMend(_)
+        | Event::LineBack(_) => 4,
     }
 }
 
@@ -232,13 +242,13 @@ fn tell_counts(
     tell(b"}\n", out);
 }
 
-/// Returns how many events there were, and how many of them were accepted.
+/// Writes how many events there were, and how many of them were accepted.
 pub fn tell_events(events: u64, accepted: u64, out: &mut Told) {
     tell_count(b"", events, b" events, ", out);
     tell_count(b"", accepted, b" of them accepted\n", out);
 }
 
-/// Returns what was counted, and which events met a refused request.
+/// Writes what was counted, and which events met a refused request.
 pub fn tell_tallies(tallies: &Tallies, out: &mut Told) {
     let tally = &tallies.whole;
     tell(b"in all: ", out);

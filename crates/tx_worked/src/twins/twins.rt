@@ -13,9 +13,9 @@ pub enum Mismatch {
     Ticket,
     /// Memory was refused, and then the counts were other ones than before.
     ChangedByRefusal,
-    /// Memory was wanting again, where no request was refused any more.
+    /// Memory ran out again, where no request was refused any more.
     NoMemory,
-    /// Memory was wanting where no request was refused, or a refused request was passed over.
+    /// Memory ran out where no request was refused, or a refused request was passed over.
     Wanting,
 }
 
@@ -61,8 +61,7 @@ fn apply<E: Network>(engine: &mut E, event: &Event) -> Result<Answer, Mismatch> 
 }
 
 /// Applies an event to both networks, and compares their replies and counts. The answer is that of
-/// the engine, in which memory has to be wanting just where
-/// its memory refuses a request.
+/// the engine, which has to run out of memory exactly where a request is refused.
 pub fn apply_to_both<P: Network, E: Network>(
     plain: &mut P,
     engine: &mut E,

@@ -29,14 +29,8 @@ fn put_replies(
     replies: &mut Vec<Reply>,
 ) -> Result<(), NoMemory> {
     replies.clear();
-    match Plain::new(alloc, plan) {
-        Ok(mut network) => {
-            let driven = drive(&mut network, events, replies);
-            drop(network);
-            driven
-        }
-        Err(fault) => Err(fault),
-    }
+    let mut network = Plain::new(alloc, plan)?;
+    drive(&mut network, events, replies)
 }
 
 /// Adds the exchange that the call passes by an event: where its line is at home, or to which it

@@ -168,9 +168,8 @@ pub fn is_right(
 {
     match counter(alloc, plan, finding, limit, spare)? {
         Some(events) => {
-            let shows = runs_and_shows(alloc, plan, finding, &events, limit, spare, told);
-            drop(events);
-            Ok(shows? && has_script(plan, finding))
+            let shows = runs_and_shows(alloc, plan, finding, &events, limit, spare, told)?;
+            Ok(shows && has_script(plan, finding))
         }
         None => Ok(!has_script(plan, finding)),
     }
@@ -215,15 +214,13 @@ fn holds_as_sample(alloc: Global, plan: &Plan, judged: Judged<'_>, events: &[Eve
 {
     let script = script_of(alloc, plan, events);
     let text = script.text();
-    let holds = reads_back(alloc, judged.text, text, events.len())
-        && refusals_are_told(alloc, judged.text, judged.limit, judged.spare, text);
-    drop(script);
-    holds
+    reads_back(alloc, judged.text, text, events.len())
+        && refusals_are_told(alloc, judged.text, judged.limit, judged.spare, text)
 }
 
 /// Whether the events of the first finding that has some show the first that has to have some. Of a
-/// sample, their script has to be one of these events,
-/// and lack of memory has to be told where they are made.
+/// sample, their script has to be one of these events, and lack of memory has to be told where they
+/// are made.
 fn are_first(
     alloc: Global,
     plan: &Plan,
@@ -268,11 +265,7 @@ fn is_first_right(
     requires each { AllByRecursion (IsTrueOf plan.now judged.limit judged.spare) findings.now }
 {
     match first_counter(alloc, plan, findings, judged.limit, judged.spare)? {
-        Some(events) => {
-            let right = are_first(alloc, plan, findings, &events, judged, told, tally);
-            drop(events);
-            right
-        }
+        Some(events) => are_first(alloc, plan, findings, &events, judged, told, tally),
         None => Ok(first_with_script(plan, findings).is_none()),
     }
 }

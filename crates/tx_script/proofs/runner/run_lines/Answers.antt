@@ -103,13 +103,13 @@ returns-in-Err-answer_line-clause-answers g c =
     let k = c.in-Ok-Line in
     let frame = c.advance.new.self in
     let x = c.in-Err-answer_line in
-    line_halted _ _ _ _ _ _ _ _ _ _ _ _ _ c.lines.invariant.runs _ _ (to_come frame) frame.reader.feed.line k.ensures.gives k.field-0-is _ c.number.ensures _ c.next_number-number.ensures _ _ _ (ap (event_of c.args.plan.now) (sym c.words.ensures) ∙ sym c.event_of-said.ensures) _ _ c.stopped.result x.cause (rw c.lines.invariant.echo at x.ensures.answers) c.stopped.ensures
+    line_halted _ _ _ _ _ _ _ _ _ _ _ _ _ c.lines.invariant.runs _ _ (to_come frame) frame.reader.feed.line k.ensures.gives k.field-0-is _ c.number.ensures _ c.next_number-number.ensures _ _ _ (ap (event_of c.args.plan.now) (sym c.words.ensures) ∙ sym c.event_of-said.ensures) _ _ _ _ c.stopped.result x.cause (rw c.lines.invariant.echo at x.ensures.answers) c.stopped.ensures
 
 pub returns-in-Ok-End-clause-answers : goal.returns-in-Ok-End-clause-answers
 returns-in-Ok-End-clause-answers g c =
     let k = c.in-Ok-End in
     let f = c.finish.ensures in
-    whole_ends _ _ _ _ _ _ _ _ _ _ _ _ _ c.lines.invariant.runs c.rules.ensures c.requires.fresh c.requires.counts _ _ _ _ c.finish.result (end_came _ _ _ _ _ _ _ _ _ _ _ _ _ c.lines.invariant.runs _ _ (to_come c.advance.new.self) c.advance.new.self.reader.feed.line k.ensures.gives k.field-0-is) f.summary f.ok f.fault f.err
+    whole_ends _ _ _ _ _ _ _ _ _ _ _ _ _ c.lines.invariant.runs _ _ _ _ _ _ _ c.rules.ensures c.requires.fresh c.requires.counts refl c.finish.result (end_came _ _ _ _ _ _ _ _ _ _ _ _ _ c.lines.invariant.runs _ _ (to_come c.advance.new.self) c.advance.new.self.reader.feed.line k.ensures.gives k.field-0-is) f.summary f.ok f.fault f.err
 
 pub returns-in-Err-clause-answers : goal.returns-in-Err-clause-answers
 returns-in-Err-clause-answers g c =
@@ -117,7 +117,7 @@ returns-in-Err-clause-answers g c =
     let called = g.R.Source.called in
     let failed = g.R.Source.failed c.advance.new.source in
     let q = stopped_with _ _ _ _ _ (is_read x.fault) _ (broken_on called failed source_calls c.lines.frame.reader.left _ _ _ c.lines.invariant.went) c.in-Err.ensures.gives in
-    stop_ends _ _ _ _ _ _ _ _ _ _ _ _ _ c.lines.invariant.runs _ _ _ c.stopped-in-Err.result x.line x.fault (come_said c.lines.frame) q (c.stopped-in-Err.ensures ∙ ap (λ (z : RunCause). record { event = c.lines.tally.answered + 1; cause = z }) c.frame_cause.ensures)
+    stop_ends _ _ _ _ _ _ _ _ _ _ _ _ _ c.lines.invariant.runs _ _ _ _ _ _ _ refl refl c.stopped-in-Err.result x.line x.fault (come_said c.lines.frame) q (c.stopped-in-Err.ensures ∙ ap (λ (z : RunCause). record { event = c.lines.tally.answered + 1; cause = z }) c.frame_cause.ensures)
 
 pub returns-in-Err-answer_line-clause-mark : goal.returns-in-Err-answer_line-clause-mark
 returns-in-Err-answer_line-clause-mark g c = line_mark _ _ c.lines.invariant.mark _ _ c.stopped.result c.stopped.ensures _ c.in-Err-answer_line.ensures.mark

@@ -1,7 +1,7 @@
 use Rattle.std.proofs.Common.{◌*◌, ◌%◌, ◌^◌}
 use Rattle.std.specs.Prelude.{bit_xor}
 use Rattle.tx_plan.specs.inner.Hashing.{written, multiplied}
-use Rattle.tx_plan.proofs.names.WordHasherHasher.write.Goals as goal
+use Rattle.tx_plan.proofs.ids.WordHasherHasher.write.Goals as goal
 
 pub returns : goal.returns
 unfolding written

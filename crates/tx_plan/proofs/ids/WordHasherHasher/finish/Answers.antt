@@ -1,7 +1,7 @@
 use Rattle.std.proofs.Common.{◌*◌, ◌/◌, ◌^◌}
 use Rattle.std.specs.Prelude.{bit_and, bit_xor}
 use Rattle.tx_plan.specs.inner.Hashing.{spread, multiplied}
-use Rattle.tx_plan.proofs.names.WordHasherHasher.finish.Goals as goal
+use Rattle.tx_plan.proofs.ids.WordHasherHasher.finish.Goals as goal
 
 pub returns : goal.returns
 unfolding spread
