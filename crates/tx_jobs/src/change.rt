@@ -68,7 +68,7 @@ pub fn change_job<A: Allocator + Copy, P: Source, Q: Source, W: Sink>(
 {
     match read_plan_from(alloc, old) {
         Ok(plan) => change_from(alloc, plan, new, limit, spare, out),
-        Err(fault) => Err(ChangeFault::Job(JobFault::of_plan(fault))),
+        Err(fault) => Err(ChangeFault::Job(JobFault::from(fault))),
     }
 }
 
