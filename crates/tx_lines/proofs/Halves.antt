@@ -1,6 +1,6 @@
 -- The ranges that start by a number, counted by halves.
 use Rattle.std.proofs.Common.{◌≡◌, ℕ, ◌+◌, ◌<◌, ◌≤◌, true, false, Bool, List, length, get_or, ap, sym, ◌∙◌, arith}
-use Rattle.std.proofs.lemmas.Bool.{false≢true, false_from_ne_true}
+use Rattle.std.proofs.lemmas.Bool.{false≢true}
 use Rattle.std.specs.List.{AllWithin}
 use Rattle.std.specs.Ordering.{is_le}
 use Rattle.tx_plan.specs.declared.range.LineRange.{LineRange}
@@ -44,6 +44,10 @@ module _ (ranges : List LineRange) (code : ℕ) (number : List ℕ) where
       rising = low;
       within = (let w = halved.within in omega arith);
       starts = halved.starts;
-      misses = λ j d l h. false_from_ne_true (starts_by ranges ordered code number (get_or ranges j d)) (λ t.
+      misses = λ j d l h. not_true (starts_by ranges ordered code number (get_or ranges j d)) (λ t.
           false≢true (sym f ∙ ap (starts_by ranges ordered code number) (sym (at d)) ∙ partitioned ranges ordered code number middle j d l h t));
     }
+      where
+        not_true : (b : Bool) → (b ≡ true → ⊥) → b ≡ false
+        not_true true g = absurd (g (λ i. true))
+        not_true false g = λ i. false
