@@ -1,5 +1,6 @@
 // Why the job of a change stopped.
 ghost use Rattle.std.specs.Prelude.{◌≡◌};
+ghost use Rattle.tx_jobs.specs.declared.change_fault.ChangeFault.TheVariants.{Job};
 ghost use Rattle.tx_jobs.specs.ChangeFaults.{status_of_change, new_plan_fault};
 
 use crate::job_fault::JobFault;
@@ -21,6 +22,14 @@ pub enum ChangeFault {
     TwoNetworks(Difference),
 }
 
+impl From<JobFault> for ChangeFault {
+    ghost from_gives = { λ job fault. fault ≡ Job job };
+
+    fn from(fault: JobFault) -> ChangeFault {
+        ChangeFault::Job(fault)
+    }
+}
+
 impl ChangeFault {
     /// The exit status: 2 for a refused new plan and for two networks, otherwise that of the job's
     /// fault.
@@ -37,7 +46,7 @@ impl ChangeFault {
     pub(crate) fn of_new_plan(fault: PlanFault) -> ChangeFault
         ensures { result ≡ new_plan_fault fault }
     {
-        match JobFault::of_plan(fault) {
+        match JobFault::from(fault) {
             JobFault::Plan(fault) => ChangeFault::NewPlan(fault),
             other => ChangeFault::Job(other),
         }

@@ -11,7 +11,7 @@ use tx_audit::write_grade;
 use tx_plan::Plan;
 use tx_plantext::read_plan_from;
 use tx_rank::{Grade, grade};
-use tx_text::{Sink, Source, WriteFault};
+use tx_text::{Sink, Source};
 
 /// Reads a plan, and writes with which limits and spare numbers it is safe, and each of its codes;
 /// and if it is safe with none, what is wrong with it whatever they are. Answers the grade.
@@ -27,10 +27,8 @@ pub fn grade_job<A: Allocator + Copy, P: Source, W: Sink>(
     ensures mark { W.failed out.new ≡ mark_after (W.failed out.old) result }
     ensures calls { CallsAtMost P.called source_calls plan.old plan.new }
 {
-    match read_plan_from(alloc, plan) {
-        Ok(plan) => tell_grade(alloc, &plan, out),
-        Err(fault) => Err(JobFault::of_plan(fault)),
-    }
+    let plan = read_plan_from(alloc, plan)?;
+    tell_grade(alloc, &plan, out)
 }
 
 /// Does the job of `grade_job`, and answers the exit status: 0 where there is a grade, else 1.
@@ -44,10 +42,8 @@ pub fn grade_status<A: Allocator + Copy, P: Source, W: Sink>(
     ensures mark { W.failed out.new ≡ mark_after (W.failed out.old) result }
     ensures calls { CallsAtMost P.called source_calls plan.old plan.new }
 {
-    match grade_job(alloc, plan, out) {
-        Ok(grade) => Ok(status_of(&grade)),
-        Err(fault) => Err(fault),
-    }
+    let grade = grade_job(alloc, plan, out)?;
+    Ok(status_of(&grade))
 }
 
 fn status_of<A: Allocator>(grade: &Grade<A>) -> u8
@@ -68,11 +64,7 @@ fn tell_grade<A: Allocator + Copy, W: Sink>(
     ensures mark { W.failed out.new ≡ mark_after (W.failed out.old) result }
 {
     plan.rules();
-    match grade(alloc, plan) {
-        Err(_) => Err(JobFault::NoMemory),
-        Ok(grade) => match write_grade(plan, &grade, out) {
-            Ok(()) => Ok(grade),
-            Err(WriteFault) => Err(JobFault::Write),
-        },
-    }
+    let grade = grade(alloc, plan)?;
+    write_grade(plan, &grade, out)?;
+    Ok(grade)
 }

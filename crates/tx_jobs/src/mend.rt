@@ -32,10 +32,8 @@ pub fn mend_job<A: Allocator + Copy, P: Source, W: Sink>(
     ensures mark { W.failed out.new ≡ mark_after (W.failed out.old) result }
     ensures calls { CallsAtMost P.called source_calls plan.old plan.new }
 {
-    match read_plan_from(alloc, plan) {
-        Ok(plan) => tell_mending(alloc, plan, limit, spare, out),
-        Err(fault) => Err(JobFault::of_plan(fault)),
-    }
+    let plan = read_plan_from(alloc, plan)?;
+    tell_mending(alloc, plan, limit, spare, out)
 }
 
 /// The exit status of a mending: 0 where the plan is mended, else 1.
@@ -61,8 +59,5 @@ fn tell_mending<A: Allocator + Copy, W: Sink>(
     ensures told { ToldMending plan limit spare (output W.taken out.old out.new) result }
     ensures mark { W.failed out.new ≡ mark_after (W.failed out.old) result }
 {
-    match report_mend(alloc, plan, limit, spare, out) {
-        Ok(mending) => Ok(mending),
-        Err(fault) => Err(JobFault::of_mend(fault)),
-    }
+    Ok(report_mend(alloc, plan, limit, spare, out)?)
 }

@@ -31,10 +31,8 @@ pub fn run_telling_job<A: Allocator + Copy, P: Source, R: Source, W: Sink>(
     ensures plan_calls { CallsAtMost P.called source_calls plan.old plan.new }
     ensures script_calls { CallsAtMost R.called source_calls script.old script.new }
 {
-    match read_plan_from(alloc, plan) {
-        Ok(plan) => tell_script(alloc, telling, &plan, script, out),
-        Err(fault) => Err(JobFault::of_plan(fault)),
-    }
+    let plan = read_plan_from(alloc, plan)?;
+    tell_script(alloc, telling, &plan, script, out)
 }
 
 /// Runs a script over a network of the plan, from its opening state, and returns what is asked for.
@@ -51,13 +49,8 @@ fn tell_script<A: Allocator + Copy, R: Source, W: Sink>(
     ensures mark { W.failed out.new ≡ mark_after (W.failed out.old) result }
     ensures calls { CallsAtMost R.called source_calls script.old script.new }
 {
-    match Engine::new(alloc, plan) {
-        Err(_) => Err(JobFault::NoMemory),
-        Ok(mut network) => match run_telling(alloc, telling, plan, &mut network, script, out) {
-            Ok(summary) => Ok(summary),
-            Err(fault) => Err(JobFault::of_run(fault)),
-        },
-    }
+    let mut network = Engine::new(alloc, plan)?;
+    Ok(run_telling(alloc, telling, plan, &mut network, script, out)?)
 }
 
 /// The exit status of a run: 1 where it is to be strict and an event was refused, else 0.
