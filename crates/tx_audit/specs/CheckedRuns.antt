@@ -28,11 +28,11 @@ pub record RanFromOpening (p : Plan) (script : Input) (out : Output)
   pub state : State
   pub ran : RunAnswers p script (from_opening state) out answer
 
--- there was no memory for the network: the first event is told, and nothing was read or written
+-- there was no memory for the network: the first event is named, and nothing was read or written
 abbrev pub HadNoRoom : (script : Input) → (out : Output) → RunFault → Type 0
 HadNoRoom script out f = (f ≡ record { event = 1; cause = NoMemory }) × IsUntouched script out
 
--- WHAT A RUN OVER THE ENGINE ANSWERS
+-- What a run over the engine answers
 abbrev pub Simulated : Plan → (script : Input) → (out : Output) → Result Summary RunFault → Type 0
 Simulated p script out (Ok summary) = RanFromOpening p script out (Ok summary)
 Simulated p script out (Err f) = RanFromOpening p script out (Err f) ⊎ HadNoRoom script out f
@@ -44,7 +44,7 @@ pub record IsAllowed (p : Plan) (cert : Certificate) (limit spare : ℕ) : Type 
   pub sound : IsSound p limit spare
   pub few_routes : HasFewRoutes p limit
 
--- WHAT A CHECKED RUN ANSWERS. It ran only after a Yes; after a No it read and wrote nothing, and
+-- What a checked run answers. It ran only after a Yes; after a No it read and wrote nothing, and
 -- returns that No.
 abbrev pub CheckedAnswers : Plan → Certificate → (limit spare : ℕ)
     → (script : Input) → (out : Output) → Result Checked RunFault → Type 0

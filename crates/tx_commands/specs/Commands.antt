@@ -35,7 +35,7 @@ pub record Gives (found : List Row) (id : List ℕ) (n : ℕ) : Type 0 where
 abbrev pub is_set : List Row → List ℕ → Bool
 is_set found id = option_map_or (λ word. bytes_eq word (codes "true")) (first_of id found) false
 
--- they have none of those by which `run` tells more
+-- they have none of those by which `run` prints more
 pub record TellsNoMore (found : List Row) : Type 0 where
   pub strict : is_set found (codes "strict") ≡ false
   pub echo : is_set found (codes "echo") ≡ false

@@ -1,6 +1,5 @@
 -- The words that the program takes, as the library of command lines sees them: commands, whose
--- files
--- go by place and whose options go by name.
+-- files go by place and whose options go by name.
 use Rattle.std.specs.Prelude.{ℕ, List, Some, true, codes, pos}
 use Rattle.clap.specs.Words.{App, Rule, new_app, new_rule, with_rule, with_subcommand}
 use Rattle.clap.specs.declared.builder.action.ArgAction.TheVariants.{Set, SetTrue}
@@ -105,7 +104,7 @@ explain_words =
     with_rule (new_app (codes "explain"))
     (record (new_rule (codes "code")) { value_names = 1; action = Some Set })
 
--- the program takes its words from the first on, tells its version, and has twelve commands
+-- the program takes its words from the first on, prints its version, and has twelve commands
 abbrev pub top_words : App
 top_words =
     let app = new_app (codes "telexplan") in

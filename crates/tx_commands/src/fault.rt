@@ -38,7 +38,7 @@ impl WordsFault {
         }
     }
 
-    /// What clap tells of the words. Its lack of memory is told as such.
+    /// What clap says of the words. Its lack of memory is reported as such.
     pub(crate) fn of_clap(e: clap::Error) -> WordsFault
         ensures { result ≡ fault_of_clap e }
     {

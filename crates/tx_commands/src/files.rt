@@ -82,7 +82,7 @@ fn is_among(files: &[Option<&str>], file: &str) -> bool
     files.contains(&Some(file))
 }
 
-/// Whether standard input stands among these files twice.
+/// Whether standard input is among these files twice.
 fn has_input_twice(files: &[Option<&str>]) -> bool
     ensures { result ≡ has_input_twice (names files.now) }
 {

@@ -1,4 +1,4 @@
-// The words that the program takes, with what it tells of them when asked for help.
+// The words that the program takes, with what its help says of them.
 ghost use Rattle.std.specs.Prelude.{◌≡◌, Ok, IfOk, codes};
 ghost use Rattle.clap.specs.Words.{AddsSubcommand, App, app_of, with_rule};
 ghost use Rattle.clap.specs.declared.builder.command.Command.{Command};
@@ -38,7 +38,7 @@ the verdict; goes with --limit and --spare",
     with_telling(with_bounds(run, alloc, false), alloc)
 }
 
-/// Adds the options by which `run` tells more.
+/// Adds the options by which `run` prints more.
 fn with_telling<'a>(
     run: Result<clap::Command<'a>, AllocError>,
     alloc: Global,

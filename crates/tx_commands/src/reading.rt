@@ -68,7 +68,7 @@ fn in_its_words(
     Ok(WordsFault::of_clap(e))
 }
 
-/// Why the words are refused. What has no fault of its own is told in the words of the library.
+/// Why the words are refused. What has no fault of its own is reported in the words of the library.
 fn words_fault(grammar: &mut clap::Command<'_>, refusal: Refusal) -> Result<WordsFault, AllocError>
     ensures { IfOk result (λ fault. (command : Option (List ℕ × List Row))
         → IsRefused command refusal → IsRefusalIn command fault) }

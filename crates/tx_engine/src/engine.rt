@@ -1,4 +1,5 @@
-// The indexed network: what it keeps, what it knows for the refusals, and what it does with an event.
+// The indexed network: what it keeps, what it knows for the refusals, and what it does with an
+// event.
 ghost use Rattle.std.specs.Prelude.{◌≡◌, IfOk, OnErr, None, true, is_some};
 ghost use Rattle.tx_machine.specs.State.{opening};
 ghost use Rattle.tx_machine.specs.Step.{accepted, counted, takes_memory};
@@ -222,7 +223,8 @@ pub(crate) struct EngineState<'p, A: Allocator> {
 }
 
 impl<'p, A: Allocator + Copy> EngineState<'p, A> {
-    /// Those of the opening state with so many numbers given and so many events accepted.
+    /// What the engine keeps in the opening state with so many numbers given and so many events
+    /// accepted.
     pub(crate) fn build(
         alloc: A,
         plan: &'p Plan<A>,

@@ -1,5 +1,5 @@
--- What a run answers where more is told: each event before its reply, a summary, or that an event
--- was refused.
+-- What a run answers where more is printed: each event before its reply, a summary, or by the exit
+-- status that an event was refused.
 use Rattle.std.specs.Prelude.{◌≡◌, ◌⊎◌, ℕ, Bool, not, ◌&&◌, ◌==◌, if◌then◌else◌, Result}
 use Rattle.tx_plan.specs.Plan.{Plan}
 use Rattle.tx_machine.specs.State.{State}
@@ -12,7 +12,7 @@ use Rattle.tx_jobs.specs.declared.job_fault.JobFault.{JobFault}
 use Rattle.tx_text.specs.Ends.{Input, Output}
 use Rattle.tx_jobs.specs.Jobs.{PlanRead, PlanRefused, HadNoRoom, told_run}
 
--- the script was run over a network of the plan, from the opening state, and its events were told
+-- the script was run over a network of the plan, from the opening state, and its events printed
 pub record ToldPlan (p : Plan) (t : Telling) (script : Input) (out : Output)
     (result : Result Summary JobFault) : Type 0 where
   pub state : State

@@ -49,7 +49,7 @@ impl<'t, A: Allocator + Copy> Reading<'t, A> {
 }
 
 impl<'t, A: Allocator> Reading<'t, A> {
-    /// Returns that a line is at fault, and passes over it.
+    /// Notes that a line is at fault, and passes over it.
     fn tell(&mut self, line: TextLine<'t>, kind: FaultKind<PlanWord>) -> Result<(), NoMemory>
         ensures told { OnOk result (Told self.old self.new (line_of line.entry) kind) }
         ensures same { progress_held self.new ≡ progress_held self.old }

@@ -44,7 +44,10 @@ keyed_in s line keyed = record s {
 abbrev pub failed_at : Plan → ℕ → State → State
 failed_at p g s =
     let t = end_calls p ByLoss (uses_group g) s in
-    record t { failed = set.insert t.failed g; releasing = set.retain t.releasing (λ x. not (x.group == g)) }
+    record t {
+      failed = set.insert t.failed g;
+      releasing = set.retain t.releasing (λ x. not (x.group == g));
+    }
 
 -- the cause of a call that a party clears
 abbrev pub cause_by : Party → Cause

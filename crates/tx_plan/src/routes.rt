@@ -52,7 +52,7 @@ impl GroupList {
         true
     }
 
-    /// Whether no group stands there twice.
+    /// Whether no group is there twice.
     pub fn none_twice(&self) -> bool
         ensures { result ≡ differ self.now }
     {
@@ -68,7 +68,7 @@ impl GroupList {
     }
 }
 
-/// Whether no group stands there twice.
+/// Whether no group is there twice.
 fn none_twice(groups: &[GroupId]) -> bool
     ensures { result ≡ differ groups.now }
 {

@@ -10,12 +10,12 @@ const TRIES: u32 = 100;
 #[derive(Drop)]
 pub struct Draft {
     file: File,
-    /// Where it stands until it is whole. What is no regular file, as a device or a pipe, is
+    /// Where it is until it is whole. What is no regular file, as a device or a pipe, is
     /// written to at once, and so is what the program has open already.
     place: Option<Place>,
 }
 
-/// Where a file stands until it is whole.
+/// Where a file is until it is whole.
 #[derive(Drop)]
 struct Place {
     /// The name of a new file in the same folder.
@@ -109,7 +109,7 @@ impl Draft {
         }
     }
 
-    /// Removes what stands beside the name.
+    /// Removes what is beside the name.
     pub(crate) fn give_up(self, rt: &HostRuntime) {
         if let Some(place) = &self.place {
             let _ = fs::remove_file(rt, place.beside.as_str());

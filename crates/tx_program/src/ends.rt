@@ -84,8 +84,7 @@ impl<W: Write + Drop, A: Allocator> Output<W, A> {
     }
 
     /// A source over a reader, before each of whose reads the output goes out. An output that fails
-    /// then is a failure of the source too: the program tells
-    /// it as the output's.
+    /// then is a failure of the source too: the program reports it as the output's.
     pub(crate) fn source<R: Read + Drop>(
         &self,
         alloc: A,
@@ -101,7 +100,7 @@ impl<W: Write + Drop, A: Allocator> Output<W, A> {
     }
 }
 
-/// An output as a sink, which does not tell its bytes. A call takes all its bytes or fails, and a
+/// An output as a sink, which does not show its bytes. A call takes all its bytes or fails, and a
 /// failure stays one.
 #[derive(Drop)]
 pub(crate) struct OutputSink<'a, W: Write + Drop, A: Allocator> {

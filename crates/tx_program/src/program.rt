@@ -42,7 +42,7 @@ pub struct Ends<'a, F, I: Drop, O: Drop, E: Drop> {
 /// too; of `lint`: after warnings), 2 for a refused text (of `lint`: after faults), 3 for a failed
 /// read or write (of help too), 4 when memory runs out, 64 for refused words, and for a code to
 /// draw, or an exchange or a code to trace, that the plan does not have. Without words, on a
-/// terminal, it prints its help. A fault is told by one line on standard error, and refused words
+/// terminal, it prints its help. A fault is one line on standard error, and refused words
 /// by what the library of command lines says. The words are read with `alloc`, and what they ask
 /// for is done with `memory`.
 pub fn run_words<
@@ -76,7 +76,7 @@ fn do_words<A: Allocator + Copy, F: Folder, I: Read + Drop, O: Write + Drop, E: 
     }
 }
 
-/// Returns why words are refused, and answers the exit status: 3 where a request for help could not
+/// Writes why words are refused, and answers the exit status: 3 where a request for help could not
 /// be written.
 fn refuse_words<F: Folder, I: Read + Drop, O: Write + Drop, E: Write + Drop>(
     fault: &WordsFault,
@@ -120,7 +120,8 @@ pub fn run_command<
     }
 }
 
-/// Returns why a command was not done by one line on standard error, and answers the exit status.
+/// Writes one line on standard error that says why a command was not done, and answers the exit
+/// status.
 fn tell_fault<E: Write + Drop>(fault: &CommandFault, errors: E) -> u8
     ensures { result ≡ status_of_command fault.now }
 {
@@ -140,7 +141,7 @@ fn tell_fault<E: Write + Drop>(fault: &CommandFault, errors: E) -> u8
 }
 
 /// Opens the files of a command, does its job, and lets its output out. Answers the exit status. An
-/// output that fails is told before any other fault.
+/// output that fails is reported before any other fault.
 pub(crate) fn perform<A: Allocator + Copy, F: Folder, I: Read + Drop, O: Write + Drop>(
     alloc: A,
     command: &Command,

@@ -75,7 +75,7 @@ impl<'p, A: Allocator + Copy> Declares for RiskLines<'p, A> {
 }
 
 /// Reads the named risks of a plan from a source, to its end, in pieces of any size and by at most
-/// 4,294,967,295 calls. `Err` is the first fault, with its line. A fault before the end stands
+/// 4,294,967,295 calls. `Err` is the first fault, with its line. A fault before the end is one
 /// whatever bytes follow.
 pub fn read_risks_from<R: Source, A: Allocator + Copy>(
     alloc: A,

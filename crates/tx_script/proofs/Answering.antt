@@ -14,7 +14,7 @@ use Rattle.tx_tickets.specs.Texts.{reply_text, ticket_text}
 use Rattle.tx_machine.specs.Sound.{is_refused}
 use Rattle.tx_script.specs.declared.answer.Answered.{Answered}
 use Rattle.tx_machine.specs.Drained.{drained}
-use Rattle.tx_script.specs.Answered.{count_of}
+use Rattle.tx_script.specs.inner.LineAnswers.{count_of}
 use Rattle.tx_script.specs.Untold.{StopsAtTicket, IsUntold}
 use Rattle.tx_script.specs.Output.{tickets_made, moment_text}
 use Rattle.tx_script.proofs.Balance.{parties, step_within}

@@ -40,7 +40,8 @@ use Rattle.tx_script.specs.Output.{end_text}
 use Rattle.tx_script.specs.Untold.{IsUntold}
 use Rattle.tx_script.specs.Answers.{IsFresh, States, settled, next, Begins}
 use Rattle.tx_script.specs.Telling.{echo_asked, told_events, told_last}
-use Rattle.tx_script.specs.TellingAnswers.{StopsInLines, Untold, LineTold, ToldRan, StoppedTelling, TellingAnswers}
+use Rattle.tx_script.specs.inner.LineAnswers.{Untold, LineTold}
+use Rattle.tx_script.specs.TellingAnswers.{StopsInLines, ToldRan, StoppedTelling, TellingAnswers}
 use Rattle.tx_script.specs.inner.Counting.{Counted, AreNew, asked_of, counted_on, last_lines}
 use Rattle.tx_script.proofs.Scripts.{event_said, fault_said, whole_said, stop_said}
 use Rattle.tx_script.proofs.Moments.{reply_same, made_same, after_same}

@@ -29,10 +29,9 @@ use Rattle.tx_script.specs.declared.script_word.ScriptWord.{ScriptWord}
 use Rattle.tx_script.specs.declared.teller.Tally.{Tally}
 use Rattle.tx_script.specs.Events.{Said, event_of}
 use Rattle.tx_script.specs.Output.{tickets_made}
-use Rattle.tx_script.specs.Answered.{count_of}
+use Rattle.tx_script.specs.inner.LineAnswers.{count_of, IsTold, LineTold}
 use Rattle.tx_script.specs.Answers.{IsFresh, settled, next, mark_by}
 use Rattle.tx_script.specs.Telling.{told_moment, told_events}
-use Rattle.tx_script.specs.TellingAnswers.{IsTold, LineTold}
 use Rattle.tx_script.specs.inner.Counting.{Counted, AreFew, AreNew, counted_on, counted_over}
 use Rattle.tx_script.proofs.Scripts.{SaidSoFar, at_start, header_said, event_said}
 use Rattle.tx_script.proofs.Moments.{run_push, one_more, few_tickets, length_run, reply_same, made_same, after_same}

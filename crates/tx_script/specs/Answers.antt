@@ -68,7 +68,7 @@ module _ (p : Plan) (source : Input) where
   IsWhole es = EndsAs source.old source.new (script_of p) AtEnd (whole es) × IsAtEnd source.new
 
 module _ (p : Plan) (source : Input) (net : States) (sink : Output) where
-  -- All the output of a script was written, and nothing else; the network stands after its events.
+  -- All the output of a script was written, and nothing else; the network is as its events left it.
   pub record Ran (script : Script) : Type 0 where
     pub wrote : sink.new ≡ append_known sink.old (output p net.old script)
     pub network : net.new ≡ settled p net.old script.events
@@ -129,8 +129,8 @@ module _ (p : Plan) (source : Input) (net : States) (sink : Output) where
         (end_text (state_after p net.old events))
     pub network : net.new ≡ settled p net.old events
 
-  -- Without memory for the reader of lines the first event and the first line are told, and nothing
-  -- was touched.
+  -- Without memory for the reader of lines the first event and the first line are named, and
+  -- nothing was touched.
   abbrev pub FaultyBy : Bool → ℕ → ℕ → FaultKind ScriptWord → Type 0
   FaultyBy true event line kind = (event ≡ 1) × (line ≡ 1) × NothingDone source net sink
   FaultyBy false event line kind = RanToFault event line kind
@@ -142,12 +142,12 @@ module _ (p : Plan) (source : Input) (net : States) (sink : Output) where
   Stopped event (OfScript f) = FaultyBy (is_reader_room f.kind) event f.line f.kind
   Stopped event NoMemory = RanOutOfMemory event
 
-  -- WHAT A RUN ANSWERS
+  -- what a run answers
   abbrev pub RunAnswers : Result Summary RunFault → Type 0
   RunAnswers (Ok summary) = RanWhole summary
   RunAnswers (Err f) = Stopped f.event f.cause
 
--- a write fault is told where the sink's mark is set, and otherwise the mark is as before
+-- the sink's mark is set after a write fault, and otherwise as before
 abbrev pub mark_by : Bool → RunCause → Bool
 mark_by old Read = old
 mark_by old Write = true

@@ -1,4 +1,4 @@
--- What a run answers that may tell more than replies and tickets, and what it wrote.
+-- What a run answers that may print more than replies and tickets, and what it wrote.
 use Rattle.std.specs.Prelude.{◌≡◌, ◌⊎◌, ℕ, ◌+◌, Bool, true, false, List, [], ◌∷◌, ◌++◌, length, Option, None, Result, Ok, Err}
 use Rattle.std.specs.FinSet as set
 use Rattle.std.specs.Io.KnownBytes.{append_known}
@@ -13,37 +13,26 @@ use Rattle.tx_machine.specs.declared.event.Event.{Event}
 use Rattle.tx_machine.specs.State.{State}
 use Rattle.tx_machine.specs.Refusals.{refusal}
 use Rattle.tx_machine.specs.Step.{takes_memory}
-use Rattle.tx_machine.specs.Runs.{Moment, moment}
+use Rattle.tx_machine.specs.Runs.{Moment}
 use Rattle.tx_machine.specs.Drained.{drained}
-use Rattle.tx_script.specs.declared.answer.Answered.{Answered}
 use Rattle.tx_script.specs.declared.script_word.ScriptWord.{ScriptWord}
 use Rattle.tx_script.specs.declared.run_fault.RunFault.{RunFault}
 use Rattle.tx_script.specs.declared.run_cause.RunCause.{RunCause}
 use Rattle.tx_script.specs.declared.run_cause.RunCause.TheVariants.{Read, Write, Script as OfScript, NoMemory}
 use Rattle.tx_script.specs.declared.summary.Summary.{Summary}
-use Rattle.tx_script.specs.Events.{Said}
 use Rattle.tx_script.specs.Script.{Script, whole, faulty, script_of}
 use Rattle.tx_script.specs.Output.{summary_of, tickets_made}
-use Rattle.tx_script.specs.Answered.{count_of, IsUndone, IsNoEvent}
 use Rattle.tx_script.specs.Answers.{States, NothingDone, settled, next, IsWhole, Begins, is_reader_room}
 use Rattle.tx_script.specs.declared.teller.Telling.{Telling}
-use Rattle.tx_script.specs.Telling.{echo_text, echo_asked, told_moment, told_events, told_last, told_output}
+use Rattle.tx_script.specs.Telling.{echo_text, echo_asked, told_events, told_last, told_output}
 use Rattle.tx_script.specs.Untold.{IsUntold}
 
 -- no circuit is still to be released
 abbrev pub NoneReleasing : State → Type 0
 NoneReleasing s = s.releasing ≡ set.empty
 
--- ---- one event
-
--- In what follows s and a are the state and what was written before, t and b after.
-
--- the event was done and counted, its lines were written, and its tickets were taken
-pub record IsTold (p : Plan) (echo : Bool) (n : ℕ)
-    (e : Event) (s t : State) (a b : Option (List ℕ)) (count : Answered) : Type 0 where
-  pub counted : count ≡ count_of (moment p s e)
-  pub wrote : b ≡ append_known a (told_moment p echo n (moment p s e))
-  pub network : t ≡ drained (moment p s e).after []
+-- In what follows a is what was written before, and t and b are the state and what was written
+-- after.
 
 -- A write failed in the event's own line, and no ticket was taken.
 pub record StopsAtEcho (p : Plan) (n : ℕ) (m : Moment)
@@ -57,30 +46,8 @@ abbrev pub StopsInLines : Plan → (echo : Bool)
 StopsInLines p echo n m t a b = ((echo ≡ true) × StopsAtEcho p n m t a b)
     ⊎ IsUntold p m t (append_known a (echo_asked echo p n m.event)) b
 
-abbrev pub Untold : Plan → (echo : Bool) → ℕ → Event
-    → State → State → Option (List ℕ) → Option (List ℕ) → RunCause → Type 0
-Untold p echo n e s t a b Read = ⊥
-Untold p echo n e s t a b Write = StopsInLines p echo n (moment p s e) t a b
-Untold p echo n e s t a b (OfScript f) = ⊥
-Untold p echo n e s t a b NoMemory = IsUndone p e s t a b
-
--- THE ANSWER TO AN EVENT of this number
-abbrev pub EventTold : Plan → (echo : Bool) → ℕ
-    → Event → State → State → Option (List ℕ) → Option (List ℕ) → Result Answered RunCause → Type 0
-EventTold p echo n e s t a b (Ok count) = IsTold p echo n e s t a b count
-EventTold p echo n e s t a b (Err cause) = Untold p echo n e s t a b cause
-
--- THE ANSWER TO A LINE n, whose words say an event or have a fault; the next event has the number k
-abbrev pub LineTold : Plan → (echo : Bool) → (n k : ℕ)
-    → Said → State → State → Option (List ℕ) → Option (List ℕ) → Result Answered RunCause → Type 0
-LineTold p echo n k (Ok e) s t a b r = EventTold p echo k e s t a b r
-LineTold p echo n k (Err word) s t a b (Ok count) = ⊥
-LineTold p echo n k (Err word) s t a b (Err cause) = IsNoEvent n word s t a b cause
-
--- ---- a run
-
 module _ (p : Plan) (t : Telling) (source : Input) (net : States) (sink : Output) where
-  -- All the output of a script was written, and nothing else; the network stands after its events.
+  -- All the output of a script was written, and nothing else; the network is as its events left it.
   pub record ToldRan (script : Script) : Type 0 where
     pub wrote : sink.new ≡ append_known sink.old (told_output p t net.old script)
     pub network : net.new ≡ settled p net.old script.events
@@ -141,13 +108,13 @@ module _ (p : Plan) (t : Telling) (source : Input) (net : States) (sink : Output
         (told_last p t net.old events None)
     pub network : net.new ≡ settled p net.old events
 
-  -- Without memory for the reader of lines the first event and the first line are told, and nothing
-  -- was touched.
+  -- Without memory for the reader of lines the first event and the first line are named, and
+  -- nothing was touched.
   abbrev pub FaultyTold : Bool → ℕ → ℕ → FaultKind ScriptWord → Type 0
   FaultyTold true event line kind = (event ≡ 1) × (line ≡ 1) × NothingDone source net sink
   FaultyTold false event line kind = ToldToFault event line kind
 
-  -- Without memory for what is to be counted the first event is told, and nothing was touched.
+  -- Without memory for what is to be counted the first event is named, and nothing was touched.
   pub record HadNoTable (event : ℕ) : Type 0 where
     pub asked : t.summary ≡ true
     pub place : event ≡ 1
@@ -160,7 +127,7 @@ module _ (p : Plan) (t : Telling) (source : Input) (net : States) (sink : Output
   StoppedTelling event (OfScript f) = FaultyTold (is_reader_room f.kind) event f.line f.kind
   StoppedTelling event NoMemory = ToldOutOfMemory event ⊎ HadNoTable event
 
-  -- WHAT A RUN THAT TELLS MORE ANSWERS
+  -- What a run answers that prints more
   abbrev pub TellingAnswers : Result Summary RunFault → Type 0
   TellingAnswers (Ok summary) = ToldWhole summary
   TellingAnswers (Err f) = StoppedTelling f.event f.cause

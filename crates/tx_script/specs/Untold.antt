@@ -11,7 +11,7 @@ use Rattle.tx_machine.specs.Drained.{drained}
 use Rattle.tx_tickets.specs.Texts.{reply_text, ticket_text}
 use Rattle.tx_script.specs.Output.{tickets_made}
 
--- In what follows t is where the network stands, and a and b are what was written before and is
+-- In what follows t is the state of the network, and a and b are what was written before and is
 -- written now.
 
 -- A write failed in the reply's line, and no ticket was taken.

@@ -6,10 +6,9 @@ ghost use Rattle.tx_machine.specs.Drained.{drained};
 ghost use Rattle.tx_machine.specs.Runs.{moment};
 ghost use Rattle.tx_machine.specs.Sound.{is_refused};
 ghost use Rattle.tx_tickets.specs.Texts.{ticket_text};
-ghost use Rattle.tx_script.specs.Answered.{mark_with};
-ghost use Rattle.tx_script.specs.TellingAnswers.{EventTold, LineTold};
 ghost use Rattle.tx_script.specs.Untold.{StopsAtTicket};
 ghost use Rattle.tx_script.specs.inner.Counting.{AreFew, counted_on, ends_counted};
+ghost use Rattle.tx_script.specs.inner.LineAnswers.{EventTold, LineTold, mark_with};
 
 use crate::run_cause::RunCause;
 use crate::script_word::ScriptWord;

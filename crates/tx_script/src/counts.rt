@@ -103,7 +103,18 @@ impl<A: Allocator> Counts<A> {
                     self.clear(*group);
                 }
             }
-            _ => {}
+            Event::Key { .. }
+            | Event::Confirm(_)
+            | Event::Clear { .. }
+            | Event::Restore(_)
+            | Event::Block(_)
+            | Event::Unblock(_)
+            | Event::CircuitOut(_)
+            | Event::CircuitIn(_)
+            | Event::LineFault(_)
+            | Event::LineMend(_)
+            | Event::LineAway(_)
+            | Event::LineBack(_) => {}
         }
     }
 

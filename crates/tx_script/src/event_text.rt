@@ -31,7 +31,7 @@ pub fn write_event<A: Allocator, W: Sink>(
     write_said(event, plan, sink)
 }
 
-/// The same for any event: of an id that the plan does not have, no name is written.
+/// Writes the line of any event: of an id that the plan does not have, no name is written.
 pub(crate) fn write_said<A: Allocator, W: Sink>(
     event: &Event,
     plan: &Plan<A>,

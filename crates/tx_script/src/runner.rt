@@ -24,7 +24,7 @@ const KEY: &[u8] = b"SCRIPT";
 
 /// Runs the script that comes from a source over a network of the plan that has no open call and no
 /// ticket. Writes the reply and the tickets of each event, and at the script's end the line END
-/// EVENTS. `Err` tells at which event the run stopped, and why.
+/// EVENTS. `Err` says at which event the run stopped, and why.
 ///
 /// Each event is answered before the source is asked for a line that is not yet there: no clause
 /// says so, and the worked examples, which count the reads, show it.
@@ -50,9 +50,9 @@ pub fn run<A: Allocator, B: Allocator, N: Network, R: Source, W: Sink>(
     ran
 }
 
-/// Runs a script as `run` does. Where the lines of events are asked for, the line of each stands
+/// Runs a script as `run` does. Where the lines of events are asked for, the line of each comes
 /// before its reply, with its number, as `EVENT 2 ROUTE 1`. Numbers begin at 1, and refused events
-/// have one too. Where the summary is asked for, it stands after the line END EVENTS, and no circuit
+/// have one too. Where the summary is asked for, it follows the line END EVENTS, and no circuit
 /// may be releasing before the run.
 pub fn run_telling<A: Allocator + Copy, B: Allocator, N: Network, R: Source, W: Sink>(
     alloc: A,

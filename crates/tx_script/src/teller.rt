@@ -1,4 +1,4 @@
-// What is told of events beside replies and tickets.
+// What a run counts, and what it can print beside replies and tickets.
 ghost use Rattle.std.specs.Prelude.{◌≡◌, ◌+◌, ◌<◌, ◌^◌, IfOk, OnErr, IfSome, None, true, false, option_map, ◌≤◌, cond};
 ghost use Rattle.tx_text.specs.Wrote.{Wrote};
 ghost use Rattle.tx_script.specs.inner.Counting.{count_for, counts_for, one_counted, uses_counted};
@@ -15,7 +15,7 @@ use tx_machine::{Cause, Event, Reply};
 use tx_plan::Plan;
 use tx_text::{NoMemory, Sink, WriteFault, write_parts};
 
-/// What a run tells beside replies and tickets, where it is asked for.
+/// What a run prints beside replies and tickets, where it is asked for.
 #[derive(Clone, Copy)]
 pub struct Telling {
     /// The line of each event, with its number, before its reply.
@@ -81,8 +81,8 @@ impl Tally {
     }
 }
 
-/// Whether the line of each event is told, and what is counted for the summary, where that is asked
-/// for.
+/// Whether the line of each event is printed, and what is counted for the summary, where that is
+/// asked for.
 #[derive(Drop)]
 pub(crate) struct Teller<A: Allocator> {
     pub echo: bool,
@@ -90,7 +90,7 @@ pub(crate) struct Teller<A: Allocator> {
 }
 
 impl<A: Allocator> Teller<A> {
-    /// Nothing more is told.
+    /// Nothing more is printed.
     pub(crate) fn silent() -> Teller<A>
         ensures { result ≡ record { echo = false; counts = None } }
     {

@@ -7,7 +7,7 @@ use Rattle.tx_text.specs.declared.text_fault.TextFault.{TextFault}
 use Rattle.tx_text.specs.Text.{Line, is_lf, without_cr}
 use Rattle.tx_text.specs.inner.Feed.{Feed, front_of, has_lf, line_fault, piece_fault, feed_leaves, leaves_by, ended, begun_more}
 
--- f is the feeder before, b is f with its complete line let go, and a is b with the front added
+-- f is the feeder before, b is f without its complete line, and a is b with the front added
 pub record Added (f a : Feed) (front : List ℕ) : Type 0 where
   pub start : a.start ≡ f.start
   pub begun : length a.begun ≡ length f.begun + length front

@@ -99,7 +99,7 @@ pub(crate) fn service_word(service: Service) -> &'static [u8]
     }
 }
 
-/// The word that stands for a cause after BY.
+/// The word of a cause, after BY.
 pub fn cause_word(cause: Cause) -> &'static [u8]
     ensures text { result.now ≡ cause_text cause }
     ensures width { length result.now ≤ 4 }

@@ -9,7 +9,7 @@
 // ones, each in another mood, are played with each request for memory refused to the engine in
 // turn: that changes nothing, and the same event given again has its reply.
 //
-// A case tells how many events there were. Behind the last file it is told how many events of all
+// A case tells how many events there were. After the last file it is printed how many events of all
 // plans had each reply, by the plain network's replies: this shows what the scripts reach, and says
 // nothing of what is right. Where the networks differ a case tells the script, the event and the
 // difference.

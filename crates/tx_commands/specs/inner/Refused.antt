@@ -9,7 +9,7 @@ use Rattle.tx_commands.specs.declared.command.Command.{Command}
 use Rattle.tx_commands.specs.declared.refusal.Refusal.{Refusal}
 use Rattle.tx_commands.specs.declared.refusal.Refusal.TheVariants.{Together, CheckedTelling, DrawTogether, NoSuchCode, InputTwice, Overwrites}
 
--- `run` has a certificate, and an option by which it tells more
+-- `run` has a certificate, and an option by which it prints more
 pub record IsCheckedTelling (name : List ℕ) (found : List Row) : Type 0 where
   pub run : name ≡ codes "run"
   pub checked : has found (codes "cert") ≡ true

@@ -12,7 +12,12 @@ use Rattle.tx_plan.specs.declared.ids.Line.{Line}
 use Rattle.tx_plan.specs.Orders.{same_line}
 
 pub same_line-is : (l m : Line) → same_line l m ≡ true → l ≡ m
-same_line-is l m h = let r = and_parts (l.code == m.code) (bytes_eq l.national m.national) h in λ i. record { code = eqb-true l.code m.code r.0 i; national = (bytes_eq-Decides l.national m.national).0 r.1 i }
+same_line-is l m h =
+    let r = and_parts (l.code == m.code) (bytes_eq l.national m.national) h in
+    λ i. record {
+      code = eqb-true l.code m.code r.0 i;
+      national = (bytes_eq-Decides l.national m.national).0 r.1 i;
+    }
 
 pub same_line-itself : (l : Line) → same_line l l ≡ true
 same_line-itself l = and_from (l.code == l.code) (bytes_eq l.national l.national)

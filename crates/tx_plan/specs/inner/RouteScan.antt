@@ -8,7 +8,8 @@ use Rattle.tx_plan.specs.declared.ids.Pair.{Pair}
 use Rattle.tx_plan.specs.declared.route_words.RouteScan.{RouteScan}
 
 -- what a scan of these words finds for a pair
-pub record IsScanOf (p : Plan) (pair : Option Pair) (words : List (List ℕ)) (s : RouteScan) : Type 0 where
+pub record IsScanOf (p : Plan) (pair : Option Pair) (words : List (List ℕ))
+    (s : RouteScan) : Type 0 where
   pub bad : s.bad ≡ list_any (λ g. not (is_name g)) words
   pub unknown : s.unknown ≡ list_any (λ g. not (has_group p g)) words
   pub not_outgoing : s.not_outgoing ≡ list_any (is_not_outgoing p pair) words

@@ -5,7 +5,7 @@ use memchr::memchr;
 /// How many lines of each text are told.
 const LINES: u8 = 3;
 
-/// The first line of a text, with its LF if it has one, and what stands after it. A text that is
+/// The first line of a text, with its LF if it has one, and what follows it. A text that is
 /// none has an empty line.
 fn split_line(text: &[u8]) -> (&[u8], &[u8]) {
     match memchr(b'\n', text) {

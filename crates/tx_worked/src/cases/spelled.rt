@@ -5,7 +5,7 @@ use itoa::Buffer;
 use memchr::memchr;
 use tx_text::words;
 
-/// What stands before a byte and after it.
+/// What is before a byte and after it.
 fn cut(text: &[u8], byte: u8) -> Option<(&[u8], &[u8])> {
     match memchr(byte, text) {
         Some(end) => Some((&text[..end], &text[end + 1..])),
@@ -13,7 +13,7 @@ fn cut(text: &[u8], byte: u8) -> Option<(&[u8], &[u8])> {
     }
 }
 
-/// The mark whose `{` stands before a text, and what stands after it. A mark is empty, or begins
+/// The mark whose `{` stands before a text, and what follows it. A mark is empty, or begins
 /// with a figure or with `lines`: any other `{` is one.
 fn mark_in(text: &[u8]) -> Option<(&[u8], &[u8])> {
     let (mark, after) = cut(text, b'}')?;

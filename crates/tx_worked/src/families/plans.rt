@@ -22,7 +22,7 @@ struct Choice<'a> {
     second: &'a [u8],
 }
 
-/// Reads what stands before the words of the lists: `ROUTES` has two words there, and `CODES` one.
+/// Reads what is before the words of the lists: `ROUTES` has two words there, and `CODES` one.
 fn choice_of<'a>(line: &mut Words<'a>, has_two: bool) -> Choice<'a> {
     let _kind = line.next();
     let most = next_number(line, 16);

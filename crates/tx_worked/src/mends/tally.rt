@@ -55,7 +55,7 @@ impl MendTally {
     }
 }
 
-/// What stands before each count.
+/// What is before each count.
 static BEFORE: [&str; 11] = [
     "",
     " plans of ",

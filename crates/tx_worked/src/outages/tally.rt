@@ -37,7 +37,7 @@ impl OutageTally {
     }
 }
 
-/// What stands before each count.
+/// What is before each count.
 static BEFORE: [&str; 6] = [
     "",
     " plans, ",

@@ -46,7 +46,7 @@ pub(crate) struct Cuts {
 }
 
 impl Cuts {
-    /// What stands before the next cut of a text of which so many bytes were fed.
+    /// What is before the next cut of a text of which so many bytes were fed.
     fn piece<'a>(&self, fed: usize, rest: &'a [u8]) -> &'a [u8]
         ensures { length result.now ≤ length rest.now }
     {

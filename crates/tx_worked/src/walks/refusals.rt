@@ -1,4 +1,4 @@
-// Want of memory where the events of a finding are made.
+// Lack of memory where the events of a finding are made.
 ghost use Rattle.std.specs.Prelude.{◌≤◌};
 ghost use Rattle.std.specs.List.{AllByRecursion};
 ghost use Rattle.tx_rank.specs.Findings.{IsTrueOf};

@@ -62,7 +62,7 @@ impl PlanTally {
     }
 }
 
-/// What stands before each count of what was found.
+/// What is before each count of what was found.
 static BEFORE: [&str; 8] = [
     "\n- ",
     " found, with ranks of ",
