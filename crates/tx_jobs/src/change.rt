@@ -19,7 +19,7 @@ use tx_rank::{Finding, Ranking};
 use tx_text::{Sink, Source};
 
 /// What a change of plan comes to.
-#[derive(Drop)]
+#[derive(Debug, Drop)]
 pub enum Changed<A: Allocator = Global> {
     /// The change is sound, as this certificate of the old plan shows, which is one of the new plan
     /// too.
