@@ -1,6 +1,7 @@
 // The job of `grade PLAN`.
 ghost use Rattle.std.specs.Prelude.{◌≡◌};
 ghost use Rattle.tx_text.specs.Calls.{CallsAtMost, source_calls};
+ghost use Rattle.tx_plan.specs.Rules.{IsPlan};
 ghost use Rattle.tx_jobs.specs.JobFaults.{mark_after};
 ghost use Rattle.tx_text.specs.Ends.{input, output};
 ghost use Rattle.tx_jobs.specs.GradeJobs.{GradeJobAnswers, GradeStatusAnswers, ToldGrade, status_of_grade};
@@ -60,10 +61,10 @@ fn tell_grade<A: Allocator + Copy, W: Sink>(
     plan: &Plan<A>,
     out: &mut W,
 ) -> Result<Grade<A>, JobFault>
+    requires rules { IsPlan plan.now }
     ensures told { ToldGrade plan.now (output W.taken out.old out.new) result }
     ensures mark { W.failed out.new ≡ mark_after (W.failed out.old) result }
 {
-    plan.rules();
     let grade = grade(alloc, plan)?;
     write_grade(plan, &grade, out)?;
     Ok(grade)

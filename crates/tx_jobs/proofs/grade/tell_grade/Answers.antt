@@ -7,7 +7,7 @@ pub returns-in_err-write_grade-clause-told : goal.returns-in_err-write_grade-cla
 returns-in_err-write_grade-clause-told g c =
     let e = c.in_ok-grade.ensures in
     let grade = c.in_ok-grade.grade in
-    let plan = plan_is _ c.args.plan.now c.rules.ensures grade.findings.items grade.plan
+    let plan = plan_is _ c.args.plan.now c.requires.rules grade.findings.items grade.plan
     e.plan e.clear e.fails e.clean e.each e.listed in
     rw (exits_with c.from_residual-in_err-write_grade.result Write c.from_residual-in_err-write_grade.ensures.1)
     (record { grade = grade; right = (plan, e.codes); wrote = c.in_err-write_grade.ensures.0 })
@@ -16,6 +16,6 @@ pub returns-clause-told : goal.returns-clause-told
 returns-clause-told g c =
     let e = c.in_ok-grade.ensures in
     let grade = c.in_ok-grade.grade in
-    let plan = plan_is _ c.args.plan.now c.rules.ensures grade.findings.items grade.plan
+    let plan = plan_is _ c.args.plan.now c.requires.rules grade.findings.items grade.plan
     e.plan e.clear e.fails e.clean e.each e.listed in
     ((plan, e.codes), c.in_ok-write_grade.ensures.0)
