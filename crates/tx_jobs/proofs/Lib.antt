@@ -1,3 +1,4 @@
+mod Mapped
 mod RefusedTexts
 mod Piping
 mod Breaking

@@ -66,10 +66,8 @@ pub fn change_job<A: Allocator + Copy, P: Source, Q: Source, W: Sink>(
     ensures old_calls { CallsAtMost P.called source_calls old.old old.new }
     ensures new_calls { CallsAtMost Q.called source_calls new.old new.new }
 {
-    match read_plan_from(alloc, old) {
-        Ok(plan) => change_from(alloc, plan, new, limit, spare, out),
-        Err(fault) => Err(ChangeFault::Job(JobFault::from(fault))),
-    }
+    let plan = read_plan_from(alloc, old).map_err(JobFault::from)?;
+    change_from(alloc, plan, new, limit, spare, out)
 }
 
 /// Reads the new plan, and reports the change into it.
@@ -91,10 +89,8 @@ fn change_from<A: Allocator + Copy, Q: Source, W: Sink>(
     ensures mark { W.failed out.new ≡ change_mark_after (W.failed out.old) result }
     ensures calls { CallsAtMost Q.called source_calls new.old new.new }
 {
-    match read_plan_from(alloc, new) {
-        Ok(plan) => change_into(alloc, old, plan, limit, spare, out),
-        Err(fault) => Err(ChangeFault::of_new_plan(fault)),
-    }
+    let plan = read_plan_from(alloc, new).map_err(ChangeFault::of_new_plan)?;
+    change_into(alloc, old, plan, limit, spare, out)
 }
 
 /// Reports the change of one plan into another, if they are of one network.
@@ -117,8 +113,6 @@ fn change_into<A: Allocator + Copy, W: Sink>(
     if let Some(difference) = first_difference(&old, &new) {
         return Err(ChangeFault::TwoNetworks(difference));
     }
-    match report_change(alloc, &old, &new, limit, spare, out) {
-        Ok(ranking) => Ok(Changed::of(old, new, ranking)),
-        Err(fault) => Err(ChangeFault::Job(JobFault::of_audit(fault))),
-    }
+    let ranking = report_change(alloc, &old, &new, limit, spare, out).map_err(JobFault::from)?;
+    Ok(Changed::of(old, new, ranking))
 }

@@ -1,5 +1,6 @@
 // Why the job of a change stopped.
 ghost use Rattle.std.specs.Prelude.{◌≡◌};
+ghost use Rattle.tx_jobs.specs.declared.change_fault.ChangeFault.TheVariants.{Job};
 ghost use Rattle.tx_jobs.specs.ChangeFaults.{status_of_change, new_plan_fault};
 
 use crate::job_fault::JobFault;
@@ -19,6 +20,14 @@ pub enum ChangeFault {
     /// The plans are of two networks: the first entry that differs.
     #[error("the plans are of two networks")]
     TwoNetworks(Difference),
+}
+
+impl From<JobFault> for ChangeFault {
+    ghost from_gives = { λ job fault. fault ≡ Job job };
+
+    fn from(fault: JobFault) -> ChangeFault {
+        ChangeFault::Job(fault)
+    }
 }
 
 impl ChangeFault {
