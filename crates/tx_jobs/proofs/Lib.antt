@@ -1,4 +1,3 @@
-mod Mapped
 mod RefusedTexts
 mod Piping
 mod Breaking

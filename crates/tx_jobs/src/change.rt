@@ -9,7 +9,6 @@ ghost use Rattle.tx_text.specs.Ends.{input, output};
 ghost use Rattle.tx_jobs.specs.ChangeJobs.{ChangeJobAnswers, NewPlanAnswers, ToldChange, OnUnsoundChange};
 
 use crate::change_fault::ChangeFault;
-use crate::job_fault::JobFault;
 use std::alloc::{Allocator, Global};
 use tx_cert::Cert;
 use tx_change::{first_difference, report_change};
@@ -66,8 +65,10 @@ pub fn change_job<A: Allocator + Copy, P: Source, Q: Source, W: Sink>(
     ensures old_calls { CallsAtMost P.called source_calls old.old old.new }
     ensures new_calls { CallsAtMost Q.called source_calls new.old new.new }
 {
-    let plan = read_plan_from(alloc, old).map_err(JobFault::from)?;
-    change_from(alloc, plan, new, limit, spare, out)
+    match read_plan_from(alloc, old) {
+        Ok(plan) => change_from(alloc, plan, new, limit, spare, out),
+        Err(fault) => Err(ChangeFault::of_old_plan(fault)),
+    }
 }
 
 /// Reads the new plan, and reports the change into it.
@@ -89,8 +90,10 @@ fn change_from<A: Allocator + Copy, Q: Source, W: Sink>(
     ensures mark { W.failed out.new ≡ change_mark_after (W.failed out.old) result }
     ensures calls { CallsAtMost Q.called source_calls new.old new.new }
 {
-    let plan = read_plan_from(alloc, new).map_err(ChangeFault::of_new_plan)?;
-    change_into(alloc, old, plan, limit, spare, out)
+    match read_plan_from(alloc, new) {
+        Ok(plan) => change_into(alloc, old, plan, limit, spare, out),
+        Err(fault) => Err(ChangeFault::of_new_plan(fault)),
+    }
 }
 
 /// Reports the change of one plan into another, if they are of one network.
@@ -113,6 +116,6 @@ fn change_into<A: Allocator + Copy, W: Sink>(
     if let Some(difference) = first_difference(&old, &new) {
         return Err(ChangeFault::TwoNetworks(difference));
     }
-    let ranking = report_change(alloc, &old, &new, limit, spare, out).map_err(JobFault::from)?;
+    let ranking = report_change(alloc, &old, &new, limit, spare, out)?;
     Ok(Changed::of(old, new, ranking))
 }

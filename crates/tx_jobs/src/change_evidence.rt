@@ -11,7 +11,6 @@ ghost use Rattle.tx_jobs.specs.ChangeEvidences.{ChangeEvidenceAnswers, IsChangeE
 
 use crate::change::{Changed, change_job};
 use crate::change_fault::ChangeFault;
-use crate::job_fault::JobFault;
 use crate::mixture::{ChangeEvidence, Mixture};
 use std::alloc::Allocator;
 use tx_change::first_mixture;
@@ -84,8 +83,7 @@ fn mixture_of<A: Allocator + Copy>(
     requires each { AllByRecursion (IsShown old new limit spare) findings.items }
     ensures { IsMixtureOf old new limit spare findings.items result }
 {
-    let shown = first_mixture(alloc, old, &new, findings.as_slice(), limit, spare);
-    match shown.map_err(JobFault::from)? {
+    match first_mixture(alloc, old, &new, findings.as_slice(), limit, spare)? {
         Some(shown) => Ok(ChangeEvidence::Unsound(Some(Mixture::of(shown)))),
         None => Ok(ChangeEvidence::Unsound(None)),
     }

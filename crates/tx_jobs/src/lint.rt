@@ -41,8 +41,10 @@ fn lint_text<A: Allocator + Copy, W: Sink>(
     ensures linted { LintedInRoom text.now file.now (output W.taken out.old out.new) result }
     ensures mark { W.failed out.new ≡ mark_after (W.failed out.old) result }
 {
-    let lint = lint_plan(alloc, text)?;
-    tell_lint(&lint, file, out)
+    match lint_plan(alloc, text) {
+        Ok(lint) => tell_lint(&lint, file, out),
+        Err(_) => Err(JobFault::NoMemory),
+    }
 }
 
 /// Writes what is to be said of a text, and answers the exit status.

@@ -53,7 +53,7 @@ pub fn survive_risks_job<A: Allocator + Copy, P: Source, R: Source, W: Sink>(
     ensures plan_calls { CallsAtMost P.called source_calls plan.old plan.new }
     ensures risks_calls { CallsAtMost R.called source_calls risks.old risks.new }
 {
-    let plan = read_plan_from(alloc, plan).map_err(JobFault::from)?;
+    let plan = read_plan_from(alloc, plan)?;
     tell_named(alloc, &plan, risks, out)
 }
 

@@ -1,10 +1,12 @@
 // Why the job of outages stopped.
 ghost use Rattle.std.specs.Prelude.{◌≡◌};
 ghost use Rattle.tx_jobs.specs.declared.survive_fault.SurviveFault.TheVariants.{Job};
+ghost use Rattle.tx_jobs.specs.JobFaults.{plan_fault};
 ghost use Rattle.tx_jobs.specs.SurviveFaults.{status_of_survive, risks_fault};
 
 use crate::job_fault::JobFault;
 use thiserror::Error;
+use tx_plantext::PlanFault;
 use tx_risk_text::{RiskFault, RiskWord};
 use tx_text::{FaultKind, FrameFault};
 
@@ -24,6 +26,14 @@ impl From<JobFault> for SurviveFault {
 
     fn from(fault: JobFault) -> SurviveFault {
         SurviveFault::Job(fault)
+    }
+}
+
+impl From<PlanFault> for SurviveFault {
+    ghost from_gives = { λ plan fault. fault ≡ Job (plan_fault plan) };
+
+    fn from(fault: PlanFault) -> SurviveFault {
+        SurviveFault::Job(JobFault::from(fault))
     }
 }
 

@@ -1,15 +1,10 @@
-use Rattle.std.proofs.Common.{inl, inr, refl}
-use Rattle.tx_text.proofs.Exits.{exits_with}
+use Rattle.std.proofs.Common.{inl}
 use Rattle.tx_lint.specs.Lints.{lint_held}
-use Rattle.tx_jobs.specs.declared.job_fault.JobFault.TheVariants.{NoMemory}
 use Rattle.tx_jobs.proofs.lint.lint_text.Goals as goal
 
-pub returns-in_err-lint-clause-linted : goal.returns-in_err-lint-clause-linted
-returns-in_err-lint-clause-linted g c = inr (exits_with c.from_residual.result NoMemory c.from_residual.ensures.1, refl)
-
-pub returns-clause-linted : goal.returns-clause-linted
-returns-clause-linted g c = inl (record {
-  lint = lint_held c.in_ok-lint.lint;
-  is = c.in_ok-lint.ensures;
+pub returns-in-Ok-clause-linted : goal.returns-in-Ok-clause-linted
+returns-in-Ok-clause-linted g c = inl (record {
+  lint = lint_held c.in-Ok.lint;
+  is = c.in-Ok.ensures;
   told = c.tell_lint.ensures.told;
 })
