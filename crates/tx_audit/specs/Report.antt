@@ -40,10 +40,13 @@ module _ {A : Type 0} where
   finding_line p (Short code w) = codes "F3 SHORT " ++ walk_text p code w
   finding_line p (Long code w) = codes "F4 LONG " ++ walk_text p code w
 
+-- No, with the number of the lines before
+abbrev pub no_line : ℕ → List ℕ
+no_line n = codes "VERDICT NO " ++ (decimal n ++ codes "\n")
+
 -- Yes, or No with the number of findings
 abbrev pub verdict_line : ℕ → List ℕ
-verdict_line n = if n == 0 then codes "VERDICT YES\n"
-    else codes "VERDICT NO " ++ (decimal n ++ codes "\n")
+verdict_line n = if n == 0 then codes "VERDICT YES\n" else no_line n
 
 -- The report: what was asked, a line for each finding, and the verdict
 abbrev pub report : {A : Type 0} → Plan → (limit spare : ℕ) → List (Finding A) → List ℕ

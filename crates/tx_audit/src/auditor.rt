@@ -47,7 +47,6 @@ pub fn audit<A: Allocator + Copy, R: Source, W: Sink>(
     ensures calls { CallsAtMost R.called source_calls source.old source.new }
 {
     let plan = read_plan_from(alloc, source)?;
-    plan.rules();
     let ranking = rank_and_report(alloc, &plan, limit, spare, out)?;
     Ok(Audited::of(plan, ranking))
 }

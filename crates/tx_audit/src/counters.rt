@@ -41,7 +41,6 @@ fn walked<A: Allocator + Copy>(
     ensures { IfOk result (λ o. (last : List Event)
         → option_map (λ v. v.items ++ last) o ≡ walked plan.now code walk.now last) }
 {
-    plan.rules();
     let Some(line) = first_line(plan, walk.start) else {
         return Ok(None);
     };

@@ -32,22 +32,6 @@ pub fn first_counter<A: Allocator + Copy>(
     ensures writable { IfOk result
         (λ o. IfSome o (λ v. AllByRecursion (IsWritable plan.now) v.items)) }
 {
-    plan.rules();
-    first_events(alloc, plan, findings, limit, spare)
-}
-
-/// The events, one finding after another.
-fn first_events<A: Allocator + Copy>(
-    alloc: A,
-    plan: &Plan<A>,
-    findings: &[Finding<A>],
-    limit: u8,
-    spare: u8,
-) -> Result<Option<Vec<Event, A>>, NoMemory>
-    requires { AllByRecursion (IsTrueOf plan.now limit spare) findings.now }
-    ensures { IfOk result (λ o. option_map (λ v. v.items) o
-        ≡ first_counter_of plan.now findings.now) }
-{
     for finding in findings {
         match counter(alloc, plan, finding, limit, spare)? {
             Some(events) => return Ok(Some(events)),

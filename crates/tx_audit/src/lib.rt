@@ -25,6 +25,8 @@ pub use counters::counter;
 pub use first::first_counter;
 pub use grade_text::write_grade;
 pub use playing::{Played, play};
-pub use report::{write_asked, write_finding, write_findings, write_steps, write_verdict};
+pub use report::{
+    write_asked, write_finding, write_findings, write_no, write_steps, write_verdict,
+};
 pub use script_writer::write_counter;
 pub use simulating::simulate;

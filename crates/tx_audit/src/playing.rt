@@ -11,7 +11,7 @@ use tx_plan::Plan;
 use tx_text::NoMemory;
 
 /// What a list of events came to.
-#[derive(Drop)]
+#[derive(Debug, Drop)]
 pub struct Played<'p, A: Allocator = Global> {
     /// The reply to each event.
     pub replies: Vec<Reply, A>,

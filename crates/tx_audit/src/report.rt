@@ -2,7 +2,7 @@
 ghost use Rattle.std.specs.Prelude.{◌++◌, codes};
 ghost use Rattle.std.specs.List.{flat_map};
 ghost use Rattle.tx_text.specs.Wrote.{Wrote};
-ghost use Rattle.tx_audit.specs.Report.{asked_line, step_text, walk_text, finding_line, verdict_line, report};
+ghost use Rattle.tx_audit.specs.Report.{asked_line, step_text, walk_text, finding_line, no_line, verdict_line, report};
 
 use itoa::Buffer;
 use std::alloc::Allocator;
@@ -47,8 +47,16 @@ pub fn write_verdict<W: Sink>(count: usize, sink: &mut W) -> Result<(), WriteFau
     ensures { Wrote W.taken W.failed sink.old sink.new (verdict_line count) result }
 {
     if count == 0 {
-        return write_parts(&[b"VERDICT YES\n"], sink);
+        write_parts(&[b"VERDICT YES\n"], sink)
+    } else {
+        write_no(count, sink)
     }
+}
+
+/// Writes NO with the number of the lines before.
+pub fn write_no<W: Sink>(count: usize, sink: &mut W) -> Result<(), WriteFault>
+    ensures { Wrote W.taken W.failed sink.old sink.new (no_line count) result }
+{
     let mut buffer = Buffer::new();
     let count = buffer.format(count).as_bytes();
     write_parts(&[b"VERDICT NO ", count, b"\n"], sink)

@@ -19,7 +19,7 @@ use tx_plan::ByWord;
 use tx_text::NoMemory;
 
 /// The open calls. Each has a key from its opening to its end, and is found by its number.
-#[derive(Drop)]
+#[derive(Debug, Drop)]
 pub struct OpenCalls<A: Allocator = Global> {
     calls: Slab<OpenCall<A>, A>,
     by_number: IndexMap<u32, usize, ByWord, A>,

@@ -13,6 +13,7 @@ ghost use Rattle.tx_change.specs.ChangeNets.{IsTrueOfChange};
 ghost use Rattle.tx_change.specs.ChangeFindings.{AreChangeFindings, AreChangeHeights};
 ghost use Rattle.tx_change.specs.Shown.{IsShown};
 ghost use Rattle.tx_change.specs.inner.Changed.{IsChangedBelow};
+ghost use Rattle.tx_change.specs.inner.OneNetwork.{AreOfOneNetwork};
 
 use crate::change_routes::ChangeRoutes;
 use crate::joined::joined_lists;
@@ -34,7 +35,7 @@ fn change_code<A: Allocator + Copy>(
     cert: &mut Cert<A>,
     findings: &mut Vec<Finding<A>, A>,
 ) -> Result<(), NoMemory>
-    requires network { SameNetwork old.now new.now }
+    requires network { AreOfOneNetwork old.now new.now }
     requires origins { AreOrigins old.now origins.now }
     requires code { code < length old.now.codes }
     requires below { IsChangedBelow old.now new.now limit spare code cert.old findings.old.items }
@@ -63,7 +64,7 @@ fn change_each<A: Allocator + Copy>(
     cert: &mut Cert<A>,
     findings: &mut Vec<Finding<A>, A>,
 ) -> Result<(), NoMemory>
-    requires network { SameNetwork old.now new.now }
+    requires network { AreOfOneNetwork old.now new.now }
     requires origins { AreOrigins old.now origins.now }
     requires blank { cert.old ≡ no_ranks_for old.now }
     requires pair { findings.old.items ≡ pair_findings (ambiguous_of old.now.codes) }
@@ -86,7 +87,7 @@ fn change_codes<A: Allocator + Copy>(
     spare: u8,
     findings: &mut Vec<Finding<A>, A>,
 ) -> Result<Cert<A>, NoMemory>
-    requires network { SameNetwork old.now new.now }
+    requires network { AreOfOneNetwork old.now new.now }
     requires pair { findings.old.items ≡ pair_findings (ambiguous_of old.now.codes) }
     ensures listed { IfOk result (λ _. AreChangeFindings old.now new.now limit spare
         findings.new.items) }

@@ -22,7 +22,7 @@ use tx_trie::CodeTrie;
 /// The indexed network. It finds lines, circuits and calls by index. So the work of an event hardly
 /// grows with the open calls, but where it takes more room: then it may move what it keeps. No
 /// clause counts these steps.
-#[derive(Drop)]
+#[derive(Debug, Drop)]
 pub struct Engine<'p, A: Allocator = Global> {
     pub(crate) inner: EngineState<'p, A>,
 }
@@ -208,7 +208,7 @@ impl<'p, A: Allocator + Copy> EngineState<'p, A> {
 
 /// What the engine keeps. Its methods see keys of calls, which the network that it stands for does
 /// not show.
-#[derive(Drop)]
+#[derive(Debug, Drop)]
 pub(crate) struct EngineState<'p, A: Allocator> {
     pub plan: &'p Plan<A>,
     pub alloc: A,

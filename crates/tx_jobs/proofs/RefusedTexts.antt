@@ -1,9 +1,11 @@
 -- Refused texts and the sink's mark.
-use Rattle.std.proofs.Common.{◌≡◌, ◌∙◌, Bool, refl, sym, ap}
+use Rattle.std.proofs.Common.{◌≡◌, ◌∙◌, Bool, Result, Err, refl, sym, ap}
+use Rattle.std.specs.Result.{IsErrAnd}
 use Rattle.tx_text.specs.declared.frame.FrameFault.TheVariants.{LineTooLong, BadByte, NoMemory as TextNoMemory, Read as LineRead, NoHeader, NoEnd, AfterEnd}
 use Rattle.tx_text.specs.declared.frame.FaultAt.{FaultAt}
 use Rattle.tx_text.specs.declared.frame.FaultKind.{FaultKind}
 use Rattle.tx_text.specs.declared.frame.FaultKind.TheVariants.{Frame, Word}
+use Rattle.tx_text.proofs.Exits.{exits_with}
 use Rattle.tx_plan.specs.declared.refusal.PlanRefusal.TheVariants.{WrongCount, BadName, BadCode, BadNumber, Duplicate, Unknown, RangeOrder, Overlap, SameEnds, NotOutgoing, RepeatedGroup, RouteAtHome, TooMany, BarAtHome, NoMemory as PlanNoMemory}
 use Rattle.tx_plantext.specs.declared.fault.PlanWord.{PlanWord}
 use Rattle.tx_plantext.specs.declared.fault.PlanWord.TheVariants.{UnknownWord, Refused}
@@ -18,7 +20,7 @@ use Rattle.tx_audit.specs.declared.audited.AuditFault.{AuditFault}
 use Rattle.tx_audit.specs.declared.audited.AuditFault.TheVariants.{Plan as AuditPlan, Write as AuditWrite, NoMemory as AuditNoMemory}
 use Rattle.tx_audit.specs.Audits.{mark_by as audit_mark_by}
 use Rattle.tx_jobs.specs.declared.job_fault.JobFault.{JobFault}
-use Rattle.tx_jobs.specs.JobFaults.{plan_fault, plan_fault_by, cert_fault, cert_fault_by, script_fault_by, cause_fault, run_fault, mark_by}
+use Rattle.tx_jobs.specs.JobFaults.{plan_fault, plan_fault_by, cert_fault, cert_fault_by, script_fault_by, cause_fault, run_fault, mark_by, mark_after}
 use Rattle.tx_jobs.specs.AuditJobs.{audit_fault}
 
 plan_by : (old : Bool) (f : FaultAt PlanWord) (k : FaultKind PlanWord) → mark_by old (plan_fault_by f k) ≡ old
@@ -54,6 +56,16 @@ plan_unmarked old f = plan_by old f f.kind
 -- a refused plan leaves the mark
 pub plan_mark : (old : Bool) (f : FaultAt PlanWord) (told : JobFault) → told ≡ plan_fault f → old ≡ mark_by old told
 plan_mark old f told e = sym (ap (mark_by old) e ∙ plan_unmarked old f)
+
+-- a job that stops at a plan's fault
+pub refused : {X : Type 0} (r : Result X JobFault) (f : FaultAt PlanWord)
+    → IsErrAnd r (λ y. y ≡ plan_fault f) → r ≡ Err (plan_fault f)
+refused r f is = exits_with r (plan_fault f) is
+
+pub refused_mark : {X : Type 0} (old : Bool) (r : Result X JobFault) (f : FaultAt PlanWord)
+    → IsErrAnd r (λ y. y ≡ plan_fault f) → old ≡ mark_after old r
+refused_mark old r f is =
+    plan_mark old f (plan_fault f) refl ∙ sym (ap (mark_after old) (refused r f is))
 
 cert_by : (old : Bool) (f : FaultAt CertWord) (k : FaultKind CertWord) → mark_by old (cert_fault_by f k) ≡ old
 cert_by old f (Frame LineRead) = refl

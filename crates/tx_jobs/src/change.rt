@@ -19,7 +19,7 @@ use tx_rank::{Finding, Ranking};
 use tx_text::{Sink, Source};
 
 /// What a change of plan comes to.
-#[derive(Drop)]
+#[derive(Debug, Drop)]
 pub enum Changed<A: Allocator = Global> {
     /// The change is sound, as this certificate of the old plan shows, which is one of the new plan
     /// too.
@@ -68,7 +68,7 @@ pub fn change_job<A: Allocator + Copy, P: Source, Q: Source, W: Sink>(
 {
     match read_plan_from(alloc, old) {
         Ok(plan) => change_from(alloc, plan, new, limit, spare, out),
-        Err(fault) => Err(ChangeFault::Job(JobFault::of_plan(fault))),
+        Err(fault) => Err(ChangeFault::Job(JobFault::from(fault))),
     }
 }
 

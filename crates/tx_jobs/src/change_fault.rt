@@ -37,7 +37,7 @@ impl ChangeFault {
     pub(crate) fn of_new_plan(fault: PlanFault) -> ChangeFault
         ensures { result ≡ new_plan_fault fault }
     {
-        match JobFault::of_plan(fault) {
+        match JobFault::from(fault) {
             JobFault::Plan(fault) => ChangeFault::NewPlan(fault),
             other => ChangeFault::Job(other),
         }

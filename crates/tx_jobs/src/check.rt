@@ -32,10 +32,8 @@ pub fn check_job<A: Allocator + Copy, P: Source, R: Source, W: Sink>(
     ensures plan_calls { CallsAtMost P.called source_calls plan.old plan.new }
     ensures cert_calls { CallsAtMost R.called source_calls cert.old cert.new }
 {
-    match read_plan_from(alloc, plan) {
-        Ok(plan) => check_cert(alloc, &plan, cert, limit, spare, out),
-        Err(fault) => Err(JobFault::of_plan(fault)),
-    }
+    let plan = read_plan_from(alloc, plan)?;
+    check_cert(alloc, &plan, cert, limit, spare, out)
 }
 
 /// Does the job of `check_job`, and answers the exit status: 0 after a Yes, 1 after a No.

@@ -25,10 +25,8 @@ pub fn codes_job<A: Allocator + Copy, P: Source, W: Sink>(
     ensures mark { W.failed out.new ≡ mark_after (W.failed out.old) result }
     ensures calls { CallsAtMost P.called source_calls plan.old plan.new }
 {
-    match read_plan_from(alloc, plan) {
-        Ok(plan) => tell_codes(alloc, &plan, out),
-        Err(fault) => Err(JobFault::of_plan(fault)),
-    }
+    let plan = read_plan_from(alloc, plan)?;
+    tell_codes(alloc, &plan, out)
 }
 
 /// Does the job of `codes_job`, and answers the exit status: 0 where no code begins another, else

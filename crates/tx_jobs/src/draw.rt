@@ -43,10 +43,8 @@ pub fn draw_job<A: Allocator + Copy, P: Source, W: Sink>(
     ensures mark { W.failed out.new ≡ mark_after (W.failed out.old) result }
     ensures calls { CallsAtMost P.called source_calls plan.old plan.new }
 {
-    match read_plan_from(alloc, plan) {
-        Ok(plan) => draw_plan(alloc, &plan, code, bounds, out),
-        Err(fault) => Err(JobFault::of_plan(fault)),
-    }
+    let plan = read_plan_from(alloc, plan)?;
+    draw_plan(alloc, &plan, code, bounds, out)
 }
 
 /// Draws a plan, or the code of some figures.

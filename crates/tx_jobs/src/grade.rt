@@ -27,10 +27,8 @@ pub fn grade_job<A: Allocator + Copy, P: Source, W: Sink>(
     ensures mark { W.failed out.new ≡ mark_after (W.failed out.old) result }
     ensures calls { CallsAtMost P.called source_calls plan.old plan.new }
 {
-    match read_plan_from(alloc, plan) {
-        Ok(plan) => tell_grade(alloc, &plan, out),
-        Err(fault) => Err(JobFault::of_plan(fault)),
-    }
+    let plan = read_plan_from(alloc, plan)?;
+    tell_grade(alloc, &plan, out)
 }
 
 /// Does the job of `grade_job`, and answers the exit status: 0 where there is a grade, else 1.

@@ -55,23 +55,11 @@ impl From<WriteFault> for JobFault {
     }
 }
 
-impl JobFault {
-    /// The exit status: 2 for a refused text, 3 for a read or a write fault, 4 when memory runs
-    /// out.
-    pub fn status(&self) -> u8
-        ensures { result ≡ status_of self.now }
-    {
-        match self {
-            JobFault::Plan(_) | JobFault::Cert(_) | JobFault::Script(_) => 2,
-            JobFault::Read | JobFault::Write => 3,
-            JobFault::NoMemory => 4,
-        }
-    }
+/// A failure to read and a lack of memory are reported as such.
+impl From<PlanFault> for JobFault {
+    ghost from_gives = { λ fault told. told ≡ plan_fault fault };
 
-    /// A failure to read and a lack of memory are reported as such.
-    pub(crate) fn of_plan(fault: PlanFault) -> JobFault
-        ensures { result ≡ plan_fault fault }
-    {
+    fn from(fault: PlanFault) -> JobFault {
         match fault.kind {
             FaultKind::Frame(FrameFault::Read) => JobFault::Read,
             FaultKind::Frame(FrameFault::NoMemory)
@@ -88,7 +76,22 @@ impl JobFault {
             ),
         }
     }
+}
 
+impl JobFault {
+    /// The exit status: 2 for a refused text, 3 for a read or a write fault, 4 when memory runs
+    /// out.
+    pub fn status(&self) -> u8
+        ensures { result ≡ status_of self.now }
+    {
+        match self {
+            JobFault::Plan(_) | JobFault::Cert(_) | JobFault::Script(_) => 2,
+            JobFault::Read | JobFault::Write => 3,
+            JobFault::NoMemory => 4,
+        }
+    }
+
+    /// A failure to read and a lack of memory are reported as such.
     pub(crate) fn of_cert(fault: CertFault) -> JobFault
         ensures { result ≡ cert_fault fault }
     {
@@ -117,7 +120,7 @@ impl JobFault {
         ensures { result ≡ audit_fault fault }
     {
         match fault {
-            AuditFault::Plan(fault) => JobFault::of_plan(fault),
+            AuditFault::Plan(fault) => JobFault::from(fault),
             AuditFault::Write => JobFault::Write,
             AuditFault::NoMemory => JobFault::NoMemory,
         }

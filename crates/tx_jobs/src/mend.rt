@@ -32,10 +32,8 @@ pub fn mend_job<A: Allocator + Copy, P: Source, W: Sink>(
     ensures mark { W.failed out.new ≡ mark_after (W.failed out.old) result }
     ensures calls { CallsAtMost P.called source_calls plan.old plan.new }
 {
-    match read_plan_from(alloc, plan) {
-        Ok(plan) => tell_mending(alloc, plan, limit, spare, out),
-        Err(fault) => Err(JobFault::of_plan(fault)),
-    }
+    let plan = read_plan_from(alloc, plan)?;
+    tell_mending(alloc, plan, limit, spare, out)
 }
 
 /// The exit status of a mending: 0 where the plan is mended, else 1.

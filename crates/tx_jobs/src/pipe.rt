@@ -40,7 +40,7 @@ pub fn pipe_job<A: Allocator + Copy, R: Source, W: Sink>(
             let mut script = ScriptPart::new(input, &mut ahead);
             run_script_part(alloc, &plan, &mut script, out)
         }
-        Err(fault) => Err(JobFault::of_plan(fault)),
+        Err(fault) => Err(JobFault::from(fault)),
     }
 }
 

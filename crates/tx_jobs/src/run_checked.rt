@@ -39,10 +39,8 @@ pub fn run_checked_job<A: Allocator + Copy, P: Source, C: Source, R: Source, W: 
     ensures cert_calls { CallsAtMost C.called source_calls cert.old cert.new }
     ensures script_calls { CallsAtMost R.called source_calls script.old script.new }
 {
-    match read_plan_from(alloc, plan) {
-        Ok(plan) => read_and_run(alloc, &plan, cert, limit, spare, script, out),
-        Err(fault) => Err(JobFault::of_plan(fault)),
-    }
+    let plan = read_plan_from(alloc, plan)?;
+    read_and_run(alloc, &plan, cert, limit, spare, script, out)
 }
 
 /// Does the job of `run_checked_job`, and answers the exit status: 0 after a Yes, 1 after a No.

@@ -31,10 +31,8 @@ pub fn survive_job<A: Allocator + Copy, P: Source, W: Sink>(
     ensures mark { W.failed out.new ≡ mark_after (W.failed out.old) result }
     ensures calls { CallsAtMost P.called source_calls plan.old plan.new }
 {
-    match read_plan_from(alloc, plan) {
-        Ok(plan) => tell_unnamed(alloc, &plan, out),
-        Err(fault) => Err(JobFault::of_plan(fault)),
-    }
+    let plan = read_plan_from(alloc, plan)?;
+    tell_unnamed(alloc, &plan, out)
 }
 
 /// Reads a plan and then a text of named risks, and writes whom each group, each exchange and each
@@ -57,7 +55,7 @@ pub fn survive_risks_job<A: Allocator + Copy, P: Source, R: Source, W: Sink>(
 {
     match read_plan_from(alloc, plan) {
         Ok(plan) => tell_named(alloc, &plan, risks, out),
-        Err(fault) => Err(SurviveFault::Job(JobFault::of_plan(fault))),
+        Err(fault) => Err(SurviveFault::Job(JobFault::from(fault))),
     }
 }
 

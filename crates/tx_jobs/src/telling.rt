@@ -31,10 +31,8 @@ pub fn run_telling_job<A: Allocator + Copy, P: Source, R: Source, W: Sink>(
     ensures plan_calls { CallsAtMost P.called source_calls plan.old plan.new }
     ensures script_calls { CallsAtMost R.called source_calls script.old script.new }
 {
-    match read_plan_from(alloc, plan) {
-        Ok(plan) => tell_script(alloc, telling, &plan, script, out),
-        Err(fault) => Err(JobFault::of_plan(fault)),
-    }
+    let plan = read_plan_from(alloc, plan)?;
+    tell_script(alloc, telling, &plan, script, out)
 }
 
 /// Runs a script over a network of the plan, from its opening state, and returns what is asked for.

@@ -41,10 +41,8 @@ pub fn trace_job<A: Allocator + Copy, P: Source, W: Sink>(
     ensures mark { W.failed out.new ≡ mark_after (W.failed out.old) result }
     ensures calls { CallsAtMost P.called source_calls plan.old plan.new }
 {
-    match read_plan_from(alloc, plan) {
-        Ok(plan) => trace_named(alloc, &plan, exchange, code, out),
-        Err(fault) => Err(JobFault::of_plan(fault)),
-    }
+    let plan = read_plan_from(alloc, plan)?;
+    trace_named(alloc, &plan, exchange, code, out)
 }
 
 /// Traces the code of some figures from the exchange of a name.

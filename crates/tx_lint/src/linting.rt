@@ -10,7 +10,7 @@ use std::alloc::{Allocator, Global};
 use tx_plan::Plan;
 
 /// What is to be said of a plan's text.
-#[derive(Drop)]
+#[derive(Debug, Drop)]
 pub enum Lint<'t, A: Allocator = Global> {
     /// The text is refused: all its faults, in order of its lines.
     Faults(Vec<Fault<'t>, A>),

@@ -1,6 +1,7 @@
 // What the mending of each code goes by.
 ghost use Rattle.std.specs.Prelude.{◌≡◌, ◌≤◌, map, length, option_and_then, slice_get, IfOk};
 ghost use Rattle.std.specs.Option.{option_copied};
+ghost use Rattle.tx_plan.specs.Rules.{IsPlan};
 ghost use Rattle.tx_rank.specs.Judged.{AreOrigins};
 ghost use Rattle.tx_mend.specs.LeastRanks.{places, outgoing};
 ghost use Rattle.tx_mend.specs.inner.CodeRanks.{code_ranks};
@@ -58,6 +59,7 @@ fn ranks_for<A: Allocator + Copy>(
     limit: u8,
     spare: u8,
 ) -> Result<CodeRanks<A>, NoMemory>
+    requires rules { IsPlan plan.now }
     requires seizable { seizable.now
         ≡ map (outgoing plan.now) (places (length plan.now.exchanges)) }
     requires origins { AreOrigins plan.now origins.now }

@@ -163,7 +163,7 @@ pub fn full_list<A: Allocator>(
         None => present_list(basis.plan, code, exchange),
         Some(ranks) => list_by_ranks(
             basis.plan,
-            groups_at(basis.seizable, exchange.index()),
+            groups_at(basis.seizable, exchange),
             ranks,
             code,
             exchange,

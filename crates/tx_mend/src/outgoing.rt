@@ -30,11 +30,11 @@ impl<A: Allocator> Outgoing<A> {
     }
 }
 
-/// Those of the exchange at a place; none for a place that the list does not have.
-pub fn groups_at<A: Allocator>(seizable: &[Outgoing<A>], place: usize) -> &[GroupId]
-    ensures { result.now ≡ unwrap_or (slice_get seizable.now place) [] }
+/// Those of an exchange; none for one that the list does not have.
+pub fn groups_at<A: Allocator>(seizable: &[Outgoing<A>], exchange: ExchangeId) -> &[GroupId]
+    ensures { result.now ≡ unwrap_or (slice_get seizable.now exchange) [] }
 {
-    match seizable.get(place) {
+    match seizable.get(exchange.index()) {
         Some(groups) => groups.groups(),
         None => &[],
     }

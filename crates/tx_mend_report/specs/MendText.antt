@@ -8,7 +8,7 @@ use Rattle.tx_plan.specs.Routes.{route_list}
 use Rattle.tx_plan.specs.Mixed.{rerouted}
 use Rattle.tx_plantext.specs.PlanWritten.{route_words}
 use Rattle.tx_rank.specs.declared.finding.Finding.TheVariants.{Ambiguous}
-use Rattle.tx_audit.specs.Report.{asked_line, finding_line, verdict_line}
+use Rattle.tx_audit.specs.Report.{asked_line, finding_line, no_line}
 
 -- what was asked
 abbrev pub head_line : (limit spare : ℕ) → List ℕ
@@ -60,8 +60,8 @@ unserved_line p k = codes "F5 UNSERVED "
     ++ (figures_of p k.0 ++ (codes " " ++ (exchange_name p k.1 ++ codes "\n")))
 
 -- the report of a plan for which no routes can be certified: what was asked, a line for the pair
--- and one for each that cannot be served, and the verdict with their number
+-- and one for each that cannot be served, and NO with their number
 abbrev pub unserved_text : Plan → (limit spare : ℕ) → List (ℕ × ℕ) → Option (ℕ × ℕ) → List ℕ
 unserved_text p limit spare unserved pair = head_line limit spare
     ++ (pair_line p pair ++ (flat_map (unserved_line p) unserved
-    ++ verdict_line (pair_count pair + length unserved)))
+    ++ no_line (pair_count pair + length unserved)))

@@ -5,7 +5,7 @@ ghost use Rattle.tx_text.specs.Wrote.{Wrote};
 ghost use Rattle.tx_mend_report.specs.MendText.{pair_line, pair_count, unserved_line, unserved_text};
 
 use std::alloc::Allocator;
-use tx_audit::{write_asked, write_finding, write_verdict};
+use tx_audit::{write_asked, write_finding, write_no};
 use tx_plan::{CodeId, ExchangeId, Plan};
 use tx_rank::Finding;
 use tx_text::{Sink, WriteFault, write_parts};
@@ -26,7 +26,7 @@ pub fn write_unserved<A: Allocator, W: Sink>(
     write_asked(b"MEND", limit, spare, sink)?;
     write_pair(plan, pair, sink)?;
     write_each(plan, unserved, sink)?;
-    write_verdict(pair_count(pair) + unserved.len(), sink)
+    write_no(pair_count(pair) + unserved.len(), sink)
 }
 
 fn write_pair<A: Allocator, W: Sink>(

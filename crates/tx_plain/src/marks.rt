@@ -10,7 +10,7 @@ use tx_plan::GroupId;
 use tx_text::NoMemory;
 
 /// Which groups are failed or blocked, and which circuits are releasing or out of service.
-#[derive(Drop)]
+#[derive(Debug, Drop)]
 pub(crate) struct Marks<A: Allocator = Global> {
     pub(crate) failed: GroupMarks<A>,
     pub(crate) blocked: GroupMarks<A>,

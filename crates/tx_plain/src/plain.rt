@@ -15,7 +15,7 @@ use tx_text::NoMemory;
 
 /// The plain network: it keeps lists and marks, as the definitions do, and goes through them. The
 /// marks have their room from the start.
-#[derive(Drop)]
+#[derive(Debug, Drop)]
 pub struct Plain<'p, A: Allocator = Global> {
     pub(crate) plan: &'p Plan<A>,
     pub(crate) alloc: A,

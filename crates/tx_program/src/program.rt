@@ -76,7 +76,7 @@ fn do_words<A: Allocator + Copy, F: Folder, I: Read + Drop, O: Write + Drop, E: 
     }
 }
 
-/// Writes why words are refused, and answers the exit status: 3 where a request for help could not
+/// Writes why words are refused, and returns the exit status: 3 where a request for help could not
 /// be written.
 fn refuse_words<F: Folder, I: Read + Drop, O: Write + Drop, E: Write + Drop>(
     fault: &WordsFault,
@@ -120,8 +120,7 @@ pub fn run_command<
     }
 }
 
-/// Writes one line on standard error that says why a command was not done, and answers the exit
-/// status.
+/// Writes why a command was not done, in one line on standard error, and returns the exit status.
 fn tell_fault<E: Write + Drop>(fault: &CommandFault, errors: E) -> u8
     ensures { result ≡ status_of_command fault.now }
 {

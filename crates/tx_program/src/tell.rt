@@ -29,7 +29,7 @@ pub fn tell_words<O: Write, E: Write>(
     }
 }
 
-/// Writes why the arguments of the program could not be taken as words, and answers the exit
+/// Writes why the arguments of the program could not be taken as words, and returns the exit
 /// status: 4 when memory runs out, else 64.
 pub fn refuse_arguments<E: Write>(why: &io::Error, errors: &mut E) -> u8
     ensures { result ≡ status_of_arguments (error_kind why.now) }

@@ -39,7 +39,6 @@ fn judge_ranked<A: Allocator + Copy, N: Routes>(
     ensures codes { cert.new.codes ≡ cert.old.codes }
     ensures exchanges { cert.new.exchanges ≡ cert.old.exchanges }
 {
-    net.rules();
     put_ranks(net, marks, code, cert);
     add_shorts(alloc, net, marks, code, spare, findings)?;
     match long_walk(alloc, net, marks, limit)? {

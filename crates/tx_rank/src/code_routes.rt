@@ -2,7 +2,9 @@
 ghost use Rattle.std.specs.Prelude.{◌≡◌, ◌<◌, ℕ, Bool, length, Some, slice_get, IfOk};
 ghost use Rattle.tx_plan.specs.Routes.{is_origin};
 ghost use Rattle.tx_rank.specs.Walks.{net_of};
+ghost use Rattle.tx_rank.specs.Nets.{IsNet};
 ghost use Rattle.tx_rank.specs.Judged.{AreOrigins};
+ghost use Rattle.tx_rank.specs.inner.NetLaws.{IsNet-prop};
 
 use crate::routes::Routes;
 use std::alloc::Allocator;
@@ -26,7 +28,7 @@ pub struct CodeRoutes<'a, A: Allocator> {
     pub plan: &'a Plan<A>,
     pub origins: &'a [bool],
     pub code: CodeId,
-    ghost known: { code < length plan.now.codes },
+    ghost net: { IsNet (net_of plan.now code) } by { IsNet-prop (net_of plan.now code) },
     ghost right: { AreOrigins plan.now origins.now },
 }
 
@@ -38,7 +40,6 @@ impl<'a, A: Allocator> Routes for CodeRoutes<'a, A> {
     }
 
     fn exchange(&self, place: usize) -> ExchangeId {
-        self.plan.rules();
         ExchangeId::of(place)
     }
 
@@ -65,7 +66,5 @@ impl<'a, A: Allocator> Routes for CodeRoutes<'a, A> {
         }
     }
 
-    fn rules(&self) {
-        self.plan.rules();
-    }
+    ghost is_net = { λ routes. routes.net };
 }

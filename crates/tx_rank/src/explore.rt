@@ -176,7 +176,6 @@ fn advance<'a, A: Allocator, N: Routes>(
         → IsTrail (N.net net.now) search.new.marks.items
         search.old.start search.new.steps.items search.new.before.items search.new.last) }
 {
-    net.rules();
     let exchange = end(search.start, &search.steps);
     match look_on(net, &search.marks, exchange, &mut search.last) {
         Look::Onward(group, to) => go_on(net, search, group, to),
@@ -225,7 +224,6 @@ fn start_at<'a, A: Allocator, N: Routes>(
     ensures done { IfOk result (λ closed. closed ≡ false
         → IsEnd (N.net net.now) origin search.old.marks.items search.new.marks.items) }
 {
-    net.rules();
     search.start = origin;
     search.steps.clear();
     search.before.clear();

@@ -1,6 +1,7 @@
 // The grading of a plan.
 ghost use Rattle.std.specs.Prelude.{◌≡◌, ◌≢◌, ◌<◌, ℕ, length, [], None, IfOk, IfSome, IfNone};
 ghost use Rattle.std.specs.List.{AllByRecursion};
+ghost use Rattle.tx_plan.specs.Rules.{IsPlan};
 ghost use Rattle.tx_cert.specs.Certificate.{rank_at as ranked_at};
 ghost use Rattle.tx_rank.specs.Walks.{net_of};
 ghost use Rattle.tx_rank.specs.Findings.{IsTrueOf};
@@ -28,6 +29,7 @@ fn code_grade<A: Allocator + Copy>(
     cert: &mut Cert<A>,
     findings: &mut Vec<Finding<A>, A>,
 ) -> Result<Option<Bounds>, NoMemory>
+    requires rules { IsPlan plan.now }
     requires code { code < length plan.now.codes }
     requires origins { AreOrigins plan.now origins.now }
     requires codes { cert.old.codes ≡ length plan.now.codes }
@@ -41,7 +43,6 @@ fn code_grade<A: Allocator + Copy>(
     ensures codes { cert.new.codes ≡ cert.old.codes }
     ensures exchanges { cert.new.exchanges ≡ cert.old.exchanges }
 {
-    plan.rules();
     let net = CodeRoutes {
         plan,
         origins,

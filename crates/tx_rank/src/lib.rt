@@ -47,6 +47,6 @@ pub use grading::grade;
 pub use marks::is_marked;
 pub use plan_grade::Grade;
 pub use ranking::{Ranking, pair_found, rank};
-pub use reaching::reached;
+pub use reaching::{far, reached};
 pub use routes::Routes;
 pub use walk::{Steps, Walk};

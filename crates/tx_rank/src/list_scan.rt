@@ -59,7 +59,6 @@ pub fn onward<N: Routes>(
     ensures leads { (N.net net.now).far result.0 exchange ≡ Some result.1 }
     ensures within { result.1 < (N.net net.now).exchanges }
 {
-    net.rules();
     let group = list[place];
     (group, net.far(group, exchange))
 }

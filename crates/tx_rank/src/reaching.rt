@@ -73,7 +73,7 @@ fn next(seen: &[bool], opened: &[bool]) -> Option<ExchangeId>
 }
 
 /// Where a group in the list of an exchange leads.
-fn far<A: Allocator>(
+pub fn far<A: Allocator>(
     plan: &Plan<A>,
     code: CodeId,
     exchange: ExchangeId,

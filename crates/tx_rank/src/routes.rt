@@ -12,8 +12,7 @@ pub trait Routes {
 
     /// How many exchanges there are.
     fn exchanges(&self) -> usize
-        ensures count { result ≡ (net self.now).exchanges }
-        ensures rules { IsNet (net self.now) };
+        ensures { result ≡ (net self.now).exchanges };
 
     /// The exchange at a place.
     fn exchange(&self, place: usize) -> ExchangeId
@@ -42,7 +41,6 @@ pub trait Routes {
         requires { Among group ((net self.now).list exchange) }
         ensures { (net self.now).far group exchange ≡ Some result };
 
-    /// What always holds of it. Does nothing: its callers' proofs name it.
-    fn rules(&self)
-        ensures { IsNet (net self.now) };
+    // It obeys the rules of a plan.
+    ghost is_net: { (routes : Self) → IsNet (net routes) };
 }

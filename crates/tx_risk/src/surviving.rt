@@ -17,7 +17,7 @@ use tx_rank::{Grade, grade};
 use tx_text::NoMemory;
 
 /// What the outages of a plan cut off, or why the plan has no grade.
-#[derive(Drop)]
+#[derive(Debug, Drop)]
 pub enum Survival<A: Allocator = Global> {
     /// What each outage cuts off, by outages in order: groups, exchanges, named risks.
     Tried(Vec<Cut<A>, A>),

@@ -18,7 +18,7 @@ returns-in_err-ranking-clause-answers g c =
     let text = input g.R.Source.rest g.R.Source.failed g.R.Source.called c.args.source.now c.read_plan_from.new.source in
     let out = output g.W.Sink.taken c.args.out.now c.rank_and_report.new.out in
     rw (exits_with c.from_residual-in_err-ranking.result f c.from_residual-in_err-ranking.ensures.1)
-    (stopped _ c.in_ok-plan.plan c.args.limit c.args.spare text out c.rules.ensures c.in_ok-plan.ensures.answer f c.in_err-ranking.ensures.answers)
+    (stopped _ c.in_ok-plan.plan c.args.limit c.args.spare text out c.in_ok-plan.ensures.rules c.in_ok-plan.ensures.answer f c.in_err-ranking.ensures.answers)
 
 pub returns-in_err-ranking-clause-mark : goal.returns-in_err-ranking-clause-mark
 returns-in_err-ranking-clause-mark g c =
@@ -28,7 +28,7 @@ pub returns-clause-answers : goal.returns-clause-answers
 returns-clause-answers g c =
     let text = input g.R.Source.rest g.R.Source.failed g.R.Source.called c.args.source.now c.read_plan_from.new.source in
     let out = output g.W.Sink.taken c.args.out.now c.rank_and_report.new.out in
-    rw c.of.ensures (audited _ c.in_ok-plan.plan c.args.limit c.args.spare text out c.rules.ensures c.in_ok-plan.ensures.answer c.in_ok-ranking.ranking c.in_ok-ranking.ensures.answers)
+    rw c.of.ensures (audited _ c.in_ok-plan.plan c.args.limit c.args.spare text out c.in_ok-plan.ensures.rules c.in_ok-plan.ensures.answer c.in_ok-ranking.ranking c.in_ok-ranking.ensures.answers)
 
 pub returns-clause-each : goal.returns-clause-each
 returns-clause-each g c =

@@ -28,8 +28,8 @@ loop-place-init g c =
     let all : length p.codes ≡ length p.codes - 0 = omega arith in
     ap (λ n. find (calls_from p c.args.start) (range_with_len 0 n)) all
 
-pub returns-in-Some : goal.returns-in-Some
-returns-in-Some g c =
+pub returns-in-Some-clause-line : goal.returns-in-Some-clause-line
+returns-in-Some-clause-line g c =
     let p = c.args.plan.now in
     let i = c.loop-place.place in
     let within : i < length p.codes = let e = c.codes-place-end.ensures.count in let t = c.loop-place-test.true in omega arith in
@@ -39,8 +39,8 @@ returns-in-Some g c =
     let calls : calls_from p c.args.start i ≡ true = rw (here, range) refl in
     rw c.of-code.ensures (sym (line_found p c.args.start i c.in-Some.range (c.loop-place.invariant ∙ code_here (calls_from p c.args.start) i (length p.codes) within calls) range))
 
-pub returns : goal.returns
-returns g c =
+pub returns-clause-line : goal.returns-clause-line
+returns-clause-line g c =
     let p = c.args.plan.now in
     let i = c.loop-place.place in
     let over : length p.codes - i ≡ 0 = let e = c.codes-place-end.ensures.count in let t = c.loop-place-test.false in omega arith in

@@ -59,3 +59,6 @@ returns-clause-shown g c = changes_shown c.args.old.now c.args.new.now c.args.li
 
 pub returns-then-is_empty-clause-fits : goal.returns-then-is_empty-clause-fits
 returns-then-is_empty-clause-fits g c = record { codes = c.in_ok-cert.ensures.codes; exchanges = c.in_ok-cert.ensures.exchanges; rules = c.rules-then-is_empty.ensures }
+
+pub change_codes-requires-clause-network : goal.change_codes-requires-clause-network
+change_codes-requires-clause-network g c = record { network = c.requires.network; old = c.rules.ensures; new = c.rules-2.ensures }

@@ -31,8 +31,8 @@ returns-in-Err-clause-answers g c =
     let none : begun.ahead.now.held ≡ [] = ap (λ b. b.now.held) c.new-part.ensures.ahead ∙ c.new-ahead.ensures.held in
     let sound : begun.ahead.now.failed ≡ false = ap (λ b. b.now.failed) c.new-part.ensures.ahead ∙ c.new-ahead.ensures.failed in
     inr
-    (subst2 (λ a b. PipeRefused s.rest s.failed s.called a b out (Err c.of_plan.result)) (ap (λ b. b.now) c.new-part.ensures.input) (search rules)
-    (refused s.rest s.failed s.called begun c.read_plan_part.new.part none sound c.new-part.ensures.seen c.read_plan_part.ensures.calls out c.of_plan.result c.in-Err.fault c.in-Err.ensures.answer c.of_plan.ensures refl))
+    (subst2 (λ a b. PipeRefused s.rest s.failed s.called a b out (Err c.from.result)) (ap (λ b. b.now) c.new-part.ensures.input) (search rules)
+    (refused s.rest s.failed s.called begun c.read_plan_part.new.part none sound c.new-part.ensures.seen c.read_plan_part.ensures.calls out c.from.result c.in-Err.fault c.in-Err.ensures.answer c.from.ensures refl))
 
 pub returns-in-Err-clause-mark : goal.returns-in-Err-clause-mark
-returns-in-Err-clause-mark g c = plan_mark (g.W.Sink.failed c.args.out.now) c.in-Err.fault c.of_plan.result c.of_plan.ensures
+returns-in-Err-clause-mark g c = plan_mark (g.W.Sink.failed c.args.out.now) c.in-Err.fault c.from.result c.from.ensures

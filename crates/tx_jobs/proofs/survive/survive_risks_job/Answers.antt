@@ -17,13 +17,13 @@ pub returns-in-Err-clause-answers : goal.returns-in-Err-clause-answers
 returns-in-Err-clause-answers g c = inr (record {
   fault = c.in-Err.fault;
   read = c.in-Err.ensures.answer;
-  told = ap (λ f. Err (Job f)) c.of_plan.ensures;
+  told = ap (λ f. Err (Job f)) c.from.ensures;
   rest = (refl, refl);
 })
 
 pub returns-in-Err-clause-mark : goal.returns-in-Err-clause-mark
 returns-in-Err-clause-mark g c =
-    plan_mark (g.W.Sink.failed c.args.out.now) c.in-Err.fault c.of_plan.result c.of_plan.ensures
+    plan_mark (g.W.Sink.failed c.args.out.now) c.in-Err.fault c.from.result c.from.ensures
 
 pub returns-in-Err-clause-risks_calls : goal.returns-in-Err-clause-risks_calls
 returns-in-Err-clause-risks_calls g c =

@@ -29,12 +29,12 @@ returns g c =
     let n = g.N.Routes.net c.args.net.now in
     let t = c.loop-place-test.false in
     let a = c.loop-place.auto.place-end in
-    let e = c.exchanges-place-end.ensures.count in
+    let e = c.exchanges-place-end.ensures in
     let all : c.loop-place.place ≡ n.exchanges = omega arith in
     record { long = i.long; true_of = i.true_of; all = subst (LinksBelow n (rank_in c.args.marks.now) c.loop-place.links.items) all i.below }
 
 pub link_from-requires-clause-place : goal.link_from-requires-clause-place
-link_from-requires-clause-place g c = let e = c.exchanges-place-end.ensures.count in let t = c.loop-place-test.true in omega arith
+link_from-requires-clause-place g c = let e = c.exchanges-place-end.ensures in let t = c.loop-place-test.true in omega arith
 
 pub link_from-requires-clause-marks : goal.link_from-requires-clause-marks
 link_from-requires-clause-marks g c = c.requires.long

@@ -18,5 +18,5 @@ returns g c =
     let all : c.loop-place.place ≡ length c.args.plan.now.exchanges = let t = c.loop-place-test.false in let a = c.loop-place.auto.place-end in let e = c.exchanges-place-end.ensures.count in omega arith in
     let n = net_of c.args.plan.now c.args.code in
     let ranks = ranks_of c.args.cert.now c.args.code in
-    let within : (x r : ℕ) → ranks x ≡ Some r → x < c.loop-place.place = λ x r h. let w = c.rules-2.ensures.own_exchanges c.args.code x r h in let e = c.requires.exchanges in omega arith in
+    let within : (x r : ℕ) → ranks x ≡ Some r → x < c.loop-place.place = λ x r h. let w = c.rules.ensures.own_exchanges c.args.code x r h in let e = c.requires.exchanges in omega arith in
     code_bounds n ranks c.requires.heights c.requires.certified c.loop-place.place c.loop-place.bounds within c.loop-place.invariant

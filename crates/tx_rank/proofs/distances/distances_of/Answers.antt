@@ -10,7 +10,7 @@ returns g c =
     let v = ap length c.deref_mut.ensures.value in
     let a = c.measure.auto.distances in
     let e = c.in_ok-distances.ensures.len in
-    let n = c.exchanges.ensures.count in
+    let n = c.exchanges.ensures in
     let k = old.ok.0 in
     let fits : length new ≡ old.len = omega arith in
     ap length (ap (λ k. take k (new ++ rest)) (sym fits) ∙ take-append_seam new rest) ∙ omega arith

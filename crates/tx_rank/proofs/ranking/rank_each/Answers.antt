@@ -3,11 +3,19 @@ use Rattle.tx_cert.specs.Certificate.{rank_at}
 use Rattle.tx_rank.specs.Walks.{net_of}
 use Rattle.tx_rank.specs.Judged.{IsJudged}
 use Rattle.tx_rank.specs.inner.Judged.{IsRankedBelow}
+use Rattle.tx_rank.proofs.Nets.{is_net}
 use Rattle.tx_rank.proofs.Listing.{ranked_first, ranked_next}
 use Rattle.tx_rank.proofs.ranking.rank_each.Goals as goal
 
 pub loop-place-init : goal.loop-place-init
 loop-place-init g c = ranked_first c.args.plan.now c.args.limit c.args.spare c.args.cert.now c.args.findings.now.items c.requires.blank c.requires.pair
+
+pub invariant_of-net : goal.invariant_of-net
+invariant_of-net g c =
+    let at = c.of-code.ensures in
+    let t = c.loop-place-test.true in
+    let n = c.codes-place-end.ensures.count in
+    record { net = is_net c.args.plan.now c.codes-place-end.ensures.rules c.of-code.result (omega arith); right = c.requires.origins }
 
 pub rank_code-requires-clause-code : goal.rank_code-requires-clause-code
 rank_code-requires-clause-code g c = let i = c.loop-place.invariant.codes in let at = c.of-code.ensures in let t = c.loop-place-test.true in let n = c.codes-place-end.ensures.count in omega arith

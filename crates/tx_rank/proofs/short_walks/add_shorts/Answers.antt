@@ -15,5 +15,5 @@ loop-place-preserved g c = c.in_ok-add_short.ensures c.args.findings.now.items c
 
 pub returns : goal.returns
 returns g c =
-    let at : c.loop-place.place ≡ (g.N.Routes.net c.args.net.now).exchanges = let t = c.loop-place-test.false in let a = c.loop-place.auto.place-end in let e = c.exchanges-place-end.ensures.count in omega arith in
+    let at : c.loop-place.place ≡ (g.N.Routes.net c.args.net.now).exchanges = let t = c.loop-place-test.false in let a = c.loop-place.auto.place-end in let e = c.exchanges-place-end.ensures in omega arith in
     below_all (g.N.Routes.net c.args.net.now) c.args.code c.args.spare (rank_in c.args.marks.now) c.requires.ranks c.args.findings.now.items c.loop-place.findings.items c.loop-place.place at c.loop-place.invariant

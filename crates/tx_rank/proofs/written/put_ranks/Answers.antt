@@ -9,14 +9,14 @@ loop-place-preserved g c =
 
 pub returns-clause-here : goal.returns-clause-here
 returns-clause-here g c =
-    let at : c.loop-place.place ≡ length c.args.marks.now = let t = c.loop-place-test.false in let a = c.loop-place.auto.place-end in let e = c.exchanges-place-end.ensures.count in let l = c.requires.long in omega arith in
+    let at : c.loop-place.place ≡ length c.args.marks.now = let t = c.loop-place-test.false in let a = c.loop-place.auto.place-end in let e = c.exchanges-place-end.ensures in let l = c.requires.long in omega arith in
     writing_all c.args.cert.now c.loop-place.cert c.args.marks.now c.args.code c.loop-place.place c.loop-place.invariant at
 
 pub loop-place-init : goal.loop-place-init
 loop-place-init g c = record { here = λ x h. absurd (omega arith); blank = λ x h. c.requires.blank x; others = λ d x h. refl; codes = refl; exchanges = refl }
 
 pub put_rank-requires-clause-place : goal.put_rank-requires-clause-place
-put_rank-requires-clause-place g c = let e = c.exchanges-place-end.ensures.count in let t = c.loop-place-test.true in omega arith
+put_rank-requires-clause-place g c = let e = c.exchanges-place-end.ensures in let t = c.loop-place-test.true in omega arith
 
 pub put_rank-requires-clause-long : goal.put_rank-requires-clause-long
 put_rank-requires-clause-long g c = c.requires.long

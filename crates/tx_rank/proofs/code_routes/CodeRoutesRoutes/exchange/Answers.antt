@@ -2,4 +2,4 @@ use Rattle.std.proofs.Common.{arith}
 use Rattle.tx_rank.proofs.code_routes.CodeRoutesRoutes.exchange.Goals as goal
 
 pub of-requires : goal.of-requires
-of-requires g c = let few = c.rules.ensures.few_exchanges in let within = c.requires in omega arith
+of-requires g c = let few = c.args.self.now.net.few in let within = c.requires in omega arith
