@@ -40,7 +40,7 @@ impl RouteScan {
     {
         let group = match plan.group_named(word) {
             Some(group) => {
-                // Its word is a name: read once more, `codes` of the largest plan takes 1.3 times as long.
+                // It is a name. Tested again, `codes` of the largest plan takes 1.3 times as long.
                 plan.rules();
                 if let Some(pair) = pair {
                     if !plan.may_seize(group, pair.exchange) {
