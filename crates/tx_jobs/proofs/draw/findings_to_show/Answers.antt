@@ -11,12 +11,12 @@ pub returns-in-Found : goal.returns-in-Found
 returns-in-Found g c =
     let p = c.args.plan.now in
     subst (λ b. AreToShow p b c.new-in-Found.result.items) (sym c.in-Some.is)
-    (subst (IsAllFound p c.in-Some.limit c.in-Some.spare) (sym c.new-in-Found.ensures.items) (c.in_ok-findings.ensures.found.0 (subst IsFound (sym c.in-Found.is) tt)))
+    (subst (IsAllFound p c.in-Some.limit c.in-Some.spare) (sym c.new-in-Found.ensures.items) (c.in_ok-rank-in-Some.ensures.found.0 (subst IsFound (sym c.in-Found.is) tt)))
 
-pub returns-in-Fails : goal.returns-in-Fails
-returns-in-Fails g c =
+pub returns : goal.returns
+returns g c =
     let p = c.args.plan.now in
-    let ranked = c.in_ok-findings.ensures in
+    let ranked = c.in_ok-rank-in-Some.ensures in
     let findings = c.in-Fails.findings.items in
     let some = subst (OnFails (λ l. l ≢ [])) c.in-Fails.is ranked.fails in
     let each = subst (OnFails (AllByRecursion (IsTrueOf p c.in-Some.limit c.in-Some.spare))) c.in-Fails.is ranked.each in
