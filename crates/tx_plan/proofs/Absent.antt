@@ -1,5 +1,5 @@
 -- A word that is no name names nothing.
-use Rattle.std.proofs.Common.{◌≡◌, ℕ, ◌<◌, ◌≤◌, Bool, true, false, ◌&&◌, ◌||◌, nat_le, List, [], ◌∷◌, length, Option, Some, None, is_some, refl, sym, ap, ◌∙◌, arith}
+use Rattle.std.proofs.Common.{◌≡◌, ℕ, ◌<◌, ◌≤◌, Bool, true, false, not, ◌&&◌, ◌||◌, nat_le, List, [], ◌∷◌, length, Option, Some, None, is_some, refl, sym, ap, ◌∙◌, arith}
 use Rattle.std.specs.Prelude.{position}
 use Rattle.std.specs.List.{AllByRecursion, list_all}
 use Rattle.std.specs.Str.{bytes_eq}
@@ -33,6 +33,15 @@ group_word p w o h e some = by_test (is_name w) refl
     by_test true k = refl
     by_test false k = sym (ap is_some (e ∙ unnamed is_name (λ (r : Group). r.name) (IsGroup p) w
         p.groups (λ x g. g.name) k h.groups)) ∙ some
+
+-- a fault that a word has not, or has, beside those of the words before it
+pub fault_kept : (old right : Bool) → right ≡ true → old ≡ (old || not right)
+fault_kept true right e = refl
+fault_kept false right e = sym (ap not e)
+
+pub fault_found : (old right : Bool) → right ≡ false → true ≡ (old || not right)
+fault_found true right e = refl
+fault_found false right e = sym (ap not e)
 
 -- a text too long for the words that pass
 pub too_long : (ok : List ℕ → Bool) (n : ℕ) → ((w : List ℕ) → ok w ≡ true → length w ≤ n) → (w : List ℕ) → n < length w → ok w ≡ false
