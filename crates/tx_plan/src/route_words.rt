@@ -39,15 +39,11 @@ impl RouteScan {
             → self.new.list ≡ self.old.list ++ group_at plan.now word.now ∷ [] }
     {
         let group = plan.group_named(word);
-        let closed = match (pair, group) {
-            (Some(pair), Some(group)) => !plan.may_seize(group, pair.exchange),
-            _ => false,
-        };
         // What names a group is a name, so only another word is read again.
         plan.rules();
         self.bad = self.bad || group.is_none() && !is_name(word);
         self.unknown = self.unknown || group.is_none();
-        self.not_outgoing = self.not_outgoing || closed;
+        self.not_outgoing = self.not_outgoing || plan.is_closed(pair, group);
         if !self.list.push(group.unwrap_or(GroupId::of(0))) {
             self.many = true;
         }
@@ -55,10 +51,13 @@ impl RouteScan {
 }
 
 /// What the words come to for a pair.
-pub(crate) fn scan<A: Allocator>(plan: &Plan<A>, pair: &Option<Pair>, words: Words<'_>) -> RouteScan
+pub(crate) fn scan<A: Allocator>(
+    plan: &Plan<A>,
+    pair: &Option<Pair>,
+    mut words: Words<'_>,
+) -> RouteScan
     ensures { IsScanOf plan.now pair.now words.entry result }
 {
-    let mut rest = words;
     let mut scan = RouteScan {
         bad: false,
         unknown: false,
@@ -66,10 +65,8 @@ pub(crate) fn scan<A: Allocator>(plan: &Plan<A>, pair: &Option<Pair>, words: Wor
         many: false,
         list: GroupList::new(),
     };
-    'words: loop {
-        match rest.next() {
-            None => return scan,
-            Some(word) => scan.note(plan, pair, word),
-        }
+    while let Some(word) = words.next() {
+        scan.note(plan, pair, word);
     }
+    scan
 }
