@@ -4,6 +4,7 @@ use Rattle.std.specs.List.{list_any}
 use Rattle.std.specs.Option.{option_map_or}
 use Rattle.std.specs.Str.{bytes_eq}
 use Rattle.tx_text.specs.Words.{is_name}
+pub use Rattle.tx_text.specs.Words.{none_twice}
 pub use Rattle.tx_plan.specs.Numbers.{shares}
 use Rattle.tx_plan.specs.Plan.{Plan, exchange_named, code_named, group_named, home_of}
 use Rattle.tx_plan.specs.Lines.{at_most}
@@ -70,11 +71,6 @@ is_ordered low high = (length low == length high) && at_most low high
 abbrev pub is_not_outgoing : Plan → Option Pair → List ℕ → Bool
 is_not_outgoing p pair g =
     holds_at pair (λ x c. option_map_or (λ i. not (may_seize p i x)) (group_named p g) false)
-
--- no word is there twice
-abbrev pub none_twice : List (List ℕ) → Bool
-none_twice [] = true
-none_twice (w ∷ ws) = not (list_any (bytes_eq w) ws) && none_twice ws
 
 -- Each list of refusals has them in their order, each with the test of whether it applies. This is
 -- that of an exchange.

@@ -8,7 +8,6 @@ ghost use Rattle.tx_plan.specs.Routes.{is_barred};
 ghost use Rattle.tx_plan.specs.inner.RouteScan.{IsScanOf};
 ghost use Rattle.tx_plan.specs.Declaring.{first_true, exchange_refusals, code_refusals, lines_refusals, group_refusals, route_refusals, route_plan_refusals, route_group_refusals, bar_refusals, route_word_refusals, has_exchange, has_code, has_group, has_route, pair_named, is_ordered, exchange_at, code_at, group_at};
 
-use crate::group_words::none_twice;
 use crate::ids::{Direction, ExchangeId, GroupRow, National, Pair, at_most};
 use crate::names::NameKey;
 use crate::plan::Plan;
@@ -190,19 +189,6 @@ pub(crate) fn group_entry<A: Allocator>(
     Ok((NameKey::new(name), row))
 }
 
-/// The exchange and the code of two words.
-fn pair_of<A: Allocator>(plan: &Plan<A>, exchange: &[u8], code: &[u8]) -> Option<Pair>
-    ensures pair { result ≡ pair_named plan.now exchange.now code.now }
-    ensures named { IfSome result (λ x. x ≡ record {
-      exchange = exchange_at plan.now exchange.now;
-      code = code_at plan.now code.now;
-    }) }
-{
-    let exchange = plan.exchange_named(exchange)?;
-    let code = plan.code_named(code)?;
-    Some(Pair { exchange, code })
-}
-
 /// A new bar, or why it is refused.
 pub(crate) fn bar_entry<A: Allocator>(
     plan: &Plan<A>,
@@ -224,7 +210,7 @@ pub(crate) fn bar_entry<A: Allocator>(
     if !are_figures(code, 2, 3) {
         return Err(PlanRefusal::BadCode);
     }
-    let Some(pair) = pair_of(plan, exchange, code) else {
+    let Some(pair) = plan.pair_named(exchange, code) else {
         return Err(PlanRefusal::Unknown);
     };
     if plan.is_barred(pair.exchange, pair.code) {
@@ -277,7 +263,7 @@ fn route_groups<A: Allocator>(
         return Err(PlanRefusal::NotOutgoing);
     }
     let once = if scan.many {
-        none_twice(groups.again())
+        groups.again().none_twice()
     } else {
         scan.list.none_twice()
     };
@@ -335,7 +321,7 @@ pub(crate) fn route_entry<A: Allocator>(
     )) }
     ensures fresh { IfOk result (λ e. has_route plan.now e.0.exchange e.0.code ≡ false) }
 {
-    let pair = pair_of(plan, exchange, code);
+    let pair = plan.pair_named(exchange, code);
     let scan = scan(plan, &pair, groups.again());
     route_words(exchange, code, &groups, scan.bad)?;
     let Some(pair) = pair else {

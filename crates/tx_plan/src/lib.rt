@@ -24,7 +24,6 @@
 
 mod builder;
 mod entries;
-mod group_words;
 mod ids;
 mod names;
 mod plan;

@@ -1,14 +1,14 @@
 // A route plan and its readers.
-ghost use Rattle.std.specs.Prelude.{◌≡◌, ◌≤◌, ◌&&◌, ◌==◌, if◌then◌else◌, nat_lt, Some, None, length, slice_get};
+ghost use Rattle.std.specs.Prelude.{◌≡◌, ◌≤◌, ◌&&◌, ◌==◌, if◌then◌else◌, nat_lt, Some, None, false, not, length, slice_get, IfSome};
 ghost use Rattle.std.specs.List.{list_any};
-ghost use Rattle.std.specs.Option.{option_map, option_copied};
+ghost use Rattle.std.specs.Option.{option_map, option_map_or, option_copied};
 ghost use Rattle.tx_plan.specs.Plan.{home_of};
 ghost use Rattle.tx_plan.specs.Lines.{is_line_at, in_range};
 ghost use Rattle.tx_plan.specs.Routes.{route_list, is_barred, is_origin, is_origin_for};
 ghost use Rattle.tx_plan.specs.Circuits.{direction_of, count_of, ends_of, other_end, may_seize};
 ghost use Rattle.tx_plan.specs.Rules.{IsPlan};
 ghost use Rattle.tx_plan.specs.Mixed.{rerouted};
-ghost use Rattle.tx_plan.specs.Declaring.{has_route, overlaps};
+ghost use Rattle.tx_plan.specs.Declaring.{has_route, overlaps, pair_named, holds_at, exchange_at, code_at};
 ghost use Rattle.tx_plan.specs.inner.Tables.{row_of};
 
 use crate::ids::{ByWord, CodeId, Direction, ExchangeId, GroupId, GroupRow, Line, National, Pair};
@@ -227,6 +227,19 @@ impl<A: Allocator> Plan<A> {
         self.routes.list(&Pair { exchange, code })
     }
 
+    /// The exchange and the code of two words, if both are declared.
+    pub fn pair_named(&self, exchange: &[u8], code: &[u8]) -> Option<Pair>
+        ensures pair { result ≡ pair_named self.now exchange.now code.now }
+        ensures named { IfSome result (λ x. x ≡ record {
+          exchange = exchange_at self.now exchange.now;
+          code = code_at self.now code.now;
+        }) }
+    {
+        let exchange = self.exchange_named(exchange)?;
+        let code = self.code_named(code)?;
+        Some(Pair { exchange, code })
+    }
+
     /// Whether a route is declared for the pair.
     pub(crate) fn has_route(&self, pair: &Pair) -> bool
         ensures { result ≡ has_route self.now pair.now.exchange pair.now.code }
@@ -335,6 +348,17 @@ impl<A: Allocator> Plan<A> {
                 row.a == exchange || row.direction == Direction::BothWay && row.b == exchange
             }
             None => false,
+        }
+    }
+
+    /// Whether there are a pair and a group, and the exchange of the pair may not seize the group.
+    pub fn is_closed(&self, pair: &Option<Pair>, group: Option<GroupId>) -> bool
+        ensures { result ≡ holds_at pair.now
+            (λ x c. option_map_or (λ i. not (may_seize self.now i x)) group false) }
+    {
+        match (pair, group) {
+            (Some(pair), Some(group)) => !self.may_seize(group, pair.exchange),
+            _ => false,
         }
     }
 }

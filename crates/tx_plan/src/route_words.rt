@@ -62,10 +62,13 @@ impl RouteScan {
 }
 
 /// What the words come to for a pair.
-pub(crate) fn scan<A: Allocator>(plan: &Plan<A>, pair: &Option<Pair>, words: Words<'_>) -> RouteScan
+pub(crate) fn scan<A: Allocator>(
+    plan: &Plan<A>,
+    pair: &Option<Pair>,
+    mut words: Words<'_>,
+) -> RouteScan
     ensures { IsScanOf plan.now pair.now words.entry result }
 {
-    let mut rest = words;
     let mut scan = RouteScan {
         bad: false,
         unknown: false,
@@ -73,10 +76,8 @@ pub(crate) fn scan<A: Allocator>(plan: &Plan<A>, pair: &Option<Pair>, words: Wor
         many: false,
         list: GroupList::new(),
     };
-    'words: loop {
-        match rest.next() {
-            None => return scan,
-            Some(word) => scan.note(plan, pair, word),
-        }
+    while let Some(word) = words.next() {
+        scan.note(plan, pair, word);
     }
+    scan
 }

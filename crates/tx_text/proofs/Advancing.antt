@@ -6,7 +6,7 @@ use Rattle.tx_text.specs.declared.text_fault.TextFault.{TextFault}
 use Rattle.tx_text.specs.declared.frame.FrameFault.{FrameFault}
 use Rattle.tx_text.specs.declared.frame.FrameFault.TheVariants.{Read}
 use Rattle.tx_text.specs.Text.{Line, bytes_fault}
-use Rattle.tx_text.specs.Told.{Ending, AtEnd, Cut, Told, Closed, Faulty, frame_fault, told}
+use Rattle.tx_text.specs.Told.{Ending, AtEnd, Cut, Closed, Faulty, frame_fault, told}
 use Rattle.tx_text.specs.Frame.{ReadsOn, EndsAs, Stopped}
 use Rattle.tx_text.specs.inner.Feed.{Feed, feed_gives, finish_gives, finish_leaves, ends_giving, ends_leaving}
 use Rattle.tx_text.specs.inner.Reading.{told_at, Place, place_of, IsFeed, Came, LineCame, Advances, ended_as, Reading, reading_place, fed_on, lined}

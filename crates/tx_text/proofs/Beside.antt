@@ -4,10 +4,9 @@ use Rattle.std.specs.Result.{is_ok, result_map_both}
 use Rattle.tx_text.specs.declared.frame.FrameFault.{FrameFault}
 use Rattle.tx_text.specs.declared.frame.FaultKind.{FaultKind}
 use Rattle.tx_text.specs.declared.frame.FaultKind.TheVariants.{Frame, Word}
-use Rattle.tx_text.specs.Ends.{Input}
 use Rattle.tx_text.specs.Told.{Ending, AtEnd}
 use Rattle.tx_text.specs.Frame.{Framed, Done, Stop, Headed, Has, is_read}
-use Rattle.tx_text.specs.Said.{said, step_on, goes_on, declares_at, lines_within, text_said, line_declares, WantingAt, is_no_room, DeclaredBy, Declared, RefusedBy, StoppedBy, Refused, Answered, FaultsBy, FaultsAs, AnswersAs}
+use Rattle.tx_text.specs.Said.{said, step_on, goes_on, declares_at, lines_within, text_said, line_declares, WantingAt, is_no_room, DeclaredBy, Declared, RefusedBy, StoppedBy, Answered, FaultsBy, AnswersAs}
 use Rattle.tx_text.specs.inner.Beside.{beside, without}
 use Rattle.tx_text.proofs.Framing.{on_says, on_then, end_then, map_end, stands_map, stopped_map}
 

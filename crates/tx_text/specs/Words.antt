@@ -1,6 +1,7 @@
 -- The words of a line, and what a word spells.
 use Rattle.std.specs.Prelude.{ℕ, ◌==◌, Bool, true, false, ◌&&◌, ◌||◌, not, nat_le, List, [], ◌∷◌, Option, None, Some, length, filter, slice_index, if◌then◌else◌}
-use Rattle.std.specs.List.{slice_split, list_all}
+use Rattle.std.specs.List.{slice_split, list_all, list_any}
+use Rattle.std.specs.Str.{bytes_eq}
 use Rattle.std.specs.Str.Parse.{digits_value}
 
 -- a space or a tab
@@ -24,6 +25,11 @@ before p (b ∷ bs) = if p b then [] else b ∷ before p bs
 -- the words of a line: what is between blanks, up to the comment
 unfoldable pub words_of : List ℕ → List (List ℕ)
 words_of line = filter is_filled (slice_split is_blank (before is_hash line))
+
+-- no word is there twice
+abbrev pub none_twice : List (List ℕ) → Bool
+none_twice [] = true
+none_twice (w ∷ ws) = not (list_any (bytes_eq w) ws) && none_twice ws
 
 -- 0 to 9
 abbrev pub is_figure : ℕ → Bool

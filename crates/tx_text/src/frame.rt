@@ -257,7 +257,7 @@ pub(crate) fn end_as(number: u64, fault: Option<FrameFault>) -> Result<FrameStep
 }
 
 /// How many calls a text may take that comes from a source.
-const SOURCE_CALLS: u64 = 4_294_967_295;
+pub const SOURCE_CALLS: u64 = 4_294_967_295;
 
 /// How many calls a text may take that is in memory: it has fewer than 2^63 bytes, and each call
 /// takes 4,096 of them.

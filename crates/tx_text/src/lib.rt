@@ -30,7 +30,7 @@ pub use feeder::{Fed, LineFeeder};
 pub use figures::{Figures, InlineBytes, are_figures, number};
 pub use frame::{
     FaultAt, FaultKind, FrameFault, FramePart, FrameReader, FrameStep, FrameStop, LineForm,
-    closing, is_end, last_fault, look,
+    SOURCE_CALLS, closing, is_end, last_fault, look,
 };
 pub use from_read::FromRead;
 pub use line::TextLine;

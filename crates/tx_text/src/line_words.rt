@@ -1,8 +1,9 @@
 // The words of a line, and what a word spells.
 ghost use Rattle.std.specs.Prelude.{◌≡◌, ◌≢◌, ◌≤◌, ◌∷◌, [], length, MatchOption};
-ghost use Rattle.std.specs.List.{prefix_len};
+ghost use Rattle.std.specs.List.{list_any, prefix_len};
+ghost use Rattle.std.specs.Str.{bytes_eq};
 ghost use Rattle.std.specs.Iterator.{YieldsFirstBy, item_count};
-ghost use Rattle.tx_text.specs.Words.{words_of, is_blank};
+ghost use Rattle.tx_text.specs.Words.{words_of, is_blank, none_twice};
 ghost use Rattle.tx_text.specs.inner.Words.{is_word_byte};
 
 use std::marker::Model;
@@ -102,6 +103,25 @@ impl<'a> Words<'a> {
         ensures { result ≡ self.now }
     {
         Words { rest: self.rest }
+    }
+
+    /// Whether the word is one of these.
+    pub fn contains(&self, word: &[u8]) -> bool
+        ensures { result ≡ list_any (bytes_eq word.now) self.now }
+    {
+        self.again().any(|other| word == other)
+    }
+
+    /// Whether no word is there twice.
+    pub fn none_twice(mut self) -> bool
+        ensures { result ≡ none_twice self.entry }
+    {
+        'words: while let Some(word) = self.next() {
+            if self.contains(word) {
+                return false;
+            }
+        }
+        true
     }
 }
 

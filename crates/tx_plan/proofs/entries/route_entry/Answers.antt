@@ -18,13 +18,13 @@ returns-in_default-clause-err g c =
     let p = c.args.plan.now in
     let gs = c.args.groups in
     goes_on (route_word_refusals c.args.exchange.now c.args.code.now gs) (route_plan_refusals p (pair_named p c.args.exchange.now c.args.code.now) gs) (sym c.in_ok-route_words.ensures)
-    ∙ ap (λ (o : Option Pair). first_true (route_plan_refusals p o gs)) (sym c.pair_of-pair.ensures.pair ∙ nothing c.pair_of-pair.result c.in_default.not-Some)
+    ∙ ap (λ (o : Option Pair). first_true (route_plan_refusals p o gs)) (sym c.pair_named-pair.ensures.pair ∙ nothing c.pair_named-pair.result c.in_default.not-Some)
 
 pub route_row-requires : goal.route_row-requires
 route_row-requires g c =
     let p = c.args.plan.now in
     let s = c.scan-scan.result in
-    record { scan = subst (λ (o : Option Pair). IsScanOf p o c.args.groups s) c.in-Some.is (subst (λ (ws : List (List ℕ)). IsScanOf p c.pair_of-pair.result ws s) c.again.ensures c.scan-scan.ensures) }
+    record { scan = subst (λ (o : Option Pair). IsScanOf p o c.args.groups s) c.in-Some.is (subst (λ (ws : List (List ℕ)). IsScanOf p c.pair_named-pair.result ws s) c.again.ensures c.scan-scan.ensures) }
 
 pub returns-in_err-route_row-clause-err : goal.returns-in_err-route_row-clause-err
 returns-in_err-route_row-clause-err g c =
@@ -32,7 +32,7 @@ returns-in_err-route_row-clause-err g c =
     let gs = c.args.groups in
     refused c.from_residual-in_err-route_row.result c.in_err-route_row.field-0.0 (λ e. first_true (route_refusals p c.args.exchange.now c.args.code.now gs) ≡ Some e) c.from_residual-in_err-route_row.ensures.1
     (goes_on (route_word_refusals c.args.exchange.now c.args.code.now gs) (route_plan_refusals p (pair_named p c.args.exchange.now c.args.code.now) gs) (sym c.in_ok-route_words.ensures)
-    ∙ ap (λ (o : Option Pair). first_true (route_plan_refusals p o gs)) (sym c.pair_of-pair.ensures.pair ∙ c.in-Some.is)
+    ∙ ap (λ (o : Option Pair). first_true (route_plan_refusals p o gs)) (sym c.pair_named-pair.ensures.pair ∙ c.in-Some.is)
     ∙ sym c.in_err-route_row.ensures.gives)
 
 pub returns-clause-ok : goal.returns-clause-ok
@@ -40,13 +40,13 @@ returns-clause-ok g c =
     let p = c.args.plan.now in
     let gs = c.args.groups in
     goes_on (route_word_refusals c.args.exchange.now c.args.code.now gs) (route_plan_refusals p (pair_named p c.args.exchange.now c.args.code.now) gs) (sym c.in_ok-route_words.ensures)
-    ∙ ap (λ (o : Option Pair). first_true (route_plan_refusals p o gs)) (sym c.pair_of-pair.ensures.pair ∙ c.in-Some.is)
+    ∙ ap (λ (o : Option Pair). first_true (route_plan_refusals p o gs)) (sym c.pair_named-pair.ensures.pair ∙ c.in-Some.is)
     ∙ sym c.in_ok-route_row.ensures.gives
 
 pub returns-clause-entry : goal.returns-clause-entry
 returns-clause-entry g c =
     let p = c.args.plan.now in
-    let named = subst (λ (o : Option Pair). IfSome o (λ x. x ≡ record { exchange = exchange_at p c.args.exchange.now; code = code_at p c.args.code.now })) c.in-Some.is c.pair_of-pair.ensures.named in
+    let named = subst (λ (o : Option Pair). IfSome o (λ x. x ≡ record { exchange = exchange_at p c.args.exchange.now; code = code_at p c.args.code.now })) c.in-Some.is c.pair_named-pair.ensures.named in
     let list = c.scan-scan.ensures.list c.in_ok-route_row.ensures.few ∙ ap (map (group_at p)) c.again.ensures in
     λ i. (named i, list i)
 

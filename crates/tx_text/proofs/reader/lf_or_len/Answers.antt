@@ -1,4 +1,4 @@
-use Rattle.std.proofs.Common.{length, ◌∙◌, arith, not}
+use Rattle.std.proofs.Common.{◌∙◌, arith, not}
 use Rattle.std.proofs.lemmas.List.Sums.{prefix_len-le-length}
 use Rattle.tx_text.specs.Text.{is_lf}
 use Rattle.tx_text.proofs.Places.{found_or_len}

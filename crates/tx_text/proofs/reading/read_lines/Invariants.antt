@@ -1,4 +1,3 @@
-use Rattle.std.proofs.Common.{◌≡◌, ◌≤◌}
 use Rattle.tx_text.specs.Frame.{ReadsOn}
 use Rattle.tx_text.specs.Said.{said, text_said, line_declares}
 use Rattle.tx_text.specs.inner.CallsLeft.{Went}

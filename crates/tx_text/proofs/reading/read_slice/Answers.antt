@@ -1,4 +1,4 @@
-use Rattle.std.proofs.Common.{◌≡◌, ◌<◌, ◌^◌, length, true, refl, arith}
+use Rattle.std.proofs.Common.{◌≡◌, true, refl}
 use Rattle.tx_text.specs.declared.frame.FaultKind.TheVariants.{Frame}
 use Rattle.tx_text.specs.Told.{AtEnd}
 use Rattle.tx_text.specs.Said.{text_said, line_declares}

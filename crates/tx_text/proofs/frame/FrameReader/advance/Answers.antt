@@ -1,4 +1,4 @@
-use Rattle.std.proofs.Common.{◌≡◌, ◌≤◌, ◌∙◌, Ok, refl, sym, ap, inr, arith, subst}
+use Rattle.std.proofs.Common.{◌≤◌, ◌∙◌, Ok, refl, sym, ap, inr, arith, subst}
 use Rattle.tx_text.specs.declared.frame.LineForm.TheVariants.{Blank, Header, End}
 use Rattle.tx_text.specs.Calls.{Broken}
 use Rattle.tx_text.specs.Frame.{header_of, is_read, ReadsOn}

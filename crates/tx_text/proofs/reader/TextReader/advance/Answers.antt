@@ -4,7 +4,6 @@ use Rattle.tx_text.proofs.Sizes.{if_ok, on_ok, if_some, fed_left, fed_smaller, e
 use Rattle.tx_text.proofs.CallCounts.{went_none, went_same, went_more, calls_so_far, calls_more, gave_all}
 use Rattle.tx_text.proofs.Exits.{exits_with}
 use Rattle.tx_text.proofs.Framing.{on_none}
-use Rattle.tx_text.proofs.FeedSteps.{Says}
 use Rattle.tx_text.proofs.Advancing.{says_at, adv_err, adv_line, on_empty, adv_cut, adv_end, after_fill, after_empty_fill}
 use Rattle.tx_text.proofs.reader.TextReader.advance.Goals as goal
 
