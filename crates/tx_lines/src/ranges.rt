@@ -97,11 +97,9 @@ fn firsts_of<A: Allocator>(
 fn compare(code: CodeId, low: &[u8], other: CodeId, number: &[u8]) -> Ordering
     ensures { result ≡ place_cmp (code, low.now) (other, number.now) }
 {
-    match code.index().cmp(&other.index()) {
-        Ordering::Less => Ordering::Less,
-        Ordering::Equal => low.len().cmp(&number.len()).then(low.cmp(number)),
-        Ordering::Greater => Ordering::Greater,
-    }
+    code.index()
+        .cmp(&other.index())
+        .then(low.len().cmp(&number.len()).then(low.cmp(number)))
 }
 
 fn compare_starts(a: &LineRange, b: &LineRange) -> Ordering
@@ -120,44 +118,16 @@ fn starting_by(ranges: &[LineRange], code: CodeId, number: &[u8], first: usize, 
     requires behind { AllWithin (λ r. code < r.code) ranges.now end (length ranges.now) }
     ensures { IsStart ranges.now code number.now result }
 {
-    let mut after = first;
-    let mut rest = end;
-    while after < rest {
-        let middle = after + (rest - after) / 2;
-        if starts_by(&ranges[middle], code, number) {
-            after = middle + 1;
-        } else {
-            rest = middle;
-        }
-    }
-    after
+    let own = &ranges[first..end];
+    let after = own.partition_point(|range| starts_by(range, code, number));
+    first + after
 }
 
 /// Whether the range starts at the number of the code or before it.
 fn starts_by(range: &LineRange, code: CodeId, number: &[u8]) -> bool
     ensures { result ≡ is_le (place_cmp (start_of range.now) (code, number.now)) }
 {
-    if range.code != code {
-        return range.code.index() < code.index();
-    }
-    let low = range.low.bytes();
-    if low.len() != number.len() {
-        return low.len() < number.len();
-    }
-    at_most(low, number)
-}
-
-/// Whether the one text is not above the other, byte by byte.
-fn at_most(low: &[u8], high: &[u8]) -> bool
-    ensures { result ≡ at_most low.now high.now }
-{
-    let common = low.len().min(high.len());
-    for place in 0..common {
-        if low[place] != high[place] {
-            return low[place] < high[place];
-        }
-    }
-    low.len() <= high.len()
+    compare(range.code, range.low.bytes(), code, number).is_le()
 }
 
 /// Whether a number that does not lie before the range lies in it, and the range is of the code.
@@ -167,5 +137,5 @@ fn reaches(range: &LineRange, code: CodeId, number: &[u8]) -> bool
 {
     range.code == code
         && number.len() == range.low.bytes().len()
-        && at_most(number, range.high.bytes())
+        && number.cmp(range.high.bytes()).is_le()
 }
