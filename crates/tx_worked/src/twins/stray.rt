@@ -1,4 +1,6 @@
 // Events of any kind, of any things.
+ghost use Rattle.std.specs.Prelude.{◌<◌};
+
 use crate::twins::chance::Chance;
 use crate::twins::picture::Picture;
 use tx_machine::{Event, Party};
