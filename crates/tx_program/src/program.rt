@@ -316,7 +316,9 @@ fn survive_files<A: Allocator + Copy, R: Read + Drop, O: Write + Drop>(
     let mut plan = output.source(alloc, plan)?;
     let mut risks = output.source(alloc, risks)?;
     let survival = survive_risks_job(alloc, &mut plan, &mut risks, &mut output.sink())?;
-    Ok(survival_status(&survival))
+    let status = survival_status(&survival);
+    drop(survival);
+    Ok(status)
 }
 
 /// A limit and a spare number, if there are any.
