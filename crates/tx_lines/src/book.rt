@@ -294,12 +294,13 @@ fn take_mark<A: Allocator>(
         else get same_line statuses.old q) }
     ensures room { spare statuses.old ≤ spare statuses.new }
 {
-    let Some(status) = statuses.get_mut(line) else {
+    let Some((place, _, status)) = statuses.get_full(line) else {
         return;
     };
     let left = status.with_mark(mark, false);
-    *status = left;
     if left.is_unmarked() {
-        let _status = statuses.swap_remove(line);
+        let _entry = statuses.swap_remove_index(place);
+    } else if let Some(status) = statuses.get_mut(line) {
+        *status = left;
     }
 }
