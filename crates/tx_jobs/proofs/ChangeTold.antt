@@ -1,5 +1,5 @@
 -- What a change comes to, as its job tells it.
-use Rattle.std.proofs.Common.{◌≡◌, ◌∙◌, ℕ, Bool, Ok, Err, refl, sym, ap}
+use Rattle.std.proofs.Common.{◌≡◌, ◌∙◌, ℕ, Bool, Ok, Err, refl, sym}
 use Rattle.std.specs.List.{AllByRecursion}
 use Rattle.tx_text.specs.declared.frame.FaultAt.{FaultAt}
 use Rattle.tx_plan.specs.Plan.{Plan}
@@ -13,7 +13,6 @@ use Rattle.tx_change.specs.Shown.{IsShown}
 use Rattle.tx_change.specs.ChangeAnswers.{IsRightChange, ChangeAnswers}
 use Rattle.tx_jobs.specs.declared.job_fault.JobFault.{JobFault}
 use Rattle.tx_jobs.specs.declared.job_fault.JobFault.TheVariants.{Plan as PlanFault, Cert, Script, Read, Write, NoMemory}
-use Rattle.tx_jobs.specs.declared.change_fault.ChangeFault.{ChangeFault}
 use Rattle.tx_jobs.specs.declared.change_fault.ChangeFault.TheVariants.{Job}
 use Rattle.tx_jobs.specs.JobFaults.{mark_by, plan_fault}
 use Rattle.tx_jobs.specs.AuditJobs.{audit_fault}
@@ -54,5 +53,5 @@ new_as old Write = refl
 new_as old NoMemory = refl
 
 -- a refused new plan leaves the mark
-pub new_plan_mark : (old : Bool) (f : FaultAt PlanWord) (told : ChangeFault) → told ≡ new_plan_fault f → old ≡ change_mark_by old told
-new_plan_mark old f told e = plan_mark old f (plan_fault f) refl ∙ (sym (new_as old (plan_fault f)) ∙ sym (ap (change_mark_by old) e))
+pub new_plan_mark : (old : Bool) (f : FaultAt PlanWord) → old ≡ change_mark_by old (new_plan_fault f)
+new_plan_mark old f = plan_mark old f ∙ sym (new_as old (plan_fault f))

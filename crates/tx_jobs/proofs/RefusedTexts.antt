@@ -50,12 +50,9 @@ plan_by old f (Word (Refused r)) = elim r as (λ r. mark_by old (plan_fault_by f
   | PlanNoMemory ↦ refl
 ]
 
-plan_unmarked : (old : Bool) (f : FaultAt PlanWord) → mark_by old (plan_fault_by f f.kind) ≡ old
-plan_unmarked old f = plan_by old f f.kind
-
 -- a refused plan leaves the mark
-pub plan_mark : (old : Bool) (f : FaultAt PlanWord) (told : JobFault) → told ≡ plan_fault f → old ≡ mark_by old told
-plan_mark old f told e = sym (ap (mark_by old) e ∙ plan_unmarked old f)
+pub plan_mark : (old : Bool) (f : FaultAt PlanWord) → old ≡ mark_by old (plan_fault f)
+plan_mark old f = sym (plan_by old f f.kind)
 
 -- a job that stops at a plan's fault
 pub refused : {X : Type 0} (r : Result X JobFault) (f : FaultAt PlanWord)
@@ -65,7 +62,7 @@ refused r f is = exits_with r (plan_fault f) is
 pub refused_mark : {X : Type 0} (old : Bool) (r : Result X JobFault) (f : FaultAt PlanWord)
     → IsErrAnd r (λ y. y ≡ plan_fault f) → old ≡ mark_after old r
 refused_mark old r f is =
-    plan_mark old f (plan_fault f) refl ∙ sym (ap (mark_after old) (refused r f is))
+    plan_mark old f ∙ sym (ap (mark_after old) (refused r f is))
 
 cert_by : (old : Bool) (f : FaultAt CertWord) (k : FaultKind CertWord) → mark_by old (cert_fault_by f k) ≡ old
 cert_by old f (Frame LineRead) = refl
@@ -83,8 +80,8 @@ cert_by old f (Word CertDuplicate) = refl
 cert_by old f (Word CertNoMemory) = refl
 
 -- and so does a refused certificate
-pub cert_mark : (old : Bool) (f : FaultAt CertWord) (told : JobFault) → told ≡ cert_fault f → old ≡ mark_by old told
-cert_mark old f told e = sym (ap (mark_by old) e ∙ cert_by old f f.kind)
+pub cert_mark : (old : Bool) (f : FaultAt CertWord) → old ≡ mark_by old (cert_fault f)
+cert_mark old f = sym (cert_by old f f.kind)
 
 script_by : (old : Bool) (f : FaultAt ScriptWord) (k : FaultKind ScriptWord) → mark_by old (script_fault_by f k) ≡ old
 script_by old f (Frame LineRead) = refl
@@ -103,10 +100,10 @@ run_marked old RunNoMemory = refl
 run_marked old (RunScript f) = script_by old f f.kind
 
 -- a run that stopped leaves the mark that its cause tells
-pub run_mark : (old now : Bool) (f : RunFault) (told : JobFault) → told ≡ run_fault f → now ≡ run_mark_by old f.cause → now ≡ mark_by old told
-run_mark old now f told e m = m ∙ sym (ap (mark_by old) e ∙ run_marked old f.cause)
+pub run_mark : (old now : Bool) (f : RunFault) → now ≡ run_mark_by old f.cause → now ≡ mark_by old (run_fault f)
+run_mark old now f m = m ∙ sym (run_marked old f.cause)
 
 pub audit_marked : (old : Bool) (f : AuditFault) → audit_mark_by old f ≡ mark_by old (audit_fault f)
-audit_marked old (AuditPlan f) = sym (plan_unmarked old f)
+audit_marked old (AuditPlan f) = plan_mark old f
 audit_marked old AuditWrite = refl
 audit_marked old AuditNoMemory = refl

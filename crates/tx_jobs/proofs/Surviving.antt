@@ -17,7 +17,6 @@ use Rattle.tx_risk.specs.declared.surviving.Survival.{Survival}
 use Rattle.tx_risk.specs.declared.surviving.Survival.TheVariants.{Tried, Ungraded}
 use Rattle.tx_risk_text.specs.declared.fault.RiskWord.{RiskWord}
 use Rattle.tx_risk_text.specs.declared.fault.RiskWord.TheVariants.{UnknownWord, WrongCount, BadName, Duplicate, UnknownName, RepeatedGroup, NoMemory as RiskNoMemory}
-use Rattle.tx_jobs.specs.declared.survive_fault.SurviveFault.{SurviveFault}
 use Rattle.tx_jobs.specs.SurviveFaults.{risks_fault, risks_fault_by, survive_mark_by}
 use Rattle.tx_jobs.specs.GradeJobs.{IsUngraded}
 use Rattle.tx_jobs.specs.SurviveJobs.{IsSurvivalOf, status_of_cuts}
@@ -59,9 +58,8 @@ risks_by old f (Word RepeatedGroup) = refl
 risks_by old f (Word RiskNoMemory) = refl
 
 -- a refused text of risks leaves the mark
-pub risks_mark : (old : Bool) (f : FaultAt RiskWord) (told : SurviveFault) → told ≡ risks_fault f
-    → old ≡ survive_mark_by old told
-risks_mark old f told e = sym (ap (survive_mark_by old) e ∙ risks_by old f f.kind)
+pub risks_mark : (old : Bool) (f : FaultAt RiskWord) → old ≡ survive_mark_by old (risks_fault f)
+risks_mark old f = sym (risks_by old f f.kind)
 
 -- the status of cuts, by how many there are
 pub none_cut : {A : Type 0} (cuts : List A) → length cuts ≡ 0 → status_of_cuts cuts ≡ 0

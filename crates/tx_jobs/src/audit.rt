@@ -32,8 +32,5 @@ pub fn audit_job<A: Allocator + Copy, P: Source, W: Sink>(
     ensures mark { W.failed out.new ≡ mark_after (W.failed out.old) result }
     ensures calls { CallsAtMost P.called source_calls plan.old plan.new }
 {
-    match audit(alloc, plan, limit, spare, out) {
-        Ok(audited) => Ok(audited),
-        Err(fault) => Err(JobFault::of_audit(fault)),
-    }
+    Ok(audit(alloc, plan, limit, spare, out)?)
 }

@@ -37,10 +37,8 @@ pub fn evidence_job<A: Allocator + Copy, P: Source, W: Sink>(
     ensures mark { W.failed out.new ≡ mark_after (W.failed out.old) result }
     ensures calls { CallsAtMost P.called source_calls plan.old plan.new }
 {
-    match audit_job(alloc, plan, limit, spare, out) {
-        Ok(audited) => evidence_of(alloc, audited, limit, spare, with_script),
-        Err(fault) => Err(fault),
-    }
+    let audited = audit_job(alloc, plan, limit, spare, out)?;
+    evidence_of(alloc, audited, limit, spare, with_script)
 }
 
 /// What shows the verdict of an audit.
@@ -77,9 +75,8 @@ fn script_of<A: Allocator + Copy>(
     requires { AllByRecursion (IsTrueOf plan limit spare) findings.items }
     ensures { IsScriptOf plan limit spare findings.items result }
 {
-    match first_counter(alloc, &plan, findings.as_slice(), limit, spare) {
-        Ok(Some(events)) => Ok(Evidence::Unsound(Some(CounterScript { plan, events }))),
-        Ok(None) => Ok(Evidence::Unsound(None)),
-        Err(_) => Err(JobFault::NoMemory),
+    match first_counter(alloc, &plan, findings.as_slice(), limit, spare)? {
+        Some(events) => Ok(Evidence::Unsound(Some(CounterScript { plan, events }))),
+        None => Ok(Evidence::Unsound(None)),
     }
 }

@@ -9,7 +9,6 @@ ghost use Rattle.tx_text.specs.Ends.{input, output};
 ghost use Rattle.tx_jobs.specs.ChangeJobs.{ChangeJobAnswers, NewPlanAnswers, ToldChange, OnUnsoundChange};
 
 use crate::change_fault::ChangeFault;
-use crate::job_fault::JobFault;
 use std::alloc::{Allocator, Global};
 use tx_cert::Cert;
 use tx_change::{first_difference, report_change};
@@ -68,7 +67,7 @@ pub fn change_job<A: Allocator + Copy, P: Source, Q: Source, W: Sink>(
 {
     match read_plan_from(alloc, old) {
         Ok(plan) => change_from(alloc, plan, new, limit, spare, out),
-        Err(fault) => Err(ChangeFault::Job(JobFault::from(fault))),
+        Err(fault) => Err(ChangeFault::of_old_plan(fault)),
     }
 }
 
@@ -117,8 +116,6 @@ fn change_into<A: Allocator + Copy, W: Sink>(
     if let Some(difference) = first_difference(&old, &new) {
         return Err(ChangeFault::TwoNetworks(difference));
     }
-    match report_change(alloc, &old, &new, limit, spare, out) {
-        Ok(ranking) => Ok(Changed::of(old, new, ranking)),
-        Err(fault) => Err(ChangeFault::Job(JobFault::of_audit(fault))),
-    }
+    let ranking = report_change(alloc, &old, &new, limit, spare, out)?;
+    Ok(Changed::of(old, new, ranking))
 }

@@ -11,7 +11,7 @@ use tx_cert::{Cert, read_cert_from};
 use tx_check::{Verdict, check, write_verdict};
 use tx_plan::Plan;
 use tx_plantext::read_plan_from;
-use tx_text::{Sink, Source, WriteFault};
+use tx_text::{Sink, Source};
 
 /// Reads a plan and then a certificate, and writes whether the plan is certified by its ranks for
 /// at most `limit` transits (0 to 62) and `spare` groups to spare (0 to 15). Answers the verdict.
@@ -54,10 +54,8 @@ pub fn check_status<A: Allocator + Copy, P: Source, R: Source, W: Sink>(
     ensures plan_calls { CallsAtMost P.called source_calls plan.old plan.new }
     ensures cert_calls { CallsAtMost R.called source_calls cert.old cert.new }
 {
-    match check_job(alloc, plan, cert, limit, spare, out) {
-        Ok(verdict) => Ok(status_of(&verdict)),
-        Err(fault) => Err(fault),
-    }
+    let verdict = check_job(alloc, plan, cert, limit, spare, out)?;
+    Ok(status_of(&verdict))
 }
 
 fn status_of(verdict: &Verdict) -> u8
@@ -85,10 +83,8 @@ fn check_cert<A: Allocator + Copy, R: Source, W: Sink>(
     ensures mark { W.failed out.new ≡ mark_after (W.failed out.old) result }
     ensures calls { CallsAtMost R.called source_calls cert.old cert.new }
 {
-    match read_cert_from(alloc, cert, plan) {
-        Ok(cert) => tell_verdict(plan, &cert, limit, spare, out),
-        Err(fault) => Err(JobFault::of_cert(fault)),
-    }
+    let cert = read_cert_from(alloc, cert, plan)?;
+    tell_verdict(plan, &cert, limit, spare, out)
 }
 
 /// Checks a certificate, and writes the verdict.
@@ -106,8 +102,6 @@ fn tell_verdict<A: Allocator, W: Sink>(
     ensures mark { W.failed out.new ≡ mark_after (W.failed out.old) result }
 {
     let verdict = check(plan, cert, limit, spare);
-    match write_verdict(&verdict, plan, out) {
-        Ok(()) => Ok(verdict),
-        Err(WriteFault) => Err(JobFault::Write),
-    }
+    write_verdict(&verdict, plan, out)?;
+    Ok(verdict)
 }

@@ -41,10 +41,9 @@ pub fn codes_status<A: Allocator + Copy, P: Source, W: Sink>(
     ensures mark { W.failed out.new ≡ mark_after (W.failed out.old) result }
     ensures calls { CallsAtMost P.called source_calls plan.old plan.new }
 {
-    match codes_job(alloc, plan, out) {
-        Ok(None) => Ok(0),
-        Ok(Some(_)) => Ok(1),
-        Err(fault) => Err(fault),
+    match codes_job(alloc, plan, out)? {
+        None => Ok(0),
+        Some(_) => Ok(1),
     }
 }
 

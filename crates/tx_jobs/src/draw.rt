@@ -12,7 +12,7 @@ use tx_draw::{write_code_drawing, write_drawing};
 use tx_plan::{CodeId, Plan};
 use tx_plantext::read_plan_from;
 use tx_rank::{Finding, Ranking, rank, reached};
-use tx_text::{NoMemory, Sink, Source, WriteFault};
+use tx_text::{NoMemory, Sink, Source};
 
 /// What a plan to draw came to.
 #[derive(Clone, Copy, Debug)]
@@ -91,10 +91,8 @@ fn draw_code<A: Allocator + Copy, W: Sink>(
     ensures drew { DrewCode A plan.now code bounds (output W.taken out.old out.new) result }
     ensures mark { W.failed out.new ≡ mark_after (W.failed out.old) result }
 {
-    match findings_to_show(alloc, plan, bounds) {
-        Ok(findings) => draw_finding(alloc, plan, code, bounds, &findings, out),
-        Err(_) => Err(JobFault::NoMemory),
-    }
+    let findings = findings_to_show(alloc, plan, bounds)?;
+    draw_finding(alloc, plan, code, bounds, &findings, out)
 }
 
 /// What is wrong with a plan, for a limit and a spare number; nothing without these.
@@ -109,10 +107,9 @@ fn findings_to_show<A: Allocator + Copy>(
 {
     match bounds {
         None => Ok(Vec::new(alloc)),
-        Some((limit, spare)) => match rank(alloc, plan, limit, spare) {
-            Ok(Ranking::Found(_)) => Ok(Vec::new(alloc)),
-            Ok(Ranking::Fails(findings)) => Ok(findings),
-            Err(error) => Err(error),
+        Some((limit, spare)) => match rank(alloc, plan, limit, spare)? {
+            Ranking::Found(_) => Ok(Vec::new(alloc)),
+            Ranking::Fails(findings) => Ok(findings),
         },
     }
 }
@@ -131,11 +128,7 @@ fn draw_finding<A: Allocator + Copy, W: Sink>(
     ensures drew { DrewCode A plan.now code bounds (output W.taken out.old out.new) result }
     ensures mark { W.failed out.new ≡ mark_after (W.failed out.old) result }
 {
-    match reached(alloc, plan, code) {
-        Ok(marks) => match write_code_drawing(plan, code, &marks, findings, out) {
-            Ok(()) => Ok(Drawn::Picture),
-            Err(WriteFault) => Err(JobFault::Write),
-        },
-        Err(_) => Err(JobFault::NoMemory),
-    }
+    let marks = reached(alloc, plan, code)?;
+    write_code_drawing(plan, code, &marks, findings, out)?;
+    Ok(Drawn::Picture)
 }

@@ -1,6 +1,7 @@
 // The job of `grade PLAN`.
 ghost use Rattle.std.specs.Prelude.{◌≡◌};
 ghost use Rattle.tx_text.specs.Calls.{CallsAtMost, source_calls};
+ghost use Rattle.tx_plan.specs.Rules.{IsPlan};
 ghost use Rattle.tx_jobs.specs.JobFaults.{mark_after};
 ghost use Rattle.tx_text.specs.Ends.{input, output};
 ghost use Rattle.tx_jobs.specs.GradeJobs.{GradeJobAnswers, GradeStatusAnswers, ToldGrade, status_of_grade};
@@ -11,7 +12,7 @@ use tx_audit::write_grade;
 use tx_plan::Plan;
 use tx_plantext::read_plan_from;
 use tx_rank::{Grade, grade};
-use tx_text::{Sink, Source, WriteFault};
+use tx_text::{Sink, Source};
 
 /// Reads a plan, and writes with which limits and spare numbers it is safe, and each of its codes;
 /// and if it is safe with none, what is wrong with it whatever they are. Answers the grade.
@@ -42,10 +43,8 @@ pub fn grade_status<A: Allocator + Copy, P: Source, W: Sink>(
     ensures mark { W.failed out.new ≡ mark_after (W.failed out.old) result }
     ensures calls { CallsAtMost P.called source_calls plan.old plan.new }
 {
-    match grade_job(alloc, plan, out) {
-        Ok(grade) => Ok(status_of(&grade)),
-        Err(fault) => Err(fault),
-    }
+    let grade = grade_job(alloc, plan, out)?;
+    Ok(status_of(&grade))
 }
 
 fn status_of<A: Allocator>(grade: &Grade<A>) -> u8
@@ -62,15 +61,11 @@ fn tell_grade<A: Allocator + Copy, W: Sink>(
     plan: &Plan<A>,
     out: &mut W,
 ) -> Result<Grade<A>, JobFault>
+    requires rules { IsPlan plan.now }
     ensures told { ToldGrade plan.now (output W.taken out.old out.new) result }
     ensures mark { W.failed out.new ≡ mark_after (W.failed out.old) result }
 {
-    plan.rules();
-    match grade(alloc, plan) {
-        Err(_) => Err(JobFault::NoMemory),
-        Ok(grade) => match write_grade(plan, &grade, out) {
-            Ok(()) => Ok(grade),
-            Err(WriteFault) => Err(JobFault::Write),
-        },
-    }
+    let grade = grade(alloc, plan)?;
+    write_grade(plan, &grade, out)?;
+    Ok(grade)
 }

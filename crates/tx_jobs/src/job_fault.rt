@@ -57,7 +57,7 @@ impl From<WriteFault> for JobFault {
 
 /// A failure to read and a lack of memory are reported as such.
 impl From<PlanFault> for JobFault {
-    ghost from_gives = { λ fault told. told ≡ plan_fault fault };
+    ghost from_gives = { λ plan fault. fault ≡ plan_fault plan };
 
     fn from(fault: PlanFault) -> JobFault {
         match fault.kind {
@@ -78,23 +78,11 @@ impl From<PlanFault> for JobFault {
     }
 }
 
-impl JobFault {
-    /// The exit status: 2 for a refused text, 3 for a read or a write fault, 4 when memory runs
-    /// out.
-    pub fn status(&self) -> u8
-        ensures { result ≡ status_of self.now }
-    {
-        match self {
-            JobFault::Plan(_) | JobFault::Cert(_) | JobFault::Script(_) => 2,
-            JobFault::Read | JobFault::Write => 3,
-            JobFault::NoMemory => 4,
-        }
-    }
+/// A failure to read and a lack of memory are reported as such.
+impl From<CertFault> for JobFault {
+    ghost from_gives = { λ cert fault. fault ≡ cert_fault cert };
 
-    /// A failure to read and a lack of memory are reported as such.
-    pub(crate) fn of_cert(fault: CertFault) -> JobFault
-        ensures { result ≡ cert_fault fault }
-    {
+    fn from(fault: CertFault) -> JobFault {
         match fault.kind {
             FaultKind::Frame(FrameFault::Read) => JobFault::Read,
             FaultKind::Frame(FrameFault::NoMemory) | FaultKind::Word(CertWord::NoMemory) =>
@@ -115,49 +103,13 @@ impl JobFault {
             ) => JobFault::Cert(fault),
         }
     }
+}
 
-    pub(crate) fn of_audit(fault: AuditFault) -> JobFault
-        ensures { result ≡ audit_fault fault }
-    {
-        match fault {
-            AuditFault::Plan(fault) => JobFault::from(fault),
-            AuditFault::Write => JobFault::Write,
-            AuditFault::NoMemory => JobFault::NoMemory,
-        }
-    }
+/// A lack of memory is reported as such.
+impl From<ScriptFault> for JobFault {
+    ghost from_gives = { λ script fault. fault ≡ script_fault script };
 
-    pub(crate) fn of_lint(fault: LintFault) -> JobFault
-        ensures { result ≡ lint_fault fault }
-    {
-        match fault {
-            LintFault::Read => JobFault::Read,
-            LintFault::NoMemory => JobFault::NoMemory,
-        }
-    }
-
-    pub(crate) fn of_mend(fault: MendFault) -> JobFault
-        ensures { result ≡ mend_fault fault }
-    {
-        match fault {
-            MendFault::Write => JobFault::Write,
-            MendFault::NoMemory => JobFault::NoMemory,
-        }
-    }
-
-    pub(crate) fn of_run(fault: RunFault) -> JobFault
-        ensures { result ≡ run_fault fault }
-    {
-        match fault.cause {
-            RunCause::Read => JobFault::Read,
-            RunCause::Write => JobFault::Write,
-            RunCause::NoMemory => JobFault::NoMemory,
-            RunCause::Script(fault) => JobFault::of_script(fault),
-        }
-    }
-
-    fn of_script(fault: ScriptFault) -> JobFault
-        ensures { result ≡ script_fault fault }
-    {
+    fn from(fault: ScriptFault) -> JobFault {
         match fault.kind {
             FaultKind::Frame(FrameFault::NoMemory) => JobFault::NoMemory,
             FaultKind::Frame(
@@ -169,6 +121,67 @@ impl JobFault {
                 | FrameFault::AfterEnd,
             )
             | FaultKind::Word(_) => JobFault::Script(fault),
+        }
+    }
+}
+
+impl From<RunFault> for JobFault {
+    ghost from_gives = { λ run fault. fault ≡ run_fault run };
+
+    fn from(fault: RunFault) -> JobFault {
+        match fault.cause {
+            RunCause::Read => JobFault::Read,
+            RunCause::Write => JobFault::Write,
+            RunCause::NoMemory => JobFault::NoMemory,
+            RunCause::Script(fault) => JobFault::from(fault),
+        }
+    }
+}
+
+impl From<AuditFault> for JobFault {
+    ghost from_gives = { λ audit fault. fault ≡ audit_fault audit };
+
+    fn from(fault: AuditFault) -> JobFault {
+        match fault {
+            AuditFault::Plan(fault) => JobFault::from(fault),
+            AuditFault::Write => JobFault::Write,
+            AuditFault::NoMemory => JobFault::NoMemory,
+        }
+    }
+}
+
+impl From<LintFault> for JobFault {
+    ghost from_gives = { λ lint fault. fault ≡ lint_fault lint };
+
+    fn from(fault: LintFault) -> JobFault {
+        match fault {
+            LintFault::Read => JobFault::Read,
+            LintFault::NoMemory => JobFault::NoMemory,
+        }
+    }
+}
+
+impl From<MendFault> for JobFault {
+    ghost from_gives = { λ mend fault. fault ≡ mend_fault mend };
+
+    fn from(fault: MendFault) -> JobFault {
+        match fault {
+            MendFault::Write => JobFault::Write,
+            MendFault::NoMemory => JobFault::NoMemory,
+        }
+    }
+}
+
+impl JobFault {
+    /// The exit status: 2 for a refused text, 3 for a read or a write fault, 4 when memory runs
+    /// out.
+    pub fn status(&self) -> u8
+        ensures { result ≡ status_of self.now }
+    {
+        match self {
+            JobFault::Plan(_) | JobFault::Cert(_) | JobFault::Script(_) => 2,
+            JobFault::Read | JobFault::Write => 3,
+            JobFault::NoMemory => 4,
         }
     }
 }

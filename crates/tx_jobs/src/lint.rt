@@ -27,10 +27,8 @@ pub fn lint_job<A: Allocator + Copy, P: Source, W: Sink>(
     ensures mark { W.failed out.new ≡ mark_after (W.failed out.old) result }
     ensures calls { CallsAtMost P.called source_calls plan.old plan.new }
 {
-    match read_text(alloc, plan) {
-        Ok(text) => lint_text(alloc, &text, file, out),
-        Err(fault) => Err(JobFault::of_lint(fault)),
-    }
+    let text = read_text(alloc, plan)?;
+    lint_text(alloc, &text, file, out)
 }
 
 /// Looks a text through, and writes what is to be said of it.

@@ -59,8 +59,5 @@ fn tell_mending<A: Allocator + Copy, W: Sink>(
     ensures told { ToldMending plan limit spare (output W.taken out.old out.new) result }
     ensures mark { W.failed out.new ≡ mark_after (W.failed out.old) result }
 {
-    match report_mend(alloc, plan, limit, spare, out) {
-        Ok(mending) => Ok(mending),
-        Err(fault) => Err(JobFault::of_mend(fault)),
-    }
+    Ok(report_mend(alloc, plan, limit, spare, out)?)
 }

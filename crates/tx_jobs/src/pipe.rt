@@ -35,13 +35,9 @@ pub fn pipe_job<A: Allocator + Copy, R: Source, W: Sink>(
 {
     let mut ahead = Ahead::new();
     let mut part = PlanPart::new(input, &mut ahead);
-    match read_plan_part(alloc, &mut part) {
-        Ok(plan) => {
-            let mut script = ScriptPart::new(input, &mut ahead);
-            run_script_part(alloc, &plan, &mut script, out)
-        }
-        Err(fault) => Err(JobFault::from(fault)),
-    }
+    let plan = read_plan_part(alloc, &mut part)?;
+    let mut script = ScriptPart::new(input, &mut ahead);
+    run_script_part(alloc, &plan, &mut script, out)
 }
 
 /// Reads the plan. The part keeps what it is lent.

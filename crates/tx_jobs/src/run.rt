@@ -47,5 +47,5 @@ pub(crate) fn simulated<A: Allocator + Copy, R: Source, W: Sink>(
     ensures mark { W.failed out.new ≡ mark_after (W.failed out.old) result }
     ensures calls { CallsAtMost R.called source_calls script.old script.new }
 {
-    simulate(alloc, plan, script, out).map_err(JobFault::of_run)
+    Ok(simulate(alloc, plan, script, out)?)
 }

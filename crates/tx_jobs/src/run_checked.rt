@@ -65,10 +65,9 @@ pub fn run_checked_status<A: Allocator + Copy, P: Source, C: Source, R: Source, 
     ensures cert_calls { CallsAtMost C.called source_calls cert.old cert.new }
     ensures script_calls { CallsAtMost R.called source_calls script.old script.new }
 {
-    match run_checked_job(alloc, plan, cert, limit, spare, script, out) {
-        Ok(Checked::Ran(_)) => Ok(0),
-        Ok(Checked::Denied(_)) => Ok(1),
-        Err(fault) => Err(fault),
+    match run_checked_job(alloc, plan, cert, limit, spare, script, out)? {
+        Checked::Ran(_) => Ok(0),
+        Checked::Denied(_) => Ok(1),
     }
 }
 
@@ -92,10 +91,8 @@ fn read_and_run<A: Allocator + Copy, C: Source, R: Source, W: Sink>(
     ensures cert_calls { CallsAtMost C.called source_calls cert.old cert.new }
     ensures script_calls { CallsAtMost R.called source_calls script.old script.new }
 {
-    match read_cert_from(alloc, cert, plan) {
-        Ok(cert) => run_or_tell(alloc, plan, &cert, limit, spare, script, out),
-        Err(fault) => Err(JobFault::of_cert(fault)),
-    }
+    let cert = read_cert_from(alloc, cert, plan)?;
+    run_or_tell(alloc, plan, &cert, limit, spare, script, out)
 }
 
 /// Runs the script after a Yes, or writes the verdict.
@@ -116,13 +113,9 @@ fn run_or_tell<A: Allocator + Copy, R: Source, W: Sink>(
     ensures mark { W.failed out.new ≡ mark_after (W.failed out.old) result }
     ensures calls { CallsAtMost R.called source_calls script.old script.new }
 {
-    match run_checked(alloc, plan, cert, limit, spare, script, out) {
-        Ok(checked) => match tell_no(&checked, plan, out) {
-            Ok(()) => Ok(checked),
-            Err(WriteFault) => Err(JobFault::Write),
-        },
-        Err(fault) => Err(JobFault::of_run(fault)),
-    }
+    let checked = run_checked(alloc, plan, cert, limit, spare, script, out)?;
+    tell_no(&checked, plan, out)?;
+    Ok(checked)
 }
 
 /// Writes the verdict where it was a No.

@@ -15,7 +15,7 @@ use tx_plantext::read_plan_from;
 use tx_risk::{NamedRisk, Survival, survive};
 use tx_risk_report::write_survival;
 use tx_risk_text::{Risks, read_risks_from};
-use tx_text::{Sink, Source, WriteFault};
+use tx_text::{Sink, Source};
 
 /// Reads a plan, and writes whom each of its groups and each of its exchanges cuts off if it fails
 /// alone; or why the plan has no grade. Answers what was found.
@@ -53,10 +53,8 @@ pub fn survive_risks_job<A: Allocator + Copy, P: Source, R: Source, W: Sink>(
     ensures plan_calls { CallsAtMost P.called source_calls plan.old plan.new }
     ensures risks_calls { CallsAtMost R.called source_calls risks.old risks.new }
 {
-    match read_plan_from(alloc, plan) {
-        Ok(plan) => tell_named(alloc, &plan, risks, out),
-        Err(fault) => Err(SurviveFault::Job(JobFault::from(fault))),
-    }
+    let plan = read_plan_from(alloc, plan)?;
+    tell_named(alloc, &plan, risks, out)
 }
 
 /// The exit status of what was found: 0 where nothing is cut off, else 1, and 1 where the plan has
@@ -95,13 +93,8 @@ fn tell_named<A: Allocator + Copy, R: Source, W: Sink>(
     ensures mark { W.failed out.new ≡ survive_mark_after (W.failed out.old) result }
     ensures calls { CallsAtMost R.called source_calls risks.old risks.new }
 {
-    match read_risks_from(alloc, risks, plan) {
-        Ok(risks) => match tell_survival(alloc, plan, risks.as_slice(), out) {
-            Ok(survival) => Ok(survival),
-            Err(fault) => Err(SurviveFault::Job(fault)),
-        },
-        Err(fault) => Err(SurviveFault::of_risks(fault)),
-    }
+    let risks = read_risks_from(alloc, risks, plan)?;
+    Ok(tell_survival(alloc, plan, risks.as_slice(), out)?)
 }
 
 /// Tries all outages, and writes the report.
@@ -115,11 +108,7 @@ fn tell_survival<A: Allocator + Copy, W: Sink>(
     ensures told { ToldSurvival plan.now risks.now (output W.taken out.old out.new) result }
     ensures mark { W.failed out.new ≡ mark_after (W.failed out.old) result }
 {
-    match survive(alloc, plan, risks) {
-        Ok(survival) => match write_survival(plan, risks, &survival, out) {
-            Ok(()) => Ok(survival),
-            Err(WriteFault) => Err(JobFault::Write),
-        },
-        Err(_) => Err(JobFault::NoMemory),
-    }
+    let survival = survive(alloc, plan, risks)?;
+    write_survival(plan, risks, &survival, out)?;
+    Ok(survival)
 }

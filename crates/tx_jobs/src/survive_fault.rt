@@ -1,9 +1,12 @@
 // Why the job of outages stopped.
 ghost use Rattle.std.specs.Prelude.{◌≡◌};
+ghost use Rattle.tx_jobs.specs.declared.survive_fault.SurviveFault.TheVariants.{Job};
+ghost use Rattle.tx_jobs.specs.JobFaults.{plan_fault};
 ghost use Rattle.tx_jobs.specs.SurviveFaults.{status_of_survive, risks_fault};
 
 use crate::job_fault::JobFault;
 use thiserror::Error;
+use tx_plantext::PlanFault;
 use tx_risk_text::{RiskFault, RiskWord};
 use tx_text::{FaultKind, FrameFault};
 
@@ -18,21 +21,27 @@ pub enum SurviveFault {
     Risks(RiskFault),
 }
 
-impl SurviveFault {
-    /// The exit status: 2 for a refused text of risks, otherwise that of the job's fault.
-    pub fn status(&self) -> u8
-        ensures { result ≡ status_of_survive self.now }
-    {
-        match self {
-            SurviveFault::Job(fault) => fault.status(),
-            SurviveFault::Risks(_) => 2,
-        }
-    }
+impl From<JobFault> for SurviveFault {
+    ghost from_gives = { λ job fault. fault ≡ Job job };
 
-    /// A failure to read and a lack of memory are reported as such.
-    pub(crate) fn of_risks(fault: RiskFault) -> SurviveFault
-        ensures { result ≡ risks_fault fault }
-    {
+    fn from(fault: JobFault) -> SurviveFault {
+        SurviveFault::Job(fault)
+    }
+}
+
+impl From<PlanFault> for SurviveFault {
+    ghost from_gives = { λ plan fault. fault ≡ Job (plan_fault plan) };
+
+    fn from(fault: PlanFault) -> SurviveFault {
+        SurviveFault::Job(JobFault::from(fault))
+    }
+}
+
+/// A failure to read and a lack of memory are reported as such.
+impl From<RiskFault> for SurviveFault {
+    ghost from_gives = { λ risks fault. fault ≡ risks_fault risks };
+
+    fn from(fault: RiskFault) -> SurviveFault {
         match fault.kind {
             FaultKind::Frame(FrameFault::Read) => SurviveFault::Job(JobFault::Read),
             FaultKind::Frame(FrameFault::NoMemory) | FaultKind::Word(RiskWord::NoMemory) =>
@@ -52,6 +61,18 @@ impl SurviveFault {
                 | RiskWord::UnknownName
                 | RiskWord::RepeatedGroup,
             ) => SurviveFault::Risks(fault),
+        }
+    }
+}
+
+impl SurviveFault {
+    /// The exit status: 2 for a refused text of risks, otherwise that of the job's fault.
+    pub fn status(&self) -> u8
+        ensures { result ≡ status_of_survive self.now }
+    {
+        match self {
+            SurviveFault::Job(fault) => fault.status(),
+            SurviveFault::Risks(_) => 2,
         }
     }
 }

@@ -49,13 +49,8 @@ fn tell_script<A: Allocator + Copy, R: Source, W: Sink>(
     ensures mark { W.failed out.new ≡ mark_after (W.failed out.old) result }
     ensures calls { CallsAtMost R.called source_calls script.old script.new }
 {
-    match Engine::new(alloc, plan) {
-        Err(_) => Err(JobFault::NoMemory),
-        Ok(mut network) => match run_telling(alloc, telling, plan, &mut network, script, out) {
-            Ok(summary) => Ok(summary),
-            Err(fault) => Err(JobFault::of_run(fault)),
-        },
-    }
+    let mut network = Engine::new(alloc, plan)?;
+    Ok(run_telling(alloc, telling, plan, &mut network, script, out)?)
 }
 
 /// The exit status of a run: 1 where it is to be strict and an event was refused, else 0.

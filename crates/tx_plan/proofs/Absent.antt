@@ -1,10 +1,11 @@
 -- A word that is no name names nothing.
-use Rattle.std.proofs.Common.{◌≡◌, ℕ, ◌<◌, ◌≤◌, Bool, true, false, ◌&&◌, ◌||◌, nat_le, List, [], ◌∷◌, length, Option, Some, None, is_some, refl, sym, ap, ◌∙◌, arith}
+use Rattle.std.proofs.Common.{◌≡◌, ℕ, ◌<◌, ◌≤◌, Bool, true, false, not, ◌&&◌, ◌||◌, nat_le, List, [], ◌∷◌, length, Option, Some, None, is_some, refl, sym, ap, ◌∙◌, arith}
 use Rattle.std.specs.Prelude.{position}
 use Rattle.std.specs.List.{AllByRecursion, list_all}
 use Rattle.std.specs.Str.{bytes_eq}
 use Rattle.std.proofs.lemmas.Slice.Eq.{bytes_eq-Decides}
 use Rattle.std.proofs.lemmas.Bool.{leb-true, and_parts}
+use Rattle.std.proofs.Math.Bool.{or-false, or-true}
 use Rattle.tx_text.specs.Words.{is_name, is_letter, is_figure}
 use Rattle.tx_plan.specs.Rules.{is_code, IsPlan, IsGroup}
 use Rattle.tx_plan.specs.Plan.{Plan, Group, exchange_named, code_named, group_named}
@@ -23,16 +24,6 @@ others ok word P w (x ∷ xs) k h all =
 
 pub unnamed : {A : Type 0} (ok : List ℕ → Bool) (word : A → List ℕ) (P : A → Type 0) (w : List ℕ) (xs : List A) → ((x : A) → P x → ok (word x) ≡ true) → ok w ≡ false → AllByRecursion P xs → position (λ x. bytes_eq w (word x)) xs ≡ None
 unnamed ok word P w xs k h all = no_place (λ x. bytes_eq w (word x)) xs (others ok word P w xs k h all)
-
--- a word that names a group is a name
-pub group_word : (p : Plan) (w : List ℕ) (o : Option ℕ) → IsPlan p → o ≡ group_named p w
-    → is_some o ≡ true → is_name w ≡ true
-group_word p w o h e some = by_test (is_name w) refl
-  where
-    by_test : (b : Bool) → is_name w ≡ b → b ≡ true
-    by_test true k = refl
-    by_test false k = sym (ap is_some (e ∙ unnamed is_name (λ (r : Group). r.name) (IsGroup p) w
-        p.groups (λ x g. g.name) k h.groups)) ∙ some
 
 -- a text too long for the words that pass
 pub too_long : (ok : List ℕ → Bool) (n : ℕ) → ((w : List ℕ) → ok w ≡ true → length w ≤ n) → (w : List ℕ) → n < length w → ok w ≡ false
@@ -66,3 +57,28 @@ module _ (p : Plan) (w : List ℕ) (o : Option ℕ) (b : Bool) where
 
   pub has_group-is : o ≡ group_named p w → b ≡ is_some o → has_group p w ≡ b
   has_group-is e h = sym (h ∙ ap is_some e ∙ found_any (λ g. bytes_eq w g.name) p.groups)
+
+-- what is seen of a word that names a group, beside what was seen of the words before it
+module _ (p : Plan) (w : List ℕ) (group : ℕ) (old : Bool) (found : Some group ≡ group_named p w)
+  where
+    found_name : IsPlan p → is_name w ≡ true
+    found_name h = by_test (is_name w) refl
+      where
+        by_test : (b : Bool) → is_name w ≡ b → b ≡ true
+        by_test true k = refl
+        by_test false k = sym (ap is_some (found ∙ unnamed is_name (λ (r : Group). r.name) (IsGroup p)
+            w p.groups (λ x g. g.name) k h.groups))
+
+    kept : (right : Bool) → right ≡ true → old ≡ (old || not right)
+    kept right e = sym (ap (λ b. old || not b) e ∙ or-false old)
+
+    pub bad_kept : IsPlan p → old ≡ (old || not (is_name w))
+    bad_kept h = kept (is_name w) (found_name h)
+
+    pub unknown_kept : old ≡ (old || not (has_group p w))
+    unknown_kept = kept (has_group p w) (has_group-is p w (Some group) true found refl)
+
+pub unknown_found : (p : Plan) (w : List ℕ) (old : Bool) → None ≡ group_named p w
+    → true ≡ (old || not (has_group p w))
+unknown_found p w old none = sym (ap (λ b. old || not b) (has_group-is p w None false none refl)
+    ∙ or-true old)

@@ -38,13 +38,24 @@ impl RouteScan {
         ensures list { self.new.many ≡ false
             → self.new.list ≡ self.old.list ++ group_at plan.now word.now ∷ [] }
     {
-        let group = plan.group_named(word);
-        // What names a group is a name, so only another word is read again.
-        plan.rules();
-        self.bad = self.bad || group.is_none() && !is_name(word);
-        self.unknown = self.unknown || group.is_none();
-        self.not_outgoing = self.not_outgoing || plan.is_closed(pair, group);
-        if !self.list.push(group.unwrap_or(GroupId::of(0))) {
+        let group = match plan.group_named(word) {
+            Some(group) => {
+                // It is a name. Tested again, `codes` of the largest plan takes 1.3 times as long.
+                plan.rules();
+                if let Some(pair) = pair {
+                    if !plan.may_seize(group, pair.exchange) {
+                        self.not_outgoing = true;
+                    }
+                }
+                group
+            }
+            None => {
+                self.unknown = true;
+                self.bad = self.bad || !is_name(word);
+                GroupId::of(0)
+            }
+        };
+        if !self.list.push(group) {
             self.many = true;
         }
     }

@@ -56,12 +56,10 @@ impl<W: Write + Drop, A: Allocator> Output<W, A> {
             writer,
             failed: false,
         };
-        match BufWriter::with_capacity(alloc, ROOM, steady) {
-            Ok(writer) => Ok(Output {
-                writer: RefCell::new(writer),
-            }),
-            Err(_) => Err(JobFault::NoMemory),
-        }
+        let writer = BufWriter::with_capacity(alloc, ROOM, steady).or(Err(JobFault::NoMemory))?;
+        Ok(Output {
+            writer: RefCell::new(writer),
+        })
     }
 
     /// Lets out what was written.
@@ -90,13 +88,11 @@ impl<W: Write + Drop, A: Allocator> Output<W, A> {
         alloc: A,
         reader: R,
     ) -> Result<FromRead<Flushing<'_, R, W, A>>, JobFault> {
-        match BufReader::with_capacity(alloc, ROOM, reader) {
-            Ok(reader) => Ok(FromRead::new(Flushing {
-                reader,
-                output: self,
-            })),
-            Err(_) => Err(JobFault::NoMemory),
-        }
+        let reader = BufReader::with_capacity(alloc, ROOM, reader).or(Err(JobFault::NoMemory))?;
+        Ok(FromRead::new(Flushing {
+            reader,
+            output: self,
+        }))
     }
 }
 

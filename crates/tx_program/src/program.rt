@@ -29,7 +29,7 @@ use tx_script::Telling;
 use tx_text::{ToWrite, write_bytes};
 
 /// The ends of the program: a folder of files, standard input, standard output and standard error.
-#[derive(Drop)]
+#[derive(Debug, Drop)]
 pub struct Ends<'a, F, I: Drop, O: Drop, E: Drop> {
     pub folder: &'a F,
     pub input: I,

@@ -154,6 +154,7 @@ mark_by old Write = true
 mark_by old (OfScript f) = old
 mark_by old NoMemory = old
 
+-- the sink's mark after a run
 abbrev pub mark_after : Bool → Result Summary RunFault → Bool
 mark_after old (Ok summary) = old
 mark_after old (Err f) = mark_by old f.cause

@@ -1,7 +1,7 @@
 // The event that the words of a line say, from its verb on.
-ghost use Rattle.std.specs.Prelude.{◌≡◌, ◌<◌, None, Some, MatchOption, IfSome, length, find, bytes_eq};
+ghost use Rattle.std.specs.Prelude.{◌≡◌, ◌<◌, None, Some, MatchOption, IfSome, length};
 ghost use Rattle.std.specs.List.{position};
-ghost use Rattle.tx_script.specs.Events.{event_of, event_by, key_event, call_in, clear_event, circuit_in, circuit_of, circuit_number, is_dot, cut_at_dot, group_in, line_in, line_of, party_of, end_event, verb_of, verb_word};
+ghost use Rattle.tx_script.specs.Events.{event_of, event_by, key_event, call_in, clear_event, circuit_in, circuit_of, circuit_number, is_dot, cut_at_dot, group_in, line_in, line_of, party_of, end_event, verb_of};
 
 use crate::script_word::ScriptWord;
 use std::alloc::Allocator;
@@ -30,64 +30,31 @@ pub(crate) enum Verb {
     End,
 }
 
-/// All verbs.
-const VERBS: [Verb; 16] = [
-    Verb::Key,
-    Verb::Route,
-    Verb::Confirm,
-    Verb::Clear,
-    Verb::Released,
-    Verb::Fail,
-    Verb::Restore,
-    Verb::Block,
-    Verb::Unblock,
-    Verb::Out,
-    Verb::In,
-    Verb::Fault,
-    Verb::Mend,
-    Verb::Away,
-    Verb::Back,
-    Verb::End,
-];
-
 impl Verb {
-    /// Its word.
-    fn word(self) -> &'static [u8]
-        ensures { result.now ≡ verb_word self }
-    {
-        match self {
-            Verb::Key => b"KEY",
-            Verb::Route => b"ROUTE",
-            Verb::Confirm => b"CONFIRM",
-            Verb::Clear => b"CLEAR",
-            Verb::Released => b"RELEASED",
-            Verb::Fail => b"FAIL",
-            Verb::Restore => b"RESTORE",
-            Verb::Block => b"BLOCK",
-            Verb::Unblock => b"UNBLOCK",
-            Verb::Out => b"OUT",
-            Verb::In => b"IN",
-            Verb::Fault => b"FAULT",
-            Verb::Mend => b"MEND",
-            Verb::Away => b"AWAY",
-            Verb::Back => b"BACK",
-            Verb::End => b"END",
-        }
-    }
-
     /// The verb that a word is.
     pub(crate) fn read(word: &[u8]) -> Option<Verb>
         ensures { result ≡ verb_of word.now }
     {
-        verb_among(&VERBS, word)
+        match word {
+            b"KEY" => Some(Verb::Key),
+            b"ROUTE" => Some(Verb::Route),
+            b"CONFIRM" => Some(Verb::Confirm),
+            b"CLEAR" => Some(Verb::Clear),
+            b"RELEASED" => Some(Verb::Released),
+            b"FAIL" => Some(Verb::Fail),
+            b"RESTORE" => Some(Verb::Restore),
+            b"BLOCK" => Some(Verb::Block),
+            b"UNBLOCK" => Some(Verb::Unblock),
+            b"OUT" => Some(Verb::Out),
+            b"IN" => Some(Verb::In),
+            b"FAULT" => Some(Verb::Fault),
+            b"MEND" => Some(Verb::Mend),
+            b"AWAY" => Some(Verb::Away),
+            b"BACK" => Some(Verb::Back),
+            b"END" => Some(Verb::End),
+            _ => None,
+        }
     }
-}
-
-/// The first of these verbs whose word it is.
-fn verb_among(verbs: &[Verb], word: &[u8]) -> Option<Verb>
-    ensures { result ≡ find (λ v. bytes_eq word.now (verb_word v)) verbs.now }
-{
-    verbs.iter().copied().find(|verb| word == verb.word())
 }
 
 /// The event of a line's words.

@@ -6,5 +6,5 @@ use Rattle.tx_plan.specs.Mixtures.{SameNetwork}
 -- two plans of one network, which both obey the rules
 pub record AreOfOneNetwork (old new : Plan) : Type 0 where
   pub network : SameNetwork old new
-  pub old : IsPlan old
-  pub new : IsPlan new
+  pub old_rules : IsPlan old
+  pub new_rules : IsPlan new

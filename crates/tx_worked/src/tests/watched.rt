@@ -2,7 +2,7 @@
 use crate::cases::Log;
 use tx_text::{MemorySource, ReadFault, Sink, Source, WriteFault};
 
-/// A source whose calls are told: how many bytes each asks for, and which it gives.
+/// A source whose calls are told: for how many bytes each asks, which it gives, and how many.
 #[derive(Drop)]
 pub(crate) struct WatchedSource<'a> {
     pub source: MemorySource<'a>,
@@ -23,8 +23,8 @@ impl<'a> Source for WatchedSource<'a> {
         let read = self.source.read(buf);
         match read {
             Ok(n) => {
-                self.log.tell_number("bytes", n as u64);
                 self.log.tell_bytes("in", &buf[..n]);
+                self.log.tell_number("bytes", n as u64);
             }
             Err(ReadFault) => self.log.tell("fails", "in"),
         }

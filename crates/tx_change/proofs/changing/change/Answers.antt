@@ -61,4 +61,4 @@ pub returns-then-is_empty-clause-fits : goal.returns-then-is_empty-clause-fits
 returns-then-is_empty-clause-fits g c = record { codes = c.in_ok-cert.ensures.codes; exchanges = c.in_ok-cert.ensures.exchanges; rules = c.rules-then-is_empty.ensures }
 
 pub change_codes-requires-clause-network : goal.change_codes-requires-clause-network
-change_codes-requires-clause-network g c = record { network = c.requires.network; old = c.rules.ensures; new = c.rules-2.ensures }
+change_codes-requires-clause-network g c = record { network = c.requires.network; old_rules = c.rules.ensures; new_rules = c.rules-2.ensures }

@@ -9,4 +9,5 @@ pub returns-in-Err-clause-answers : goal.returns-in-Err-clause-answers
 returns-in-Err-clause-answers g c = inr (record { fault = c.in-Err.fault; read = c.in-Err.ensures.answer; told = ap Err c.of_new_plan.ensures; rest = refl })
 
 pub returns-in-Err-clause-mark : goal.returns-in-Err-clause-mark
-returns-in-Err-clause-mark g c = new_plan_mark (g.W.Sink.failed c.args.out.now) c.in-Err.fault c.of_new_plan.result c.of_new_plan.ensures
+returns-in-Err-clause-mark g c =
+    rw c.of_new_plan.ensures (new_plan_mark (g.W.Sink.failed c.args.out.now) c.in-Err.fault)
