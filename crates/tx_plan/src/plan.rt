@@ -1,14 +1,14 @@
 // A route plan and its readers.
-ghost use Rattle.std.specs.Prelude.{◌≡◌, ◌≤◌, ◌&&◌, ◌==◌, if◌then◌else◌, nat_lt, Some, None, false, not, length, slice_get, IfSome};
+ghost use Rattle.std.specs.Prelude.{◌≡◌, ◌≤◌, ◌&&◌, ◌==◌, if◌then◌else◌, nat_lt, Some, None, length, slice_get, IfSome};
 ghost use Rattle.std.specs.List.{list_any};
-ghost use Rattle.std.specs.Option.{option_map, option_map_or, option_copied};
+ghost use Rattle.std.specs.Option.{option_map, option_copied};
 ghost use Rattle.tx_plan.specs.Plan.{home_of};
 ghost use Rattle.tx_plan.specs.Lines.{is_line_at, in_range};
 ghost use Rattle.tx_plan.specs.Routes.{route_list, is_barred, is_origin, is_origin_for};
 ghost use Rattle.tx_plan.specs.Circuits.{direction_of, count_of, ends_of, other_end, may_seize};
 ghost use Rattle.tx_plan.specs.Rules.{IsPlan};
 ghost use Rattle.tx_plan.specs.Mixed.{rerouted};
-ghost use Rattle.tx_plan.specs.Declaring.{has_route, overlaps, pair_named, holds_at, exchange_at, code_at};
+ghost use Rattle.tx_plan.specs.Declaring.{has_route, overlaps, pair_named, exchange_at, code_at};
 ghost use Rattle.tx_plan.specs.inner.Tables.{row_of};
 
 use crate::ids::{ByWord, CodeId, Direction, ExchangeId, GroupId, GroupRow, Line, National, Pair};
@@ -348,17 +348,6 @@ impl<A: Allocator> Plan<A> {
                 row.a == exchange || row.direction == Direction::BothWay && row.b == exchange
             }
             None => false,
-        }
-    }
-
-    /// Whether there are a pair and a group, and the exchange of the pair may not seize the group.
-    pub fn is_closed(&self, pair: &Option<Pair>, group: Option<GroupId>) -> bool
-        ensures { result ≡ holds_at pair.now
-            (λ x c. option_map_or (λ i. not (may_seize self.now i x)) group false) }
-    {
-        match (pair, group) {
-            (Some(pair), Some(group)) => !self.may_seize(group, pair.exchange),
-            _ => false,
         }
     }
 }
