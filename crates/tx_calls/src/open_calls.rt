@@ -1,5 +1,5 @@
 // The open calls, under keys and by number.
-ghost use Rattle.std.specs.Prelude.{◌≡◌, ◌<◌, ◌≤◌, ◌↔◌, ◌+◌, ◌++◌, ◌∷◌, [], ℕ, not, filter, length, IsTrue, IsOk, OnOk, IfSome, IfNone, Some, None, is_some, true, vec_len, vec_capacity};
+ghost use Rattle.std.specs.Prelude.{◌≡◌, ◌<◌, ◌≤◌, ◌+◌, ◌++◌, ◌∷◌, [], ℕ, not, filter, length, IsOk, OnOk, IfSome, IfNone, Some, None, is_some, true, vec_len, vec_capacity};
 ghost use Rattle.tx_machine.specs.Call.{Call, call_of, is_numbered};
 ghost use Rattle.tx_plan.specs.Among.{Among};
 ghost use Rattle.tx_machine.specs.Routing.{in_phase, set_call};
@@ -54,13 +54,6 @@ impl<A: Allocator> OpenCalls<A> {
         ensures { result ≡ length (calls_in self.now) }
     {
         self.calls.len()
-    }
-
-    /// Whether there is room for one more call.
-    pub fn has_room(&self) -> bool
-        ensures { IsTrue result ↔ HasRoom self.now }
-    {
-        self.calls.len() < self.calls.capacity() && self.by_number.len() < self.by_number.capacity()
     }
 
     /// Makes room for one more call. Where there is some, no memory is asked for. Lack of memory

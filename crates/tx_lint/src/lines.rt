@@ -12,15 +12,11 @@ use crate::entry::Entry;
 use crate::fault::{Fault, LintFault};
 use std::alloc::Allocator;
 use tx_plan::{PlanBuilder, PlanRefusal};
-use tx_plantext::{PlanWord, declare};
+use tx_plantext::{KEY, PlanWord, VERSIONS, declare};
 use tx_text::{
     FaultKind, FrameFault, FramePart, LineForm, NoMemory, TextLine, bytes_fault, closing,
     first_line, last_fault, look, words,
 };
-
-const KEY: &[u8] = b"PLAN";
-
-const VERSIONS: u8 = 2;
 
 /// What was read of a text: what its lines declare, and what is wrong with them.
 #[derive(Drop)]

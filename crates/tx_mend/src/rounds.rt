@@ -1,5 +1,5 @@
 // Ranks, round by round.
-ghost use Rattle.std.specs.Prelude.{◌≡◌, ◌<◌, ◌≤◌, ℕ, suc, true, Option, Some, None, ◌==◌, if◌then◌else◌, map, length, IfOk};
+ghost use Rattle.std.specs.Prelude.{◌≡◌, ◌<◌, ◌≤◌, ℕ, suc, Option, Some, None, ◌==◌, if◌then◌else◌, map, length, IfOk};
 ghost use Rattle.tx_mend.specs.LeastRanks.{places, kept_or, ranked_in};
 
 use crate::rules::Rule;
@@ -69,32 +69,6 @@ fn next_ranks<A: Allocator + Copy, R: Rule>(
     Ok(next)
 }
 
-/// Whether two ranks are the same.
-fn is_same(old: Option<u8>, new: Option<u8>) -> bool
-    ensures { result ≡ true → old ≡ new }
-{
-    match old {
-        Some(rank) => match new {
-            Some(other) => rank == other,
-            None => false,
-        },
-        None => new.is_none(),
-    }
-}
-
-/// Whether a round left the ranks as they were.
-fn are_same(old: &[Option<u8>], new: &[Option<u8>]) -> bool
-    requires { length old.now ≡ length new.now }
-    ensures { result ≡ true → old.now ≡ new.now }
-{
-    for place in 0..old.len() {
-        if !is_same(old[place], new[place]) {
-            return false;
-        }
-    }
-    true
-}
-
 /// The ranks after `limit + 1` rounds. A round that ranks no exchange is the last that is gone
 /// through.
 pub fn ranks_after<A: Allocator + Copy, R: Rule>(
@@ -110,7 +84,7 @@ pub fn ranks_after<A: Allocator + Copy, R: Rule>(
     let mut ranks = home_alone(alloc, rule.exchanges(), home)?;
     for done in 0..limit + 1 {
         let next = next_ranks(alloc, rule, &ranks, done + 1)?;
-        if are_same(&ranks, &next) {
+        if ranks == next {
             return Ok(next);
         }
         ranks = next;

@@ -15,9 +15,11 @@ use std::marker::Model;
 use tx_plan::{Plan, PlanBuilder};
 use tx_text::{Declares, Source, Words, read_slice, read_text};
 
-const KEY: &[u8] = b"PLAN";
+/// The word of the header.
+pub const KEY: &[u8] = b"PLAN";
 
-const VERSIONS: u8 = 2;
+/// How many versions of the text there are.
+pub const VERSIONS: u8 = 2;
 
 /// What the lines of a plan's text declared so far.
 #[derive(Drop)]

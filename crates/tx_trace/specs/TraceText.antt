@@ -5,6 +5,7 @@ use Rattle.std.specs.Option.{option_map_or}
 use Rattle.tx_plan.specs.Plan.{Plan, exchange_name, figures_of, group_name, home_of}
 use Rattle.tx_plan.specs.Circuits.{other_end}
 use Rattle.tx_plan.specs.Routes.{route_list, is_barred}
+pub use Rattle.tx_audit.specs.Report.{step_text}
 use Rattle.tx_trace.specs.Ways.{first_way, all_met}
 use Rattle.tx_trace.specs.Heights.{rank_from}
 
@@ -19,10 +20,6 @@ bar_line p c x =
     if is_barred p x c
     then codes "BARRED " ++ (exchange_name p x ++ (codes " " ++ (figures_of p c ++ codes "\n")))
     else []
-
--- a step of a way: by a group to an exchange
-abbrev pub step_text : Plan → ℕ × ℕ → List ℕ
-step_text p s = codes " " ++ (group_name p s.0 ++ (codes " " ++ exchange_name p s.1))
 
 -- where a way starts, and its steps, as in `FIRST NORTH NOSO1 SOUTH`
 abbrev pub way_line : Plan → ℕ → List (ℕ × ℕ) → List ℕ

@@ -2,12 +2,13 @@
 ghost use Rattle.std.specs.Prelude.{◌++◌, codes, Option};
 ghost use Rattle.std.specs.List.{flat_map};
 ghost use Rattle.tx_text.specs.Wrote.{Wrote};
-ghost use Rattle.tx_trace.specs.TraceText.{head_line, bar_line, step_text, way_line, home_line, rank_text, place_line, list_lines, met_lines, trace_text};
+ghost use Rattle.tx_trace.specs.TraceText.{head_line, bar_line, way_line, home_line, rank_text, place_line, list_lines, met_lines, trace_text};
 ghost use Rattle.tx_trace.specs.Traces.{IsTraceOf, rank_told};
 
 use crate::tracing::Trace;
 use itoa::Buffer;
 use std::alloc::Allocator;
+use tx_audit::write_steps;
 use tx_plan::{CodeId, ExchangeId, GroupId, Plan};
 use tx_text::{Sink, WriteFault, write_parts};
 
@@ -71,33 +72,6 @@ fn write_way<A: Allocator, W: Sink>(
 {
     write_parts(&[b"FIRST ", plan.exchange_name(start)], sink)?;
     write_steps(plan, way, sink)
-}
-
-/// Writes the steps of a way, and the end of the line.
-fn write_steps<A: Allocator, W: Sink>(
-    plan: &Plan<A>,
-    way: &[(GroupId, ExchangeId)],
-    sink: &mut W,
-) -> Result<(), WriteFault>
-    ensures { Wrote W.taken W.failed sink.old sink.new
-        (flat_map (step_text plan.now) way.now ++ codes "\n") result }
-{
-    for i in 0..way.len() {
-        write_step(plan, way[i], sink)?;
-    }
-    write_parts(&[b"\n"], sink)
-}
-
-fn write_step<A: Allocator, W: Sink>(
-    plan: &Plan<A>,
-    step: (GroupId, ExchangeId),
-    sink: &mut W,
-) -> Result<(), WriteFault>
-    ensures { Wrote W.taken W.failed sink.old sink.new
-        (step_text plan.now step) result }
-{
-    let group = plan.group_name(step.0);
-    write_parts(&[b" ", group, b" ", plan.exchange_name(step.1)], sink)
 }
 
 fn write_all_met<A: Allocator, W: Sink>(
