@@ -1,8 +1,8 @@
 -- What the calls that read a part of an input mean for the input.
-use Rattle.std.proofs.Common.{◌≡◌, ◌⊎◌, ℕ, zero, suc, ◌+◌, ◌-◌, ◌≤◌, Bool, true, false, List, [], ◌∷◌, Option, Result, Ok, Err, refl, sym, ap, ◌∙◌, arith, inl, inr, subst}
+use Rattle.std.proofs.Common.{◌≡◌, ◌⊎◌, ℕ, zero, suc, ◌-◌, ◌≤◌, Bool, true, false, List, [], ◌∷◌, Option, Result, Ok, Err, refl, sym, ap, ◌∙◌, arith, inl, inr, subst}
 use Rattle.tx_text.specs.declared.source.ReadFault.{ReadFault}
 use Rattle.tx_text.specs.Calls.{Gives, Gave, CallsAtMost}
-use Rattle.tx_text.specs.inner.CallsLeft.{Went, Calls}
+use Rattle.tx_text.specs.inner.CallsLeft.{Calls}
 use Rattle.tx_jobs.specs.declared.script_part.ScriptPart.{ScriptPart}
 use Rattle.tx_jobs.specs.inner.Reading.{CalledInput, LeftInput, PartCall}
 
@@ -30,8 +30,8 @@ module _ {R S : Type 0} (rest : R → Option (List ℕ)) (failed : R → Bool) (
   gave_same (suc n) a c (b, g, (m, some, k)) = same_on a b c 4096 (Ok m) (gave_same n a b g) k
 
   pub calls_same : (most : ℕ) (a c : S) → CallsAtMost call most a c → Same a c
-  calls_same most a c (inl (left, (n, e, g))) = gave_same n a c g
-  calls_same most a c (inr (left, b, (n, e, g), (r, k))) = same_on a b c 4096 r (gave_same n a b g) k
+  calls_same most a c (inl (n, le, g)) = gave_same n a c g
+  calls_same most a c (inr (n, lt, b, g, r, k)) = same_on a b c 4096 r (gave_same n a b g) k
 
   -- HOW OFTEN IT IS CALLED
 
@@ -61,19 +61,14 @@ module _ {R S : Type 0} (rest : R → Option (List ℕ)) (failed : R → Bool) (
       by (m, le, i) (inl e) = (m, omega (arith, le), subst (Gave called m (input a)) e i)
       by (m, le, i) (inr j) = (suc m, omega (arith, le), (input b, i, j))
 
-  -- so many calls that gave bytes, of which some are left
-  went_input : (most left : ℕ) (a c : S) → Went call most left a c → (k : ℕ) × (left ≤ k) × Went called most k (input a) (input c)
-  went_input most left a c (n, e, g) = let (m, le, i) = gave_input n a c g in (left + (n - m), omega arith, (m, omega (arith, e, le), i))
-
   -- So many calls are at most so many calls of the input.
   pub calls_input : (most : ℕ) (a c : S) → CallsAtMost call most a c → CallsAtMost called most (input a) (input c)
-  calls_input most a c (inl (left, w)) = let (k, le, v) = went_input most left a c w in inl (k, v)
-  calls_input most a c (inr (left, b, w, last)) = by (went_input most (suc left) a b w) (answered b c last)
+  calls_input most a c (inl (n, le, g)) = let (m, fewer, h) = gave_input n a c g in inl (m, omega (arith, le, fewer), h)
+  calls_input most a c (inr (n, lt, b, g, r, k)) = by (gave_input n a b g) (answered b c (r, k))
     where
-      by : (k : ℕ) × (suc left ≤ k) × Went called most k (input a) (input b) → (input b ≡ input c) ⊎ Calls called (input b) (input c) → CallsAtMost called most (input a) (input c)
-      by (k, le, v) (inl e) = inl (k, subst (Went called most k (input a)) e v)
-      by (zero, le, v) (inr h) = absurd (omega (arith, le))
-      by (suc k, le, v) (inr h) = inr (k, input b, v, h)
+      by : (m : ℕ) × (m ≤ n) × Gave called m (input a) (input b) → (input b ≡ input c) ⊎ Calls called (input b) (input c) → CallsAtMost called most (input a) (input c)
+      by (m, fewer, h) (inl e) = inl (m, omega (arith, lt, fewer), subst (Gave called m (input a)) e h)
+      by (m, fewer, h) (inr (s, j)) = inr (m, omega (arith, lt, fewer), input b, h, s, j)
 
   -- ITS MARK
 
@@ -88,9 +83,9 @@ module _ {R S : Type 0} (rest : R → Option (List ℕ)) (failed : R → Bool) (
 
   -- Where the part has failed, the input has, if it had before.
   pub input_failed : (most : ℕ) (a c : S) → CallsAtMost call most a c → ((part a).ahead.now.failed ≡ true → failed (input a) ≡ true) → (part c).ahead.now.failed ≡ true → failed (input c) ≡ true
-  input_failed most a c (inl (left, (n, e, g))) before = gave_marked n a c g before
-  input_failed most a c (inr (left, b, w, (Ok k, p))) before = λ bad. absurd (unmarked _ bad (is 4096 (Ok k) b c p).mark)
-  input_failed most a c (inr (left, b, (n, e, g), (Err x, p))) before = λ _. by (is 4096 (Err x) b c p).fails
+  input_failed most a c (inl (n, le, g)) before = gave_marked n a c g before
+  input_failed most a c (inr (n, lt, b, g, Ok k, p)) before = λ bad. absurd (unmarked _ bad (is 4096 (Ok k) b c p).mark)
+  input_failed most a c (inr (n, lt, b, g, Err x, p)) before = λ _. by (is 4096 (Err x) b c p).fails
     where
       by : (((part b).ahead.now.failed ≡ true) × (input c ≡ input b)) ⊎ (failed (input c) ≡ true) → failed (input c) ≡ true
       by (inl h) = ap failed h.1 ∙ gave_marked n a b g before h.0
@@ -144,8 +139,8 @@ module _ {R S : Type 0} (rest : R → Option (List ℕ)) (failed : R → Bool) (
   gave_held (suc n) x held a c e (b, g, h) = let i = gave_held n x held a b e g in ((input b, i.0, read_on b c i.1 h), left_empty b c h)
 
   pub calls_emptied : (most : ℕ) (a c : S) → (part a).ahead.now.held ≡ [] → CallsAtMost call most a c → over c ≡ false → (part c).ahead.now.held ≡ []
-  calls_emptied most a c none (inl (left, (n, e, g))) = (gave_empty n a c none g).1
-  calls_emptied most a c none (inr (left, b, (n, e, g), last)) = last_empty b c (gave_empty n a b none g).1 last
+  calls_emptied most a c none (inl (n, le, g)) = (gave_empty n a c none g).1
+  calls_emptied most a c none (inr (n, lt, b, g, r, k)) = last_empty b c (gave_empty n a b none g).1 (r, k)
 
   -- Nothing is held, or the input was not called.
   abbrev Given : S → S → Type 0
@@ -157,8 +152,8 @@ module _ {R S : Type 0} (rest : R → Option (List ℕ)) (failed : R → Bool) (
   gave_given (suc n) a c (b, g, h) = inl (left_empty b c h)
 
   pub calls_given : (most : ℕ) (a c : S) → CallsAtMost call most a c → Given a c
-  calls_given most a c (inl (left, (n, e, g))) = gave_given n a c g
-  calls_given most a c (inr (left, b, (n, e, g), (r, p))) = by (gave_given n a b g) (is 4096 r b c p).input
+  calls_given most a c (inl (n, le, g)) = gave_given n a c g
+  calls_given most a c (inr (n, lt, b, g, r, p)) = by (gave_given n a b g) (is 4096 r b c p).input
     where
       by : Given a b → CalledInput called r (part b) (part c) ⊎ LeftInput r (part b) (part c) → Given a c
       by (inl empty) i = inl (last_empty b c empty (r, p))

@@ -48,8 +48,8 @@ module _ {R : Type 0} (rest : R → Option (List ℕ)) (failed : R → Bool) (ca
   gave_took (suc n) a c (b, g, (m, some, k)) = took_on a b c 4096 (Ok m) (gave_took n a b g) k
 
   pub calls_took : (most : ℕ) (a c : PlanPart R) → CallsAtMost (PlanCall rest failed called) most a c → Took a c
-  calls_took most a c (inl (left, (n, e, g))) = gave_took n a c g
-  calls_took most a c (inr (left, b, (n, e, g), (r, k))) = took_on a b c 4096 r (gave_took n a b g) k
+  calls_took most a c (inl (n, le, g)) = gave_took n a c g
+  calls_took most a c (inr (n, lt, b, g, r, k)) = took_on a b c 4096 r (gave_took n a b g) k
 
 -- THE CUT, before anything was read
 
