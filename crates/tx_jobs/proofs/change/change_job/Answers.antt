@@ -5,14 +5,28 @@ use Rattle.tx_jobs.proofs.RefusedTexts.{plan_mark}
 use Rattle.tx_jobs.proofs.change.change_job.Goals as goal
 
 pub returns-in-Ok-clause-answers : goal.returns-in-Ok-clause-answers
-returns-in-Ok-clause-answers g c = inl (record { plan = c.in-Ok.plan; rules = c.in-Ok.ensures.rules; read = c.in-Ok.ensures.answer; goes_on = c.change_from.ensures.answers })
+returns-in-Ok-clause-answers g c =
+    inl (record {
+      plan = c.in-Ok.plan;
+      rules = c.in-Ok.ensures.rules;
+      read = c.in-Ok.ensures.answer;
+      goes_on = c.change_from.ensures.answers;
+    })
 
 pub returns-in-Err-clause-answers : goal.returns-in-Err-clause-answers
-returns-in-Err-clause-answers g c = inr (record { fault = c.in-Err.fault; read = c.in-Err.ensures.answer; told = ap Err c.of_old_plan.ensures; rest = (refl, refl) })
+returns-in-Err-clause-answers g c =
+    inr (record {
+      fault = c.in-Err.fault;
+      read = c.in-Err.ensures.answer;
+      told = ap Err c.of_old_plan.ensures;
+      rest = (refl, refl);
+    })
 
 pub returns-in-Err-clause-mark : goal.returns-in-Err-clause-mark
 returns-in-Err-clause-mark g c =
     rw c.of_old_plan.ensures (plan_mark (g.W.Sink.failed c.args.out.now) c.in-Err.fault)
 
 pub returns-in-Err-clause-new_calls : goal.returns-in-Err-clause-new_calls
-returns-in-Err-clause-new_calls g c = calls_so_far g.Q.Source.called source_calls source_calls _ _ (went_none g.Q.Source.called source_calls _)
+returns-in-Err-clause-new_calls g c =
+    calls_so_far g.Q.Source.called source_calls source_calls _ _
+    (went_none g.Q.Source.called source_calls _)

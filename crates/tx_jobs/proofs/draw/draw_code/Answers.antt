@@ -10,4 +10,5 @@ pub returns-clause-drew : goal.returns-clause-drew
 returns-clause-drew g c = c.draw_finding.ensures.drew
 
 pub returns-in_err-findings-clause-drew : goal.returns-in_err-findings-clause-drew
-returns-in_err-findings-clause-drew g c = inr (exits_with c.from_residual.result NoMemory c.from_residual.ensures.1, refl)
+returns-in_err-findings-clause-drew g c =
+    inr (exits_with c.from_residual.result NoMemory c.from_residual.ensures.1, refl)

@@ -11,7 +11,8 @@ pub returns-in-Found : goal.returns-in-Found
 returns-in-Found g c =
     let p = c.args.plan.now in
     subst (λ b. AreToShow p b c.new-in-Found.result.items) (sym c.in-Some.is)
-    (subst (IsAllFound p c.in-Some.limit c.in-Some.spare) (sym c.new-in-Found.ensures.items) (c.in_ok-rank-in-Some.ensures.found.0 (subst IsFound (sym c.in-Found.is) tt)))
+    (subst (IsAllFound p c.in-Some.limit c.in-Some.spare) (sym c.new-in-Found.ensures.items)
+    (c.in_ok-rank-in-Some.ensures.found.0 (subst IsFound (sym c.in-Found.is) tt)))
 
 pub returns : goal.returns
 returns g c =
@@ -19,6 +20,10 @@ returns g c =
     let ranked = c.in_ok-rank-in-Some.ensures in
     let findings = c.in-Fails.findings.items in
     let some = subst (OnFails (λ l. l ≢ [])) c.in-Fails.is ranked.fails in
-    let each = subst (OnFails (AllByRecursion (IsTrueOf p c.in-Some.limit c.in-Some.spare))) c.in-Fails.is ranked.each in
-    let listed = subst (OnFails (AreFindings p c.in-Some.limit c.in-Some.spare)) c.in-Fails.is ranked.listed in
-    subst (λ b. AreToShow p b findings) (sym c.in-Some.is) (all_found p c.in-Some.limit c.in-Some.spare findings some each listed)
+    let each =
+        subst (OnFails (AllByRecursion (IsTrueOf p c.in-Some.limit c.in-Some.spare))) c.in-Fails.is
+        ranked.each in
+    let listed =
+        subst (OnFails (AreFindings p c.in-Some.limit c.in-Some.spare)) c.in-Fails.is ranked.listed in
+    subst (λ b. AreToShow p b findings) (sym c.in-Some.is)
+    (all_found p c.in-Some.limit c.in-Some.spare findings some each listed)

@@ -9,7 +9,8 @@ returns-in_err-write_grade-clause-told g c =
     let grade = c.in_ok-grade.grade in
     let plan = plan_is _ c.args.plan.now c.requires.rules grade.findings.items grade.plan
     e.plan e.clear e.fails e.clean e.each e.listed in
-    rw (exits_with c.from_residual-in_err-write_grade.result Write c.from_residual-in_err-write_grade.ensures.1)
+    rw (exits_with c.from_residual-in_err-write_grade.result Write
+    c.from_residual-in_err-write_grade.ensures.1)
     (record { grade = grade; right = (plan, e.codes); wrote = c.in_err-write_grade.ensures.0 })
 
 pub returns-clause-told : goal.returns-clause-told

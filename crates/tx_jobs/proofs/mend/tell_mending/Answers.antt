@@ -12,7 +12,9 @@ pub returns-in_err-report_mend-clause-told : goal.returns-in_err-report_mend-cla
 returns-in_err-report_mend-clause-told g c =
     let f = c.in_err-report_mend.field-0.0 in
     rw (exits_with c.from_residual.result (mend_fault f) c.from_residual.ensures.1)
-    (mend_told _ c.args.plan c.args.limit c.args.spare (output g.W.Sink.taken c.args.out.now c.report_mend.new.out) f c.in_err-report_mend.ensures.answers)
+    (mend_told _ c.args.plan c.args.limit c.args.spare
+    (output g.W.Sink.taken c.args.out.now c.report_mend.new.out) f
+    c.in_err-report_mend.ensures.answers)
 
 pub returns-in_err-report_mend-clause-mark : goal.returns-in_err-report_mend-clause-mark
 returns-in_err-report_mend-clause-mark g c =

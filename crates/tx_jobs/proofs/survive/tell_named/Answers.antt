@@ -32,17 +32,21 @@ pub returns-in_err-tell_survival-clause-answers : goal.returns-in_err-tell_survi
 returns-in_err-tell_survival-clause-answers g c =
     let f = c.in_err-tell_survival.field-0.0 in
     let out = output g.W.Sink.taken c.args.out.now c.tell_survival.new.out in
-    rw (exits_with c.from_residual-in_err-tell_survival.result (Job f) c.from_residual-in_err-tell_survival.ensures.1)
+    rw (exits_with c.from_residual-in_err-tell_survival.result (Job f)
+    c.from_residual-in_err-tell_survival.ensures.1)
     (inl (record {
       risks = c.in_ok-risks.risks;
       fit = c.in_ok-risks.ensures.fits;
       read = c.in_ok-risks.ensures.answer;
-      goes_on = subst (λ risks. ToldSurvival c.args.plan.now risks out (Err f)) c.as_slice.ensures c.in_err-tell_survival.ensures.told;
+      goes_on =
+          subst (λ risks. ToldSurvival c.args.plan.now risks out (Err f)) c.as_slice.ensures
+          c.in_err-tell_survival.ensures.told;
     }))
 
 pub returns-in_err-tell_survival-clause-mark : goal.returns-in_err-tell_survival-clause-mark
 returns-in_err-tell_survival-clause-mark g c =
-    rw (exits_with c.from_residual-in_err-tell_survival.result (Job c.in_err-tell_survival.field-0.0) c.from_residual-in_err-tell_survival.ensures.1)
+    rw (exits_with c.from_residual-in_err-tell_survival.result (Job c.in_err-tell_survival.field-0.0)
+    c.from_residual-in_err-tell_survival.ensures.1)
     c.in_err-tell_survival.ensures.mark
 
 pub returns-clause-answers : goal.returns-clause-answers

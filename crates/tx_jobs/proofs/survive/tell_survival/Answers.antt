@@ -6,7 +6,8 @@ use Rattle.tx_jobs.proofs.survive.tell_survival.Goals as goal
 pub returns-in_err-write_survival-clause-told : goal.returns-in_err-write_survival-clause-told
 returns-in_err-write_survival-clause-told g c =
     let e = c.in_ok-survival.ensures in
-    rw (exits_with c.from_residual-in_err-write_survival.result Write c.from_residual-in_err-write_survival.ensures.1)
+    rw (exits_with c.from_residual-in_err-write_survival.result Write
+    c.from_residual-in_err-write_survival.ensures.1)
     (record {
       survival = c.in_ok-survival.survival;
       right = survival_is _ c.args.plan.now c.args.risks.now c.in_ok-survival.survival

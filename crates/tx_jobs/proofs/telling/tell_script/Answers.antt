@@ -24,12 +24,14 @@ returns-in_err-run_telling-clause-answers g c =
     let opened = ap (λ n. n.state) c.in_ok-network.ensures in
     inl (told_plan (λ (n : Net). n.state) c.in_ok-network.network c.run_telling.new.net
     (Err f) _ c.in_err-run_telling.ensures.answers opened
-    (exits_with c.from_residual-in_err-run_telling.result (run_fault f) c.from_residual-in_err-run_telling.ensures.1))
+    (exits_with c.from_residual-in_err-run_telling.result (run_fault f)
+    c.from_residual-in_err-run_telling.ensures.1))
 
 pub returns-in_err-run_telling-clause-mark : goal.returns-in_err-run_telling-clause-mark
 returns-in_err-run_telling-clause-mark g c =
     let f = c.in_err-run_telling.field-0.0 in
-    rw (exits_with c.from_residual-in_err-run_telling.result (run_fault f) c.from_residual-in_err-run_telling.ensures.1)
+    rw (exits_with c.from_residual-in_err-run_telling.result (run_fault f)
+    c.from_residual-in_err-run_telling.ensures.1)
     (run_mark (g.W.Sink.failed c.args.out.now) _ f c.in_err-run_telling.ensures.mark)
 
 pub returns-clause-answers : goal.returns-clause-answers
