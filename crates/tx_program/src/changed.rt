@@ -19,8 +19,11 @@ pub(crate) fn change_files<A: Allocator + Copy, R: Read + Drop, F: Folder, O: Wr
     output: &Output<O, A>,
 ) -> Result<u8, CommandFault> {
     let evidence = report(alloc, old, new, bounds, files, output)?;
-    write_evidence(alloc, &evidence, files, folder, output)?;
-    Ok(evidence.status())
+    let status = evidence.status();
+    let written = write_evidence(alloc, &evidence, files, folder, output);
+    drop(evidence);
+    written?;
+    Ok(status)
 }
 
 /// Writes the report of the change, and answers what shows its verdict.
