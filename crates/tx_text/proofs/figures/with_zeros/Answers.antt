@@ -6,4 +6,4 @@ pub returns-in-Ok : goal.returns-in-Ok
 returns-in-Ok g c = c.in-Ok.ensures.1.same ∙ padded_full g.row.N c.args.text.now c.in-Ok.ensures.1.long
 
 pub returns-in-Err : goal.returns-in-Err
-returns-in-Err g c = c.copy_from_slice.ensures.after ∙ padded_copy g.row.N c.args.text.now
+returns-in-Err g c = rw c.copy_from_slice.ensures.after (padded_copy g.row.N c.args.text.now)
