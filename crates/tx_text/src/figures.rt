@@ -58,10 +58,8 @@ impl<const N: usize> InlineBytes<N> {
         requires room { N ≤ 255 }
         ensures { result ≡ text.now }
     {
-        let mut bytes = [0; N];
-        bytes[..text.len()].copy_from_slice(text);
         InlineBytes {
-            bytes,
+            bytes: with_zeros(text),
             len: text.len() as u8,
         }
     }
@@ -79,6 +77,21 @@ impl<const N: usize> InlineBytes<N> {
         ensures { result.now ≡ padded_to N self.now }
     {
         &self.bytes
+    }
+}
+
+/// The text, which has room, and zeros after it.
+fn with_zeros<const N: usize>(text: &[u8]) -> [u8; N]
+    requires { length text.now ≤ N }
+    ensures { result ≡ padded_to N text.now }
+{
+    match <[u8; N]>::try_from(text) {
+        Ok(full) => full,
+        Err(_) => {
+            let mut bytes = [0; N];
+            bytes[..text.len()].copy_from_slice(text);
+            bytes
+        }
     }
 }
 
