@@ -10,7 +10,7 @@ ghost use Rattle.tx_audit.specs.Counter.{walked, counter_of, has_counter};
 ghost use Rattle.tx_audit.specs.Breaks.{Shows};
 
 use crate::free_line::first_line;
-use crate::steps::{push_shut, push_walk};
+use crate::steps::{push_block_all, push_walk};
 use crate::turns::turns_on_one;
 use std::alloc::Allocator;
 use tx_machine::Event;
@@ -74,7 +74,7 @@ fn events_of<A: Allocator + Copy>(
             let Some(mut script) = walked(alloc, plan, *code, walk)? else {
                 return Ok(None);
             };
-            push_shut(plan, *code, end_of(walk), &mut script)?;
+            push_block_all(plan, *code, end_of(walk), &mut script)?;
             Ok(Some(script))
         }
         Finding::Long(code, walk) => walked(alloc, plan, *code, walk),

@@ -79,7 +79,7 @@ pub(crate) fn push_walk<A: Allocator>(
 }
 
 /// All groups that the exchange lists for the code are blocked, and the call is routed.
-pub(crate) fn push_shut<A: Allocator>(
+pub(crate) fn push_block_all<A: Allocator>(
     plan: &Plan<A>,
     code: CodeId,
     exchange: ExchangeId,

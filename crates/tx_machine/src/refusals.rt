@@ -7,7 +7,7 @@ ghost use Rattle.tx_machine.specs.declared.event.Event.TheVariants.{Key, Route, 
 ghost use Rattle.tx_machine.specs.declared.open_call.Party.TheVariants.{Caller, Called};
 ghost use Rattle.tx_machine.specs.declared.refusal.Refusal.TheVariants.{UnknownLine, UnknownCircuit, Exhausted};
 ghost use Rattle.tx_machine.specs.Refusals.{refusal, is_group};
-ghost use Rattle.tx_machine.specs.inner.Facts.{is_idle, idle};
+ghost use Rattle.tx_machine.specs.inner.Facts.{is_already, no_change};
 
 use crate::facts::Facts;
 use crate::{Event, Party, Refusal};
@@ -131,9 +131,9 @@ fn of_released<N: Facts>(network: &N, circuit: &Circuit) -> Option<Refusal>
 /// The refusal of an event that makes a fact of a circuit so, or no longer so, by whether it is.
 fn of_circuit<N: Facts>(network: &N, circuit: &Circuit, is: bool, will: bool) -> Option<Refusal>
     ensures { result ≡ first_true ((
-      is_circuit (N.plan network.now) circuit.now && is_idle
+      is_circuit (N.plan network.now) circuit.now && is_already
           is will,
-      idle will,
+      no_change will,
     ) ∷ (not (is_circuit (N.plan network.now) circuit.now), UnknownCircuit)
         ∷ (nat_le (2 ^ 64 - 1) (N.state network.now).events, Exhausted) ∷ []) }
 {
@@ -148,8 +148,8 @@ fn of_circuit<N: Facts>(network: &N, circuit: &Circuit, is: bool, will: bool) ->
 fn of_group<N: Facts>(network: &N, group: GroupId, is: bool, will: bool) -> Option<Refusal>
     ensures { result ≡ first_true ((
       is_group (N.plan network.now) group
-          && is_idle is will,
-      idle will,
+          && is_already is will,
+      no_change will,
     ) ∷ (not (is_group (N.plan network.now) group), UnknownCircuit)
         ∷ (nat_le (2 ^ 64 - 1) (N.state network.now).events, Exhausted) ∷ []) }
 {
@@ -163,7 +163,7 @@ fn of_group<N: Facts>(network: &N, group: GroupId, is: bool, will: bool) -> Opti
 /// The refusal of an event that makes a fact of a line so, or no longer so, by whether it is.
 fn of_line<N: Facts>(network: &N, line: &Line, is: bool, will: bool) -> Option<Refusal>
     ensures { result ≡ first_true
-        ((not (is_line (N.plan network.now) line.now), UnknownLine) ∷ (is_idle is will, idle will)
+        ((not (is_line (N.plan network.now) line.now), UnknownLine) ∷ (is_already is will, no_change will)
         ∷ (nat_le (2 ^ 64 - 1) (N.state network.now).events, Exhausted) ∷ []) }
 {
     if !network.has_line(line) {
@@ -175,7 +175,7 @@ fn of_line<N: Facts>(network: &N, line: &Line, is: bool, will: bool) -> Option<R
 
 /// The refusal of an event that makes a fact so, or no longer so, of what the plan has.
 fn of_fact<N: Facts>(network: &N, is: bool, will: bool) -> Option<Refusal>
-    ensures { result ≡ first_true ((is_idle is will, idle will)
+    ensures { result ≡ first_true ((is_already is will, no_change will)
         ∷ (nat_le (2 ^ 64 - 1) (N.state network.now).events, Exhausted) ∷ []) }
 {
     match (is, will) {

@@ -13,7 +13,7 @@ use crate::names::NameKey;
 use crate::plan::Plan;
 use crate::range::LineRange;
 use crate::refusal::PlanRefusal;
-use crate::route_words::{RouteScan, scan};
+use crate::route_scan::{RouteScan, scan};
 use crate::routes::GroupList;
 use std::alloc::Allocator;
 use tx_text::{Words, are_figures, is_name};

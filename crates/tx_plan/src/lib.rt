@@ -29,7 +29,7 @@ mod names;
 mod plan;
 mod range;
 mod refusal;
-mod route_words;
+mod route_scan;
 mod routes;
 
 pub use builder::PlanBuilder;

@@ -1,7 +1,7 @@
 // The audit of a file, and the files of what shows its verdict.
 use crate::ends::Output;
 use crate::folder::Folder;
-use crate::opened::Bounds;
+use crate::opened::Limits;
 use crate::output_files::{Content, OutputFiles, write_file};
 use std::alloc::Allocator;
 use std::io::{Read, Write};
@@ -11,12 +11,12 @@ use tx_jobs::{Evidence, JobFault, evidence_job};
 pub(crate) fn audit_file<A: Allocator + Copy, R: Read + Drop, F: Folder, O: Write + Drop>(
     alloc: A,
     plan: R,
-    bounds: Bounds,
+    limits: Limits,
     files: OutputFiles<'_>,
     folder: &F,
     output: &Output<O, A>,
 ) -> Result<u8, JobFault> {
-    let evidence = report(alloc, plan, bounds, files.counter.is_some(), output)?;
+    let evidence = report(alloc, plan, limits, files.counter.is_some(), output)?;
     write_evidence(alloc, &evidence, files, folder, output)?;
     Ok(evidence.status())
 }
@@ -25,7 +25,7 @@ pub(crate) fn audit_file<A: Allocator + Copy, R: Read + Drop, F: Folder, O: Writ
 fn report<A: Allocator + Copy, R: Read + Drop, O: Write + Drop>(
     alloc: A,
     plan: R,
-    bounds: Bounds,
+    limits: Limits,
     with_script: bool,
     output: &Output<O, A>,
 ) -> Result<Evidence<A>, JobFault> {
@@ -34,8 +34,8 @@ fn report<A: Allocator + Copy, R: Read + Drop, O: Write + Drop>(
     evidence_job(
         alloc,
         &mut plan,
-        bounds.limit,
-        bounds.spare,
+        limits.limit,
+        limits.spare,
         with_script,
         &mut sink,
     )

@@ -2,7 +2,7 @@
 use crate::command_fault::CommandFault;
 use crate::ends::Output;
 use crate::folder::Folder;
-use crate::opened::Bounds;
+use crate::opened::Limits;
 use crate::output_files::{Content, OutputFiles, write_file};
 use std::alloc::Allocator;
 use std::io::{Read, Write};
@@ -13,12 +13,12 @@ pub(crate) fn change_files<A: Allocator + Copy, R: Read + Drop, F: Folder, O: Wr
     alloc: A,
     old: R,
     new: R,
-    bounds: Bounds,
+    limits: Limits,
     files: OutputFiles<'_>,
     folder: &F,
     output: &Output<O, A>,
 ) -> Result<u8, CommandFault> {
-    let evidence = report(alloc, old, new, bounds, files, output)?;
+    let evidence = report(alloc, old, new, limits, files, output)?;
     let status = evidence.status();
     let written = write_evidence(alloc, &evidence, files, folder, output);
     drop(evidence);
@@ -31,7 +31,7 @@ fn report<A: Allocator + Copy, R: Read + Drop, O: Write + Drop>(
     alloc: A,
     old: R,
     new: R,
-    bounds: Bounds,
+    limits: Limits,
     files: OutputFiles<'_>,
     output: &Output<O, A>,
 ) -> Result<ChangeEvidence<A>, CommandFault> {
@@ -42,8 +42,8 @@ fn report<A: Allocator + Copy, R: Read + Drop, O: Write + Drop>(
         alloc,
         &mut old,
         &mut new,
-        bounds.limit,
-        bounds.spare,
+        limits.limit,
+        limits.spare,
         with_mixture,
         &mut output.sink(),
     )?;

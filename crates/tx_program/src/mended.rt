@@ -1,7 +1,7 @@
 // The mending of a file, and the files of the mended plan and of its certificate.
 use crate::ends::Output;
 use crate::folder::Folder;
-use crate::opened::Bounds;
+use crate::opened::Limits;
 use crate::output_files::{Content, OutputFiles, write_file};
 use std::alloc::Allocator;
 use std::io::{Read, Write};
@@ -12,12 +12,12 @@ use tx_mend::Mending;
 pub(crate) fn mend_file<A: Allocator + Copy, R: Read + Drop, F: Folder, O: Write + Drop>(
     alloc: A,
     plan: R,
-    bounds: Bounds,
+    limits: Limits,
     files: OutputFiles<'_>,
     folder: &F,
     output: &Output<O, A>,
 ) -> Result<u8, JobFault> {
-    let mending = report(alloc, plan, bounds, output)?;
+    let mending = report(alloc, plan, limits, output)?;
     write_mended(alloc, &mending, files, folder, output)?;
     Ok(mending_status(&mending))
 }
@@ -26,15 +26,15 @@ pub(crate) fn mend_file<A: Allocator + Copy, R: Read + Drop, F: Folder, O: Write
 fn report<A: Allocator + Copy, R: Read + Drop, O: Write + Drop>(
     alloc: A,
     plan: R,
-    bounds: Bounds,
+    limits: Limits,
     output: &Output<O, A>,
 ) -> Result<Mending<A>, JobFault> {
     let mut plan = output.source(alloc, plan)?;
     mend_job(
         alloc,
         &mut plan,
-        bounds.limit,
-        bounds.spare,
+        limits.limit,
+        limits.spare,
         &mut output.sink(),
     )
 }

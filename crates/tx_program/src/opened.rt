@@ -12,21 +12,21 @@ use tx_script::Telling;
 
 /// How many transits a call may pass, and how many groups of a list are to spare.
 #[derive(Clone, Copy)]
-pub(crate) struct Bounds {
+pub(crate) struct Limits {
     pub limit: u8,
     pub spare: u8,
     ghost limited: { limit ≤ 62 },
     ghost spared: { spare ≤ 15 },
 }
 
-impl Bounds {
-    fn of(limit: u8, spare: u8) -> Bounds
+impl Limits {
+    fn of(limit: u8, spare: u8) -> Limits
         requires limit { limit ≤ 62 }
         requires spare { spare ≤ 15 }
         ensures has_limit { result.limit ≡ limit }
         ensures has_spare { result.spare ≡ spare }
     {
-        Bounds { limit, spare }
+        Limits { limit, spare }
     }
 }
 
@@ -50,7 +50,7 @@ pub(crate) enum PlanJob<'a> {
         /// The code whose routes are drawn alone.
         code: Option<&'a [u8]>,
         /// The numbers for which its first finding is shown.
-        bounds: Option<Bounds>,
+        limits: Option<Limits>,
     },
 }
 
@@ -75,25 +75,25 @@ pub(crate) enum Opened<'a, I: Read + Drop, R: Read + Drop> {
         plan: Input<I, R>,
         cert: Input<I, R>,
         script: Input<I, R>,
-        bounds: Bounds,
+        limits: Limits,
     },
     Check {
         plan: Input<I, R>,
         cert: Input<I, R>,
-        bounds: Bounds,
+        limits: Limits,
     },
     Audit {
         plan: Input<I, R>,
-        bounds: Bounds,
+        limits: Limits,
     },
     Mend {
         plan: Input<I, R>,
-        bounds: Bounds,
+        limits: Limits,
     },
     Change {
         old: Input<I, R>,
         new: Input<I, R>,
-        bounds: Bounds,
+        limits: Limits,
     },
     Survive {
         plan: Input<I, R>,
@@ -146,7 +146,7 @@ impl<'a, I: Read + Drop, R: Read + Drop> Opened<'a, I, R> {
             | Command::Audit { limit, spare, .. }
             | Command::Change { limit, spare, .. }
             | Command::Mend { limit, spare, .. } => {
-                Opened::judging(inputs, command, Bounds::of(*limit, *spare))
+                Opened::judging(inputs, command, Limits::of(*limit, *spare))
             }
         }
     }
@@ -155,26 +155,26 @@ impl<'a, I: Read + Drop, R: Read + Drop> Opened<'a, I, R> {
     fn judging<F: Folder<Input = R>>(
         inputs: &mut Inputs<'_, F, I>,
         command: &'a Command,
-        bounds: Bounds,
+        limits: Limits,
     ) -> Result<Opened<'a, I, R>, JobFault>
         requires { judges command.now ≡ true }
     {
         match command {
             Command::Check { plan, cert, .. } => {
                 let (plan, cert) = inputs.open_both(plan, cert)?;
-                Ok(Opened::Check { plan, cert, bounds })
+                Ok(Opened::Check { plan, cert, limits })
             }
             Command::Audit { plan, .. } => {
                 let plan = inputs.open(plan)?;
-                Ok(Opened::Audit { plan, bounds })
+                Ok(Opened::Audit { plan, limits })
             }
             Command::Change { old, new, .. } => {
                 let (old, new) = inputs.open_both(old, new)?;
-                Ok(Opened::Change { old, new, bounds })
+                Ok(Opened::Change { old, new, limits })
             }
             Command::Mend { plan, .. } => {
                 let plan = inputs.open(plan)?;
-                Ok(Opened::Mend { plan, bounds })
+                Ok(Opened::Mend { plan, limits })
             }
             _ => unreachable!(),
         }
@@ -202,7 +202,7 @@ impl<'a, I: Read + Drop, R: Read + Drop> Opened<'a, I, R> {
                 Ok(Opened::Run { plan, script })
             }
             Some((cert, limit, spare)) => {
-                Opened::checked(inputs, plan, cert, script, Bounds::of(*limit, *spare))
+                Opened::checked(inputs, plan, cert, script, Limits::of(*limit, *spare))
             }
         }
     }
@@ -229,7 +229,7 @@ impl<'a, I: Read + Drop, R: Read + Drop> Opened<'a, I, R> {
         plan: &str,
         cert: &str,
         script: &str,
-        bounds: Bounds,
+        limits: Limits,
     ) -> Result<Opened<'a, I, R>, JobFault> {
         let (plan, cert) = inputs.open_both(plan, cert)?;
         let script = inputs.open(script)?;
@@ -237,7 +237,7 @@ impl<'a, I: Read + Drop, R: Read + Drop> Opened<'a, I, R> {
             plan,
             cert,
             script,
-            bounds,
+            limits,
         })
     }
 
@@ -266,14 +266,14 @@ impl<'a, I: Read + Drop, R: Read + Drop> Opened<'a, I, R> {
         requires limit { IfSome routes.now (λ r. IfSome r.1 (λ b. b.0 ≤ 62)) }
         requires spare { IfSome routes.now (λ r. IfSome r.1 (λ b. b.1 ≤ 15)) }
     {
-        let (code, bounds) = match routes {
+        let (code, limits) = match routes {
             None => (None, None),
             Some((code, None)) => (Some(code.as_bytes()), None),
             Some((code, Some((limit, spare)))) => {
-                (Some(code.as_bytes()), Some(Bounds::of(*limit, *spare)))
+                (Some(code.as_bytes()), Some(Limits::of(*limit, *spare)))
             }
         };
-        Opened::over_plan(inputs, plan, PlanJob::Draw { code, bounds })
+        Opened::over_plan(inputs, plan, PlanJob::Draw { code, limits })
     }
 
     fn survive<F: Folder<Input = R>>(

@@ -12,7 +12,7 @@ use crate::ends::Output;
 use crate::folder::Folder;
 use crate::input::Inputs;
 use crate::mended::mend_file;
-use crate::opened::{Bounds, Opened, PlanJob};
+use crate::opened::{Limits, Opened, PlanJob};
 use crate::output_files::OutputFiles;
 use crate::tell::tell_words;
 use std::alloc::{Allocator, Global};
@@ -177,17 +177,17 @@ fn do_job<A: Allocator + Copy, F: Folder, I: Read + Drop, O: Write + Drop>(
             plan,
             cert,
             script,
-            bounds,
-        } => run_checked_files(alloc, plan, cert, bounds, script, output)?,
-        Opened::Check { plan, cert, bounds } => check_files(alloc, plan, cert, bounds, output)?,
+            limits,
+        } => run_checked_files(alloc, plan, cert, limits, script, output)?,
+        Opened::Check { plan, cert, limits } => check_files(alloc, plan, cert, limits, output)?,
         Opened::Plan { plan, job } => do_plan_job(alloc, plan, job, output)?,
-        Opened::Audit { plan, bounds } => {
-            audit_file(alloc, plan, bounds, files, folder, output)?
+        Opened::Audit { plan, limits } => {
+            audit_file(alloc, plan, limits, files, folder, output)?
         }
-        Opened::Mend { plan, bounds } => mend_file(alloc, plan, bounds, files, folder, output)?,
+        Opened::Mend { plan, limits } => mend_file(alloc, plan, limits, files, folder, output)?,
         Opened::Survive { plan, risks } => survive_files(alloc, plan, risks, output)?,
-        Opened::Change { old, new, bounds } => change_files(
-            alloc, old, new, bounds, files, folder, output,
+        Opened::Change { old, new, limits } => change_files(
+            alloc, old, new, limits, files, folder, output,
         )?,
         Opened::Explain { word } => explain(word.as_deref(), output)?,
     };
@@ -237,7 +237,7 @@ fn run_checked_files<A: Allocator + Copy, P: Read + Drop, R: Read + Drop, O: Wri
     alloc: A,
     plan: P,
     cert: P,
-    bounds: Bounds,
+    limits: Limits,
     script: R,
     output: &Output<O, A>,
 ) -> Result<u8, JobFault> {
@@ -248,8 +248,8 @@ fn run_checked_files<A: Allocator + Copy, P: Read + Drop, R: Read + Drop, O: Wri
         alloc,
         &mut plan,
         &mut cert,
-        bounds.limit,
-        bounds.spare,
+        limits.limit,
+        limits.spare,
         &mut script,
         &mut output.sink(),
     )
@@ -277,8 +277,8 @@ fn do_plan_job<A: Allocator + Copy, R: Read + Drop, O: Write + Drop>(
                 Traced::NoSuchCode => Err(CommandFault::NoSuchCode),
             }
         }
-        PlanJob::Draw { code, bounds } => {
-            match draw_job(alloc, &mut plan, code, numbers(bounds), &mut sink)? {
+        PlanJob::Draw { code, limits } => {
+            match draw_job(alloc, &mut plan, code, numbers(limits), &mut sink)? {
                 Drawn::Picture => Ok(0),
                 Drawn::NoSuchCode => Err(CommandFault::NoSuchCode),
             }
@@ -291,7 +291,7 @@ fn check_files<A: Allocator + Copy, R: Read + Drop, O: Write + Drop>(
     alloc: A,
     plan: R,
     cert: R,
-    bounds: Bounds,
+    limits: Limits,
     output: &Output<O, A>,
 ) -> Result<u8, JobFault> {
     let mut plan = output.source(alloc, plan)?;
@@ -300,8 +300,8 @@ fn check_files<A: Allocator + Copy, R: Read + Drop, O: Write + Drop>(
         alloc,
         &mut plan,
         &mut cert,
-        bounds.limit,
-        bounds.spare,
+        limits.limit,
+        limits.spare,
         &mut output.sink(),
     )
 }
@@ -322,13 +322,13 @@ fn survive_files<A: Allocator + Copy, R: Read + Drop, O: Write + Drop>(
 }
 
 /// A limit and a spare number, if there are any.
-fn numbers(bounds: Option<Bounds>) -> Option<(u8, u8)>
+fn numbers(limits: Option<Limits>) -> Option<(u8, u8)>
     ensures limit { IfSome result (λ n. n.0 ≤ 62) }
     ensures spare { IfSome result (λ n. n.1 ≤ 15) }
-    ensures same { result ≡ option_map (λ b. (b.limit, b.spare)) bounds }
+    ensures same { result ≡ option_map (λ b. (b.limit, b.spare)) limits }
 {
-    match bounds {
-        Some(bounds) => Some((bounds.limit, bounds.spare)),
+    match limits {
+        Some(limits) => Some((limits.limit, limits.spare)),
         None => None,
     }
 }

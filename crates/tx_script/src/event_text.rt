@@ -28,11 +28,11 @@ pub fn write_event<A: Allocator, W: Sink>(
         (event_text plan.now event.now) result }
 {
     plan.rules();
-    write_said(event, plan, sink)
+    write_any_event(event, plan, sink)
 }
 
 /// Writes the line of any event: of an id that the plan does not have, no name is written.
-pub(crate) fn write_said<A: Allocator, W: Sink>(
+pub(crate) fn write_any_event<A: Allocator, W: Sink>(
     event: &Event,
     plan: &Plan<A>,
     sink: &mut W,

@@ -6,7 +6,7 @@ ghost use Rattle.tx_script.specs.Telling.{echo_asked, echo_text, number_text};
 
 use crate::answer::Answered;
 use crate::counts::Counts;
-use crate::event_text::write_said;
+use crate::event_text::write_any_event;
 use crate::run_cause::RunCause;
 use crate::run_fault::RunFault;
 use itoa::Buffer;
@@ -172,7 +172,7 @@ fn write_echo<A: Allocator, W: Sink>(
         (echo_text plan.now number event.now) result }
 {
     write_number(number, sink)?;
-    write_said(event, plan, sink)
+    write_any_event(event, plan, sink)
 }
 
 /// Writes the number of an event, as `EVENT 2 `.

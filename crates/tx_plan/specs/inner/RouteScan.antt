@@ -5,7 +5,7 @@ use Rattle.tx_text.specs.Words.{is_name}
 use Rattle.tx_plan.specs.Plan.{Plan}
 use Rattle.tx_plan.specs.Declaring.{has_group, is_not_outgoing, group_at}
 use Rattle.tx_plan.specs.declared.ids.Pair.{Pair}
-use Rattle.tx_plan.specs.declared.route_words.RouteScan.{RouteScan}
+use Rattle.tx_plan.specs.declared.route_scan.RouteScan.{RouteScan}
 
 -- what a scan of these words finds for a pair
 pub record IsScanOf (p : Plan) (pair : Option Pair) (words : List (List ℕ))

@@ -9,4 +9,4 @@ returns-in_err-write_number g c =
 
 pub returns : goal.returns
 returns g c =
-    wrote_then _ _ _ _ _ _ (number_text c.args.number) (event_text c.args.plan.now c.args.event.now) _ c.in_ok-write_number.ensures c.write_said.ensures
+    wrote_then _ _ _ _ _ _ (number_text c.args.number) (event_text c.args.plan.now c.args.event.now) _ c.in_ok-write_number.ensures c.write_any_event.ensures

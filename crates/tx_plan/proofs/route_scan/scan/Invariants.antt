@@ -2,7 +2,7 @@ use Rattle.std.proofs.Common.{◌≡◌, ◌<◌, ◌≤◌, ◌++◌, ◌||◌,
 use Rattle.std.specs.List.{list_any}
 use Rattle.tx_text.specs.Words.{is_name}
 use Rattle.tx_plan.specs.Declaring.{has_group, is_not_outgoing, group_at}
-use Rattle.tx_plan.proofs.route_words.scan.Given as goal
+use Rattle.tx_plan.proofs.route_scan.scan.Given as goal
 
 abbrev pub invariant-loop-word : goal.invariant-loop-word
 invariant-loop-word g l = record {

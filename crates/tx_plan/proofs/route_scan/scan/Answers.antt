@@ -1,7 +1,7 @@
 use Rattle.std.proofs.Common.{rules}
 use Rattle.tx_plan.specs.Declaring.{group_at}
 use Rattle.tx_plan.proofs.SeenWords.{many_seen, all_seen}
-use Rattle.tx_plan.proofs.route_words.scan.Goals as goal
+use Rattle.tx_plan.proofs.route_scan.scan.Goals as goal
 
 pub returns : goal.returns
 returns g c = let e = c.in_default.ensures.steps.0 in let i = c.loop-word.invariant in record {

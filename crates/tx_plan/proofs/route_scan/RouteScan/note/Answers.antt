@@ -1,8 +1,8 @@
 use Rattle.std.proofs.Common.{rules, ◌∙◌, ap}
-use Rattle.tx_plan.specs.declared.route_words.RouteScan.{RouteScan}
+use Rattle.tx_plan.specs.declared.route_scan.RouteScan.{RouteScan}
 use Rattle.tx_plan.proofs.Absent.{bad_kept, unknown_kept, unknown_found}
-use Rattle.tx_plan.proofs.route_words.RouteScan.note.Goals as goal
-use Rattle.tx_plan.proofs.route_words.RouteScan.note.Goals.{in-Some+in-Some-pair+then-not-may_seize, in-Some+in-Some-pair+else-not-may_seize, in-Some+in_default, in-None}
+use Rattle.tx_plan.proofs.route_scan.RouteScan.note.Goals as goal
+use Rattle.tx_plan.proofs.route_scan.RouteScan.note.Goals.{in-Some+in-Some-pair+then-not-may_seize, in-Some+in-Some-pair+else-not-may_seize, in-Some+in_default, in-None}
 
 pub returns-then-not-push-clause-bad : goal.returns-then-not-push-clause-bad
 returns-then-not-push-clause-bad g c =
