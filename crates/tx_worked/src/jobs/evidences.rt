@@ -46,8 +46,11 @@ pub(crate) fn do_audit<A: Allocator + Copy>(
     requires spare { spare ≤ 15 }
 {
     let evidence = evidence_job(alloc, plan, limit, spare, true, out)?;
-    write_evidence(&evidence, out)?;
-    Ok(evidence.status())
+    let written = write_evidence(&evidence, out);
+    let status = evidence.status();
+    drop(evidence);
+    written?;
+    Ok(status)
 }
 
 /// Writes a mixture, and after it its script, if it has one.
@@ -90,8 +93,11 @@ pub(crate) fn do_change<A: Allocator + Copy>(
     requires spare { spare ≤ 15 }
 {
     let evidence = change_evidence_job(alloc, old, new, limit, spare, true, out)?;
-    match write_change(&evidence, out) {
-        Ok(()) => Ok(evidence.status()),
+    let written = write_change(&evidence, out);
+    let status = evidence.status();
+    drop(evidence);
+    match written {
+        Ok(()) => Ok(status),
         Err(WriteFault) => Err(ChangeFault::Job(JobFault::Write)),
     }
 }
@@ -122,8 +128,11 @@ pub(crate) fn do_mend<A: Allocator + Copy>(
     requires spare { spare ≤ 15 }
 {
     let mending = mend_job(alloc, plan, limit, spare, out)?;
-    write_mending(&mending, out)?;
-    Ok(mending_status(&mending))
+    let written = write_mending(&mending, out);
+    let status = mending_status(&mending);
+    drop(mending);
+    written?;
+    Ok(status)
 }
 
 /// Tries the outages of a plan.
@@ -133,7 +142,9 @@ pub(crate) fn do_survive_alone<A: Allocator + Copy>(
     out: &mut MemorySink,
 ) -> Result<u8, JobFault> {
     let survival = survive_job(alloc, plan, out)?;
-    Ok(survival_status(&survival))
+    let status = survival_status(&survival);
+    drop(survival);
+    Ok(status)
 }
 
 /// Tries the outages of a plan, and its named risks among them.
@@ -144,5 +155,7 @@ pub(crate) fn do_survive<A: Allocator + Copy>(
     out: &mut MemorySink,
 ) -> Result<u8, SurviveFault> {
     let survival = survive_risks_job(alloc, plan, risks, out)?;
-    Ok(survival_status(&survival))
+    let status = survival_status(&survival);
+    drop(survival);
+    Ok(status)
 }
